@@ -1,0 +1,7 @@
+pub mod Texts
+pub mod Paths
+pub mod Users
+pub mod Files
+pub mod Cgroups
+pub mod States
+pub mod WellFormed

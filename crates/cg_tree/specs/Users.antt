@@ -1,0 +1,36 @@
+-- Users, and who writes and who owns an entry.
+use Rattle.std.specs.Prelude.{◌≡◌, ℕ, ◌+◌, ◌/◌, ◌≤◌, Bool, true, false, ◌||◌, nat_eq, cond, List, [], ◌∷◌, length, unwrap_or, bit_and, Option, Some, None}
+use Rattle.std.specs.List.{list_any}
+use Rattle.cg_tree.specs.declared.user.Entry.{Entry}
+
+-- A user is who he is: his uid, and his groups, of which the first is the primary one.
+pub record Identity : Type 0 where
+  pub uid : ℕ
+  pub gids : List ℕ
+
+abbrev pub in_group : Identity → ℕ → Bool
+in_group user gid = list_any (nat_eq gid) user.gids
+
+abbrev pub primary : Identity → Option ℕ
+primary user = elim user.gids [ [] ↦ None | gid ∷ gids ↦ Some gid ]
+
+-- The group of what a user makes: his primary group, or group 0 where he has none. Own.
+abbrev pub group_of : Identity → ℕ
+group_of user = unwrap_or (primary user) 0
+
+-- Own: the owner of an entry is the user of its uid.
+abbrev pub owns : Identity → Entry → Bool
+owns user entry = nat_eq entry.uid user.uid
+
+-- Whether a mode has a bit, which is a power of two.
+abbrev pub has_bit : ℕ → ℕ → Bool
+has_bit mode bit = nat_eq (bit_and mode bit) bit
+
+-- Own: the first class that matches decides, the owner's 0o200, the group's 0o020 or the others' 0o002.
+pub writes : Identity → Entry → Bool
+writes user entry =
+    cond (owns user entry) (has_bit entry.mode 128) (cond (in_group user entry.gid) (has_bit entry.mode 16) (has_bit entry.mode 2))
+
+-- What a user writes or can open to himself.
+abbrev pub reaches : Identity → Entry → Bool
+reaches user entry = writes user entry || owns user entry

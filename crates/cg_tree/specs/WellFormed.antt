@@ -1,0 +1,54 @@
+-- What holds of every tree.
+use Rattle.std.specs.Prelude.{◌≡◌, ℕ, ◌≤◌, Bool, true, false, ◌&&◌, ◌||◌, not, cond, List, [], ◌∷◌, Option, Some, None, is_some}
+use Rattle.std.specs.List.{list_all}
+use Rattle.cg_tree.specs.Paths.{Names, is_root, parent}
+use Rattle.cg_tree.specs.Files.{all_controllers, enables, no_controllers, stands_under, accepts}
+use Rattle.cg_tree.specs.Cgroups.{file_of, entry_in}
+use Rattle.cg_tree.specs.States.{State, row_at, process_at, is_used}
+use Rattle.cg_tree.specs.declared.user.Entry.{Entry}
+use Rattle.cg_tree.specs.declared.files.Controller.{Controller}
+use Rattle.cg_tree.specs.declared.files.ControllerSet.{ControllerSet}
+use Rattle.cg_tree.specs.declared.files.LimitFile.{LimitFile}
+use Rattle.cg_tree.specs.declared.files.EntryName.{EntryName}
+use Rattle.cg_tree.specs.declared.cgroup.LimitEntry.{LimitEntry}
+use Rattle.cg_tree.specs.declared.cgroup.Cgroup.{Cgroup}
+use Rattle.cg_tree.specs.declared.process.Process.{Process}
+
+abbrev pub has_row : State → Names → Bool
+has_row st path = is_some (row_at st path)
+
+abbrev pub enables_nothing : ControllerSet → Bool
+enables_nothing set = not set.cpu && (not set.memory && not set.pids)
+
+-- each controller of the first set is in the second
+abbrev pub is_within : ControllerSet → ControllerSet → Bool
+is_within set other = list_all (λ controller. not (enables set controller) || enables other controller) all_controllers
+
+abbrev pub enabled_at : State → Names → ControllerSet
+enabled_at st path = elim (row_at st path) [ None ↦ no_controllers | Some row ↦ row.enabled ]
+
+-- What brings limit files to a cgroup: what its parent enables. The root has no parent. Enabling and Disabling.
+abbrev pub enabled_above : State → Names → ControllerSet
+enabled_above st path = cond (is_root path) no_controllers (enabled_at st (parent path))
+
+-- cgroup.controllers: at the root all that there are, elsewhere what the parent enables. Enabling and Disabling.
+abbrev pub available_at : State → Names → ControllerSet
+available_at st path = cond (is_root path) st.controllers (enabled_at st (parent path))
+
+-- Whether processes may be at a path: it is there, and is the root or enables nothing.
+-- No Internal Process Constraint. Own: for all three controllers.
+abbrev pub may_hold : State → Names → Bool
+may_hold st path = elim (row_at st path) [ None ↦ false | Some row ↦ is_root path || enables_nothing row.enabled ]
+
+pub record IsWellFormed (st : State) : Type 0 where
+  pub root : has_row st [] ≡ true
+  pub parents : (path : Names) → has_row st path ≡ true → has_row st (parent path) ≡ true
+  -- Top-down Constraint
+  pub top_down : (path : Names) (row : Cgroup) → row_at st path ≡ Some row → is_within row.enabled (available_at st path) ≡ true
+  -- Enabling and Disabling: limit files stand exactly where they belong
+  pub files : (path : Names) (row : Cgroup) (file : LimitFile) → row_at st path ≡ Some row → is_some (file_of row file) ≡ stands_under (enabled_above st path) file
+  pub values : (path : Names) (row : Cgroup) (file : LimitFile) (held : LimitEntry) → row_at st path ≡ Some row → file_of row file ≡ Some held → accepts file held.value ≡ true
+  pub modes : (path : Names) (row : Cgroup) (name : EntryName) (entry : Entry) → row_at st path ≡ Some row → entry_in row name ≡ Some entry → entry.mode ≤ 511
+  -- No Internal Process Constraint, and each live process is at a row
+  pub places : (pid : ℕ) (process : Process) → process_at st pid ≡ Some process → may_hold st process.place ≡ true
+  pub used : (pid : ℕ) (process : Process) → process_at st pid ≡ Some process → is_used st pid ≡ true
