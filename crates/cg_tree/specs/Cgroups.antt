@@ -1,7 +1,8 @@
 -- A cgroup's entries and limit files, read and changed by name.
 use Rattle.std.specs.Prelude.{ℕ, Bool, true, false, cond, Option, Some, None, unwrap_or}
 use Rattle.std.specs.Option.{option_map}
-use Rattle.cg_tree.specs.Users.{Identity, group_of}
+use Rattle.cg_tree.specs.Users.{group_of}
+use Rattle.cg_tree.specs.Identity.{Identity}
 use Rattle.cg_tree.specs.Files.{default_value, stands_under, no_controllers}
 use Rattle.cg_tree.specs.declared.user.Entry.{Entry}
 use Rattle.cg_tree.specs.declared.files.Limit.{Limit}

@@ -1,12 +1,12 @@
 -- The state of a tree: what every call of `Hierarchy` reads or changes.
-use Rattle.std.specs.Prelude.{◌≡◌, ℕ, ◌+◌, ◌-◌, ◌≤◌, Bool, true, false, ◌&&◌, ◌||◌, not, nat_eq, nat_lt, cond, List, [], ◌∷◌, length, map as map_list, filter, fold, count_by, max, IsTrue, Option, Some, None, is_some}
+use Rattle.std.specs.Prelude.{◌≡◌, ℕ, ◌+◌, ◌-◌, ◌≤◌, Bool, true, false, ◌&&◌, ◌||◌, not, nat_eq, nat_lt, cond, List, [], ◌∷◌, length, map as map_list, filter, fold, count_by, max, IsTrue, Option, Some, None, is_some, option_and_then}
 use Rattle.std.specs.Option.{option_map}
 use Rattle.std.specs.List.{list_any}
 use Rattle.std.specs.Ordering.{nat_cmp}
 use Rattle.std.specs.FinMap as map
 use Rattle.std.specs.FinSet as set
 use Rattle.cg_tree.specs.Paths.{Names, path_cmp, same_path, is_root, inside, below, is_child, parent}
-use Rattle.cg_tree.specs.Users.{Identity}
+use Rattle.cg_tree.specs.Identity.{Identity}
 use Rattle.cg_tree.specs.Files.{enables, stands_under, accepts, no_controllers}
 use Rattle.cg_tree.specs.Cgroups.{file_of, entry_in, value_in, with_value_in, with_mode_in, with_files_of}
 use Rattle.cg_tree.specs.declared.user.Entry.{Entry}
@@ -16,6 +16,7 @@ use Rattle.cg_tree.specs.declared.files.ControllerSet.{ControllerSet}
 use Rattle.cg_tree.specs.declared.files.LimitFile.{LimitFile}
 use Rattle.cg_tree.specs.declared.files.EntryName.{EntryName}
 use Rattle.cg_tree.specs.declared.cgroup.Cgroup.{Cgroup}
+use Rattle.cg_tree.specs.declared.cgroup.LimitEntry.{LimitEntry}
 use Rattle.cg_tree.specs.declared.process.Process.{Process}
 
 -- The cgroups by path, the live processes by PID, the PIDs that were ever used, and the controllers that the root has.
@@ -33,6 +34,15 @@ process_at st pid = map.get st.live pid
 
 abbrev pub is_used : State → ℕ → Bool
 is_used st pid = set.contains st.used pid
+
+abbrev pub file_at : State → Names → LimitFile → Option LimitEntry
+file_at st path file = option_and_then (λ row. file_of row file) (row_at st path)
+
+abbrev pub entry_at : State → Names → EntryName → Option Entry
+entry_at st path name = option_and_then (λ row. entry_in row name) (row_at st path)
+
+abbrev pub pids_of : State → List ℕ
+pids_of st = map.keys st.live
 
 abbrev pub paths_of : State → List Names
 paths_of st = map.keys st.rows

@@ -1,12 +1,8 @@
 -- Users, and who writes and who owns an entry.
 use Rattle.std.specs.Prelude.{◌≡◌, ℕ, ◌+◌, ◌/◌, ◌≤◌, Bool, true, false, ◌||◌, nat_eq, cond, List, [], ◌∷◌, length, unwrap_or, bit_and, Option, Some, None}
 use Rattle.std.specs.List.{list_any}
+use Rattle.cg_tree.specs.Identity.{Identity}
 use Rattle.cg_tree.specs.declared.user.Entry.{Entry}
-
--- A user is who he is: his uid, and his groups, of which the first is the primary one.
-pub record Identity : Type 0 where
-  pub uid : ℕ
-  pub gids : List ℕ
 
 abbrev pub in_group : Identity → ℕ → Bool
 in_group user gid = list_any (nat_eq gid) user.gids

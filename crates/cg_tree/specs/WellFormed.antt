@@ -4,7 +4,7 @@ use Rattle.std.specs.List.{list_all}
 use Rattle.cg_tree.specs.Paths.{Names, is_root, parent}
 use Rattle.cg_tree.specs.Files.{all_controllers, enables, no_controllers, stands_under, accepts}
 use Rattle.cg_tree.specs.Cgroups.{file_of, entry_in}
-use Rattle.cg_tree.specs.States.{State, row_at, process_at, is_used}
+use Rattle.cg_tree.specs.States.{State, row_at, process_at, is_used, has_live, child_enables}
 use Rattle.cg_tree.specs.declared.user.Entry.{Entry}
 use Rattle.cg_tree.specs.declared.files.Controller.{Controller}
 use Rattle.cg_tree.specs.declared.files.ControllerSet.{ControllerSet}
@@ -39,6 +39,13 @@ available_at st path = cond (is_root path) st.controllers (enabled_at st (parent
 -- No Internal Process Constraint. Own: for all three controllers.
 abbrev pub may_hold : State → Names → Bool
 may_hold st path = elim (row_at st path) [ None ↦ false | Some row ↦ is_root path || enables_nothing row.enabled ]
+
+-- What a cgroup may enable: only what is available to it, all that a child of it enables, and nothing where it has
+-- processes and isn't the root. Top-down Constraint; No Internal Process Constraint.
+pub record MayEnable (st : State) (path : Names) (enabled : ControllerSet) : Type 0 where
+  pub available : is_within enabled (available_at st path) ≡ true
+  pub children : (controller : Controller) → child_enables st path controller ≡ true → enables enabled controller ≡ true
+  pub no_internal : (is_root path || (enables_nothing enabled || not (has_live st path))) ≡ true
 
 pub record IsWellFormed (st : State) : Type 0 where
   pub root : has_row st [] ≡ true

@@ -1,14 +1,17 @@
 //! `Hierarchy`: a tree of cgroups with its processes, however it is kept.
-ghost use Rattle.std.specs.Prelude.{◌≡◌, ◌≤◌, true, false, length, take, OnOk, OnErr, option_copied, is_some};
+ghost use Rattle.std.specs.Prelude.{◌≡◌, ◌≤◌, true, false, length, take, OnOk, OnErr, IfOk, option_copied, is_some};
 ghost use Rattle.std.specs.Option.{option_map};
-ghost use Rattle.cg_tree.specs.States.{State, row_at, process_at, is_used, with_row, with_place, with_process};
-ghost use Rattle.cg_tree.specs.WellFormed.{IsWellFormed, has_row, may_hold};
-ghost use Rattle.cg_tree.specs.Paths.{parent};
+ghost use Rattle.cg_tree.specs.States.{State, row_at, process_at, is_used, has_child, has_live, child_enables, count_below, depth_below, paths_of, pids_of, file_at, entry_at, with_row, without_row, with_value, with_mode, with_enabled, with_place, with_process, without_process};
+ghost use Rattle.cg_tree.specs.WellFormed.{IsWellFormed, has_row, may_hold, MayEnable};
+ghost use Rattle.cg_tree.specs.Paths.{is_root};
+ghost use Rattle.cg_tree.specs.Files.{accepts};
 
 use crate::cgroup::Cgroup;
+use crate::files::{Controller, ControllerSet, EntryName, Limit, LimitFile};
 use crate::memory::NoMemory;
 use crate::path::Path;
 use crate::process::Pid;
+use crate::user::{Mode, User};
 use std::alloc::Global;
 
 /// A tree of cgroups with its live processes, the PIDs that were ever used and the root's controllers.
@@ -37,6 +40,84 @@ pub trait Hierarchy {
     /// Whether a PID was ever used.
     fn is_used(&self, pid: Pid) -> bool
         ensures { result ≡ is_used (state self.now) pid };
+
+    /// The controllers that the root has.
+    fn controllers(&self) -> ControllerSet
+        ensures controllers { result ≡ (state self.now).controllers }
+        ensures formed { IsWellFormed (state self.now) };
+
+    /// Whether a cgroup has a child.
+    fn has_child(&self, path: &Path, len: usize) -> bool
+        requires within { len ≤ length path.now }
+        requires there { has_row (state self.now) (take len path.now) ≡ true }
+        ensures { result ≡ has_child (state self.now) (take len path.now) };
+
+    /// Whether a live process is at a cgroup itself.
+    fn has_live(&self, path: &Path, len: usize) -> bool
+        requires within { len ≤ length path.now }
+        requires there { has_row (state self.now) (take len path.now) ≡ true }
+        ensures { result ≡ has_live (state self.now) (take len path.now) };
+
+    /// Whether a child of a cgroup enables a controller.
+    fn child_enables(&self, path: &Path, len: usize, controller: Controller) -> bool
+        requires within { len ≤ length path.now }
+        requires there { has_row (state self.now) (take len path.now) ≡ true }
+        ensures { result ≡ child_enables (state self.now) (take len path.now) controller };
+
+    /// How many cgroups lie below a cgroup, at any depth.
+    fn count_below(&self, path: &Path, len: usize) -> u64
+        requires within { len ≤ length path.now }
+        requires there { has_row (state self.now) (take len path.now) ≡ true }
+        ensures { result ≡ count_below (state self.now) (take len path.now) };
+
+    /// How many levels the deepest cgroup below a cgroup lies below it; 0 where there is none.
+    fn depth_below(&self, path: &Path, len: usize) -> u64
+        requires within { len ≤ length path.now }
+        requires there { has_row (state self.now) (take len path.now) ≡ true }
+        ensures { result ≡ depth_below (state self.now) (take len path.now) };
+
+    /// Sets the value of a limit file that stands and accepts it.
+    fn set_limit(&mut self, path: &Path, file: LimitFile, value: Limit)
+        requires there { is_some (file_at (state self.old) path.now file) ≡ true }
+        requires accepted { accepts file value ≡ true }
+        ensures { state self.new ≡ with_value (state self.old) path.now file value };
+
+    /// Sets what a cgroup enables for its children, and makes and removes their limit files.
+    /// A file that stays is kept as it is; a new one belongs to the user and his primary group, or group 0.
+    fn set_enabled(&mut self, path: &Path, enabled: ControllerSet, user: &User)
+        requires there { has_row (state self.old) path.now ≡ true }
+        requires keeps { MayEnable (state self.old) path.now enabled }
+        ensures { state self.new ≡ with_enabled (state self.old) path.now enabled user.now };
+
+    /// Sets the mode of an entry that is there.
+    fn set_mode(&mut self, path: &Path, name: EntryName, mode: Mode)
+        requires { is_some (entry_at (state self.old) path.now name) ≡ true }
+        ensures { state self.new ≡ with_mode (state self.old) path.now name mode };
+
+    /// Removes a cgroup that isn't the root and has no child and no live process.
+    fn remove(&mut self, path: &Path)
+        requires there { has_row (state self.old) path.now ≡ true }
+        requires not_root { is_root path.now ≡ false }
+        requires no_child { has_child (state self.old) path.now ≡ false }
+        requires no_process { has_live (state self.old) path.now ≡ false }
+        ensures { state self.new ≡ without_row (state self.old) path.now };
+
+    /// Ends a live process. Its PID stays used.
+    fn end_process(&mut self, pid: Pid)
+        requires { is_some (process_at (state self.old) pid) ≡ true }
+        ensures { state self.new ≡ without_process (state self.old) pid };
+
+    /// Every path of the tree, in order.
+    fn paths(&self, alloc: Global) -> Result<Vec<Path>, NoMemory>
+        ensures { IfOk result (λ paths. paths.items ≡ paths_of (state self.now)) };
+
+    /// Every live PID, rising.
+    fn pids(&self, alloc: Global) -> Result<Vec<Pid>, NoMemory>
+        ensures { IfOk result (λ pids. pids.items ≡ pids_of (state self.now)) };
+
+    /// An equal tree.
+    fn try_clone(&self, alloc: Global) -> Result<Self, NoMemory>
+        ensures { IfOk result (λ copy. state copy ≡ state self.now) };
 
     /// Adds a cgroup below one that is there.
     fn add(&mut self, alloc: Global, path: &Path, cgroup: Cgroup) -> Result<(), NoMemory>
