@@ -1,7 +1,7 @@
 -- A cgroup's entries and limit files, read and changed by name.
-use Rattle.std.specs.Prelude.{ℕ, Bool, true, false, cond, Option, Some, None, unwrap_or}
+use Rattle.std.specs.Prelude.{ℕ, cond, Option, Some, None, unwrap_or}
 use Rattle.std.specs.Option.{option_map}
-use Rattle.cg_tree.specs.Users.{group_of}
+pub use Rattle.cg_tree.specs.Users.{entry_made_by}
 use Rattle.cg_tree.specs.Identity.{Identity}
 use Rattle.cg_tree.specs.Files.{default_value, stands_under, no_controllers}
 use Rattle.cg_tree.specs.declared.user.Entry.{Entry}
@@ -58,10 +58,7 @@ with_mode_in Procs mode row = record row { procs = with_mode_of mode row.procs }
 with_mode_in SubtreeControl mode row = record row { subtree_control = with_mode_of mode row.subtree_control }
 with_mode_in (File file) mode row = with_file file (λ f. record f { entry = with_mode_of mode f.entry }) row
 
--- Own: what a user makes belongs to him and his primary group, directories with mode 0o755 and files with 0o644.
-abbrev pub entry_made_by : Identity → ℕ → Entry
-entry_made_by user mode = record { uid = user.uid; gid = group_of user; mode = mode }
-
+-- Own: a limit file that a user makes is his, with mode 0o644.
 abbrev pub file_made_by : Identity → LimitFile → LimitEntry
 file_made_by user file = record { entry = entry_made_by user 420; value = default_value file }
 
@@ -71,27 +68,27 @@ refitted enabled user file had = cond (stands_under enabled file) (Some (unwrap_
 
 abbrev pub with_files_of : ControllerSet → Identity → Cgroup → Cgroup
 with_files_of enabled user row = record row {
-    cpu_weight = refitted enabled user CpuWeight row.cpu_weight;
-    memory_min = refitted enabled user MemoryMin row.memory_min;
-    memory_low = refitted enabled user MemoryLow row.memory_low;
-    memory_high = refitted enabled user MemoryHigh row.memory_high;
-    memory_max = refitted enabled user MemoryMax row.memory_max;
-    pids_max = refitted enabled user PidsMax row.pids_max
-  }
+  cpu_weight = refitted enabled user CpuWeight row.cpu_weight;
+  memory_min = refitted enabled user MemoryMin row.memory_min;
+  memory_low = refitted enabled user MemoryLow row.memory_low;
+  memory_high = refitted enabled user MemoryHigh row.memory_high;
+  memory_max = refitted enabled user MemoryMax row.memory_max;
+  pids_max = refitted enabled user PidsMax row.pids_max;
+}
 
--- a new cgroup of a user under a parent that enables these
+-- A new cgroup of a user under a parent that enables these. Own: its directory has mode 0o755, its files 0o644.
 abbrev pub cgroup_made_by : Identity → ControllerSet → Cgroup
 cgroup_made_by user enabled = with_files_of enabled user (record {
-    dir = entry_made_by user 493;
-    procs = entry_made_by user 420;
-    subtree_control = entry_made_by user 420;
-    max_descendants = file_made_by user MaxDescendants;
-    max_depth = file_made_by user MaxDepth;
-    cpu_weight = None;
-    memory_min = None;
-    memory_low = None;
-    memory_high = None;
-    memory_max = None;
-    pids_max = None;
-    enabled = no_controllers
-  })
+  dir = entry_made_by user 493;
+  procs = entry_made_by user 420;
+  subtree_control = entry_made_by user 420;
+  max_descendants = file_made_by user MaxDescendants;
+  max_depth = file_made_by user MaxDepth;
+  cpu_weight = None;
+  memory_min = None;
+  memory_low = None;
+  memory_high = None;
+  memory_max = None;
+  pids_max = None;
+  enabled = no_controllers;
+})

@@ -1,7 +1,7 @@
 -- Controllers and limit files: their names, where they stand, their defaults and the values that they take.
-use Rattle.std.specs.Prelude.{ℕ, ◌+◌, Bool, true, false, ◌&&◌, nat_le, List, [], ◌∷◌, Option, Some, None}
+use Rattle.std.specs.Prelude.{ℕ, Bool, true, false, ◌&&◌, ◌||◌, not, nat_le, List, [], ◌∷◌, Option, Some, None, codes}
+use Rattle.std.specs.List.{list_all}
 use Rattle.cg_tree.specs.Texts as texts
-use Rattle.std.specs.Prelude.{codes}
 use Rattle.cg_tree.specs.declared.files.Limit.{Limit}
 use Rattle.cg_tree.specs.declared.files.Limit.TheVariants.{Max, At}
 use Rattle.cg_tree.specs.declared.files.Controller.{Controller}
@@ -33,6 +33,13 @@ with_controller set Pids on = record set { pids = on }
 
 abbrev pub no_controllers : ControllerSet
 no_controllers = record { cpu = false; memory = false; pids = false }
+
+abbrev pub enables_nothing : ControllerSet → Bool
+enables_nothing set = not set.cpu && (not set.memory && not set.pids)
+
+-- each controller of the first set is in the second
+abbrev pub is_within : ControllerSet → ControllerSet → Bool
+is_within set other = list_all (λ controller. not (enables set controller) || enables other controller) all_controllers
 
 -- The order used everywhere. Core Interface Files; CPU, Memory and PID.
 abbrev pub all_files : List LimitFile

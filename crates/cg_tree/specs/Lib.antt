@@ -1,5 +1,6 @@
 pub mod Texts
 pub mod Paths
+pub mod Numbers
 pub mod Identity
 pub mod Users
 pub mod Files

@@ -2,7 +2,8 @@
 use Rattle.std.specs.Prelude.{◌≡◌, ℕ, ◌≤◌, Bool, true, false, ◌&&◌, ◌||◌, not, cond, List, [], ◌∷◌, Option, Some, None, is_some}
 use Rattle.std.specs.List.{list_all}
 use Rattle.cg_tree.specs.Paths.{Names, is_root, parent}
-use Rattle.cg_tree.specs.Files.{all_controllers, enables, no_controllers, stands_under, accepts}
+use Rattle.cg_tree.specs.Files.{enables, no_controllers, stands_under, accepts}
+pub use Rattle.cg_tree.specs.Files.{enables_nothing, is_within}
 use Rattle.cg_tree.specs.Cgroups.{file_of, entry_in}
 use Rattle.cg_tree.specs.States.{State, row_at, process_at, is_used, has_live, child_enables}
 use Rattle.cg_tree.specs.declared.user.Entry.{Entry}
@@ -16,13 +17,6 @@ use Rattle.cg_tree.specs.declared.process.Process.{Process}
 
 abbrev pub has_row : State → Names → Bool
 has_row st path = is_some (row_at st path)
-
-abbrev pub enables_nothing : ControllerSet → Bool
-enables_nothing set = not set.cpu && (not set.memory && not set.pids)
-
--- each controller of the first set is in the second
-abbrev pub is_within : ControllerSet → ControllerSet → Bool
-is_within set other = list_all (λ controller. not (enables set controller) || enables other controller) all_controllers
 
 abbrev pub enabled_at : State → Names → ControllerSet
 enabled_at st path = elim (row_at st path) [ None ↦ no_controllers | Some row ↦ row.enabled ]

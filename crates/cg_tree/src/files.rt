@@ -1,4 +1,6 @@
 //! Controllers, and the limit files that they bring.
+ghost use Rattle.std.specs.Prelude.{◌≡◌};
+ghost use Rattle.cg_tree.specs.Files.{enables, with_controller, no_controllers, enables_nothing, is_within};
 
 /// The value of a limit file: `max`, or a number.
 #[derive(Clone, Copy, Debug, PartialEq, Eq)]
@@ -21,6 +23,55 @@ pub struct ControllerSet {
     pub cpu: bool,
     pub memory: bool,
     pub pids: bool,
+}
+
+impl ControllerSet {
+    /// The set of no controller.
+    pub fn none() -> ControllerSet
+        ensures { result ≡ no_controllers }
+    {
+        ControllerSet {
+            cpu: false,
+            memory: false,
+            pids: false,
+        }
+    }
+
+    /// Whether a controller is in the set.
+    pub fn contains(self, controller: Controller) -> bool
+        ensures { result ≡ enables self controller }
+    {
+        match controller {
+            Controller::Cpu => self.cpu,
+            Controller::Memory => self.memory,
+            Controller::Pids => self.pids,
+        }
+    }
+
+    /// Whether no controller is in the set.
+    pub fn is_empty(self) -> bool
+        ensures { result ≡ enables_nothing self }
+    {
+        !self.cpu && !self.memory && !self.pids
+    }
+
+    /// The set with a controller in it, or without it.
+    pub fn with(self, controller: Controller, on: bool) -> ControllerSet
+        ensures { result ≡ with_controller self controller on }
+    {
+        match controller {
+            Controller::Cpu => ControllerSet { cpu: on, ..self },
+            Controller::Memory => ControllerSet { memory: on, ..self },
+            Controller::Pids => ControllerSet { pids: on, ..self },
+        }
+    }
+
+    /// Whether each controller of the set is in the other one.
+    pub fn is_within(self, other: &ControllerSet) -> bool
+        ensures { result ≡ is_within self other.now }
+    {
+        (!self.cpu || other.cpu) && (!self.memory || other.memory) && (!self.pids || other.pids)
+    }
 }
 
 /// The limit files, in the order used everywhere.

@@ -1,4 +1,7 @@
 //! Processes and their numbers.
+ghost use Rattle.std.specs.Prelude.{◌≡◌, ◌≤◌};
+ghost use Rattle.cg_tree.specs.Numbers.{pid_of};
+
 use crate::path::Path;
 use std::marker::Model;
 
@@ -18,6 +21,27 @@ impl Model for Pid {
     ghost invariant = { λ p. (1 ≤ p.number) × (p.number ≤ 4194303) };
 
     ghost inverse = { λ n. record { number = n } };
+}
+
+impl Pid {
+    /// The PID of this number; `None` outside 1 to 4194303.
+    pub fn new(number: u32) -> Option<Pid>
+        ensures { result ≡ pid_of number }
+    {
+        if number == 0 || number > 4194303 {
+            return None;
+        }
+        Some(Pid { number })
+    }
+
+    /// The number.
+    pub fn get(self) -> u32
+        ensures value { result ≡ self }
+        ensures low { 1 ≤ result }
+        ensures high { result ≤ 4194303 }
+    {
+        self.number
+    }
 }
 
 /// A live process: its owner and the cgroup that it is in.
