@@ -46,17 +46,23 @@ with_file MemoryHigh f row = record row { memory_high = option_map f row.memory_
 with_file MemoryMax f row = record row { memory_max = option_map f row.memory_max }
 with_file PidsMax f row = record row { pids_max = option_map f row.pids_max }
 
+abbrev pub with_value_of : Limit → LimitEntry → LimitEntry
+with_value_of value file = record file { value = value }
+
 abbrev pub with_value_in : LimitFile → Limit → Cgroup → Cgroup
-with_value_in file value row = with_file file (λ f. record f { value = value }) row
+with_value_in file value row = with_file file (with_value_of value) row
 
 abbrev pub with_mode_of : ℕ → Entry → Entry
 with_mode_of mode entry = record entry { mode = mode }
+
+abbrev pub with_file_mode_of : ℕ → LimitEntry → LimitEntry
+with_file_mode_of mode file = record file { entry = with_mode_of mode file.entry }
 
 abbrev pub with_mode_in : EntryName → ℕ → Cgroup → Cgroup
 with_mode_in Dir mode row = record row { dir = with_mode_of mode row.dir }
 with_mode_in Procs mode row = record row { procs = with_mode_of mode row.procs }
 with_mode_in SubtreeControl mode row = record row { subtree_control = with_mode_of mode row.subtree_control }
-with_mode_in (File file) mode row = with_file file (λ f. record f { entry = with_mode_of mode f.entry }) row
+with_mode_in (File file) mode row = with_file file (with_file_mode_of mode) row
 
 -- Own: a limit file that a user makes is his, with mode 0o644.
 abbrev pub file_made_by : Identity → LimitFile → LimitEntry

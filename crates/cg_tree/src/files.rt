@@ -1,6 +1,6 @@
 //! Controllers, and the limit files that they bring.
 ghost use Rattle.std.specs.Prelude.{◌≡◌};
-ghost use Rattle.cg_tree.specs.Files.{enables, with_controller, no_controllers, enables_nothing, is_within};
+ghost use Rattle.cg_tree.specs.Files.{enables, with_controller, no_controllers, enables_nothing, is_within, controller_of, default_value, accepts, stands_under};
 
 /// The value of a limit file: `max`, or a number.
 #[derive(Clone, Copy, Debug, PartialEq, Eq)]
@@ -85,6 +85,63 @@ pub enum LimitFile {
     MemoryHigh,
     MemoryMax,
     PidsMax,
+}
+
+impl LimitFile {
+    /// The greatest number that a limit file takes, `cpu.weight` apart.
+    pub const GREATEST: u64 = 9223372036854775807;
+
+    /// The controller that brings the file; `None` for the two that stand at every cgroup.
+    pub fn controller(self) -> Option<Controller>
+        ensures { result ≡ controller_of self }
+    {
+        match self {
+            LimitFile::MaxDescendants | LimitFile::MaxDepth => None,
+            LimitFile::CpuWeight => Some(Controller::Cpu),
+            LimitFile::MemoryMin
+            | LimitFile::MemoryLow
+            | LimitFile::MemoryHigh
+            | LimitFile::MemoryMax => Some(Controller::Memory),
+            LimitFile::PidsMax => Some(Controller::Pids),
+        }
+    }
+
+    /// Whether the file stands at a child of a cgroup that enables these controllers.
+    pub fn stands_under(self, enabled: ControllerSet) -> bool
+        ensures { result ≡ stands_under enabled self }
+    {
+        match self.controller() {
+            None => true,
+            Some(controller) => enabled.contains(controller),
+        }
+    }
+
+    /// The value of a file that has just been made.
+    pub fn default_value(self) -> Limit
+        ensures { result ≡ default_value self }
+    {
+        match self {
+            LimitFile::CpuWeight => Limit::At(100),
+            LimitFile::MemoryMin | LimitFile::MemoryLow => Limit::At(0),
+            LimitFile::MaxDescendants
+            | LimitFile::MaxDepth
+            | LimitFile::MemoryHigh
+            | LimitFile::MemoryMax
+            | LimitFile::PidsMax => Limit::Max,
+        }
+    }
+
+    /// Whether the file takes a value: `cpu.weight` takes 1 to 10000, each other file `max` and 0 to `GREATEST`.
+    pub fn accepts(self, value: Limit) -> bool
+        ensures { result ≡ accepts self value }
+    {
+        match (self, value) {
+            (LimitFile::CpuWeight, Limit::Max) => false,
+            (LimitFile::CpuWeight, Limit::At(weight)) => 1 <= weight && weight <= 10000,
+            (_, Limit::Max) => true,
+            (_, Limit::At(amount)) => amount <= Self::GREATEST,
+        }
+    }
 }
 
 /// An entry of a cgroup's directory that has an owner and a mode.

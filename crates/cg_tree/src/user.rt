@@ -46,6 +46,11 @@ impl Model for Mode {
 }
 
 impl Mode {
+    /// The mode of a directory that has just been made.
+    pub const DIRECTORY: Mode = Mode { bits: 0o755 };
+    /// The mode of a file that has just been made.
+    pub const FILE: Mode = Mode { bits: 0o644 };
+
     /// The mode of these bits; `None` over 0o777.
     pub fn new(bits: u16) -> Option<Mode>
         ensures { result ≡ mode_of bits }
