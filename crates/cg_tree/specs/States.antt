@@ -41,6 +41,9 @@ file_at st path file = option_and_then (λ row. file_of row file) (row_at st pat
 abbrev pub entry_at : State → Names → EntryName → Option Entry
 entry_at st path name = option_and_then (λ row. entry_in row name) (row_at st path)
 
+abbrev pub value_at : State → Names → LimitFile → Option Limit
+value_at st path file = option_and_then (λ row. value_in row file) (row_at st path)
+
 abbrev pub pids_of : State → List ℕ
 pids_of st = map.keys st.live
 
@@ -86,17 +89,23 @@ with_value st path file value = change_at path (with_value_in file value) st
 abbrev pub with_mode : State → Names → EntryName → ℕ → State
 with_mode st path name mode = change_at path (with_mode_in name mode) st
 
+abbrev pub enabling_these : ControllerSet → Cgroup → Cgroup
+enabling_these enabled row = record row { enabled = enabled }
+
 -- the row of a path, and its children's files, once the path enables these
 abbrev pub enabling : Names → ControllerSet → Identity → Names → Cgroup → Cgroup
 enabling path enabled user q row =
-    cond (same_path path q) (record row { enabled = enabled }) (cond (is_child path q) (with_files_of enabled user row) row)
+    cond (same_path path q) (enabling_these enabled row) (cond (is_child path q) (with_files_of enabled user row) row)
 
 -- Enabling and Disabling: what a path enables, and with it the files of its children.
 abbrev pub with_enabled : State → Names → ControllerSet → Identity → State
 with_enabled st path enabled user = record st { rows = change_each (enabling path enabled user) st.rows }
 
+abbrev pub placed_at : Names → Process → Process
+placed_at path process = record process { place = path }
+
 abbrev pub with_place : State → ℕ → Names → State
-with_place st pid path = record st { live = elim (process_at st pid) [ None ↦ st.live | Some process ↦ map.insert st.live pid (record process { place = path }) ] }
+with_place st pid path = record st { live = elim (process_at st pid) [ None ↦ st.live | Some process ↦ map.insert st.live pid (placed_at path process) ] }
 
 abbrev pub with_process : State → ℕ → ℕ → Names → State
 with_process st pid uid path = record st { live = map.insert st.live pid (record { uid = uid; place = path }); used = set.insert st.used pid }
