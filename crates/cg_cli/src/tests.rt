@@ -1,0 +1,3 @@
+//! What no clause says: that good calls succeed, and that a failed write is never tried again.
+mod writers;
+mod written;
