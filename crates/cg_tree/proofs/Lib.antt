@@ -1,3 +1,6 @@
 pub mod PathOrder
+pub mod PathParents
 pub mod MapLaws
 pub mod StateLaws
+pub mod StateTests
+pub mod FormedRows

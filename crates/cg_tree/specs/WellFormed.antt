@@ -41,6 +41,12 @@ pub record MayEnable (st : State) (path : Names) (enabled : ControllerSet) : Typ
   pub children : (controller : Controller) → child_enables st path controller ≡ true → enables enabled controller ≡ true
   pub no_internal : (is_root path || (enables_nothing enabled || not (has_live st path))) ≡ true
 
+-- A row under a cgroup that enables these: which limit files stand, with which values, and the modes.
+pub record IsFormedRow (above : ControllerSet) (row : Cgroup) : Type 0 where
+  pub files : (file : LimitFile) → is_some (file_of row file) ≡ stands_under above file
+  pub values : (file : LimitFile) (held : LimitEntry) → file_of row file ≡ Some held → accepts file held.value ≡ true
+  pub modes : (name : EntryName) (entry : Entry) → entry_in row name ≡ Some entry → entry.mode ≤ 511
+
 pub record IsWellFormed (st : State) : Type 0 where
   pub root : has_row st [] ≡ true
   pub parents : (path : Names) → has_row st path ≡ true → has_row st (parent path) ≡ true
