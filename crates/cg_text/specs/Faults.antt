@@ -1,0 +1,18 @@
+-- The faults of a tree text, and what a call that may run out of memory answers.
+use Rattle.std.specs.Prelude.{◌≡◌, ◌≢◌, Option, Some, None, Result, Ok, Err}
+use Rattle.cg_text.specs.declared.tree.fault.TreeFault.{TreeFault}
+use Rattle.cg_text.specs.declared.tree.fault.TreeFault.TheVariants.{NoMemory}
+
+-- the second step on what the first gives, or the fault of the first
+abbrev pub bind : {A B : Type 0} → Result A TreeFault → (A → Result B TreeFault) → Result B TreeFault
+bind (Ok x) next = next x
+bind (Err fault) next = Err fault
+
+abbrev pub or_fault : {A : Type 0} → Option A → TreeFault → Result A TreeFault
+or_fault None fault = Err fault
+or_fault (Some x) fault = Ok x
+
+-- The call gives the value that is expected, or the fault that is expected, unless memory ran out.
+abbrev pub Reads : {X Y : Type 0} → (X → Y) → Result X TreeFault → Result Y TreeFault → Type 0
+Reads view (Ok x) expected = expected ≡ Ok (view x)
+Reads view (Err fault) expected = fault ≢ NoMemory → expected ≡ Err fault

@@ -1,0 +1,4 @@
+//! Tree texts and the texts of answers.
+#![tactic(auto)]
+
+pub mod tree;
