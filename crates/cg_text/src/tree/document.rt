@@ -235,11 +235,7 @@ fn files_at(format: Format, table: &Table) -> Option<FilesRecord>
 }
 
 /// The texts of an array of texts.
-fn texts_of<'a>(
-    alloc: Global,
-    items: &'a Array,
-    place: Place,
-) -> Result<Vec<&'a str>, TreeFault>
+fn texts_of<'a>(alloc: Global, items: &'a Array, place: Place) -> Result<Vec<&'a str>, TreeFault>
     ensures { Reads (λ texts. map (λ t. t.now) texts.items) result
         (or_fault (texts_of (array_view items.now)) (Shape place)) }
 {
@@ -251,11 +247,7 @@ fn texts_of<'a>(
     Ok(texts)
 }
 
-fn texts_in<'a>(
-    alloc: Global,
-    value: &'a Value,
-    place: Place,
-) -> Result<Vec<&'a str>, TreeFault>
+fn texts_in<'a>(alloc: Global, value: &'a Value, place: Place) -> Result<Vec<&'a str>, TreeFault>
     ensures { Reads (λ texts. map (λ t. t.now) texts.items) result
         (or_fault (texts_in (view value.now)) (Shape place)) }
 {
@@ -266,11 +258,7 @@ fn texts_in<'a>(
 }
 
 /// The texts that a cgroup's table enables.
-fn enabled_at<'a>(
-    alloc: Global,
-    table: &'a Table,
-    place: Place,
-) -> Result<Vec<&'a str>, TreeFault>
+fn enabled_at<'a>(alloc: Global, table: &'a Table, place: Place) -> Result<Vec<&'a str>, TreeFault>
     ensures { Reads (λ texts. map (λ t. t.now) texts.items) result
         (or_fault (with_default [] texts_in (get_member (codes "enabled") (table_view table.now))) (Shape place)) }
 {
