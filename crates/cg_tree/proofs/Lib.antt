@@ -4,3 +4,4 @@ pub mod MapLaws
 pub mod StateLaws
 pub mod StateTests
 pub mod FormedRows
+pub mod Sorted

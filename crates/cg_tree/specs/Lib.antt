@@ -7,3 +7,4 @@ pub mod Files
 pub mod Cgroups
 pub mod States
 pub mod WellFormed
+pub mod Places

@@ -7,4 +7,5 @@ pub mod hierarchy;
 pub mod memory;
 pub mod path;
 pub mod process;
+pub mod tables;
 pub mod user;

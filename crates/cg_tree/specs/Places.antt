@@ -1,0 +1,14 @@
+-- How tables are kept: a list of entries whose keys rise. Where a key stands in it, or belongs.
+use Rattle.std.specs.Prelude.{◌≡◌, ℕ, ◌<◌, ◌≤◌, List, length}
+use Rattle.std.specs.List.{HoldsAt}
+use Rattle.std.specs.List.Sorted.{IsPartitionPoint}
+use Rattle.std.specs.declared.cmp.Ordering.{Ordering}
+use Rattle.std.specs.declared.cmp.Ordering.TheVariants.{Less, Equal, Greater}
+
+-- the key q is that of the entry at i
+abbrev pub IsPlace : {K X : Type 0} → (K → K → Ordering) → K → List (K × X) → ℕ → Type 0
+IsPlace R q es i = (i < length es) × HoldsAt (λ e. R e.0 q ≡ Equal) es i
+
+-- the entries before i have keys below q, and all others have keys above it
+abbrev pub IsGap : {K X : Type 0} → (K → K → Ordering) → K → List (K × X) → ℕ → Type 0
+IsGap R q es i = (i ≤ length es) × IsPartitionPoint (λ e. R e.0 q ≡ Less) (λ e. R e.0 q ≡ Greater) es i

@@ -1,0 +1,3 @@
+//! Tables: sorted lists of entries, seen as finite maps from their keys.
+
+pub mod pid_table;
