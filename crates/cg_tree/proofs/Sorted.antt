@@ -1,11 +1,11 @@
 -- Lists of entries whose keys rise in a total order: where a key stands, and what looking up, inserting and removing give.
-use Rattle.std.proofs.Common.{◌≡◌, ℕ, zero, suc, ◌+◌, ◌<◌, ◌≤◌, Bool, true, false, not, cond, List, [], ◌∷◌, ◌++◌, map, length, take, drop, set, get_or, refl, sym, ap, subst, ◌∙◌, arith, Option, Some, None, ◌⊎◌, inl, inr}
+use Rattle.std.proofs.Common.{◌≡◌, ℕ, zero, suc, ◌+◌, ◌<◌, ◌≤◌, Bool, true, false, not, cond, List, [], ◌∷◌, ◌++◌, map, length, take, drop, set, get_or, refl, sym, ap, subst, ◌∙◌, arith, Option, Some, None, is_some, Result, Ok, Err, MatchResult, ◌⊎◌, inl, inr}
 use lib.Dec.{T}
 use Rattle.std.specs.Bool.{passes}
 use Rattle.std.proofs.lemmas.Bool.{and_parts, and_from, cases_lt, true≢false}
 use Rattle.std.proofs.Math.Nat.{eq-or-lt_of_le}
 use Rattle.std.specs.List.{AllWithin, HoldsAt, remove, insert as insert_item, filter}
-use Rattle.std.specs.List.Sorted.{IsNonDecreasingBy, IsPartitionPoint}
+use Rattle.std.specs.List.Sorted.{IsNonDecreasingBy, IsPartitionPoint, IsSearchInRange, IsBinarySearchResult}
 use Rattle.std.specs.declared.cmp.Ordering.{Ordering}
 use Rattle.std.specs.declared.cmp.Ordering.TheVariants.{Less, Equal, Greater}
 use Rattle.std.specs.Ordering.{is_eq, is_lt, eq_by_cmp, ordering_index, ordering_reverse}
@@ -171,3 +171,60 @@ module _ {K X : Type 0} {R : K → K → Ordering} (o : IsTotalOrder R) where
         ∙ ap (λ b. cond b None (find R x es)) ((eq_by_cmp_equiv o).symm q x)
         ∙ ap (λ w. cond (eq_by_cmp R x q) None w) (sym (map.get-from_sorted R es x (passes _ s)))
         ∙ sym (map.get-remove o (map.from_sorted {R = R} es) q x))
+
+  -- what a binary search answers
+  pub sought : (q : K) (es : List (K × X)) (r : Result ℕ ℕ) → is_sorted R es ≡ true → IsSearchInRange r (length es) → IsBinarySearchResult (λ e. R e.0 q) es r → MatchResult r (IsPlace R q es) (IsGap R q es)
+  sought q es (Ok i) s b h = (b, h)
+  sought q es (Err i) s b h = (b, h (answers_rise q es s))
+
+  pub empty_table : (es : List (K × X)) → es ≡ [] → map.from_sorted {R = R} es ≡ map.empty
+  empty_table es e = ap map.from_sorted e ∙ map.empty_of_len _ (map.len-entries _ ∙ ap length (map.entries-from_sorted {X = X} R [] tt))
+
+  -- ---- for the table m that the entries show
+
+  pub read_place : {m : map.FinMap R X} (q : K) (es fs : List (K × X)) (i : ℕ) (e : K × X) → map.from_sorted es ≡ m → is_sorted R es ≡ true → fs ≡ es → IsPlace R q fs i → e ≡ get_or es i e → Some e.1 ≡ map.get m q
+  read_place q es fs i e shows s same at here =
+      ap (λ f. Some f.1) here ∙ sym (get_place q es i e s (subst (λ (gs : List (K × X)). IsPlace R q gs i) same at)) ∙ ap (λ m. map.get m q) shows
+
+  pub read_gap : {m : map.FinMap R X} (q : K) (es fs : List (K × X)) (i : ℕ) → map.from_sorted es ≡ m → is_sorted R es ≡ true → fs ≡ es → IsGap R q fs i → None ≡ map.get m q
+  read_gap q es fs i shows s same gap = sym (get_gap q es i s (subst (λ (gs : List (K × X)). IsGap R q gs i) same gap)) ∙ ap (λ m. map.get m q) shows
+
+  fits_place : {q : K} {i : ℕ} (es fs : List (K × X)) → fs ≡ es → IsPlace R q fs i → IsPlace R q es i
+  fits_place {q} {i} es fs same at = subst (λ (gs : List (K × X)). IsPlace R q gs i) same at
+
+  fits_gap : {q : K} {i : ℕ} (es fs : List (K × X)) → fs ≡ es → IsGap R q fs i → IsGap R q es i
+  fits_gap {q} {i} es fs same gap = subst (λ (gs : List (K × X)). IsGap R q gs i) same gap
+
+  pub no_place : {m : map.FinMap R X} (q : K) (es fs : List (K × X)) (i : ℕ) → map.from_sorted es ≡ m → is_sorted R es ≡ true → fs ≡ es → map.contains_key m q ≡ false → IsPlace R q fs i → ⊥
+  no_place q [] fs i shows s same none at = absurd (omega (arith, (fits_place [] fs same at).0))
+  no_place q (e ∷ es) fs i shows s same none at =
+      true≢false (ap is_some (sym (get_place q (e ∷ es) i e s (fits_place _ fs same at)) ∙ ap (λ m. map.get m q) shows) ∙ none)
+
+  pub no_gap : {m : map.FinMap R X} (q : K) (es fs : List (K × X)) (i : ℕ) → map.from_sorted es ≡ m → is_sorted R es ≡ true → fs ≡ es → map.contains_key m q ≡ true → IsGap R q fs i → ⊥
+  no_gap q es fs i shows s same some gap = true≢false (sym some ∙ ap is_some (sym (read_gap q es fs i shows s same gap)))
+
+  pub inserted_sorted : (q : K) (v : X) (es fs gs : List (K × X)) (i : ℕ) → is_sorted R es ≡ true → fs ≡ es → IsGap R q fs i → gs ≡ insert_item es i (q, v) → is_sorted R gs ≡ true
+  inserted_sorted q v es fs gs i s same gap new = ap (is_sorted R) new ∙ sorted_insert q v es i s (fits_gap es fs same gap)
+
+  pub inserted : {m : map.FinMap R X} (q : K) (v : X) (es fs gs : List (K × X)) (i : ℕ) → map.from_sorted es ≡ m → is_sorted R es ≡ true → fs ≡ es → IsGap R q fs i → gs ≡ insert_item es i (q, v) → map.from_sorted gs ≡ map.insert m q v
+  inserted q v es fs gs i shows s same gap new = ap map.from_sorted new ∙ insert_gap q v es i s (fits_gap es fs same gap) ∙ ap (λ m. map.insert m q v) shows
+
+  pub removed_sorted : (q : K) (es fs gs : List (K × X)) (i : ℕ) → is_sorted R es ≡ true → fs ≡ es → IsPlace R q fs i → gs ≡ remove es i → is_sorted R gs ≡ true
+  removed_sorted q es fs gs i s same at new = ap (is_sorted R) new ∙ sorted_remove q es i s (fits_place es fs same at)
+
+  pub removed : {m : map.FinMap R X} → map.IsAntisymmetric R → (q : K) (es fs gs : List (K × X)) (i : ℕ) → map.from_sorted es ≡ m → is_sorted R es ≡ true → fs ≡ es → IsPlace R q fs i → gs ≡ remove es i → map.from_sorted gs ≡ map.remove m q
+  removed anti q es fs gs i shows s same at new = ap map.from_sorted new ∙ remove_place anti q es i s (fits_place es fs same at) ∙ ap (λ m. map.remove m q) shows
+
+  pub shown_entries : {m : map.FinMap R X} (es fs : List (K × X)) → map.from_sorted es ≡ m → is_sorted R es ≡ true → fs ≡ es → fs ≡ map.entries m
+  shown_entries es fs shows s same = same ∙ sym (entries_of es s) ∙ ap map.entries shows
+
+  pub shown_length : {m : map.FinMap R X} (es : List (K × X)) (n : ℕ) → map.from_sorted es ≡ m → is_sorted R es ≡ true → n ≡ length es → n ≡ map.len m
+  shown_length {m} es n shows s same = same ∙ ap length (shown_entries es es shows s refl) ∙ sym (map.len-entries m)
+
+  pub changed_sorted : (q : K) (v : X) (es fs gs : List (K × X)) (i : ℕ) (e : K × X) → is_sorted R es ≡ true → fs ≡ es → IsPlace R q fs i → e ≡ get_or es i e → gs ≡ set es i (e.0, v) → is_sorted R gs ≡ true
+  changed_sorted q v es fs gs i e s same at here new =
+      ap (is_sorted R) (new ∙ ap (λ (f : K × X). set es i (f.0, v)) here) ∙ sorted_set q v es i e s (fits_place es fs same at)
+
+  pub changed : {m : map.FinMap R X} (q : K) (v : X) (es fs gs : List (K × X)) (i : ℕ) (e : K × X) → map.from_sorted es ≡ m → is_sorted R es ≡ true → fs ≡ es → IsPlace R q fs i → e ≡ get_or es i e → gs ≡ set es i (e.0, v) → map.from_sorted gs ≡ map.insert m q v
+  changed q v es fs gs i e shows s same at here new =
+      ap map.from_sorted (new ∙ ap (λ (f : K × X). set es i (f.0, v)) here) ∙ set_place q v es i e s (fits_place es fs same at) ∙ ap (λ m. map.insert m q v) shows

@@ -1,5 +1,5 @@
 //! A table by PID.
-ghost use Rattle.std.specs.Prelude.{◌≡◌, true, MatchResult, option_copied, OnOk, OnErr};
+ghost use Rattle.std.specs.Prelude.{◌≡◌, true, false, MatchResult, option_copied, OnOk, OnErr};
 ghost use Rattle.std.specs.Ordering.{nat_cmp};
 ghost use Rattle.std.specs.FinMap as map;
 ghost use Rattle.std.specs.FinMap.{is_sorted};
@@ -8,6 +8,7 @@ ghost use Rattle.cg_tree.specs.Places.{IsPlace, IsGap};
 use crate::memory::NoMemory;
 use crate::process::Pid;
 use std::alloc::Global;
+use std::cmp::Ordering;
 use std::marker::Model;
 
 /// A map from PIDs, kept as a list that rises.
@@ -36,7 +37,9 @@ fn search<V>(entries: &[(Pid, V)], pid: Pid) -> Result<usize, usize>
     requires { is_sorted nat_cmp entries.now ≡ true }
     ensures { MatchResult result (IsPlace nat_cmp pid entries.now) (IsGap nat_cmp pid entries.now) }
 {
-    entries.binary_search_by(|entry| entry.0.cmp(&pid))
+    entries.binary_search_by(|entry: &(Pid, V)| -> Ordering
+        ensures { result ≡ nat_cmp entry.now.0 pid }
+    { entry.0.cmp(&pid) })
 }
 
 impl<V> PidTable<V> {
@@ -56,6 +59,61 @@ impl<V> PidTable<V> {
         match search(&self.entries, pid) {
             Ok(at) => Some(&self.entries[at].1),
             Err(_) => None,
+        }
+    }
+
+    /// How many PIDs the table has.
+    pub fn len(&self) -> usize
+        ensures { result ≡ map.len self.now }
+    {
+        self.entries.len()
+    }
+
+    /// The entries, their PIDs rising.
+    pub fn entries(&self) -> &[(Pid, V)]
+        ensures { result.now ≡ map.entries self.now }
+    {
+        &self.entries
+    }
+
+    /// Whether the table has a PID.
+    pub fn contains(&self, pid: Pid) -> bool
+        ensures { result ≡ map.contains_key self.now pid }
+    {
+        self.get(pid).is_some()
+    }
+}
+
+impl<V: Drop> PidTable<V> {
+    /// Adds a PID. Fails where memory is wanted.
+    pub fn insert(&mut self, pid: Pid, value: V) -> Result<(), NoMemory>
+        requires { map.contains_key self.old pid ≡ false }
+        ensures ok { OnOk result (self.new ≡ map.insert self.old pid value) }
+        ensures err { OnErr result (self.new ≡ self.old) }
+    {
+        if let Err(at) = search(&self.entries, pid) {
+            self.entries.insert(at, (pid, value))?;
+        }
+        Ok(())
+    }
+
+    /// Sets the value of a PID of the table.
+    pub fn set(&mut self, pid: Pid, value: V)
+        requires { map.contains_key self.old pid ≡ true }
+        ensures { self.new ≡ map.insert self.old pid value }
+    {
+        if let Ok(at) = search(&self.entries, pid) {
+            self.entries[at].1 = value;
+        }
+    }
+
+    /// Removes a PID of the table.
+    pub fn remove(&mut self, pid: Pid)
+        requires { map.contains_key self.old pid ≡ true }
+        ensures { self.new ≡ map.remove self.old pid }
+    {
+        if let Ok(at) = search(&self.entries, pid) {
+            let _ = self.entries.remove(at);
         }
     }
 }
