@@ -1,6 +1,8 @@
 //! The commands over bytes: a tree's text and a writer in, a status or a fault out.
 #![tactic(auto)]
 
+pub mod fault;
+pub mod input;
 #[cfg(test)]
 mod tests;
 pub mod write;

@@ -1,3 +1,5 @@
 //! What no clause says: that good calls succeed, and that a failed write is never tried again.
+mod input;
+mod readers;
 mod writers;
 mod written;
