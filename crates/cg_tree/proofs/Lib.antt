@@ -5,3 +5,6 @@ pub mod StateLaws
 pub mod StateTests
 pub mod FormedRows
 pub mod Sorted
+pub mod CgroupLaws
+pub mod ControllerLaws
+pub mod UserLaws

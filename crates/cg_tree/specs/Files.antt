@@ -21,6 +21,12 @@ controller_name Cpu = codes "cpu"
 controller_name Memory = codes "memory"
 controller_name Pids = codes "pids"
 
+abbrev pub same_controller : Controller → Controller → Bool
+same_controller Cpu Cpu = true
+same_controller Memory Memory = true
+same_controller Pids Pids = true
+same_controller controller other = false
+
 abbrev pub enables : ControllerSet → Controller → Bool
 enables set Cpu = set.cpu
 enables set Memory = set.memory
@@ -44,6 +50,24 @@ is_within set other = list_all (λ controller. not (enables set controller) || e
 -- The order used everywhere. Core Interface Files; CPU, Memory and PID.
 abbrev pub all_files : List LimitFile
 all_files = MaxDescendants ∷ MaxDepth ∷ CpuWeight ∷ MemoryMin ∷ MemoryLow ∷ MemoryHigh ∷ MemoryMax ∷ PidsMax ∷ []
+
+abbrev pub same_file : LimitFile → LimitFile → Bool
+same_file MaxDescendants MaxDescendants = true
+same_file MaxDepth MaxDepth = true
+same_file CpuWeight CpuWeight = true
+same_file MemoryMin MemoryMin = true
+same_file MemoryLow MemoryLow = true
+same_file MemoryHigh MemoryHigh = true
+same_file MemoryMax MemoryMax = true
+same_file PidsMax PidsMax = true
+same_file file other = false
+
+abbrev pub same_entry : EntryName → EntryName → Bool
+same_entry Dir Dir = true
+same_entry Procs Procs = true
+same_entry SubtreeControl SubtreeControl = true
+same_entry (File file) (File other) = same_file file other
+same_entry name other = false
 
 abbrev pub file_name : LimitFile → List ℕ
 file_name MaxDescendants = texts.cgroup_max_descendants
