@@ -1,13 +1,11 @@
 -- What the entries, files and values of a cgroup are after each change, and those of a new cgroup.
-use Rattle.std.proofs.Common.{◌≡◌, ℕ, ◌≤◌, Bool, true, false, cond, refl, ap, sym, subst, ◌∙◌, lit≤}
-use Rattle.std.proofs.lemmas.Option.{none-some, same_Some}
+use Rattle.std.proofs.Common.{◌≡◌, ℕ, Bool, true, false, cond, refl, ap, ◌∙◌}
 use Rattle.std.specs.Prelude.{Option, Some, None, is_some, unwrap_or}
 use Rattle.std.specs.Option.{option_map}
 use Rattle.cg_tree.specs.Identity.{Identity}
 use Rattle.cg_tree.specs.Users.{entry_made_by}
 use Rattle.cg_tree.specs.Files.{accepts, default_value, stands_under, same_file, same_entry}
 use Rattle.cg_tree.specs.Cgroups.{file_of, entry_in, value_in, with_file, with_value_of, with_value_in, with_mode_of, with_file_mode_of, with_mode_in, file_made_by, refitted, with_files_of, cgroup_made_by}
-use Rattle.cg_tree.specs.declared.user.Entry.{Entry}
 use Rattle.cg_tree.specs.declared.files.Limit.{Limit}
 use Rattle.cg_tree.specs.declared.files.ControllerSet.{ControllerSet}
 use Rattle.cg_tree.specs.declared.files.LimitFile.{LimitFile}
@@ -176,84 +174,22 @@ same-with_files_of enabled user row file h = file_of-with_files_of enabled user 
 
 -- ---- a new cgroup
 
-pub file_of-made_by : (user : Identity) (enabled : ControllerSet) (file : LimitFile) → file_of (cgroup_made_by user enabled) file ≡ cond (stands_under enabled file) (Some (file_made_by user file)) None
-file_of-made_by user enabled MaxDescendants = refl
-file_of-made_by user enabled file = refl
+pub file_of-cgroup_made_by : (user : Identity) (enabled : ControllerSet) (file : LimitFile) → file_of (cgroup_made_by user enabled) file ≡ cond (stands_under enabled file) (Some (file_made_by user file)) None
+file_of-cgroup_made_by user enabled MaxDescendants = refl
+file_of-cgroup_made_by user enabled file = refl
 
 made_part : (b : Bool) (x : LimitEntry) → option_map (λ x. x.entry) (cond b (Some x) None) ≡ cond b (Some x.entry) None
 made_part false x = refl
 made_part true x = refl
 
-pub entry_in-made_by : (user : Identity) (enabled : ControllerSet) (file : LimitFile) → entry_in (cgroup_made_by user enabled) (File file) ≡ cond (stands_under enabled file) (Some (entry_made_by user 420)) None
-entry_in-made_by user enabled file = ap (option_map (λ x. x.entry)) (file_of-made_by user enabled file) ∙ made_part (stands_under enabled file) (file_made_by user file)
+pub entry_in-cgroup_made_by : (user : Identity) (enabled : ControllerSet) (file : LimitFile) → entry_in (cgroup_made_by user enabled) (File file) ≡ cond (stands_under enabled file) (Some (entry_made_by user 420)) None
+entry_in-cgroup_made_by user enabled file = ap (option_map (λ x. x.entry)) (file_of-cgroup_made_by user enabled file) ∙ made_part (stands_under enabled file) (file_made_by user file)
 
-pub stands-made_by : (user : Identity) (enabled : ControllerSet) (file : LimitFile) → is_some (file_of (cgroup_made_by user enabled) file) ≡ stands_under enabled file
-stands-made_by user enabled file = ap is_some (file_of-made_by user enabled file) ∙ is_some-cond (stands_under enabled file) (file_made_by user file)
+pub stands-cgroup_made_by : (user : Identity) (enabled : ControllerSet) (file : LimitFile) → is_some (file_of (cgroup_made_by user enabled) file) ≡ stands_under enabled file
+stands-cgroup_made_by user enabled file = ap is_some (file_of-cgroup_made_by user enabled file) ∙ is_some-cond (stands_under enabled file) (file_made_by user file)
 
--- ---- values that are accepted, and modes
+-- ---- values that are accepted
 
-pub accepts-default : (file : LimitFile) → accepts file (default_value file) ≡ true
-accepts-default MaxDescendants = refl
-accepts-default file = refl
-
--- each limit file has a value that it accepts
-abbrev pub HasValues : Cgroup → Type 0
-HasValues row = (file : LimitFile) (held : LimitEntry) → file_of row file ≡ Some held → accepts file held.value ≡ true
-
--- each entry has a mode of at most 0o777
-abbrev pub HasModes : Cgroup → Type 0
-HasModes row = (name : EntryName) (entry : Entry) → entry_in row name ≡ Some entry → entry.mode ≤ 511
-
-changed_some : {A : Type 0} (P : A → Type 0) (b : Bool) (f : A → A) (o : Option A) (y : A) → (b ≡ true → (x : A) → o ≡ Some x → P (f x)) → ((x : A) → o ≡ Some x → P x) → cond b (option_map f o) o ≡ Some y → P y
-changed_some P true f None y changed kept h = absurd (none-some y h)
-changed_some P true f (Some x) y changed kept h = subst P (same_Some (f x) y h) (changed refl x refl)
-changed_some P false f o y changed kept h = kept y h
-
-refitted_some : {A : Type 0} (P : A → Type 0) (b : Bool) (new : A) (o : Option A) (y : A) → P new → ((x : A) → o ≡ Some x → P x) → cond b (Some (unwrap_or o new)) None ≡ Some y → P y
-refitted_some P false new o y made kept h = absurd (none-some y h)
-refitted_some P true new None y made kept h = subst P (same_Some new y h) made
-refitted_some P true new (Some x) y made kept h = kept y h
-
-pub HasValues-with_value_in : (file : LimitFile) (value : Limit) (row : Cgroup) → accepts file value ≡ true → HasValues row → HasValues (with_value_in file value row)
-HasValues-with_value_in file value row accepted old other held h =
-    changed_some (λ x. accepts other x.value ≡ true) (same_file file other) (with_value_of value) (file_of row other) held
-    (λ e x _. subst (λ f. accepts f value ≡ true) (same_file-true file other e) accepted) (old other) (sym (file_of-with_value_in file value row other) ∙ h)
-
-pub HasValues-with_mode_in : (name : EntryName) (mode : ℕ) (row : Cgroup) → HasValues row → HasValues (with_mode_in name mode row)
-HasValues-with_mode_in name mode row old file held h =
-    changed_some (λ x. accepts file x.value ≡ true) (same_entry name (File file)) (with_file_mode_of mode) (file_of row file) held
-    (λ _ x e. old file x e) (old file) (sym (file_of-with_mode_in name mode row file) ∙ h)
-
-pub HasValues-with_files_of : (enabled : ControllerSet) (user : Identity) (row : Cgroup) → HasValues row → HasValues (with_files_of enabled user row)
-HasValues-with_files_of enabled user row old file held h =
-    refitted_some (λ x. accepts file x.value ≡ true) (stands_under enabled file) (file_made_by user file) (file_of row file) held
-    (accepts-default file) (old file) (sym (file_of-with_files_of enabled user row file) ∙ h)
-
-pub HasValues-made_by : (user : Identity) (enabled : ControllerSet) → HasValues (cgroup_made_by user enabled)
-HasValues-made_by user enabled file held h =
-    refitted_some (λ x. accepts file x.value ≡ true) (stands_under enabled file) (file_made_by user file) None held
-    (accepts-default file) (λ x e. absurd (none-some x e)) (sym (file_of-made_by user enabled file) ∙ h)
-
-pub HasModes-with_value_in : (file : LimitFile) (value : Limit) (row : Cgroup) → HasModes row → HasModes (with_value_in file value row)
-HasModes-with_value_in file value row old name entry h = old name entry (sym (entry_in-with_value_in file value row name) ∙ h)
-
-pub HasModes-with_mode_in : (name : EntryName) (mode : ℕ) (row : Cgroup) → mode ≤ 511 → HasModes row → HasModes (with_mode_in name mode row)
-HasModes-with_mode_in name mode row small old other entry h =
-    changed_some (λ x. x.mode ≤ 511) (same_entry name other) (with_mode_of mode) (entry_in row other) entry
-    (λ _ x _. small) (old other) (sym (entry_in-with_mode_in name mode row other) ∙ h)
-
-pub HasModes-with_files_of : (enabled : ControllerSet) (user : Identity) (row : Cgroup) → HasModes row → HasModes (with_files_of enabled user row)
-HasModes-with_files_of enabled user row old (File file) entry h =
-    refitted_some (λ x. x.mode ≤ 511) (stands_under enabled file) (entry_made_by user 420) (entry_in row (File file)) entry
-    (lit≤ tt) (old (File file)) (sym (entry_in-with_files_of enabled user row file) ∙ h)
-HasModes-with_files_of enabled user row old Dir entry h = old Dir entry h
-HasModes-with_files_of enabled user row old Procs entry h = old Procs entry h
-HasModes-with_files_of enabled user row old SubtreeControl entry h = old SubtreeControl entry h
-
-pub HasModes-made_by : (user : Identity) (enabled : ControllerSet) → HasModes (cgroup_made_by user enabled)
-HasModes-made_by user enabled (File file) entry h =
-    refitted_some (λ x. x.mode ≤ 511) (stands_under enabled file) (entry_made_by user 420) None entry
-    (lit≤ tt) (λ x e. absurd (none-some x e)) (sym (entry_in-made_by user enabled file) ∙ h)
-HasModes-made_by user enabled Dir entry h = subst (λ x. x.mode ≤ 511) (same_Some (entry_made_by user 493) entry h) (lit≤ tt)
-HasModes-made_by user enabled Procs entry h = subst (λ x. x.mode ≤ 511) (same_Some (entry_made_by user 420) entry h) (lit≤ tt)
-HasModes-made_by user enabled SubtreeControl entry h = subst (λ x. x.mode ≤ 511) (same_Some (entry_made_by user 420) entry h) (lit≤ tt)
+pub accepts-default_value : (file : LimitFile) → accepts file (default_value file) ≡ true
+accepts-default_value MaxDescendants = refl
+accepts-default_value file = refl
