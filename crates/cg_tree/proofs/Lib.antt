@@ -1,5 +1,8 @@
 pub mod PathOrder
 pub mod PathParents
+pub mod PathEnds
+pub mod PathNames
+pub mod PathSteps
 pub mod MapLaws
 pub mod StateLaws
 pub mod StateTests

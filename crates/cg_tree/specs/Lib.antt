@@ -1,5 +1,6 @@
 pub mod Texts
 pub mod Paths
+pub mod PathText
 pub mod Numbers
 pub mod Identity
 pub mod Users
