@@ -9,5 +9,6 @@ pub mod StateTests
 pub mod FormedRows
 pub mod Sorted
 pub mod CgroupLaws
+pub mod NameLaws
 pub mod ControllerLaws
 pub mod UserLaws

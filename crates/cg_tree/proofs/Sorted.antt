@@ -87,9 +87,9 @@ module _ {K X : Type 0} {R : K → K → Ordering} (o : IsTotalOrder R) where
 
   find_gap : (q : K) (es : List (K × X)) (i : ℕ) → IsPartitionPoint (λ e. R e.0 q ≡ Less) (λ e. R e.0 q ≡ Greater) es i → find R q es ≡ None
   find_gap q es i gap = find_none q es (λ k d l. elim (cases_lt k i) [
-      | inl b ↦ below_tests o _ q (gap.0 k d (omega arith) b)
-      | inr f ↦ above_tests o _ q (gap.1 k d f l)
-    ])
+    | inl b ↦ below_tests o _ q (gap.0 k d (omega arith) b)
+    | inr f ↦ above_tests o _ q (gap.1 k d f l)
+  ])
 
   -- ---- inserting, changing and removing
 
@@ -164,13 +164,13 @@ module _ {K X : Type 0} {R : K → K → Ordering} (o : IsTotalOrder R) where
   pub remove_place : map.IsAntisymmetric R → (q : K) (es : List (K × X)) (i : ℕ) → is_sorted R es ≡ true → IsPlace R q es i → map.from_sorted {R = R} (remove es i) ≡ map.remove (map.from_sorted {R = R} es) q
   remove_place same q es i s at =
       map.same_map o same _ _ (λ x.
-        map.get-from_sorted R _ x (passes _ (sorted_remove q es i s at))
-        ∙ ap (find R x) (remove_at q es i s at.0 at.1)
-        ∙ find-where_key R (λ y. not (eq_by_cmp R q y)) x (λ y e. ap (λ r. not (is_eq r)) (sym (alike_right o x y q e))) es
-        ∙ turn_not (eq_by_cmp R q x) _ _
-        ∙ ap (λ b. cond b None (find R x es)) ((eq_by_cmp_equiv o).symm q x)
-        ∙ ap (λ w. cond (eq_by_cmp R x q) None w) (sym (map.get-from_sorted R es x (passes _ s)))
-        ∙ sym (map.get-remove o (map.from_sorted {R = R} es) q x))
+      map.get-from_sorted R _ x (passes _ (sorted_remove q es i s at))
+      ∙ ap (find R x) (remove_at q es i s at.0 at.1)
+      ∙ find-where_key R (λ y. not (eq_by_cmp R q y)) x (λ y e. ap (λ r. not (is_eq r)) (sym (alike_right o x y q e))) es
+      ∙ turn_not (eq_by_cmp R q x) _ _
+      ∙ ap (λ b. cond b None (find R x es)) ((eq_by_cmp_equiv o).symm q x)
+      ∙ ap (λ w. cond (eq_by_cmp R x q) None w) (sym (map.get-from_sorted R es x (passes _ s)))
+      ∙ sym (map.get-remove o (map.from_sorted {R = R} es) q x))
 
   -- what a binary search answers
   pub sought : (q : K) (es : List (K × X)) (r : Result ℕ ℕ) → is_sorted R es ≡ true → IsSearchInRange r (length es) → IsBinarySearchResult (λ e. R e.0 q) es r → MatchResult r (IsPlace R q es) (IsGap R q es)

@@ -1,6 +1,7 @@
 -- Controllers and limit files: their names, where they stand, their defaults and the values that they take.
-use Rattle.std.specs.Prelude.{ℕ, Bool, true, false, ◌&&◌, ◌||◌, not, nat_le, List, [], ◌∷◌, Option, Some, None, codes}
-use Rattle.std.specs.List.{list_all}
+use Rattle.std.specs.Prelude.{◌≡◌, ℕ, Bool, true, false, ◌&&◌, ◌||◌, not, nat_le, map, List, [], ◌∷◌, Option, Some, None, codes}
+use Rattle.std.specs.List.{find, list_all}
+use Rattle.cg_tree.specs.Paths.{same_name}
 use Rattle.cg_tree.specs.Texts as texts
 use Rattle.cg_tree.specs.declared.files.Limit.{Limit}
 use Rattle.cg_tree.specs.declared.files.Limit.TheVariants.{Max, At}
@@ -12,6 +13,12 @@ use Rattle.cg_tree.specs.declared.files.LimitFile.TheVariants.{MaxDescendants, M
 use Rattle.cg_tree.specs.declared.files.EntryName.{EntryName}
 use Rattle.cg_tree.specs.declared.files.EntryName.TheVariants.{Dir, Procs, SubtreeControl, File}
 
+-- Names by which things are found: each thing by its own, what is found has the name that was sought, and no two names are equal.
+pub record AreNames {A : Type 0} (name : A → List ℕ) (look_up : List ℕ → Option A) : Type 0 where
+  pub found : (x : A) → look_up (name x) ≡ Some x
+  pub named : (text : List ℕ) (x : A) → look_up text ≡ Some x → text ≡ name x
+  pub distinct : (x y : A) → name x ≡ name y → x ≡ y
+
 -- Own: the order used everywhere.
 abbrev pub all_controllers : List Controller
 all_controllers = Cpu ∷ Memory ∷ Pids ∷ []
@@ -20,6 +27,10 @@ abbrev pub controller_name : Controller → List ℕ
 controller_name Cpu = codes "cpu"
 controller_name Memory = codes "memory"
 controller_name Pids = codes "pids"
+
+-- the controller of a name
+abbrev pub controller_named : List ℕ → Option Controller
+controller_named text = find (λ controller. same_name text (controller_name controller)) all_controllers
 
 abbrev pub same_controller : Controller → Controller → Bool
 same_controller Cpu Cpu = true
@@ -79,11 +90,22 @@ file_name MemoryHigh = texts.memory_high
 file_name MemoryMax = texts.memory_max
 file_name PidsMax = texts.pids_max
 
+-- the limit file of a name
+abbrev pub file_named : List ℕ → Option LimitFile
+file_named text = find (λ file. same_name text (file_name file)) all_files
+
+abbrev pub all_entries : List EntryName
+all_entries = Dir ∷ Procs ∷ SubtreeControl ∷ map File all_files
+
 abbrev pub entry_text : EntryName → List ℕ
 entry_text Dir = codes "dir"
 entry_text Procs = texts.cgroup_procs
 entry_text SubtreeControl = texts.cgroup_subtree_control
 entry_text (File file) = file_name file
+
+-- the entry of a name
+abbrev pub entry_named : List ℕ → Option EntryName
+entry_named text = find (λ name. same_name text (entry_text name)) all_entries
 
 -- The controller that brings a file. The two of the core stand at every cgroup. Enabling and Disabling; Core Interface Files.
 abbrev pub controller_of : LimitFile → Option Controller

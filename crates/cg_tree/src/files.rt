@@ -1,6 +1,6 @@
 //! Controllers, and the limit files that they bring.
-ghost use Rattle.std.specs.Prelude.{◌≡◌};
-ghost use Rattle.cg_tree.specs.Files.{enables, with_controller, no_controllers, enables_nothing, is_within, controller_of, default_value, accepts, stands_under};
+ghost use Rattle.std.specs.Prelude.{◌≡◌, ◌≢◌, IfSome, IfNone};
+ghost use Rattle.cg_tree.specs.Files.{enables, with_controller, no_controllers, enables_nothing, is_within, controller_of, default_value, accepts, stands_under, AreNames, controller_name, controller_named, file_name, file_named, entry_text, entry_named};
 
 /// The value of a limit file: `max`, or a number.
 #[derive(Clone, Copy, Debug, PartialEq, Eq)]
@@ -15,6 +15,36 @@ pub enum Controller {
     Cpu,
     Memory,
     Pids,
+}
+
+impl Controller {
+    /// The controllers, in their order.
+    pub const ALL: [Controller; 3] = [Controller::Cpu, Controller::Memory, Controller::Pids];
+
+    /// The name.
+    pub fn name(self) -> &'static str
+        ensures { result.now ≡ controller_name self }
+    {
+        match self {
+            Controller::Cpu => "cpu",
+            Controller::Memory => "memory",
+            Controller::Pids => "pids",
+        }
+    }
+
+    /// The controller of a name, where it is one.
+    pub fn from_name(text: &str) -> Option<Controller>
+        ensures found { result ≡ controller_named text.now }
+        ensures named { IfSome result (λ controller. text.now ≡ controller_name controller) }
+        ensures unnamed { IfNone result ((controller : Controller) → text.now ≢ controller_name controller) }
+    {
+        match text {
+            "cpu" => Some(Controller::Cpu),
+            "memory" => Some(Controller::Memory),
+            "pids" => Some(Controller::Pids),
+            _ => None,
+        }
+    }
 }
 
 /// A set of controllers.
@@ -91,6 +121,41 @@ impl LimitFile {
     /// The greatest number that a limit file takes, `cpu.weight` apart.
     pub const GREATEST: u64 = 9223372036854775807;
 
+    /// The name.
+    pub fn name(self) -> &'static str
+        ensures { result.now ≡ file_name self }
+    {
+        match self {
+            LimitFile::MaxDescendants => "cgroup.max.descendants",
+            LimitFile::MaxDepth => "cgroup.max.depth",
+            LimitFile::CpuWeight => "cpu.weight",
+            LimitFile::MemoryMin => "memory.min",
+            LimitFile::MemoryLow => "memory.low",
+            LimitFile::MemoryHigh => "memory.high",
+            LimitFile::MemoryMax => "memory.max",
+            LimitFile::PidsMax => "pids.max",
+        }
+    }
+
+    /// The limit file of a name, where it is one.
+    pub fn from_name(text: &str) -> Option<LimitFile>
+        ensures found { result ≡ file_named text.now }
+        ensures named { IfSome result (λ file. text.now ≡ file_name file) }
+        ensures unnamed { IfNone result ((file : LimitFile) → text.now ≢ file_name file) }
+    {
+        match text {
+            "cgroup.max.descendants" => Some(LimitFile::MaxDescendants),
+            "cgroup.max.depth" => Some(LimitFile::MaxDepth),
+            "cpu.weight" => Some(LimitFile::CpuWeight),
+            "memory.min" => Some(LimitFile::MemoryMin),
+            "memory.low" => Some(LimitFile::MemoryLow),
+            "memory.high" => Some(LimitFile::MemoryHigh),
+            "memory.max" => Some(LimitFile::MemoryMax),
+            "pids.max" => Some(LimitFile::PidsMax),
+            _ => None,
+        }
+    }
+
     /// The controller that brings the file; `None` for the two that stand at every cgroup.
     pub fn controller(self) -> Option<Controller>
         ensures { result ≡ controller_of self }
@@ -152,3 +217,39 @@ pub enum EntryName {
     SubtreeControl,
     File(LimitFile),
 }
+
+impl EntryName {
+    /// The name; a directory's is `dir`.
+    pub fn name(self) -> &'static str
+        ensures { result.now ≡ entry_text self }
+    {
+        match self {
+            EntryName::Dir => "dir",
+            EntryName::Procs => "cgroup.procs",
+            EntryName::SubtreeControl => "cgroup.subtree_control",
+            EntryName::File(file) => file.name(),
+        }
+    }
+
+    /// The entry of a name, where it is one.
+    pub fn from_name(text: &str) -> Option<EntryName>
+        ensures found { result ≡ entry_named text.now }
+        ensures named { IfSome result (λ name. text.now ≡ entry_text name) }
+        ensures unnamed { IfNone result ((name : EntryName) → text.now ≢ entry_text name) }
+    {
+        match text {
+            "dir" => Some(EntryName::Dir),
+            "cgroup.procs" => Some(EntryName::Procs),
+            "cgroup.subtree_control" => Some(EntryName::SubtreeControl),
+            _ => LimitFile::from_name(text).map(EntryName::File),
+        }
+    }
+}
+
+/// The law of names: a controller, a limit file and an entry is found by its name, what is found has the name that was
+/// sought, and no two names of a kind are equal.
+pub fn names_are_exact()
+    ensures controllers { AreNames controller_name controller_named }
+    ensures files { AreNames file_name file_named }
+    ensures entries { AreNames entry_text entry_named }
+{}

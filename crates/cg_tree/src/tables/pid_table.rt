@@ -37,9 +37,11 @@ fn search<V>(entries: &[(Pid, V)], pid: Pid) -> Result<usize, usize>
     requires { is_sorted nat_cmp entries.now ≡ true }
     ensures { MatchResult result (IsPlace nat_cmp pid entries.now) (IsGap nat_cmp pid entries.now) }
 {
-    entries.binary_search_by(|entry: &(Pid, V)| -> Ordering
-        ensures { result ≡ nat_cmp entry.now.0 pid }
-    { entry.0.cmp(&pid) })
+    entries.binary_search_by(
+        |entry: &(Pid, V)| -> Ordering
+            ensures { result ≡ nat_cmp entry.now.0 pid }
+        { entry.0.cmp(&pid) },
+    )
 }
 
 impl<V> PidTable<V> {
