@@ -12,7 +12,7 @@ use Rattle.cg_text.specs.declared.tree.fault.Place.TheVariants.{Top, Cgroup, Pro
 use Rattle.cg_text.specs.declared.tree.fault.TreeFault.{TreeFault}
 use Rattle.cg_text.specs.declared.tree.fault.TreeFault.TheVariants.{Shape, Format as BadFormat, TooMany}
 use Rattle.cg_text.specs.declared.tree.document.TableKind.{TableKind}
-use Rattle.cg_text.specs.declared.tree.document.TableKind.TheVariants.{TopTable, CgroupTable, ProcessTable, FilesTable, EntryTable, FileTable}
+use Rattle.cg_text.specs.declared.tree.document.TableKind.TheVariants.{DocumentTable, CgroupTable, ProcessTable, FilesTable, EntryTable, FileTable}
 use Rattle.cg_text.specs.declared.tree.records.Format.{Format}
 use Rattle.cg_text.specs.declared.tree.records.Format.TheVariants.{One, Two}
 use Rattle.cg_text.specs.declared.tree.records.EntryRecord.{EntryRecord}
@@ -33,7 +33,7 @@ is_two Two = true
 
 -- the keys that a table may have
 abbrev pub is_key : TableKind → Text → Bool
-is_key TopTable key =
+is_key DocumentTable key =
     (same_name key (codes "format") || same_name key (codes "controllers")) || (same_name key (codes "cgroup") || same_name key (codes "process"))
 is_key CgroupTable key =
     (same_name key (codes "path") || same_name key (codes "enabled")) || (same_name key (codes "dir") || same_name key (codes "files"))
@@ -140,7 +140,7 @@ cgroup_keys format keys = do
   files ← with_default no_files (files_of format) (get_member (codes "files") keys)
   Some (record { path = path; enabled = enabled; dir = dir; files = files })
 
-abbrev pub cgroup_of : Format → Data → Option CgroupRow
+unfoldable pub cgroup_of : Format → Data → Option CgroupRow
 cgroup_of format (table keys) = if has_only CgroupTable keys then cgroup_keys format keys else None
 cgroup_of format _ = None
 
@@ -151,7 +151,7 @@ process_keys keys = do
   at ← required as_str (get_member (codes "at") keys)
   Some (record { pid = pid; uid = uid; at = at })
 
-abbrev pub process_of : Data → Option ProcessRow
+unfoldable pub process_of : Data → Option ProcessRow
 process_of (table keys) = if has_only ProcessTable keys then process_keys keys else None
 process_of _ = None
 
@@ -176,8 +176,8 @@ top_keys keys = do
   processes ← with_default no_items items_in (get_member (codes "process") keys)
   Some (record { format = format; controllers = controllers; cgroups = cgroups; processes = processes })
 
-abbrev pub top_of : Members → Option TopKeys
-top_of keys = if has_only TopTable keys then top_keys keys else None
+unfoldable pub top_of : Members → Option TopKeys
+top_of keys = if has_only DocumentTable keys then top_keys keys else None
 
 -- 1 and 2
 abbrev pub format_of : ℤ → Option Format
@@ -198,15 +198,18 @@ rows_from read place i (item held rest) =
 abbrev pub most_rows : ℕ
 most_rows = 4096
 
-abbrev pub records_as : TopKeys → Format → Result TreeRecords TreeFault
+abbrev pub has_few_rows : TopKeys → Bool
+has_few_rows top = nat_le (count_of top.cgroups) most_rows && nat_le (count_of top.processes) most_rows
+
+unfoldable pub records_as : TopKeys → Format → Result TreeRecords TreeFault
 records_as top format =
     fault.bind (rows_from (cgroup_of format) Cgroup 1 top.cgroups) (λ cgroups.
     fault.bind (rows_from process_of Process 1 top.processes) (λ processes.
     Ok (record { format = format; controllers = top.controllers; cgroups = cgroups; processes = processes })))
 
 -- The form of a document, tested in this order: the top table, the format, how many rows there are, each row.
-abbrev pub records_of : Members → Result TreeRecords TreeFault
+unfoldable pub records_of : Members → Result TreeRecords TreeFault
 records_of keys =
     fault.bind (or_fault (top_of keys) (Shape Top)) (λ top.
     fault.bind (or_fault (format_of top.format) BadFormat) (λ format.
-    if nat_le (count_of top.cgroups) most_rows && nat_le (count_of top.processes) most_rows then records_as top format else Err TooMany))
+    if has_few_rows top then records_as top format else Err TooMany))

@@ -1,3 +1,4 @@
 pub mod Faults
 pub mod Records
 pub mod Document
+pub mod TopView

@@ -1,26 +1,31 @@
 //! From a TOML document to plain records.
-ghost use Rattle.std.specs.Prelude.{◌≡◌, Some, None, map, [], codes};
+ghost use Rattle.std.specs.Prelude.{◌≡◌, true, ◌≤◌, ◌<◌, ◌+◌, length, Some, None, map, [], codes};
 ghost use Rattle.std.specs.Option.{option_map, option_copied};
-ghost use Rattle.toml.specs.Data.{get_member, as_integer, as_str};
-ghost use Rattle.toml.specs.View.{view, table_view, array_view};
+ghost use Rattle.toml.specs.Data.{get_member, as_integer, as_str, no_items};
+ghost use Rattle.toml.specs.View.{view, table_view, array_view, items_view};
 ghost use Rattle.cg_text.specs.declared.tree.document.TableKind.TheVariants.{FilesTable, EntryTable};
 ghost use Rattle.cg_text.specs.declared.tree.fault.TreeFault.TheVariants.{Shape};
+ghost use Rattle.cg_text.specs.declared.tree.fault.Place.TheVariants.{Top, Cgroup, Process};
 ghost use Rattle.cg_text.specs.Records.{no_entry, no_files};
-ghost use Rattle.cg_text.specs.Document.{optional, required, with_default, has_only, is_key, entry_keys, entry_of, value_of, file_keys, file_of, files_keys, files_of, texts_of, texts_in, cgroup_keys, cgroup_of, process_keys, process_of};
+ghost use Rattle.cg_text.specs.Document.{optional, required, with_default, has_only, is_key, entry_keys, entry_of, value_of, file_keys, file_of, files_keys, files_of, texts_of, texts_in, cgroup_keys, cgroup_of, process_keys, process_of, rows_from, items_in, top_keys, top_of, format_of, has_few_rows, records_as, records_of};
+ghost use Rattle.cg_text.specs.TopView.{top_view};
 ghost use Rattle.cg_text.specs.Faults.{Reads, or_fault};
 
 use crate::tree::fault::{Place, TreeFault};
 use crate::tree::records::{
-    CgroupRecord, EntryRecord, FileRecord, FilesRecord, Format, ProcessRecord, ValueRecord,
+    CgroupRecord, EntryRecord, FileRecord, FilesRecord, Format, ProcessRecord, Records, ValueRecord,
 };
 use std::alloc::Global;
 use toml::value::Array;
 use toml::{Table, Value};
 
+/// The largest number of cgroups, and of processes.
+const MOST_ROWS: usize = 4096;
+
 /// The tables of a tree text, by the keys that they may have.
 #[derive(Clone, Copy, Debug, PartialEq, Eq)]
 enum TableKind {
-    TopTable,
+    DocumentTable,
     CgroupTable,
     ProcessTable,
     FilesTable,
@@ -64,7 +69,7 @@ fn is_key(kind: TableKind, key: &str) -> bool
     ensures { result ≡ is_key kind key.now }
 {
     match kind {
-        TableKind::TopTable => matches!(key, "format" | "controllers" | "cgroup" | "process"),
+        TableKind::DocumentTable => matches!(key, "format" | "controllers" | "cgroup" | "process"),
         TableKind::CgroupTable => matches!(key, "path" | "enabled" | "dir" | "files"),
         TableKind::ProcessTable => matches!(key, "pid" | "uid" | "at"),
         TableKind::FilesTable => is_file_name(key),
@@ -291,6 +296,7 @@ fn cgroup_keys<'a>(
     })
 }
 
+#[tactic(auto, unfolding(crate::specs::Document::cgroup_of))]
 fn cgroup_of<'a>(
     alloc: Global,
     format: Format,
@@ -318,6 +324,7 @@ fn process_keys<'a>(table: &'a Table) -> Option<ProcessRecord<'a>>
     Some(ProcessRecord { pid, uid, at })
 }
 
+#[tactic(auto, unfolding(crate::specs::Document::process_of))]
 fn process_of<'a>(value: &'a Value) -> Option<ProcessRecord<'a>>
     ensures { result ≡ process_of (view value.now) }
 {
@@ -326,4 +333,158 @@ fn process_of<'a>(value: &'a Value) -> Option<ProcessRecord<'a>>
         return None;
     }
     process_keys(table)
+}
+
+/// The number of a row that stands at `index` in its array.
+fn row_number(index: usize) -> u32
+    requires { index < 4096 }
+    ensures { result ≡ index + 1 }
+{
+    index as u32 + 1
+}
+
+fn cgroup_rows<'a>(
+    alloc: Global,
+    format: Format,
+    items: &'a [Value],
+) -> Result<Vec<CgroupRecord<'a>>, TreeFault>
+    requires { length items.now ≤ 4096 }
+    ensures { Reads (λ rows. rows.items) result
+        (rows_from (cgroup_of format) Cgroup 1 (items_view items.now)) }
+{
+    let mut rows = Vec::new(alloc);
+    for (index, value) in items.iter().enumerate() {
+        let place = Place::Cgroup(row_number(index));
+        let row = cgroup_of(alloc, format, value, place)?;
+        rows.push(row)?;
+    }
+    Ok(rows)
+}
+
+fn process_rows<'a>(alloc: Global, items: &'a [Value]) -> Result<Vec<ProcessRecord<'a>>, TreeFault>
+    requires { length items.now ≤ 4096 }
+    ensures { Reads (λ rows. rows.items) result
+        (rows_from process_of Process 1 (items_view items.now)) }
+{
+    let mut rows = Vec::new(alloc);
+    for (index, value) in items.iter().enumerate() {
+        let place = Place::Process(row_number(index));
+        rows.push(process_of(value).ok_or(TreeFault::Shape(place))?)?;
+    }
+    Ok(rows)
+}
+
+/// The keys of the top table.
+#[derive(Drop)]
+struct TopTable<'a> {
+    format: i64,
+    controllers: Vec<&'a str>,
+    cgroups: &'a [Value],
+    processes: &'a [Value],
+}
+
+/// The rows at a key that may be missing.
+fn rows_at<'a>(table: &'a Table, key: &str) -> Option<&'a [Value]>
+    ensures { option_map (λ rows. items_view rows.now) result
+        ≡ with_default no_items items_in (get_member key.now (table_view table.now)) }
+{
+    match member(table, key) {
+        None => Some(&[]),
+        Some(Value::Array(items)) => Some(items.as_slice()),
+        Some(_) => None,
+    }
+}
+
+/// The controllers that the top table names.
+fn controllers_at<'a>(alloc: Global, table: &'a Table) -> Result<Vec<&'a str>, TreeFault>
+    ensures { Reads (λ texts. map (λ t. t.now) texts.items) result
+        (or_fault (required texts_in (get_member (codes "controllers") (table_view table.now))) (Shape Top)) }
+{
+    match member(table, "controllers") {
+        None => Err(TreeFault::Shape(Place::Top)),
+        Some(value) => texts_in(alloc, value, Place::Top),
+    }
+}
+
+#[tactic(auto, unfolding(crate::specs::Document::top_keys))]
+fn top_keys<'a>(alloc: Global, table: &'a Table) -> Result<TopTable<'a>, TreeFault>
+    ensures { Reads top_view result (or_fault (top_keys (table_view table.now)) (Shape Top)) }
+{
+    let format = needed_integer(table, "format").ok_or(TreeFault::Shape(Place::Top))?;
+    let controllers = controllers_at(alloc, table)?;
+    let cgroups = rows_at(table, "cgroup").ok_or(TreeFault::Shape(Place::Top))?;
+    let processes = rows_at(table, "process").ok_or(TreeFault::Shape(Place::Top))?;
+    Ok(TopTable {
+        format,
+        controllers,
+        cgroups,
+        processes,
+    })
+}
+
+#[tactic(auto, unfolding(crate::specs::Document::top_of))]
+fn top_of<'a>(alloc: Global, table: &'a Table) -> Result<TopTable<'a>, TreeFault>
+    ensures { Reads top_view result (or_fault (top_of (table_view table.now)) (Shape Top)) }
+{
+    if !has_only(TableKind::DocumentTable, table) {
+        return Err(TreeFault::Shape(Place::Top));
+    }
+    top_keys(alloc, table)
+}
+
+fn format_of(number: i64) -> Option<Format>
+    ensures { result ≡ format_of number }
+{
+    match number {
+        1 => Some(Format::One),
+        2 => Some(Format::Two),
+        _ => None,
+    }
+}
+
+/// Whether there are neither too many cgroups nor too many processes.
+#[tactic(auto, using(crate::proofs::DocumentLaws::count_of_items_view))]
+fn has_few_rows(top: &TopTable) -> bool
+    ensures { result ≡ has_few_rows (top_view top.now) }
+{
+    top.cgroups.len() <= MOST_ROWS && top.processes.len() <= MOST_ROWS
+}
+
+/// What the rows of a document say.
+#[tactic(auto, unfolding(crate::specs::Document::records_as), using(crate::proofs::DocumentLaws::few_rows))]
+fn records_as<'a>(
+    alloc: Global,
+    top: TopTable<'a>,
+    format: Format,
+) -> Result<Records<'a>, TreeFault>
+    requires { has_few_rows (top_view top) ≡ true }
+    ensures { Reads (λ records. records) result (records_as (top_view top.entry) format) }
+{
+    let TopTable {
+        format: _,
+        controllers,
+        cgroups,
+        processes,
+    } = top;
+    let cgroups = cgroup_rows(alloc, format, cgroups)?;
+    let processes = process_rows(alloc, processes)?;
+    Ok(Records {
+        format,
+        controllers,
+        cgroups,
+        processes,
+    })
+}
+
+/// What a document says, or the first fault of its form.
+#[tactic(auto, unfolding(crate::specs::Document::records_of))]
+pub fn records_of<'a>(alloc: Global, table: &'a Table) -> Result<Records<'a>, TreeFault>
+    ensures { Reads (λ records. records) result (records_of (table_view table.now)) }
+{
+    let top = top_of(alloc, table)?;
+    let format = format_of(top.format).ok_or(TreeFault::Format)?;
+    if !has_few_rows(&top) {
+        return Err(TreeFault::TooMany);
+    }
+    records_as(alloc, top, format)
 }
