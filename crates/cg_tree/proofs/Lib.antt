@@ -12,3 +12,7 @@ pub mod CgroupLaws
 pub mod NameLaws
 pub mod ControllerLaws
 pub mod UserLaws
+pub mod FormedParts
+pub mod FormedReshaped
+pub mod FormedTree
+pub mod FormedLaws
