@@ -1,17 +1,17 @@
 -- Each call that changes a tree keeps it well-formed, from just what the call requires.
-use Rattle.std.proofs.Common.{◌≡◌, ℕ, ◌≤◌, Bool, true, false, cond, not, ◌&&◌, ◌||◌, List, [], ◌∷◌, refl, sym, ap, ◌∙◌, subst, true≢false, Option, Some, None, is_some, option_map, nat_eq, unwrap_or}
+pub use Rattle.cg_tree.proofs.FormedTree.{IsNewRow, new_row-cgroup_made_by, formed-with_row, formed-with_made_row, formed-without_row}
+pub use Rattle.cg_tree.proofs.FormedEnabled.{formed-with_enabled}
+use Rattle.std.proofs.Common.{◌≡◌, ℕ, ◌≤◌, Bool, true, false, cond, ◌||◌, refl, sym, ap, ◌∙◌, subst, true≢false, Option, Some, None, is_some, option_map, nat_eq, unwrap_or}
 use Rattle.std.specs.Ordering.{nat_cmp}
 use Rattle.std.specs.FinMap as finite
 use Rattle.std.specs.FinSet as set
 use Rattle.std.proofs.Math.Bool.{or-true}
-use Rattle.cg_tree.specs.Paths.{Names, same_path, is_root, parent}
-use Rattle.cg_tree.specs.Identity.{Identity}
+use Rattle.cg_tree.specs.Paths.{Names, same_path}
 use Rattle.cg_tree.specs.Files.{accepts}
-use Rattle.cg_tree.specs.Cgroups.{with_value_in, with_mode_in, cgroup_made_by}
-use Rattle.cg_tree.specs.States.{State, row_at, process_at, is_used, file_at, entry_at, has_child, has_live, with_row, without_row, with_value, with_mode, with_enabled, placed_at, with_place, with_process, without_process}
-use Rattle.cg_tree.specs.WellFormed.{has_row, enabled_at, may_hold, MayEnable, IsFormedRow, IsWellFormed}
+use Rattle.cg_tree.specs.Cgroups.{with_value_in, with_mode_in}
+use Rattle.cg_tree.specs.States.{State, row_at, process_at, is_used, with_value, with_mode, placed_at, with_place, with_process, without_process}
+use Rattle.cg_tree.specs.WellFormed.{may_hold, IsFormedRow, IsWellFormed}
 use Rattle.cg_tree.specs.declared.files.Limit.{Limit}
-use Rattle.cg_tree.specs.declared.files.ControllerSet.{ControllerSet}
 use Rattle.cg_tree.specs.declared.files.LimitFile.{LimitFile}
 use Rattle.cg_tree.specs.declared.files.EntryName.{EntryName}
 use Rattle.cg_tree.specs.declared.cgroup.Cgroup.{Cgroup}
@@ -19,7 +19,7 @@ use Rattle.cg_tree.specs.declared.process.Process.{Process}
 use Rattle.cg_tree.proofs.StateLaws.{row_at-with_value, row_at-with_mode, process_at-with_place, process_at-with_process, process_at-without_process, is_used-with_process}
 use Rattle.cg_tree.proofs.FormedRows.{enabled-with_file, enabled-with_mode_in, formed_row-with_value_in, formed_row-with_mode_in}
 use Rattle.cg_tree.proofs.FormedParts.{mapped_from}
-use Rattle.cg_tree.proofs.FormedReshaped.{with_rows, formed-reshaped}
+use Rattle.cg_tree.proofs.FormedReshaped.{formed-reshaped}
 
 -- ---- a value and a mode
 

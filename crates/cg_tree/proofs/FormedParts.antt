@@ -1,9 +1,9 @@
 -- Well-formedness from its parts, and what of it a change of rows leaves as it was.
-use Rattle.std.proofs.Common.{◌≡◌, ℕ, ◌≤◌, Bool, true, false, cond, not, ◌&&◌, ◌||◌, List, [], ◌∷◌, refl, sym, ap, ◌∙◌, subst, true≢false, Option, Some, None, is_some, option_map, unwrap_or}
+use Rattle.std.proofs.Common.{◌≡◌, ℕ, Bool, true, false, not, ◌||◌, [], refl, sym, ap, ◌∙◌, true≢false, Option, Some, None, is_some, option_map, unwrap_or}
 use Rattle.std.specs.Cmp.{first_so, second_so}
 use Rattle.std.specs.Cmp.Derive.{both_true}
-use Rattle.cg_tree.specs.Paths.{Names, path_cmp, same_path, is_root, parent, is_child}
-use Rattle.cg_tree.specs.Files.{all_controllers, enables, no_controllers}
+use Rattle.cg_tree.specs.Paths.{Names, is_root, parent}
+use Rattle.cg_tree.specs.Files.{enables, no_controllers}
 use Rattle.cg_tree.specs.States.{State, row_at, process_at, is_used}
 use Rattle.cg_tree.specs.WellFormed.{has_row, enables_nothing, is_within, enabled_at, enabled_above, available_at, may_hold, IsFormedRow, IsWellFormed}
 use Rattle.cg_tree.specs.declared.files.Controller.{Controller}
@@ -11,7 +11,6 @@ use Rattle.cg_tree.specs.declared.files.Controller.TheVariants.{Cpu, Memory, Pid
 use Rattle.cg_tree.specs.declared.files.ControllerSet.{ControllerSet}
 use Rattle.cg_tree.specs.declared.cgroup.Cgroup.{Cgroup}
 use Rattle.cg_tree.specs.declared.process.Process.{Process}
-use Rattle.cg_tree.proofs.StateTests.{some_value}
 
 -- ---- options
 

@@ -1,13 +1,12 @@
 -- Well-formedness where each row is changed by its path and enables what it enabled.
-use Rattle.std.proofs.Common.{◌≡◌, ℕ, Bool, true, false, cond, ◌||◌, List, [], ◌∷◌, refl, sym, ap, ◌∙◌, subst, Option, Some, None, is_some, option_map}
+use Rattle.std.proofs.Common.{◌≡◌, true, cond, ◌||◌, [], refl, sym, ap, ◌∙◌, subst, Some, None, is_some, option_map}
 use Rattle.std.specs.FinMap as finite
-use Rattle.cg_tree.specs.Paths.{Names, path_cmp, same_path, is_root, parent}
+use Rattle.cg_tree.specs.Paths.{Names, path_cmp, is_root, parent}
 use Rattle.cg_tree.specs.Files.{no_controllers}
-use Rattle.cg_tree.specs.States.{State, row_at, process_at}
-use Rattle.cg_tree.specs.WellFormed.{has_row, enables_nothing, is_within, enabled_at, enabled_above, available_at, may_hold, IsFormedRow, IsWellFormed}
+use Rattle.cg_tree.specs.States.{State, row_at}
+use Rattle.cg_tree.specs.WellFormed.{has_row, enables_nothing, is_within, enabled_at, enabled_above, may_hold, IsFormedRow, IsWellFormed}
 use Rattle.cg_tree.specs.declared.files.ControllerSet.{ControllerSet}
 use Rattle.cg_tree.specs.declared.cgroup.Cgroup.{Cgroup}
-use Rattle.cg_tree.specs.declared.process.Process.{Process}
 use Rattle.cg_tree.proofs.FormedParts.{mapped_from, is_some-mapped, formed_row-at, formed_by, may_hold-row, row-may_hold}
 
 abbrev pub with_rows : State → finite.FinMap path_cmp Cgroup → State

@@ -1,7 +1,7 @@
 -- Each change of a row keeps it well-formed.
-use Rattle.std.proofs.Common.{◌≡◌, ℕ, ◌≤◌, Bool, true, false, cond, refl, sym, ap, ◌∙◌, subst, true≢false, Option, Some, None, is_some, option_map, unwrap_or, arith}
+use Rattle.std.proofs.Common.{◌≡◌, ℕ, ◌≤◌, true, false, cond, refl, sym, ap, ◌∙◌, subst, true≢false, Option, Some, None, is_some, option_map, unwrap_or, arith}
 use Rattle.cg_tree.specs.Identity.{Identity}
-use Rattle.cg_tree.specs.Files.{no_controllers, default_value, stands_under, accepts}
+use Rattle.cg_tree.specs.Files.{default_value, stands_under, accepts}
 use Rattle.cg_tree.specs.Cgroups.{file_of, entry_in, with_file, with_value_in, with_mode_of, with_mode_in, entry_made_by, file_made_by, refitted, with_files_of, cgroup_made_by}
 use Rattle.cg_tree.specs.WellFormed.{IsFormedRow}
 use Rattle.cg_tree.specs.declared.user.Entry.{Entry}

@@ -1,17 +1,16 @@
 -- Well-formedness once a cgroup is made and once one is removed.
-use Rattle.std.proofs.Common.{◌≡◌, ℕ, Bool, true, false, cond, not, ◌&&◌, ◌||◌, ◌≢◌, List, [], ◌∷◌, refl, sym, ap, ◌∙◌, subst, true≢false, Option, Some, None, is_some, unwrap_or}
+use Rattle.std.proofs.Common.{◌≡◌, true, false, cond, [], refl, sym, ap, ◌∙◌, subst, true≢false, Some, None, is_some, unwrap_or}
 use Rattle.cg_tree.specs.Paths.{Names, same_path, is_root, parent, is_child}
 use Rattle.cg_tree.specs.Identity.{Identity}
 use Rattle.cg_tree.specs.Files.{no_controllers}
 use Rattle.cg_tree.specs.Cgroups.{cgroup_made_by}
-use Rattle.cg_tree.specs.States.{State, row_at, process_at, has_child, has_live, with_row, without_row}
-use Rattle.cg_tree.specs.WellFormed.{has_row, enables_nothing, is_within, enabled_at, enabled_above, available_at, may_hold, IsFormedRow, IsWellFormed}
+use Rattle.cg_tree.specs.States.{State, row_at, has_child, has_live, with_row, without_row}
+use Rattle.cg_tree.specs.WellFormed.{has_row, is_within, enabled_at, enabled_above, available_at, IsFormedRow, IsWellFormed}
 use Rattle.cg_tree.specs.declared.files.ControllerSet.{ControllerSet}
 use Rattle.cg_tree.specs.declared.cgroup.Cgroup.{Cgroup}
-use Rattle.cg_tree.specs.declared.process.Process.{Process}
-use Rattle.cg_tree.proofs.PathOrder.{same_path-is, same_path-not, same_path-other, same_path_refl, same_path_comm}
-use Rattle.cg_tree.proofs.PathParents.{is_child-parent, parent-other, parent-root, is_root-is}
-use Rattle.cg_tree.proofs.StateLaws.{row_at-with_row, row_at-with_row-same, row_at-with_row-other, row_at-without_row, row_at-without_row-same, row_at-without_row-other}
+use Rattle.cg_tree.proofs.PathOrder.{same_path-is, same_path_comm}
+use Rattle.cg_tree.proofs.PathParents.{is_child-parent, parent-root, is_root-is}
+use Rattle.cg_tree.proofs.StateLaws.{row_at-with_row, row_at-with_row-other, row_at-without_row, row_at-without_row-other}
 use Rattle.cg_tree.proofs.StateTests.{false_unless, some_value, row-has_child, process-has_live}
 use Rattle.cg_tree.proofs.FormedRows.{formed_row-cgroup_made_by}
 use Rattle.cg_tree.proofs.FormedParts.{none_within, formed_row-at, formed_by, may_hold-row, row-may_hold}
@@ -37,7 +36,7 @@ pub record IsNewRow (st : State) (path : Names) (row : Cgroup) : Type 0 where
   pub within : is_within row.enabled (enabled_at st (parent path)) ≡ true
   pub formed : IsFormedRow (enabled_at st (parent path)) row
 
-module _ (st : State) (path : Names) (row : Cgroup) (whole : IsWellFormed st) (new_row : IsNewRow st path row) where
+module _ (st : State) (path : Names) (row : Cgroup) (new_row : IsNewRow st path row) (whole : IsWellFormed st) where
   not_root : is_root path ≡ false
   not_root = false_unless (is_root path) (λ root. true≢false (sym (parent-there st whole path root) ∙ new_row.absent))
 
@@ -94,11 +93,11 @@ new_row-cgroup_made_by st path user absent there = record {
 
 -- Making a directory makes a child.
 pub formed-with_made_row : (st : State) (path : Names) (user : Identity) → has_row st path ≡ false → has_row st (parent path) ≡ true → IsWellFormed st → IsWellFormed (with_row st path (cgroup_made_by user (enabled_at st (parent path))))
-formed-with_made_row st path user absent there whole = formed-with_row st path _ whole (new_row-cgroup_made_by st path user absent there)
+formed-with_made_row st path user absent there whole = formed-with_row st path _ (new_row-cgroup_made_by st path user absent there) whole
 
 -- ---- a row that goes
 
-module _ (st : State) (path : Names) (whole : IsWellFormed st) (not_root : is_root path ≡ false) (no_child : has_child st path ≡ false) (no_process : has_live st path ≡ false) where
+module _ (st : State) (path : Names) (not_root : is_root path ≡ false) (no_child : has_child st path ≡ false) (no_process : has_live st path ≡ false) (whole : IsWellFormed st) where
   left_row : (q : Names) (r : Cgroup) → row_at (without_row st path) q ≡ Some r → (same_path path q ≡ false) × (row_at st q ≡ Some r)
   left_row q r is =
       elim (same_path path q) as (λ b. same_path path q ≡ b → cond b None (row_at st q) ≡ Some r → (same_path path q ≡ false) × (row_at st q ≡ Some r)) [

@@ -15,4 +15,5 @@ pub mod UserLaws
 pub mod FormedParts
 pub mod FormedReshaped
 pub mod FormedTree
+pub mod FormedEnabled
 pub mod FormedLaws

@@ -1,5 +1,5 @@
 -- Laws of finite maps: what `get` gives where one value or each is changed, and what a test of the entries finds.
-use Rattle.std.proofs.Common.{◌≡◌, ℕ, Bool, true, false, cond, not, ◌&&◌, ◌||◌, ◌≢◌, T, List, [], ◌∷◌, map, refl, sym, ap, ◌∙◌, subst, true≢false, Option, Some, None, is_some, option_map, unwrap_or, Ordering, Less, Equal}
+use Rattle.std.proofs.Common.{◌≡◌, Bool, true, false, cond, ◌&&◌, ◌||◌, T, List, [], ◌∷◌, map, refl, sym, ap, ◌∙◌, subst, true≢false, Some, None, is_some, option_map, unwrap_or, Ordering, Equal}
 use Rattle.std.specs.List.{list_any}
 use Rattle.std.specs.Ordering.{eq_by_cmp, is_eq, is_lt}
 use Rattle.std.specs.Cmp.{IsTotalOrder, Equal-is, eq_by_cmp_equiv, tied_itself}

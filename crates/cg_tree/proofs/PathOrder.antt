@@ -1,11 +1,11 @@
 -- The order of paths is total, ties only equal paths, and `same_path` tests its ties.
-use Rattle.std.proofs.Common.{◌≡◌, ℕ, true, false, ◌≢◌, refl, sym, ap, ◌∙◌, true≢false}
+use Rattle.std.proofs.Common.{◌≡◌, true, false, ◌≢◌, refl, sym, ◌∙◌, true≢false}
 use Rattle.std.specs.Bool.{Decides}
 use Rattle.std.specs.Ordering.{eq_by_cmp, nat_cmp}
-use Rattle.std.specs.Cmp.{IsTotalOrder, IsEquivalence, Equal-is}
+use Rattle.std.specs.Cmp.{IsTotalOrder, IsEquivalence}
 use Rattle.std.specs.Cmp.Lexicographic.{slice_cmp, nat_list_cmp_total, nat_list_eq_equiv, lists_total, lists_ties, lists_equiv, texts_ties, pointwise_decides, bytes_decides}
 use Rattle.std.specs.FinMap.{IsAntisymmetric, slice_cmp-IsAntisymmetric, nat_cmp-IsAntisymmetric}
-use Rattle.cg_tree.specs.Paths.{Names, path_cmp, same_name, same_path}
+use Rattle.cg_tree.specs.Paths.{Names, path_cmp, same_path}
 
 pub path_cmp_total : IsTotalOrder path_cmp
 path_cmp_total = lists_total nat_list_cmp_total

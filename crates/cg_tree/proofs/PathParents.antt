@@ -1,10 +1,10 @@
 -- A path and its parent.
-use Rattle.std.proofs.Common.{◌≡◌, ℕ, zero, suc, ◌+◌, ◌-◌, ◌≤◌, ◌<◌, Bool, true, false, cond, not, ◌&&◌, ◌≢◌, List, [], ◌∷◌, length, take, nat_eq, nat_lt, refl, sym, ap, ◌∙◌, subst, true≢false, arith, eq-eqb, eqb-true, length-take-le}
+use Rattle.std.proofs.Common.{◌≡◌, ℕ, zero, suc, ◌+◌, ◌-◌, ◌<◌, true, false, [], ◌∷◌, length, take, refl, sym, ap, ◌∙◌, true≢false, arith, eq-eqb, eqb-true, length-take-le}
 use Rattle.std.specs.Cmp.{first_so, second_so}
 use Rattle.std.specs.Cmp.Derive.{both_true}
 use Rattle.std.specs.Cmp.Lexicographic.{bytes_decides, nat_list_eq_equiv}
-use Rattle.cg_tree.specs.Paths.{Name, Names, same_name, same_path, is_root, inside, below, parent, is_child}
-use Rattle.cg_tree.proofs.PathOrder.{same_path-not, same_path_refl}
+use Rattle.cg_tree.specs.Paths.{Names, same_name, same_path, is_root, inside, parent, is_child}
+use Rattle.cg_tree.proofs.PathOrder.{same_path-not}
 
 inside-take : (n : ℕ) (path : Names) → inside (take n path) path ≡ true
 inside-take zero path = refl

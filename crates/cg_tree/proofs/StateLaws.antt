@@ -1,10 +1,10 @@
 -- What reading a state gives after each change.
-use Rattle.std.proofs.Common.{◌≡◌, ℕ, Bool, true, false, cond, not, ◌&&◌, ◌||◌, ◌≢◌, List, [], ◌∷◌, map, refl, sym, ap, ◌∙◌, subst, true≢false, Option, Some, None, is_some, option_map, nat_eq, eq-eqb}
+use Rattle.std.proofs.Common.{◌≡◌, ℕ, false, cond, ◌||◌, refl, sym, ap, ◌∙◌, Some, None, option_map, nat_eq, eq-eqb}
 use Rattle.std.specs.Ordering.{eq_by_cmp, nat_cmp}
 use Rattle.std.specs.Cmp.{eq_by_cmp_equiv, nat_cmp_total, unsigned_ties}
 use Rattle.std.specs.FinMap as finite
 use Rattle.std.specs.FinSet as set
-use Rattle.cg_tree.specs.Paths.{Names, path_cmp, same_path, is_child}
+use Rattle.cg_tree.specs.Paths.{Names, path_cmp, same_path}
 use Rattle.cg_tree.specs.Identity.{Identity}
 use Rattle.cg_tree.specs.Cgroups.{with_value_in, with_mode_in}
 use Rattle.cg_tree.specs.States.{State, row_at, process_at, is_used, change_at, enabling_these, enabling, with_row, without_row, with_value, with_mode, with_enabled, placed_at, with_place, with_process, without_process}
@@ -13,7 +13,6 @@ use Rattle.cg_tree.specs.declared.files.ControllerSet.{ControllerSet}
 use Rattle.cg_tree.specs.declared.files.LimitFile.{LimitFile}
 use Rattle.cg_tree.specs.declared.files.EntryName.{EntryName}
 use Rattle.cg_tree.specs.declared.cgroup.Cgroup.{Cgroup}
-use Rattle.cg_tree.specs.declared.process.Process.{Process}
 use Rattle.cg_tree.proofs.PathOrder.{path_cmp_total, path_cmp-IsAntisymmetric, same_path-ties, same_path_refl}
 use Rattle.cg_tree.proofs.MapLaws.{get-changed, get-change_value}
 

@@ -1,12 +1,11 @@
 -- What the tests of a state find: a row, a child, a process.
-use Rattle.std.proofs.Common.{◌≡◌, ℕ, Bool, true, false, cond, not, ◌&&◌, ◌≢◌, refl, sym, ap, ◌∙◌, subst, true≢false, Option, Some, None, is_some}
+use Rattle.std.proofs.Common.{◌≡◌, ℕ, Bool, true, false, ◌&&◌, refl, sym, ◌∙◌, true≢false, Option, Some, None, is_some}
 use Rattle.std.specs.Cmp.{first_so, second_so, nat_cmp_total}
 use Rattle.std.specs.Cmp.Derive.{both_true}
 use Rattle.std.specs.FinMap as finite
-use Rattle.cg_tree.specs.Paths.{Names, path_cmp, same_path, is_child}
+use Rattle.cg_tree.specs.Paths.{Names, same_path, is_child}
 use Rattle.cg_tree.specs.Files.{enables}
 use Rattle.cg_tree.specs.States.{State, row_at, process_at, has_child, has_live, child_enables}
-use Rattle.cg_tree.specs.WellFormed.{has_row}
 use Rattle.cg_tree.specs.declared.files.Controller.{Controller}
 use Rattle.cg_tree.specs.declared.cgroup.Cgroup.{Cgroup}
 use Rattle.cg_tree.specs.declared.process.Process.{Process}

@@ -1,13 +1,12 @@
 -- The state of a tree: what every call of `Hierarchy` reads or changes.
-use Rattle.std.specs.Prelude.{◌≡◌, ℕ, ◌+◌, ◌-◌, ◌≤◌, Bool, true, false, ◌&&◌, ◌||◌, not, nat_eq, nat_lt, cond, List, [], ◌∷◌, length, map as map_list, filter, fold, count_by, max, IsTrue, Option, Some, None, is_some, option_and_then}
-use Rattle.std.specs.Option.{option_map}
+use Rattle.std.specs.Prelude.{ℕ, ◌-◌, Bool, ◌&&◌, cond, List, length, map as map_list, filter, fold, count_by, max, Option, Some, None, option_and_then}
 use Rattle.std.specs.List.{list_any}
 use Rattle.std.specs.Ordering.{nat_cmp}
 use Rattle.std.specs.FinMap as map
 use Rattle.std.specs.FinSet as set
-use Rattle.cg_tree.specs.Paths.{Names, path_cmp, same_path, is_root, inside, below, is_child, parent}
+use Rattle.cg_tree.specs.Paths.{Names, path_cmp, same_path, below, is_child}
 use Rattle.cg_tree.specs.Identity.{Identity}
-use Rattle.cg_tree.specs.Files.{enables, stands_under, accepts, no_controllers}
+use Rattle.cg_tree.specs.Files.{enables}
 use Rattle.cg_tree.specs.Cgroups.{file_of, entry_in, value_in, with_value_in, with_mode_in, with_files_of}
 use Rattle.cg_tree.specs.declared.user.Entry.{Entry}
 use Rattle.cg_tree.specs.declared.files.Limit.{Limit}

@@ -1,6 +1,5 @@
 -- What holds of every tree.
-use Rattle.std.specs.Prelude.{◌≡◌, ℕ, ◌≤◌, Bool, true, false, ◌&&◌, ◌||◌, not, cond, List, [], ◌∷◌, Option, Some, None, is_some}
-use Rattle.std.specs.List.{list_all}
+use Rattle.std.specs.Prelude.{◌≡◌, ℕ, ◌≤◌, Bool, true, false, ◌||◌, not, cond, [], Some, None, is_some}
 use Rattle.cg_tree.specs.Paths.{Names, is_root, parent}
 use Rattle.cg_tree.specs.Files.{enables, no_controllers, stands_under, accepts}
 pub use Rattle.cg_tree.specs.Files.{enables_nothing, is_within}
