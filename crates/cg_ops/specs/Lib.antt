@@ -1,0 +1,5 @@
+pub mod Clauses
+pub mod Bars
+pub mod Next
+pub mod Steps
+pub mod Outcomes
