@@ -9,3 +9,4 @@ pub mod Cgroups
 pub mod States
 pub mod WellFormed
 pub mod Places
+pub mod RowsForm
