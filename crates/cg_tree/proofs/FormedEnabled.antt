@@ -1,5 +1,6 @@
 -- Well-formedness once a cgroup enables other controllers.
 use Rattle.std.proofs.Common.{◌≡◌, ℕ, Bool, true, false, cond, not, ◌||◌, [], refl, sym, ap, ◌∙◌, subst, true≢false, Some, None, is_some, option_map}
+use Rattle.std.proofs.lemmas.Bool.{false_from_ne_true}
 use Rattle.cg_tree.specs.Paths.{Names, same_path, is_root, parent, is_child}
 use Rattle.cg_tree.specs.Identity.{Identity}
 use Rattle.cg_tree.specs.Files.{no_controllers}
@@ -9,17 +10,19 @@ use Rattle.cg_tree.specs.WellFormed.{has_row, enables_nothing, is_within, enable
 use Rattle.cg_tree.specs.declared.files.ControllerSet.{ControllerSet}
 use Rattle.cg_tree.specs.declared.cgroup.Cgroup.{Cgroup}
 use Rattle.cg_tree.specs.declared.process.Process.{Process}
+use Rattle.cg_tree.proofs.Options.{some_value, mapped_from, is_some-mapped}
 use Rattle.cg_tree.proofs.PathOrder.{same_path-is, same_path_refl, same_path_comm}
 use Rattle.cg_tree.proofs.PathParents.{is_child-parent, parent-is_child, is_root-is_child, parent-other}
 use Rattle.cg_tree.proofs.StateLaws.{row_at-with_enabled}
-use Rattle.cg_tree.proofs.StateTests.{false_unless, some_value, row-child_enables, process-has_live}
+use Rattle.cg_tree.proofs.StateTests.{row-child_enables, process-has_live}
+use Rattle.cg_tree.proofs.ControllerLaws.{is_within-each}
 use Rattle.cg_tree.proofs.FormedRows.{formed_row-with_files_of}
-use Rattle.cg_tree.proofs.FormedParts.{mapped_from, is_some-mapped, within_by, formed_row-at, formed_by, may_hold-row, row-may_hold}
+use Rattle.cg_tree.proofs.FormedParts.{formed_row-at, formed_by, may_hold-row, row-may_hold}
 
 -- no path is a child of itself
 pub is_child-itself : (path : Names) → is_child path path ≡ false
 is_child-itself path =
-    false_unless (is_child path path) (λ child.
+    false_from_ne_true (is_child path path) (λ child.
     true≢false (sym (ap (same_path path) (parent-is_child path path child) ∙ same_path_refl path) ∙ parent-other path (is_root-is_child path path child)))
 
 module _ (path : Names) (enabled : ControllerSet) (user : Identity) where
@@ -72,7 +75,7 @@ module _ (st : State) (path : Names) (enabled : ControllerSet) (user : Identity)
   above_other default q other =
       elim (is_root q) as (λ b. is_root q ≡ b → cond b default (enabled_at (with_enabled st path enabled user) (parent q)) ≡ cond b default (enabled_at st (parent q))) [
         | true ↦ λ _. refl
-        | false ↦ λ below_root. enabled_at-with_enabled-other (parent q) (false_unless (same_path path (parent q)) (λ same.
+        | false ↦ λ below_root. enabled_at-with_enabled-other (parent q) (false_from_ne_true (same_path path (parent q)) (λ same.
             true≢false (sym (subst (λ p. is_child p q ≡ true) (sym (same_path-is path (parent q) same)) (is_child-parent q below_root)) ∙ other)))
       ] refl
 
@@ -91,7 +94,7 @@ module _ (st : State) (path : Names) (enabled : ControllerSet) (user : Identity)
     stays_top_down q row is =
         enabling-by path enabled user (λ r. is_within r.enabled (available_at (with_enabled st path enabled user) q) ≡ true) q row
         (λ same. ap (is_within enabled) (above_same st.controllers q same ∙ ap (available_at st) (sym (same_path-is path q same))) ∙ may.available)
-        (λ child. ap (is_within row.enabled) (above_child there st.controllers q child) ∙ within_by row.enabled enabled (λ controller on. may.children controller (row-child_enables st path q row controller is child on)))
+        (λ child. ap (is_within row.enabled) (above_child there st.controllers q child) ∙ is_within-each row.enabled enabled (λ controller on. may.children controller (row-child_enables st path q row controller is child on)))
         (λ _ other. ap (is_within row.enabled) (above_other st.controllers q other) ∙ whole.top_down q row is)
 
     -- what a row enables is no part of its files

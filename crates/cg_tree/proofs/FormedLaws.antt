@@ -1,4 +1,5 @@
 -- Each call that changes a tree keeps it well-formed, from just what the call requires.
+use Rattle.cg_tree.proofs.Options.{mapped_from}
 pub use Rattle.cg_tree.proofs.FormedTree.{IsNewRow, new_row-cgroup_made_by, formed-with_row, formed-with_made_row, formed-without_row}
 pub use Rattle.cg_tree.proofs.FormedEnabled.{formed-with_enabled}
 use Rattle.std.proofs.Common.{◌≡◌, ℕ, ◌≤◌, Bool, true, false, cond, ◌||◌, refl, sym, ap, ◌∙◌, subst, true≢false, Option, Some, None, is_some, option_map, nat_eq, unwrap_or}
@@ -17,8 +18,8 @@ use Rattle.cg_tree.specs.declared.files.EntryName.{EntryName}
 use Rattle.cg_tree.specs.declared.cgroup.Cgroup.{Cgroup}
 use Rattle.cg_tree.specs.declared.process.Process.{Process}
 use Rattle.cg_tree.proofs.StateLaws.{row_at-with_value, row_at-with_mode, process_at-with_place, process_at-with_process, process_at-without_process, is_used-with_process}
-use Rattle.cg_tree.proofs.FormedRows.{enabled-with_file, enabled-with_mode_in, formed_row-with_value_in, formed_row-with_mode_in}
-use Rattle.cg_tree.proofs.FormedParts.{mapped_from}
+use Rattle.cg_tree.proofs.CgroupLaws.{enabled-with_value_in, enabled-with_mode_in}
+use Rattle.cg_tree.proofs.FormedRows.{formed_row-with_value_in, formed_row-with_mode_in}
 use Rattle.cg_tree.proofs.FormedReshaped.{formed-reshaped}
 
 -- ---- a value and a mode
@@ -41,7 +42,7 @@ unfolding at_path
 formed-with_value st path file value accepted =
     formed-reshaped st (with_value st path file value).rows (at_path path (with_value_in file value))
     (λ q. row_at-with_value st path file value q ∙ cond_map (same_path path q) (with_value_in file value) (row_at st q))
-    (λ q row. cond_kept (λ (r : Cgroup). r.enabled ≡ row.enabled) (same_path path q) _ row (enabled-with_file file _ row) refl)
+    (λ q row. cond_kept (λ (r : Cgroup). r.enabled ≡ row.enabled) (same_path path q) _ row (enabled-with_value_in file value row) refl)
     (λ above q row formed. cond_kept (IsFormedRow above) (same_path path q) _ row (formed_row-with_value_in above file value row accepted formed) formed)
 
 pub formed-with_mode : (st : State) (path : Names) (name : EntryName) (mode : ℕ) → mode ≤ 511 → IsWellFormed st → IsWellFormed (with_mode st path name mode)

@@ -7,7 +7,8 @@ use Rattle.cg_tree.specs.States.{State, row_at}
 use Rattle.cg_tree.specs.WellFormed.{has_row, enables_nothing, is_within, enabled_at, enabled_above, may_hold, IsFormedRow, IsWellFormed}
 use Rattle.cg_tree.specs.declared.files.ControllerSet.{ControllerSet}
 use Rattle.cg_tree.specs.declared.cgroup.Cgroup.{Cgroup}
-use Rattle.cg_tree.proofs.FormedParts.{mapped_from, is_some-mapped, formed_row-at, formed_by, may_hold-row, row-may_hold}
+use Rattle.cg_tree.proofs.Options.{mapped_from, is_some-mapped}
+use Rattle.cg_tree.proofs.FormedParts.{formed_row-at, formed_by, may_hold-row, row-may_hold}
 
 abbrev pub with_rows : State → finite.FinMap path_cmp Cgroup → State
 with_rows st rows = record st { rows = rows }

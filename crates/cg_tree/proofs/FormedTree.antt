@@ -1,5 +1,6 @@
 -- Well-formedness once a cgroup is made and once one is removed.
 use Rattle.std.proofs.Common.{◌≡◌, true, false, cond, [], refl, sym, ap, ◌∙◌, subst, true≢false, Some, None, is_some, unwrap_or}
+use Rattle.std.proofs.lemmas.Bool.{false_from_ne_true}
 use Rattle.cg_tree.specs.Paths.{Names, same_path, is_root, parent, is_child}
 use Rattle.cg_tree.specs.Identity.{Identity}
 use Rattle.cg_tree.specs.Files.{no_controllers}
@@ -8,12 +9,13 @@ use Rattle.cg_tree.specs.States.{State, row_at, has_child, has_live, with_row, w
 use Rattle.cg_tree.specs.WellFormed.{has_row, is_within, enabled_at, enabled_above, available_at, IsFormedRow, IsWellFormed}
 use Rattle.cg_tree.specs.declared.files.ControllerSet.{ControllerSet}
 use Rattle.cg_tree.specs.declared.cgroup.Cgroup.{Cgroup}
+use Rattle.cg_tree.proofs.Options.{some_value}
 use Rattle.cg_tree.proofs.PathOrder.{same_path-is, same_path_comm}
 use Rattle.cg_tree.proofs.PathParents.{is_child-parent, parent-root, is_root-is}
 use Rattle.cg_tree.proofs.StateLaws.{row_at-with_row, row_at-with_row-other, row_at-without_row, row_at-without_row-other}
-use Rattle.cg_tree.proofs.StateTests.{false_unless, some_value, row-has_child, process-has_live}
+use Rattle.cg_tree.proofs.StateTests.{row-has_child, process-has_live}
 use Rattle.cg_tree.proofs.FormedRows.{formed_row-cgroup_made_by}
-use Rattle.cg_tree.proofs.FormedParts.{none_within, formed_row-at, formed_by, may_hold-row, row-may_hold}
+use Rattle.cg_tree.proofs.FormedParts.{formed_row-at, formed_by, may_hold-row, row-may_hold}
 
 -- the root is above each path
 pub parent-there : (st : State) → IsWellFormed st → (q : Names) → is_root q ≡ true → has_row st q ≡ true
@@ -38,10 +40,10 @@ pub record IsNewRow (st : State) (path : Names) (row : Cgroup) : Type 0 where
 
 module _ (st : State) (path : Names) (row : Cgroup) (new_row : IsNewRow st path row) (whole : IsWellFormed st) where
   not_root : is_root path ≡ false
-  not_root = false_unless (is_root path) (λ root. true≢false (sym (parent-there st whole path root) ∙ new_row.absent))
+  not_root = false_from_ne_true (is_root path) (λ root. true≢false (sym (parent-there st whole path root) ∙ new_row.absent))
 
   not_there : (q : Names) → has_row st q ≡ true → same_path path q ≡ false
-  not_there q there = false_unless (same_path path q) (λ same. true≢false (sym there ∙ ap (has_row st) (sym (same_path-is path q same)) ∙ new_row.absent))
+  not_there q there = false_from_ne_true (same_path path q) (λ same. true≢false (sym there ∙ ap (has_row st) (sym (same_path-is path q same)) ∙ new_row.absent))
 
   kept_row : (q : Names) → has_row st q ≡ true → row_at (with_row st path row) q ≡ row_at st q
   kept_row q there = row_at-with_row-other path st row q (not_there q there)
@@ -87,7 +89,7 @@ pub new_row-cgroup_made_by : (st : State) (path : Names) (user : Identity) → h
 new_row-cgroup_made_by st path user absent there = record {
   absent = absent;
   parent_there = there;
-  within = none_within (enabled_at st (parent path));
+  within = refl;
   formed = formed_row-cgroup_made_by user (enabled_at st (parent path));
 }
 
@@ -108,7 +110,7 @@ module _ (st : State) (path : Names) (not_root : is_root path ≡ false) (no_chi
   -- a row that is there is no child of the path
   parent_other : (q : Names) (r : Cgroup) → row_at st q ≡ Some r → is_root q ≡ false → same_path path (parent q) ≡ false
   parent_other q r is below_root =
-      false_unless (same_path path (parent q)) (λ same.
+      false_from_ne_true (same_path path (parent q)) (λ same.
       let child = subst (λ p. is_child p q ≡ true) (sym (same_path-is path (parent q) same)) (is_child-parent q below_root) in
       true≢false (sym (row-has_child st path q r is child) ∙ no_child))
 
@@ -117,7 +119,7 @@ module _ (st : State) (path : Names) (not_root : is_root path ≡ false) (no_chi
   above_left default q r is = same_above st (without_row st path) default q (λ below_root. row_at-without_row-other path st (parent q) (parent_other q r is below_root))
 
   root_other : (q : Names) → is_root q ≡ true → same_path path q ≡ false
-  root_other q root = false_unless (same_path path q) (λ same. true≢false (sym root ∙ ap is_root (sym (same_path-is path q same)) ∙ not_root))
+  root_other q root = false_from_ne_true (same_path path q) (λ same. true≢false (sym root ∙ ap is_root (sym (same_path-is path q same)) ∙ not_root))
 
   pub formed-without_row : IsWellFormed (without_row st path)
   formed-without_row = formed_by (record {
@@ -133,7 +135,7 @@ module _ (st : State) (path : Names) (not_root : is_root path ≡ false) (no_chi
     rows = λ q r is. let left = left_row q r is in subst (λ set. IsFormedRow set r) (sym (above_left no_controllers q r left.1)) (formed_row-at whole q r left.1);
     places = λ pid process is.
         let held = may_hold-row st process.place (whole.places pid process is) in
-        let other = false_unless (same_path path process.place) (λ same. true≢false (sym (process-has_live st path pid process is (same_path_comm process.place path ∙ same)) ∙ no_process)) in
+        let other = false_from_ne_true (same_path path process.place) (λ same. true≢false (sym (process-has_live st path pid process is (same_path_comm process.place path ∙ same)) ∙ no_process)) in
         row-may_hold (without_row st path) process.place held.0 (row_at-without_row-other path st process.place other ∙ held.1) held.2;
     used = whole.used;
   })

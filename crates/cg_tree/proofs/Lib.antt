@@ -3,6 +3,7 @@ pub mod PathParents
 pub mod PathEnds
 pub mod PathNames
 pub mod PathSteps
+pub mod Options
 pub mod MapLaws
 pub mod StateLaws
 pub mod StateTests

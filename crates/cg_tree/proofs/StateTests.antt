@@ -1,5 +1,5 @@
 -- What the tests of a state find: a row, a child, a process.
-use Rattle.std.proofs.Common.{◌≡◌, ℕ, Bool, true, false, ◌&&◌, refl, sym, ◌∙◌, true≢false, Option, Some, None, is_some}
+use Rattle.std.proofs.Common.{◌≡◌, ℕ, true, ◌&&◌, sym, ◌∙◌, Some}
 use Rattle.std.specs.Cmp.{first_so, second_so, nat_cmp_total}
 use Rattle.std.specs.Cmp.Derive.{both_true}
 use Rattle.std.specs.FinMap as finite
@@ -11,15 +11,6 @@ use Rattle.cg_tree.specs.declared.cgroup.Cgroup.{Cgroup}
 use Rattle.cg_tree.specs.declared.process.Process.{Process}
 use Rattle.cg_tree.proofs.PathOrder.{path_cmp_total, path_cmp-IsAntisymmetric}
 use Rattle.cg_tree.proofs.MapLaws.{list_any-map, any_entry, entry_any}
-
--- a test that can't be true is false
-pub false_unless : (b : Bool) → (b ≡ true → ⊥) → b ≡ false
-false_unless true h = absurd (h refl)
-false_unless false h = refl
-
-pub some_value : {A : Type 0} (o : Option A) → is_some o ≡ true → (x : A) × (o ≡ Some x)
-some_value None h = absurd (true≢false (sym h))
-some_value (Some x) h = (x, refl)
 
 -- ---- children
 
