@@ -5,8 +5,10 @@ pub mod PathNames
 pub mod PathSteps
 pub mod Options
 pub mod MapLaws
+pub mod MapFolds
 pub mod StateLaws
 pub mod StateTests
+pub mod StateCounts
 pub mod FormedRows
 pub mod Sorted
 pub mod CgroupLaws

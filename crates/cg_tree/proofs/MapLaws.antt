@@ -1,11 +1,11 @@
 -- Laws of finite maps: what `get` gives where one value or each is changed, and what a test of the entries finds.
-use Rattle.std.proofs.Common.{◌≡◌, Bool, true, false, cond, ◌&&◌, ◌||◌, T, List, [], ◌∷◌, map, refl, sym, ap, ◌∙◌, subst, true≢false, Some, None, is_some, option_map, unwrap_or, Ordering, Equal}
+use Rattle.std.proofs.Common.{◌≡◌, Bool, true, false, cond, ◌&&◌, ◌||◌, T, List, [], ◌∷◌, map, refl, sym, ap, ◌∙◌, subst, true≢false, Some, None, is_some, option_map, unwrap_or, Ordering, Less, Equal, Greater}
 use Rattle.std.specs.List.{list_any}
 use Rattle.std.specs.Ordering.{eq_by_cmp, is_eq, is_lt}
 use Rattle.std.specs.Cmp.{IsTotalOrder, Equal-is, eq_by_cmp_equiv, tied_itself}
 use Rattle.std.specs.FinMap as finite
 use Rattle.std.specs.FinMap.{FinMap, IsAntisymmetric, get, insert, entries}
-use Rattle.std.specs.FinMap.Entries.{find, is_sorted, below_all}
+use Rattle.std.specs.FinMap.Entries.{find, put, by_order, is_sorted, below_all}
 
 first_of_both : (a b : Bool) → T (a && b) → T a
 first_of_both true b h = tt
@@ -15,8 +15,10 @@ second_of_both : (a b : Bool) → T (a && b) → T b
 second_of_both true b h = h
 second_of_both false b h = absurd h
 
-less : (r : Ordering) → T (is_lt r) → is_eq r ≡ false
-less r h = elim r as (λ r. T (is_lt r) → is_eq r ≡ false) [ Ordering.Less ↦ λ h. refl | Ordering.Equal ↦ λ h. absurd h | Ordering.Greater ↦ λ h. absurd h ] h
+is_less : (r : Ordering) → T (is_lt r) → r ≡ Less
+is_less Less h = refl
+is_less Equal h = absurd h
+is_less Greater h = absurd h
 
 -- the entries with the value of each changed by its key
 abbrev pub change_entries : {K X : Type 0} → (K → X → X) → List (K × X) → List (K × X)
@@ -47,7 +49,12 @@ module _ {K X : Type 0} (R : K → K → Ordering) where
   find_below : IsTotalOrder R → (q top : K) (es : List (K × X)) → R q top ≡ Equal → T (below_all R top es) → find R q es ≡ None
   find_below o q top [] tied h = refl
   find_below o q top (e ∷ es) tied h =
-      ap (λ b. cond b (Some e.1) (find R q es)) (ap is_eq (o.congr q top e.0 tied) ∙ less _ (first_of_both _ _ h)) ∙ find_below o q top es tied (second_of_both _ _ h)
+      ap (λ r. cond (is_eq r) (Some e.1) (find R q es)) (o.congr q top e.0 tied ∙ is_less _ (first_of_both _ _ h)) ∙ find_below o q top es tied (second_of_both _ _ h)
+
+  find_above : IsTotalOrder R → (q top : K) (es : List (K × X)) → R q top ≡ Less → T (below_all R top es) → find R q es ≡ None
+  find_above o q top [] before h = refl
+  find_above o q top (e ∷ es) before h =
+      ap (λ r. cond (is_eq r) (Some e.1) (find R q es)) (o.trans q top e.0 before (is_less _ (first_of_both _ _ h))) ∙ find_above o q top es before (second_of_both _ _ h)
 
   any_found : IsTotalOrder R → (p : K × X → Bool) (es : List (K × X)) → T (is_sorted R es) → list_any p es ≡ true → (e : K × X) × (find R e.0 es ≡ Some e.1) × (p e ≡ true)
   any_found o p [] sorted one = absurd (true≢false (sym one))
@@ -76,6 +83,16 @@ module _ {K X : Type 0} (R : K → K → Ordering) where
         | false ↦ λ _ is. ap (λ b. p e || b) (found_any same p es k x is one) ∙ elim (p e) as (λ b. (b || true) ≡ true) [ true ↦ refl | false ↦ refl ]
       ] refl is
 
+  -- a put at a key that is there keeps the keys
+  keys-put : IsTotalOrder R → (k : K) (v x : X) (es : List (K × X)) → T (is_sorted R es) → find R k es ≡ Some x → map (λ e. e.0) (put R k v es) ≡ map (λ e. e.0) es
+  keys-put o k v x [] sorted is = absurd (true≢false (sym (ap is_some is)))
+  keys-put o k v x (e ∷ es) sorted is =
+      elim (R k e.0) as (λ r. R k e.0 ≡ r → cond (is_eq r) (Some e.1) (find R k es) ≡ Some x → map (λ e. e.0) (by_order r ((k, v) ∷ e ∷ es) ((e.0, v) ∷ es) (e ∷ put R k v es)) ≡ e.0 ∷ map (λ e. e.0) es) [
+        | Less ↦ λ before is. absurd (true≢false (sym (ap is_some is) ∙ ap is_some (find_above o k e.0 es before (first_of_both _ _ sorted))))
+        | Equal ↦ λ _ _. refl
+        | Greater ↦ λ _ is. ap (λ ks. e.0 ∷ ks) (keys-put o k v x es (second_of_both _ _ sorted) is)
+      ] refl is
+
 module _ {K X : Type 0} {R : K → K → Ordering} where
   pub entries-changed : (f : K → X → X) (m : FinMap R X) → entries (finite.from_sorted {R = R} (change_entries f (entries m))) ≡ change_entries f (entries m)
   entries-changed f m = finite.entries-from_sorted R _ (subst T (sym (is_sorted-change_entries R f (entries m))) (finite.entries_sorted m))
@@ -83,6 +100,13 @@ module _ {K X : Type 0} {R : K → K → Ordering} where
   pub get-changed : IsAntisymmetric R → (f : K → X → X) (m : FinMap R X) (q : K) → get (finite.from_sorted {R = R} (change_entries f (entries m))) q ≡ option_map (f q) (get m q)
   get-changed same f m q =
       finite.get-entries _ q ∙ ap (find R q) (entries-changed f m) ∙ find-change_entries R same f q (entries m) ∙ ap (option_map (f q)) (sym (finite.get-entries m q))
+
+  pub keys-changed : (f : K → X → X) (m : FinMap R X) → finite.keys (finite.from_sorted {R = R} (change_entries f (entries m))) ≡ finite.keys m
+  keys-changed f m = ap (map (λ e. e.0)) (entries-changed f m) ∙ same_keys (entries m)
+    where
+      same_keys : (es : List (K × X)) → map (λ e. e.0) (change_entries f es) ≡ map (λ e. e.0) es
+      same_keys [] = refl
+      same_keys (e ∷ es) = ap (λ ks. e.0 ∷ ks) (same_keys es)
 
   -- an entry that passes a test is there by its key, and the other way round
   pub any_entry : IsTotalOrder R → (p : K × X → Bool) (m : FinMap R X) → list_any p (entries m) ≡ true → (k : K) × (x : X) × (get m k ≡ Some x) × (p (k, x) ≡ true)
@@ -96,6 +120,9 @@ module _ {K X : Type 0} {R : K → K → Ordering} where
   -- the map with the value at a key changed, where the key is there
   abbrev pub change_value : FinMap R X → K → (X → X) → FinMap R X
   change_value m k f = elim (get m k) [ None ↦ m | Some x ↦ insert m k (f x) ]
+
+  pub change_value-there : (m : FinMap R X) (k : K) (f : X → X) (x : X) → get m k ≡ Some x → change_value m k f ≡ insert m k (f x)
+  change_value-there m k f x is = ap (λ r. elim r as (λ _. FinMap R X) [ None ↦ m | Some x ↦ insert m k (f x) ]) is
 
 module _ {K X : Type 0} {R : K → K → Ordering} (o : IsTotalOrder R) where
   pub get-change_value : (m : FinMap R X) (k : K) (f : X → X) (q : K) → get (change_value m k f) q ≡ cond (eq_by_cmp R k q) (option_map f (get m q)) (get m q)
@@ -112,3 +139,10 @@ module _ {K X : Type 0} {R : K → K → Ordering} (o : IsTotalOrder R) where
               | false ↦ λ t. refl
             ] refl
       ] refl
+
+  pub keys-insert-there : (m : FinMap R X) (k : K) (v x : X) → get m k ≡ Some x → finite.keys (insert m k v) ≡ finite.keys m
+  keys-insert-there m k v x is = ap (map (λ e. e.0)) (finite.entries-insert o m k v) ∙ keys-put R o k v x (entries m) (finite.entries_sorted m) (sym (finite.get-entries m k) ∙ is)
+
+  pub keys-change_value : (m : FinMap R X) (k : K) (f : X → X) → finite.keys (change_value m k f) ≡ finite.keys m
+  keys-change_value m k f =
+      elim (get m k) as (λ r. get m k ≡ r → finite.keys (elim r [ None ↦ m | Some x ↦ insert m k (f x) ]) ≡ finite.keys m) [ None ↦ λ _. refl | Some x ↦ λ is. keys-insert-there m k (f x) x is ] refl
