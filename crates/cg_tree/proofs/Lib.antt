@@ -4,6 +4,7 @@ pub mod PathEnds
 pub mod PathNames
 pub mod PathSteps
 pub mod Options
+pub mod PathAt
 pub mod MapLaws
 pub mod MapFolds
 pub mod StateLaws

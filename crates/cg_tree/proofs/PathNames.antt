@@ -1,15 +1,16 @@
 -- The names of a path's text are the path's.
-use Rattle.std.proofs.Common.{◌≡◌, ℕ, zero, suc, ◌+◌, ◌≤◌, true, false, List, [], ◌∷◌, ◌++◌, length, take, drop, refl, ap, sym, ◌∙◌, subst, arith}
+use Rattle.std.proofs.Common.{◌≡◌, ℕ, zero, suc, get_or, length-append, ◌+◌, ◌<◌, ◌≤◌, true, false, List, [], ◌∷◌, ◌++◌, length, take, drop, refl, ap, sym, ◌∙◌, subst, arith, zero-add, ◌⊎◌, ⊎_elim}
 use Rattle.std.specs.Prelude.{not, ◌&&◌, nat_le, nat_eq, ◌==◌}
 use Rattle.std.specs.List.{list_all, slice_split, All}
-use Rattle.std.proofs.lemmas.Bool.{and_parts, and_from, not-true, le-leb}
-use Rattle.std.proofs.lemmas.List.{append-nil, take-append-drop}
+use Rattle.std.proofs.lemmas.Bool.{and_parts, and_from, not-true, le-leb, false_from_ne_true, both_ways}
+use Rattle.std.proofs.lemmas.List.{append-nil, take-append-drop, take_more, get_or_default}
 use Rattle.std.proofs.lemmas.List.Folds.{list_all-append}
+use Rattle.std.proofs.lemmas.List.Concat.{flat_map-append}
 use Rattle.std.proofs.lemmas.List.Elements.{All-nil, All-cons}
 use Rattle.std.proofs.lemmas.List.Splits.{slice_split_none, slice_split_at}
-use Rattle.cg_tree.specs.Paths.{Name, Names, names_of, path_text, is_name, is_name_byte, IsPath}
+use Rattle.cg_tree.specs.Paths.{Name, Names, names_of, path_text, is_name, is_name_byte, is_path, IsPath}
 use Rattle.cg_tree.specs.PathText.{names_text, ends_from, IsKept}
-use Rattle.cg_tree.proofs.PathEnds.{is_name-bytes, path_names, path_bytes, end_le}
+use Rattle.cg_tree.proofs.PathEnds.{length_more, is_name-bytes, path_names, path_bytes, end_le}
 
 no_slash : (name : Name) → list_all is_name_byte name ≡ true → All (λ (b : ℕ). (b == 47) ≡ false) name
 no_slash [] h = All-nil (λ (b : ℕ). (b == 47) ≡ false)
@@ -63,3 +64,61 @@ take-ends_from path start zero = refl
 take-ends_from [] start (suc len) = refl
 take-ends_from (name ∷ path) start (suc len) =
     ap (λ (x : List ℕ). (start + (length name + 1)) ∷ x) (take-ends_from path (start + (length name + 1)) len)
+
+pub ends_from-push : (start : ℕ) (path : Names) (name : Name) → ends_from start (path ++ name ∷ []) ≡ ends_from start path ++ (start + length (names_text (path ++ name ∷ []))) ∷ []
+ends_from-push start [] name = ap (λ (x : ℕ). x ∷ []) (omega (arith, length-append name []))
+ends_from-push start (first ∷ path) name =
+    let e : start + (length first + 1) + length (names_text (path ++ name ∷ [])) ≡ start + length (names_text (first ∷ (path ++ name ∷ []))) = omega (arith, length-append first (names_text (path ++ name ∷ []))) in
+    ap (λ (x : List ℕ). (start + (length first + 1)) ∷ x) (ends_from-push (start + (length first + 1)) path name ∙ ap (λ (x : ℕ). ends_from (start + (length first + 1)) path ++ x ∷ []) e)
+
+-- one name more, which a walk has read
+abbrev pub Reads : Names → ℕ → Name → Type 0
+Reads path i name = (i < length path) × (name ≡ get_or path i name)
+
+pub end_more : (path : Names) (i n : ℕ) (name : Name) → n ≡ i + 1 → Reads path i name → length (names_text (take i path)) + (length name + 1) ≡ length (names_text (take n path))
+end_more path i n name m h =
+    let e : name ≡ get_or path i [] = h.1 ∙ get_or_default path i name [] h.0 in
+    rw m (omega (arith, length_more path i h.0, ap length e))
+
+pub ends_more : (path : Names) (i n : ℕ) (name : Name) → n ≡ i + 1 → Reads path i name → ends_from 0 (take i path) ++ (length (names_text (take i path)) + (length name + 1)) ∷ [] ≡ ends_from 0 (take n path)
+ends_more path i n name m h =
+    ap (λ (x : ℕ). ends_from 0 (take i path) ++ x ∷ []) (end_more path i (i + 1) name refl h ∙ ap (λ (x : Names). length (names_text x)) (take_more path i [] h.0) ∙ sym (zero-add (length (names_text (take i path ++ get_or path i [] ∷ [])))))
+    ∙ sym (ends_from-push 0 (take i path) (get_or path i []))
+    ∙ ap (ends_from 0) (sym (take_more path i [] h.0) ∙ ap (λ (x : ℕ). take x path) (sym m))
+
+-- the names of a text end within it
+pub end_within : (path : Names) (i k : ℕ) (name : Name) → Reads path i name → length (names_text path) ≤ k → length (names_text (take i path)) + (length name + 1) ≤ k
+end_within path i k name h l = omega (arith, end_more path i (i + 1) name refl h, end_le path (i + 1))
+
+-- ---- a path with one name behind it
+
+pub names_text-push : (path : Names) (name : Name) → names_text (path ++ name ∷ []) ≡ names_text path ++ 47 ∷ name
+names_text-push path name =
+    flat_map-append (λ (n : Name). 47 ∷ n) path (name ∷ []) ∙ ap (λ (x : List ℕ). names_text path ++ 47 ∷ x) (append-nil name)
+
+length_push_text : (path : Names) (name : Name) → length (names_text (path ++ name ∷ [])) ≡ length (names_text path) + 1 + length name
+length_push_text path name = omega (arith, ap length (names_text-push path name), length-append (names_text path) (47 ∷ name))
+
+pub IsPath-push : (path : Names) (name : Name) → IsPath path → is_name name ≡ true → length (names_text path) + 1 + length name ≤ 4095 → IsPath (path ++ name ∷ [])
+IsPath-push path name h k l =
+    let names : list_all is_name (path ++ name ∷ []) ≡ true = list_all-append is_name path (name ∷ []) ∙ and_from (list_all is_name path) (is_name name && true) (path_names path h) (and_from (is_name name) true k refl) in
+    IsPath-from (path ++ name ∷ []) names (omega (arith, length_push_text path name))
+
+-- too long a text, or no name
+pub not_path-push : (path : Names) (name : Name) → (4095 < length (names_text path) + 1 + length name) ⊎ (is_name name ≡ false) → is_path (path ++ name ∷ []) ≡ false
+not_path-push path name bad =
+    false_from_ne_true
+    (is_path (path ++ name ∷ []))
+    (λ is.
+    ⊎_elim
+    (λ long. omega (arith, path_bytes (path ++ name ∷ []) is, length_push_text path name))
+    (λ no.
+    let names : (list_all is_name path && (is_name name && true)) ≡ true = sym (list_all-append is_name path (name ∷ [])) ∙ path_names (path ++ name ∷ []) is in
+    both_ways (is_name name) no (and_parts (is_name name) true (and_parts (list_all is_name path) (is_name name && true) names).1).0)
+    bad)
+
+pub ends_push : (path : Names) (name : Name) (ends : List ℕ) (end : ℕ) → ends ≡ ends_from 0 path → end ≡ length (names_text path) + 1 + length name → ends ++ end ∷ [] ≡ ends_from 0 (path ++ name ∷ [])
+ends_push path name ends end h e =
+    ap (λ (x : List ℕ). x ++ end ∷ []) h
+    ∙ ap (λ (x : ℕ). ends_from 0 path ++ x ∷ []) (e ∙ sym (length_push_text path name) ∙ sym (zero-add (length (names_text (path ++ name ∷ [])))))
+    ∙ sym (ends_from-push 0 path name)

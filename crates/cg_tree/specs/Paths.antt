@@ -1,5 +1,5 @@
 -- Paths as lists of names, each name the list of its bytes. The root is the empty list.
-use Rattle.std.specs.Prelude.{ℕ, ◌+◌, ◌-◌, Bool, true, false, ◌&&◌, not, nat_eq, nat_lt, nat_le, cond, List, [], ◌∷◌, length, take, drop, flat_map, IsTrue, ◌==◌}
+use Rattle.std.specs.Prelude.{ℕ, ◌+◌, ◌-◌, Bool, true, false, ◌&&◌, not, nat_eq, nat_lt, nat_le, cond, Option, Some, None, List, [], ◌∷◌, length, take, drop, flat_map, IsTrue, ◌==◌}
 use Rattle.std.specs.List.{list_any, list_all, slice_split}
 use Rattle.std.specs.Ordering.{nat_cmp}
 use Rattle.std.specs.Cmp.Lexicographic.{slice_cmp, pointwise}
@@ -75,3 +75,11 @@ is_path path = list_all is_name path && nat_le (length (path_text path)) 4095
 
 abbrev pub IsPath : Names → Type 0
 IsPath path = IsTrue (is_path path)
+
+-- The names of a path's text.
+abbrev pub names_at : List ℕ → Names
+names_at text = cond (same_name text (path_text [])) [] (names_of text)
+
+-- The path that a text is the text of, where there is one.
+abbrev pub path_at : List ℕ → Option Names
+path_at text = cond (is_path (names_at text) && same_name (path_text (names_at text)) text) (Some (names_at text)) None

@@ -1,6 +1,8 @@
 //! Paths of cgroups.
 pub mod copies;
+mod names;
 pub mod order;
+pub mod parse;
 
 ghost use Rattle.std.specs.Prelude.{◌≡◌, ◌+◌, ◌<◌, ◌≤◌, length, take, slice_index_or, [], IfOk};
 ghost use Rattle.cg_tree.specs.Paths.{path_text, path_cmp, same_path, inside, common, IsPath};

@@ -1,0 +1,67 @@
+//! Which texts are names of cgroups, and where the names of a text end.
+ghost use Rattle.std.specs.Prelude.{◌≡◌, ◌<◌, ◌+◌, ◌==◌, length, IfOk};
+ghost use Rattle.std.specs.List.{list_all, list_any, slice_split};
+ghost use Rattle.cg_tree.specs.Paths.{is_name, is_name_byte, same_name};
+ghost use Rattle.cg_tree.specs.Texts.{reserved_names};
+ghost use Rattle.cg_tree.specs.PathText.{ends_from};
+
+use std::alloc::{AllocError, Global};
+
+/// The greatest number of bytes of a name.
+const LONGEST_NAME: usize = 255;
+
+/// Whether a byte may stand in a name.
+fn is_name_byte(byte: u8) -> bool
+    ensures { result ≡ is_name_byte byte }
+{
+    byte.is_ascii_graphic() && byte != b'/'
+}
+
+/// Whether each byte of a text may stand in a name.
+fn has_name_bytes(name: &str) -> bool
+    ensures { result ≡ list_all is_name_byte name.now }
+{
+    name.as_bytes().iter().all(|byte| is_name_byte(*byte))
+}
+
+/// Whether a text is a name that no cgroup has: a directory's own entries and the interface files of the profile.
+fn is_reserved(name: &str) -> bool
+    ensures { result ≡ list_any (same_name name.now) reserved_names }
+{
+    match name {
+        "." | ".." | "cgroup.controllers" | "cgroup.procs" | "cgroup.subtree_control" => true,
+        "cgroup.max.descendants" | "cgroup.max.depth" | "cpu.weight" => true,
+        "memory.min" | "memory.low" | "memory.high" | "memory.max" | "pids.max" => true,
+        _ => false,
+    }
+}
+
+/// Whether a text is a name of a cgroup.
+pub(crate) fn is_name(name: &str) -> bool
+    ensures { result ≡ is_name name.now }
+{
+    let len = name.len();
+    0 < len && len <= LONGEST_NAME && has_name_bytes(name) && !is_reserved(name)
+}
+
+/// Whether a text consists of names with slashes between them.
+pub(crate) fn are_names(text: &str) -> bool
+    ensures { result ≡ list_all is_name (slice_split (λ b. b == 47) text.now) }
+{
+    text.split('/').all(|name| is_name(name))
+}
+
+/// Where the names end in a text that has a slash before each.
+pub(crate) fn ends_of(alloc: Global, names: &str) -> Result<Vec<u16>, AllocError>
+    requires { length names.now < 65535 }
+    ensures { IfOk result
+        (λ ends. ends.items ≡ ends_from 0 (slice_split (λ b. b == 47) names.now)) }
+{
+    let mut ends = Vec::new(alloc);
+    let mut end = 0;
+    for name in names.split('/') {
+        end += name.len() + 1;
+        ends.push(end as u16)?;
+    }
+    Ok(ends)
+}
