@@ -1,6 +1,6 @@
 //! Controllers, and the limit files that they bring.
 ghost use Rattle.std.specs.Prelude.{◌≡◌, ◌≢◌, IfSome, IfNone};
-ghost use Rattle.cg_tree.specs.Files.{enables, with_controller, no_controllers, enables_nothing, is_within, controller_of, default_value, accepts, stands_under, AreNames, controller_name, controller_named, file_name, file_named, entry_text, entry_named};
+ghost use Rattle.cg_tree.specs.Files.{enables, with_controller, no_controllers, enables_nothing, is_within, controller_of, default_value, accepts, stands_under, all_controllers, all_files, AreNames, controller_name, controller_named, file_name, file_named, entry_text, entry_named};
 
 /// The value of a limit file: `max`, or a number.
 #[derive(Clone, Copy, Debug, PartialEq, Eq)]
@@ -118,6 +118,18 @@ pub enum LimitFile {
 }
 
 impl LimitFile {
+    /// The limit files, in their order.
+    pub const ALL: [LimitFile; 8] = [
+        LimitFile::MaxDescendants,
+        LimitFile::MaxDepth,
+        LimitFile::CpuWeight,
+        LimitFile::MemoryMin,
+        LimitFile::MemoryLow,
+        LimitFile::MemoryHigh,
+        LimitFile::MemoryMax,
+        LimitFile::PidsMax,
+    ];
+
     /// The greatest number that a limit file takes, `cpu.weight` apart.
     pub const GREATEST: u64 = 9223372036854775807;
 
@@ -246,6 +258,12 @@ impl EntryName {
     }
 }
 
+/// The order of the listed controllers and limit files is the one used everywhere.
+pub fn all_are_listed()
+    ensures controllers { Controller.ALL ≡ all_controllers }
+    ensures files { LimitFile.ALL ≡ all_files }
+{}
+
 /// The law of names: a controller, a limit file and an entry is found by its name, what is found has the name that was
 /// sought, and no two names of a kind are equal.
 pub fn names_are_exact()
@@ -253,3 +271,59 @@ pub fn names_are_exact()
     ensures files { AreNames file_name file_named }
     ensures entries { AreNames entry_text entry_named }
 {}
+
+#[cfg(test)]
+mod tests {
+    use super::*;
+
+    #[test]
+    fn names_are_the_kernels(rt: HostRuntime) {
+        let names = [
+            "cgroup.max.descendants",
+            "cgroup.max.depth",
+            "cpu.weight",
+            "memory.min",
+            "memory.low",
+            "memory.high",
+            "memory.max",
+            "pids.max",
+        ];
+        for (file, name) in LimitFile::ALL.iter().zip(names) {
+            assert_eq!(rt; file.name(), name);
+            assert_eq!(rt; LimitFile::from_name(name), Some(*file));
+            assert_eq!(rt; EntryName::from_name(name), Some(EntryName::File(*file)));
+        }
+        for (controller, name) in Controller::ALL.iter().zip(["cpu", "memory", "pids"]) {
+            assert_eq!(rt; controller.name(), name);
+            assert_eq!(rt; Controller::from_name(name), Some(*controller));
+        }
+        assert_eq!(rt; EntryName::Dir.name(), "dir");
+        assert_eq!(rt;
+            EntryName::from_name("cgroup.procs"),
+            Some(EntryName::Procs)
+        );
+        assert_eq!(rt; LimitFile::from_name("cgroup.procs"), None);
+    }
+
+    #[test]
+    fn values_and_places(rt: HostRuntime) {
+        let weight = LimitFile::CpuWeight;
+        assert_eq!(rt; weight.default_value(), Limit::At(100));
+        assert!(rt; weight.accepts(Limit::At(1)) && weight.accepts(Limit::At(10000)));
+        assert!(rt; !weight.accepts(Limit::At(0)) && !weight.accepts(Limit::At(10001)));
+        assert!(rt; !weight.accepts(Limit::Max));
+        assert!(rt; LimitFile::MaxDepth.accepts(Limit::At(9223372036854775807)));
+        assert!(rt; !LimitFile::MaxDepth.accepts(Limit::At(9223372036854775808)));
+        assert_eq!(rt; LimitFile::MemoryLow.controller(), Some(Controller::Memory));
+        assert!(rt; LimitFile::MaxDepth.stands_under(ControllerSet::none()));
+    }
+
+    #[test]
+    fn sets_of_controllers(rt: HostRuntime) {
+        let none = ControllerSet::none();
+        let some = none.with(Controller::Memory, true);
+        assert!(rt; some.contains(Controller::Memory) && !some.contains(Controller::Pids));
+        assert!(rt; none.is_empty() && !some.is_empty());
+        assert!(rt; none.is_within(&some) && !some.is_within(&none));
+    }
+}
