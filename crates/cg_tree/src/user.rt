@@ -95,13 +95,7 @@ impl User {
     pub fn new(uid: u32) -> Option<User>
         ensures { result ≡ user_of uid [] }
     {
-        if uid == 0 {
-            return None;
-        }
-        Some(User {
-            uid,
-            gids: ArrayVec::new(),
-        })
+        User::with_groups(uid, &[])
     }
 
     /// A user who is in these groups, of which the first is his primary one; `None` for uid 0 or over 32 gids.
