@@ -2,6 +2,7 @@
 use Rattle.std.proofs.Common.{◌≡◌, ℕ, Bool, true, false, cond, refl, ap, ◌∙◌}
 use Rattle.std.specs.Prelude.{Option, Some, None, is_some, unwrap_or}
 use Rattle.std.specs.Option.{option_map}
+use Rattle.std.proofs.lemmas.Option.{same_Some}
 use Rattle.cg_tree.specs.Identity.{Identity}
 use Rattle.cg_tree.specs.Users.{entry_made_by}
 use Rattle.cg_tree.specs.Files.{accepts, default_value, stands_under, same_file, same_entry}
@@ -171,6 +172,31 @@ stays (Some x) false new h = cc
 -- the limit files of a row that already stand where they belong all stay
 pub same-with_files_of : (enabled : ControllerSet) (user : Identity) (row : Cgroup) (file : LimitFile) → is_some (file_of row file) ≡ stands_under enabled file → file_of (with_files_of enabled user row) file ≡ file_of row file
 same-with_files_of enabled user row file h = file_of-with_files_of enabled user row file ∙ stays (file_of row file) (stands_under enabled file) (file_made_by user file) h
+
+-- rows with the same entries, files and controllers are one
+pub same_cgroup : (old new : Cgroup) → SameRest old new → ((file : LimitFile) → file_of new file ≡ file_of old file) → new ≡ old
+same_cgroup old new rest files =
+    let max_descendants : new.max_descendants ≡ old.max_descendants = same_Some new.max_descendants old.max_descendants (files MaxDescendants) in
+    let max_depth : new.max_depth ≡ old.max_depth = same_Some new.max_depth old.max_depth (files MaxDepth) in
+    λ i. record {
+      dir = rest.dir i;
+      procs = rest.procs i;
+      subtree_control = rest.subtree_control i;
+      max_descendants = max_descendants i;
+      max_depth = max_depth i;
+      cpu_weight = files CpuWeight i;
+      memory_min = files MemoryMin i;
+      memory_low = files MemoryLow i;
+      memory_high = files MemoryHigh i;
+      memory_max = files MemoryMax i;
+      pids_max = files PidsMax i;
+      enabled = rest.enabled i;
+    }
+
+-- where each file already stands as it belongs, nothing changes
+pub with_files_of-same : (enabled : ControllerSet) (user : Identity) (row : Cgroup) → ((file : LimitFile) → is_some (file_of row file) ≡ stands_under enabled file) → with_files_of enabled user row ≡ row
+with_files_of-same enabled user row stands =
+    same_cgroup row (with_files_of enabled user row) (record { dir = refl; procs = refl; subtree_control = refl; enabled = refl }) (λ file. same-with_files_of enabled user row file (stands file))
 
 -- ---- a new cgroup
 

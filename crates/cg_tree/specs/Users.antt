@@ -1,5 +1,5 @@
 -- Users, and who writes and who owns an entry.
-use Rattle.std.specs.Prelude.{ℕ, Bool, IsTrue, ◌&&◌, ◌||◌, nat_eq, nat_lt, nat_le, cond, List, [], ◌∷◌, length, unwrap_or, bit_and, Option, Some, None}
+use Rattle.std.specs.Prelude.{ℕ, Bool, IsTrue, ◌&&◌, ◌||◌, nat_eq, nat_lt, nat_le, cond, List, [], ◌∷◌, length, unwrap_or, bit_and, bit_or, Option, Some, None}
 use Rattle.std.specs.List.{list_any}
 use Rattle.cg_tree.specs.Identity.{Identity}
 use Rattle.cg_tree.specs.declared.user.Entry.{Entry}
@@ -36,6 +36,10 @@ owns user entry = nat_eq entry.uid user.uid
 -- Whether a mode has a bit, which is a power of two.
 abbrev pub has_bit : ℕ → ℕ → Bool
 has_bit mode bit = nat_eq (bit_and mode bit) bit
+
+-- Own: the mode with the owner's bit set.
+abbrev pub opened : ℕ → ℕ
+opened mode = bit_or mode 128
 
 -- Own: the first class that matches decides, the owner's 0o200, the group's 0o020 or the others' 0o002.
 unfoldable pub writes : Identity → Entry → Bool
