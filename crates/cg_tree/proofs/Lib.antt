@@ -20,4 +20,5 @@ pub mod FormedParts
 pub mod FormedReshaped
 pub mod FormedTree
 pub mod FormedEnabled
+pub mod StateEntries
 pub mod FormedLaws
