@@ -1,10 +1,10 @@
 -- What is gathered from a finite map's entries, one by one and in any order: after an insert at a new key and after a remove.
-use Rattle.std.proofs.Common.{◌≡◌, ℕ, ◌+◌, Bool, true, false, cond, ◌&&◌, ◌||◌, T, List, [], ◌∷◌, map, refl, sym, ap, ◌∙◌, subst, true≢false, Option, Some, None, is_some, option_map, Ordering, Less, Equal, Greater}
-use Rattle.std.specs.Ordering.{eq_by_cmp, is_eq, is_lt}
+use Rattle.std.proofs.Common.{◌≡◌, Bool, true, false, cond, List, [], ◌∷◌, refl, sym, ap, ◌∙◌, true≢false, Some, None, is_some, Ordering, Less, Equal, Greater}
+use Rattle.std.specs.Ordering.{eq_by_cmp, is_eq}
 use Rattle.std.specs.Cmp.{IsTotalOrder, Equal-is, eq_by_cmp_equiv}
 use Rattle.std.specs.FinMap as finite
 use Rattle.std.specs.FinMap.{FinMap, IsAntisymmetric, get, insert, remove, entries}
-use Rattle.std.specs.FinMap.Entries.{find, put, by_order, is_sorted, below_all}
+use Rattle.std.specs.FinMap.Entries.{find, put, by_order}
 
 -- the items from the last to the first
 abbrev pub gathered : {A B : Type 0} → (A → B → B) → B → List A → B

@@ -1,14 +1,14 @@
 -- What each change does to the paths, the counts and the tests of a state.
-use Rattle.std.proofs.Common.{◌≡◌, ℕ, ◌+◌, ◌-◌, max, Bool, true, false, cond, ◌&&◌, ◌||◌, List, [], ◌∷◌, length, map, refl, sym, ap, ◌∙◌, Option, Some, None, fold, filter, count_by, arith}
+use Rattle.std.proofs.Common.{◌≡◌, ℕ, ◌+◌, ◌-◌, max, Bool, true, false, cond, ◌&&◌, ◌||◌, List, [], ◌∷◌, length, map, refl, sym, ap, ◌∙◌, Some, None, fold, filter, count_by, arith}
 use Rattle.std.specs.List.{list_any}
 use Rattle.std.specs.Cmp.{nat_cmp_total}
 use Rattle.std.specs.FinMap as finite
 use Rattle.std.proofs.lemmas.List.Recursion.{is_count_by}
-use Rattle.cg_tree.specs.Paths.{Names, path_cmp, same_path, below, is_child}
+use Rattle.cg_tree.specs.Paths.{Names, same_path, below, is_child}
 use Rattle.cg_tree.specs.Identity.{Identity}
 use Rattle.cg_tree.specs.Files.{enables}
 use Rattle.cg_tree.specs.Cgroups.{with_value_in, with_mode_in}
-use Rattle.cg_tree.specs.States.{State, row_at, process_at, is_used, paths_of, pids_of, has_child, has_live, child_enables, count_below, depth_below, enabling, with_row, without_row, with_value, with_mode, with_enabled, placed_at, with_place, with_process, without_process}
+use Rattle.cg_tree.specs.States.{State, row_at, process_at, paths_of, pids_of, has_child, has_live, child_enables, count_below, depth_below, enabling, with_row, without_row, with_value, with_mode, with_enabled, placed_at, with_place, with_process, without_process}
 use Rattle.cg_tree.specs.WellFormed.{has_row}
 use Rattle.cg_tree.specs.declared.files.Limit.{Limit}
 use Rattle.cg_tree.specs.declared.files.Controller.{Controller}

@@ -1,13 +1,11 @@
 -- What a cgroup's entries, values and controllers are after each change. A change of processes leaves them all, as its rows are the same.
-use Rattle.std.proofs.Common.{◌≡◌, ℕ, Bool, true, false, cond, ◌&&◌, refl, sym, ap, ◌∙◌, true≢false, Option, Some, None, is_some, unwrap_or, option_map, option_and_then}
+use Rattle.std.proofs.Common.{◌≡◌, ℕ, Bool, true, false, cond, ◌&&◌, refl, sym, ap, ◌∙◌, true≢false, Option, Some, None, is_some, option_map, option_and_then}
 use Rattle.cg_tree.specs.Paths.{Names, same_path, is_child}
 use Rattle.cg_tree.specs.Identity.{Identity}
-use Rattle.cg_tree.specs.Users.{entry_made_by}
-use Rattle.cg_tree.specs.Files.{default_value, stands_under, same_file, same_entry, no_controllers}
-use Rattle.cg_tree.specs.Cgroups.{file_of, entry_in, value_in, with_value_in, with_mode_of, with_mode_in, file_made_by, refitted, with_files_of}
-use Rattle.cg_tree.specs.States.{State, row_at, file_at, entry_at, value_at, enabling_these, enabling, with_row, without_row, with_value, with_mode, with_enabled}
+use Rattle.cg_tree.specs.Files.{stands_under, same_file, same_entry, no_controllers}
+use Rattle.cg_tree.specs.Cgroups.{file_of, entry_in, value_in, with_value_in, with_mode_of, with_mode_in, refitted}
+use Rattle.cg_tree.specs.States.{State, row_at, file_at, entry_at, value_at, enabling, with_row, without_row, with_value, with_mode, with_enabled}
 use Rattle.cg_tree.specs.WellFormed.{enabled_at}
-use Rattle.cg_tree.specs.declared.user.Entry.{Entry}
 use Rattle.cg_tree.specs.declared.files.Limit.{Limit}
 use Rattle.cg_tree.specs.declared.files.ControllerSet.{ControllerSet}
 use Rattle.cg_tree.specs.declared.files.LimitFile.{LimitFile}
