@@ -22,3 +22,4 @@ pub mod FormedTree
 pub mod FormedEnabled
 pub mod StateEntries
 pub mod FormedLaws
+pub mod TreeLaws

@@ -6,12 +6,12 @@ use Rattle.std.specs.Cmp.Lexicographic.{bytes_decides, nat_list_eq_equiv}
 use Rattle.cg_tree.specs.Paths.{Names, same_name, same_path, is_root, inside, parent, is_child}
 use Rattle.cg_tree.proofs.PathOrder.{same_path-not}
 
-inside-take : (n : ℕ) (path : Names) → inside (take n path) path ≡ true
+pub inside-take : (n : ℕ) (path : Names) → inside (take n path) path ≡ true
 inside-take zero path = refl
 inside-take (suc n) [] = refl
 inside-take (suc n) (name ∷ path) = both_true (nat_list_eq_equiv.refl name) (inside-take n path)
 
-inside-is : (top path : Names) → inside top path ≡ true → take (length top) path ≡ top
+pub inside-is : (top path : Names) → inside top path ≡ true → take (length top) path ≡ top
 inside-is [] path h = refl
 inside-is (name ∷ top) [] h = absurd (true≢false (sym h))
 inside-is (name ∷ top) (other ∷ path) h =
@@ -23,7 +23,7 @@ is_root-length : (path : Names) → is_root path ≡ false → 0 < length path
 is_root-length [] h = absurd (true≢false h)
 is_root-length (name ∷ path) h = omega arith
 
-length-parent : (path : Names) → is_root path ≡ false → length (parent path) + 1 ≡ length path
+pub length-parent : (path : Names) → is_root path ≡ false → length (parent path) + 1 ≡ length path
 length-parent path h =
     let long = is_root-length path h in
     omega (arith, length-take-le (length path - 1) path (omega arith))
