@@ -1,2 +1,5 @@
-pub mod Firsts
+pub mod ClauseLaws
 pub mod Prefixes
+pub mod LevelBars
+pub mod Allowed
+pub mod AllowedControl

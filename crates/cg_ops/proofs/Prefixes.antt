@@ -36,3 +36,10 @@ no_root_of_length (name ∷ names) h = refl
 pub is_root-length : (p : Names) → is_root p ≡ nat_eq (length p) 0
 is_root-length [] = refl
 is_root-length (name ∷ names) = sym (eqb-suc-zero (length names))
+
+take-length : (p : Names) → take (length p) p ≡ p
+take-length [] = refl
+take-length (name ∷ names) = ap (λ rest. name ∷ rest) (take-length names)
+
+pub take_whole : (p : Names) (len : ℕ) → len ≡ length p → take len p ≡ p
+take_whole p len h = ap (λ n. take n p) h ∙ take-length p

@@ -1,5 +1,7 @@
 pub mod Clauses
+pub mod Changes
 pub mod Bars
 pub mod Next
 pub mod Steps
 pub mod Outcomes
+pub mod Memory

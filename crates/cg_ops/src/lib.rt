@@ -1,15 +1,22 @@
 //! Operations on a tree of cgroups: which refusal each meets, and what each changes where it meets none.
 #![tactic(auto)]
 
-ghost use Rattle.std.specs.Prelude.{◌≡◌, [], OnErr, IfOk};
+ghost use Rattle.std.specs.Prelude.{◌≡◌, [], true, OnErr, IfOk};
 ghost use Rattle.cg_ops.specs.Clauses.{first};
 ghost use Rattle.cg_ops.specs.Bars.{bars};
 ghost use Rattle.cg_ops.specs.Next.{next};
+ghost use Rattle.cg_ops.specs.Memory.{takes_memory};
 ghost use Rattle.cg_ops.specs.Outcomes.{IsRefused, RefusedBy};
 
+pub mod changes;
+pub mod limits;
+pub mod make_remove;
+pub mod modes;
 pub mod operation;
 pub mod outcome;
+pub mod process_events;
 pub mod procs_rule;
+pub mod subtree_control;
 
 use cg_tree::hierarchy::Hierarchy;
 use cg_tree::memory::NoMemory;
@@ -24,11 +31,18 @@ pub fn refusal<H: Hierarchy>(tree: &H, user: &User, op: &Op) -> Option<Refusal>
 {
     match op {
         Op::Move { pid, to } => procs_rule::refusal(tree, user, *pid, to),
+        Op::Control { at, changes } => subtree_control::refusal(tree, user, at, changes),
+        Op::Mkdir { path } => make_remove::mkdir_refusal(tree, user, path),
+        Op::Rmdir { path } => make_remove::rmdir_refusal(tree, user, path),
+        Op::Set { at, file, value } => limits::refusal(tree, user, at, *file, *value),
+        Op::Fork { parent, child } => process_events::fork_refusal(tree, user, *parent, *child),
+        Op::Exit { pid } => process_events::exit_refusal(tree, user, *pid),
+        Op::Chmod { at, entry, .. } => modes::refusal(tree, user, at, *entry),
     }
 }
 
-/// Carries out an operation of a user where nothing refuses it. Where it answers `NoMemory`, nothing refused the
-/// operation, and nothing has changed.
+/// Carries out an operation of a user where nothing refuses it. Where something does, or where it answers `NoMemory`,
+/// nothing has changed. Want of memory comes after all refusals, and only a move, a mkdir and a fork can meet it.
 pub fn apply<H: Hierarchy>(
     alloc: Global,
     tree: &mut H,
@@ -41,13 +55,21 @@ pub fn apply<H: Hierarchy>(
     ensures refused { IfOk result (λ outcome. RefusedBy outcome (first (bars (H.state tree.old) user.now op.now))) }
     ensures unchanged { IfOk result (λ outcome. IsRefused outcome → H.state tree.new ≡ H.state tree.old) }
     ensures err { OnErr result (H.state tree.new ≡ H.state tree.old) }
-    ensures memory { OnErr result (bars (H.state tree.old) user.now op.now ≡ []) }
+    ensures allowed { OnErr result (bars (H.state tree.old) user.now op.now ≡ []) }
+    ensures memory { OnErr result (takes_memory op.now ≡ true) }
 {
     if let Some(refusal) = refusal(tree, user, op) {
         return Ok(Outcome::Refused(refusal));
     }
     match op {
         Op::Move { pid, to } => tree.set_place(alloc, *pid, to)?,
+        Op::Control { at, changes } => subtree_control::carry_out(tree, user, at, changes),
+        Op::Mkdir { path } => make_remove::mkdir(alloc, tree, user, path)?,
+        Op::Rmdir { path } => tree.remove(path),
+        Op::Set { at, file, value } => tree.set_limit(at, *file, *value),
+        Op::Fork { parent, child } => process_events::fork(alloc, tree, user, *parent, *child)?,
+        Op::Exit { pid } => tree.end_process(*pid),
+        Op::Chmod { at, entry, mode } => tree.set_mode(at, *entry, *mode),
     }
     Ok(Outcome::Done)
 }
