@@ -1,2 +1,5 @@
 pub mod FaultLaws
 pub mod DocumentLaws
+pub mod TreeLaws
+pub mod FormedTree
+pub mod SoundRows

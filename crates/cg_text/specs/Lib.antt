@@ -2,3 +2,4 @@ pub mod Faults
 pub mod Records
 pub mod Document
 pub mod TopView
+pub mod Tree

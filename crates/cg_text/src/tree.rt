@@ -1,6 +1,9 @@
 //! Tree texts: from bytes to a tree, or the first fault of the text.
 mod document;
 mod fault;
+mod named;
 mod records;
+mod rows;
+mod written;
 
 pub use fault::{Place, TreeFault};

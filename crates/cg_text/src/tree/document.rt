@@ -336,7 +336,7 @@ fn process_of<'a>(value: &'a Value) -> Option<ProcessRecord<'a>>
 }
 
 /// The number of a row that stands at `index` in its array.
-fn row_number(index: usize) -> u32
+pub fn row_number(index: usize) -> u32
     requires { index < 4096 }
     ensures { result ≡ index + 1 }
 {

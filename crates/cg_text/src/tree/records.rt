@@ -1,4 +1,7 @@
 //! What a tree text says, before any of it is judged: texts, numbers, and what is left out.
+ghost use Rattle.std.specs.Prelude.{◌≡◌};
+
+use cg_tree::files::LimitFile;
 use std::marker::Model;
 
 /// The two formats of a tree text.
@@ -56,6 +59,8 @@ pub struct FilesRecord {
 }
 
 impl FilesRecord {
+    ghost use Rattle.cg_text.specs.Tree.{file_in};
+
     /// Files of which none is named.
     pub const NONE: FilesRecord = FilesRecord {
         procs: EntryRecord::NONE,
@@ -69,6 +74,22 @@ impl FilesRecord {
         memory_max: None,
         pids_max: None,
     };
+
+    /// What is written of a limit file, where it is named.
+    pub fn file(&self, name: LimitFile) -> Option<FileRecord>
+        ensures { result ≡ file_in self.now name }
+    {
+        match name {
+            LimitFile::MaxDescendants => self.max_descendants,
+            LimitFile::MaxDepth => self.max_depth,
+            LimitFile::CpuWeight => self.cpu_weight,
+            LimitFile::MemoryMin => self.memory_min,
+            LimitFile::MemoryLow => self.memory_low,
+            LimitFile::MemoryHigh => self.memory_high,
+            LimitFile::MemoryMax => self.memory_max,
+            LimitFile::PidsMax => self.pids_max,
+        }
+    }
 }
 
 /// What is written of a cgroup.

@@ -1,0 +1,101 @@
+-- What it says of a tree text's rows that no fault was found, and what the state has at a path and at a PID.
+use Rattle.std.proofs.Common.{◌≡◌, ℕ, ◌+◌, Bool, true, false, cond, ◌||◌, List, [], ◌∷◌, map as map_list, refl, sym, ap, subst, ◌∙◌, true≢false, Option, Some, None, is_some, option_map, unwrap_or, arith}
+use Rattle.std.specs.List.{AllByRecursion, list_any}
+use Rattle.std.specs.Ordering.{nat_cmp, eq_by_cmp, is_eq}
+use Rattle.std.specs.declared.cmp.Ordering.TheVariants.{Less, Equal, Greater}
+use Rattle.std.specs.Cmp.{nat_cmp_total}
+use Rattle.std.specs.FinMap.Entries.{is_some-find}
+use Rattle.std.specs.FinSet.{contains-from_list}
+use Rattle.cg_tree.specs.Files.{no_controllers}
+use Rattle.std.specs.declared.cmp.Ordering.{Ordering}
+use Rattle.std.specs.FinMap as map
+use Rattle.std.specs.FinMap.{IsAntisymmetric, get-from_entries}
+use Rattle.cg_tree.specs.Paths.{Names, path_cmp, is_root, parent}
+use Rattle.cg_tree.specs.Cgroups.{with_files_of}
+use Rattle.cg_tree.specs.States.{State, row_at, process_at, is_used}
+use Rattle.cg_tree.specs.WellFormed.{enabled_at}
+use Rattle.cg_tree.proofs.PathOrder.{path_cmp_total, path_cmp-IsAntisymmetric}
+use Rattle.cg_tree.specs.declared.files.ControllerSet.{ControllerSet}
+use Rattle.cg_tree.specs.declared.cgroup.Cgroup.{Cgroup}
+use Rattle.cg_tree.specs.declared.process.Process.{Process}
+use Rattle.cg_text.specs.Records.{ProcessRow}
+use Rattle.cg_text.specs.Tree.{or_else, unless, first_row, pairs_of, cgroup_at, enabled_by, enabled_over, fitted, superuser, live_process, live_processes, state_with}
+use Rattle.cg_text.specs.declared.tree.fault.TreeFault.{TreeFault}
+use Rattle.cg_text.specs.declared.tree.named.NamedRow.{NamedRow}
+
+-- ---- no fault
+
+pub or_else_none : (one other : Option TreeFault) → or_else one other ≡ None → (one ≡ None) × (other ≡ None)
+or_else_none None other e = (refl, e)
+or_else_none (Some fault) other e = cc
+
+pub unless_none : (test : Bool) (fault : TreeFault) → unless test fault ≡ None → test ≡ true
+unless_none true fault e = refl
+unless_none false fault e = cc
+
+-- each row passes the test at some index
+pub first_row_none : {A : Type 0} (test : ℕ → A → Option TreeFault) (i : ℕ) (rows : List A) → first_row test i rows ≡ None
+    → AllByRecursion (λ row. (k : ℕ) × (test k row ≡ None)) rows
+first_row_none test i [] e = tt
+first_row_none test i (row ∷ rows) e =
+    let parts = or_else_none (test i row) (first_row test (i + 1) rows) e in
+    ((i, parts.0), first_row_none test (i + 1) rows parts.1)
+
+-- ---- entries
+
+same_some : {A : Type 0} (x y : A) → Some x ≡ Some y → x ≡ y
+same_some x y is = ap (λ o. unwrap_or o x) is
+
+module _ {K X : Type 0} {R : K → K → Ordering} (same : IsAntisymmetric R) where
+  -- what holds of each entry holds of the one that is found
+  pub find_each : (P : K → X → Type 0) (es : List (K × X)) → AllByRecursion (λ e. P e.0 e.1) es → (k : K) (x : X) → map.find R k es ≡ Some x → P k x
+  find_each P [] each k x is = cc
+  find_each P (e ∷ es) each k x is =
+      elim (R k e.0) as (λ o. R k e.0 ≡ o → cond (is_eq o) (Some e.1) (map.find R k es) ≡ Some x → P k x) [
+        | Less ↦ λ tie is. find_each P es each.1 k x is
+        | Equal ↦ λ tie is. subst (λ q. P q x) (sym (same k e.0 tie)) (subst (P e.0) (same_some e.1 x is) each.0)
+        | Greater ↦ λ tie is. find_each P es each.1 k x is
+      ] refl is
+
+  -- a look-up in entries whose values were changed by their keys
+  pub find_changed : (f : K → X → X) (es : List (K × X)) (k : K) → map.find R k (map_list (λ e. (e.0, f e.0 e.1)) es) ≡ option_map (f k) (map.find R k es)
+  find_changed f [] k = refl
+  find_changed f (e ∷ es) k =
+      elim (R k e.0) as (λ o. R k e.0 ≡ o → cond (is_eq o) (Some (f e.0 e.1)) (map.find R k (map_list (λ e. (e.0, f e.0 e.1)) es)) ≡ option_map (f k) (cond (is_eq o) (Some e.1) (map.find R k es))) [
+        | Less ↦ λ tie. find_changed f es k
+        | Equal ↦ λ tie. ap (λ q. Some (f q e.1)) (sym (same k e.0 tie))
+        | Greater ↦ λ tie. find_changed f es k
+      ] refl
+
+-- ---- the state
+
+keys_live : (processes : List ProcessRow) → map_list (λ row. (live_process row).0) processes ≡ map_list (λ e. e.0) (live_processes processes)
+keys_live [] = refl
+keys_live (row ∷ rows) = ap (λ rest. (live_process row).0 ∷ rest) (keys_live rows)
+
+entries_fitted : (all rows : List NamedRow)
+    → map_list {B = Names × Cgroup} (λ row. (row.path, fitted all row)) rows ≡ map_list {B = Names × Cgroup} (λ e. (e.0, with_files_of (enabled_over all e.0) superuser e.1)) (pairs_of rows)
+entries_fitted all [] = refl
+entries_fitted all (row ∷ rows) = ap (λ rest. (row.path, fitted all row) ∷ rest) (entries_fitted all rows)
+
+module _ (rows : List NamedRow) (controllers : ControllerSet) (processes : List ProcessRow) where
+  pub row_at-state : (path : Names) → row_at (state_with rows controllers processes) path ≡ option_map (with_files_of (enabled_over rows path) superuser) (cgroup_at rows path)
+  row_at-state path =
+      get-from_entries path_cmp_total _ path ∙ ap (map.find path_cmp path) (entries_fitted rows rows)
+      ∙ find_changed path_cmp-IsAntisymmetric (λ path cgroup. with_files_of (enabled_over rows path) superuser cgroup) (pairs_of rows) path
+
+  pub enabled_at-state : (path : Names) → enabled_at (state_with rows controllers processes) path ≡ enabled_by rows path
+  enabled_at-state path =
+      ap (λ (found : Option Cgroup). elim found [ None ↦ no_controllers | Some row ↦ row.enabled ]) (row_at-state path)
+      ∙ elim (cgroup_at rows path) as (λ o. elim (option_map (with_files_of (enabled_over rows path) superuser) o) [ None ↦ no_controllers | Some row ↦ row.enabled ] ≡ elim o [ None ↦ no_controllers | Some cgroup ↦ cgroup.enabled ]) [
+        | None ↦ refl
+        | Some cgroup ↦ refl
+      ]
+
+  pub process_at-state : (pid : ℕ) → process_at (state_with rows controllers processes) pid ≡ map.find nat_cmp pid (live_processes processes)
+  process_at-state pid = get-from_entries nat_cmp_total _ pid
+
+  pub is_used-state : (pid : ℕ) → is_used (state_with rows controllers processes) pid ≡ is_some (process_at (state_with rows controllers processes) pid)
+  is_used-state pid =
+      contains-from_list nat_cmp_total _ pid ∙ ap (list_any (eq_by_cmp nat_cmp pid)) (keys_live processes)
+      ∙ sym (ap is_some (process_at-state pid) ∙ is_some-find nat_cmp pid (live_processes processes))
