@@ -5,6 +5,7 @@ pub mod PathNames
 pub mod PathSteps
 pub mod Options
 pub mod PathAt
+pub mod PathLaws
 pub mod MapLaws
 pub mod MapFolds
 pub mod StateLaws
