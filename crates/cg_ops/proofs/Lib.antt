@@ -3,3 +3,5 @@ pub mod Prefixes
 pub mod LevelBars
 pub mod Allowed
 pub mod AllowedControl
+pub mod StepFormed
+pub mod StepEffects

@@ -3,5 +3,6 @@ pub mod Changes
 pub mod Bars
 pub mod Next
 pub mod Steps
+pub mod Effects
 pub mod Outcomes
 pub mod Memory

@@ -9,6 +9,7 @@ ghost use Rattle.cg_ops.specs.Memory.{takes_memory};
 ghost use Rattle.cg_ops.specs.Outcomes.{IsRefused, RefusedBy};
 
 pub mod changes;
+pub mod laws;
 pub mod limits;
 pub mod make_remove;
 pub mod modes;

@@ -87,7 +87,8 @@ fn change_refusal<H: Hierarchy>(
 fn available<H: Hierarchy>(tree: &H, at: &Path) -> ControllerSet
     ensures { result ≡ available_at (H.state tree.now) at.now }
 {
-    if at.depth() == 0 {
+    let len = at.depth();
+    if len == 0 {
         return tree.controllers();
     }
     match tree.get(at, at.parent_len()) {
