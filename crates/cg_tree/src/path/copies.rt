@@ -1,11 +1,21 @@
 //! Paths made from a path.
-ghost use Rattle.std.specs.Prelude.{◌≡◌, ◌≤◌, length, take, IfOk};
+ghost use Rattle.std.specs.Prelude.{◌≡◌, [], ◌≤◌, length, take, IfOk};
 
 use crate::memory::NoMemory;
 use crate::path::Path;
 use std::alloc::Global;
 
 impl Path {
+    /// The root's path. It takes no memory.
+    pub fn root(alloc: Global) -> Path
+        ensures { result ≡ [] }
+    {
+        Path {
+            text: String::new(alloc),
+            ends: Vec::new(alloc),
+        }
+    }
+
     /// The path of the first `len` names.
     pub fn try_prefix(&self, alloc: Global, len: usize) -> Result<Path, NoMemory>
         requires { len ≤ length self.now }
