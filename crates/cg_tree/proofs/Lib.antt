@@ -13,6 +13,9 @@ pub mod StateTests
 pub mod StateCounts
 pub mod FormedRows
 pub mod Sorted
+pub mod Below
+pub mod Changed
+pub mod TablesState
 pub mod CgroupLaws
 pub mod NameLaws
 pub mod ControllerLaws

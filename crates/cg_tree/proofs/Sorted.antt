@@ -1,15 +1,15 @@
 -- Lists of entries whose keys rise in a total order: where a key stands, and what looking up, inserting and removing give.
-use Rattle.std.proofs.Common.{◌≡◌, ℕ, zero, suc, ◌+◌, ◌<◌, ◌≤◌, Bool, true, false, not, cond, List, [], ◌∷◌, ◌++◌, map, length, take, drop, set, get_or, refl, sym, ap, subst, ◌∙◌, arith, Option, Some, None, is_some, Result, Ok, Err, MatchResult, ◌⊎◌, inl, inr}
+use Rattle.std.proofs.Common.{◌≡◌, ℕ, zero, suc, ◌<◌, ◌≤◌, Bool, true, false, not, cond, List, [], ◌∷◌, length, set, get_or, refl, sym, ap, subst, ◌∙◌, arith, Option, Some, None, is_some, Result, Ok, Err, MatchResult, inl, inr}
 use lib.Dec.{T}
 use Rattle.std.specs.Bool.{passes}
-use Rattle.std.proofs.lemmas.Bool.{and_parts, and_from, cases_lt, true≢false}
+use Rattle.std.proofs.lemmas.Bool.{and_parts, cases_lt, true≢false}
 use Rattle.std.proofs.Math.Nat.{eq-or-lt_of_le}
-use Rattle.std.specs.List.{AllWithin, HoldsAt, remove, insert as insert_item, filter}
+use Rattle.std.specs.List.{HoldsAt, remove, insert as insert_item}
 use Rattle.std.specs.List.Sorted.{IsNonDecreasingBy, IsPartitionPoint, IsSearchInRange, IsBinarySearchResult}
 use Rattle.std.specs.declared.cmp.Ordering.{Ordering}
 use Rattle.std.specs.declared.cmp.Ordering.TheVariants.{Less, Equal, Greater}
 use Rattle.std.specs.Ordering.{is_eq, is_lt, eq_by_cmp, ordering_index, ordering_reverse}
-use Rattle.std.specs.Cmp.{IsTotalOrder, alike_right, tied_back, tied_itself, eq_by_cmp_equiv}
+use Rattle.std.specs.Cmp.{IsTotalOrder, alike_right, tied_back, eq_by_cmp_equiv}
 use Rattle.std.specs.FinMap as map
 use Rattle.cg_tree.specs.Places.{IsPlace, IsGap}
 use Rattle.std.specs.FinMap.Entries.{by_order, find, put, is_sorted, below_all, where_key, is_sorted-put, is_sorted-where_key, find-where_key}
@@ -21,7 +21,7 @@ less Less e = refl
 less Equal e = absurd (true≢false (sym e))
 less Greater e = absurd (true≢false (sym e))
 
-holds_true : (b : Bool) → T b → b ≡ true
+pub holds_true : (b : Bool) → T b → b ≡ true
 holds_true true h = refl
 holds_true false h = absurd h
 

@@ -7,5 +7,6 @@ pub mod hierarchy;
 pub mod memory;
 pub mod path;
 pub mod process;
+pub mod rows;
 pub mod tables;
 pub mod user;

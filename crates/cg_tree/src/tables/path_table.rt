@@ -1,14 +1,19 @@
 //! A table by path.
-ghost use Rattle.std.specs.Prelude.{◌≡◌, ◌≤◌, true, false, length, take, MatchResult, option_copied, OnOk, OnErr};
+ghost use Rattle.std.specs.Prelude.{◌≡◌, ◌≤◌, true, false, length, take, MatchResult, option_copied, OnOk, OnErr, IfOk};
+ghost use Rattle.std.specs.List.{filter};
 ghost use Rattle.std.specs.FinMap as map;
 ghost use Rattle.std.specs.FinMap.{is_sorted};
-ghost use Rattle.cg_tree.specs.Paths.{path_cmp};
+ghost use Rattle.cg_tree.specs.Paths.{path_cmp, below};
 ghost use Rattle.cg_tree.specs.Places.{IsPlace, IsGap};
+
+pub mod enable;
 
 use crate::memory::NoMemory;
 use crate::path::Path;
+use crate::tables::{TryClone, entries_of};
 use std::alloc::Global;
 use std::cmp::Ordering;
+use std::collections::BTreeMap;
 use std::marker::Model;
 
 /// A map from paths, kept as a list in the order of paths: what lies below a path stands together, right after it.
@@ -87,6 +92,20 @@ impl<V> PathTable<V> {
     {
         &self.entries
     }
+
+    /// The entries below the path of the first `len` names of `path`, in the order of their paths.
+    pub fn below(&self, path: &Path, len: usize) -> &[(Path, V)]
+        requires { len ≤ length path.now }
+        ensures { result.now ≡ filter (λ e. below (take len path.now) e.0) (map.entries self.now) }
+    {
+        let start = match search_prefix(&self.entries, path, len) {
+            Ok(at) => at + 1,
+            Err(at) => at,
+        };
+        let rest = &self.entries[start..];
+        let end = rest.partition_point(|entry| path.holds(len, &entry.0));
+        &rest[..end]
+    }
 }
 
 impl<V: Drop> PathTable<V> {
@@ -120,5 +139,28 @@ impl<V: Drop> PathTable<V> {
         if let Ok(at) = search(&self.entries, path) {
             let _ = self.entries.remove(at);
         }
+    }
+}
+
+impl<V: TryClone> PathTable<V> {
+    /// An equal table. Fails where memory is wanted.
+    pub fn try_clone(&self, alloc: Global) -> Result<Self, NoMemory>
+        ensures { IfOk result (λ copy. copy ≡ self.now) }
+    {
+        let mut entries = Vec::new(alloc);
+        for (path, value) in &self.entries {
+            entries.push((path.try_clone(alloc)?, value.try_clone(alloc)?))?;
+        }
+        Ok(Self { entries })
+    }
+}
+
+impl<V: Drop> PathTable<V> {
+    /// The table of a map's entries. Fails where memory is wanted.
+    pub fn from_map(alloc: Global, rows: BTreeMap<Path, V>) -> Result<Self, NoMemory>
+        ensures { IfOk result (λ table. table ≡ map.from_sorted rows.entries) }
+    {
+        let entries = entries_of(alloc, rows)?;
+        Ok(Self { entries })
     }
 }

@@ -1,5 +1,5 @@
 //! A table by PID.
-ghost use Rattle.std.specs.Prelude.{◌≡◌, true, false, MatchResult, option_copied, OnOk, OnErr};
+ghost use Rattle.std.specs.Prelude.{◌≡◌, true, false, MatchResult, option_copied, OnOk, OnErr, IfOk};
 ghost use Rattle.std.specs.Ordering.{nat_cmp};
 ghost use Rattle.std.specs.FinMap as map;
 ghost use Rattle.std.specs.FinMap.{is_sorted};
@@ -7,8 +7,10 @@ ghost use Rattle.cg_tree.specs.Places.{IsPlace, IsGap};
 
 use crate::memory::NoMemory;
 use crate::process::Pid;
+use crate::tables::{TryClone, entries_of};
 use std::alloc::Global;
 use std::cmp::Ordering;
+use std::collections::BTreeMap;
 use std::marker::Model;
 
 /// A map from PIDs, kept as a list that rises.
@@ -117,5 +119,28 @@ impl<V: Drop> PidTable<V> {
         if let Ok(at) = search(&self.entries, pid) {
             let _ = self.entries.remove(at);
         }
+    }
+}
+
+impl<V: TryClone> PidTable<V> {
+    /// An equal table. Fails where memory is wanted.
+    pub fn try_clone(&self, alloc: Global) -> Result<Self, NoMemory>
+        ensures { IfOk result (λ copy. copy ≡ self.now) }
+    {
+        let mut entries = Vec::new(alloc);
+        for (pid, value) in &self.entries {
+            entries.push((*pid, value.try_clone(alloc)?))?;
+        }
+        Ok(Self { entries })
+    }
+}
+
+impl<V: Drop> PidTable<V> {
+    /// The table of a map's entries. Fails where memory is wanted.
+    pub fn from_map(alloc: Global, values: BTreeMap<Pid, V>) -> Result<Self, NoMemory>
+        ensures { IfOk result (λ table. table ≡ map.from_sorted values.entries) }
+    {
+        let entries = entries_of(alloc, values)?;
+        Ok(Self { entries })
     }
 }

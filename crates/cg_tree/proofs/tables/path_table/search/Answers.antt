@@ -1,4 +1,4 @@
-use Rattle.std.proofs.Common.{subst, sym, length, MatchResult, arith}
+use Rattle.std.proofs.Common.{subst, MatchResult, arith}
 use Rattle.std.proofs.lemmas.List.{take_all}
 use Rattle.cg_tree.specs.Paths.{Names, path_cmp}
 use Rattle.cg_tree.specs.Places.{IsPlace, IsGap}

@@ -1,4 +1,3 @@
-use Rattle.cg_tree.specs.Paths.{path_cmp}
 use Rattle.cg_tree.proofs.PathOrder.{path_cmp_total}
 use Rattle.cg_tree.proofs.Sorted.{empty_table}
 use Rattle.cg_tree.proofs.tables.path_table.PathTable.new.Goals as goal

@@ -1,4 +1,4 @@
-use Rattle.std.proofs.Common.{rules, refl}
+use Rattle.std.proofs.Common.{refl}
 use Rattle.cg_tree.proofs.PathOrder.{path_cmp_total}
 use Rattle.cg_tree.proofs.Sorted.{changed, changed_sorted, no_gap}
 use Rattle.cg_tree.proofs.tables.path_table.PathTable.set.Goals as goal

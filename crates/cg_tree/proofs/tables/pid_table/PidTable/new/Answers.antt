@@ -1,4 +1,3 @@
-use Rattle.std.specs.Ordering.{nat_cmp}
 use Rattle.std.specs.Cmp.{nat_cmp_total}
 use Rattle.cg_tree.proofs.Sorted.{empty_table}
 use Rattle.cg_tree.proofs.tables.pid_table.PidTable.new.Goals as goal

@@ -1,4 +1,4 @@
-use Rattle.std.proofs.Common.{rules, refl}
+use Rattle.std.proofs.Common.{refl}
 use Rattle.std.specs.Cmp.{nat_cmp_total}
 use Rattle.cg_tree.proofs.Sorted.{changed, changed_sorted, no_gap}
 use Rattle.cg_tree.proofs.tables.pid_table.PidTable.set.Goals as goal
