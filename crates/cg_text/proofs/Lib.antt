@@ -3,3 +3,4 @@ pub mod DocumentLaws
 pub mod TreeLaws
 pub mod FormedTree
 pub mod SoundRows
+pub mod OutcomeLaws

@@ -3,3 +3,4 @@ pub mod Records
 pub mod Document
 pub mod TopView
 pub mod Tree
+pub mod Outcomes

@@ -1,4 +1,5 @@
 //! Tree texts and the texts of answers.
 #![tactic(auto)]
 
+pub mod outcome;
 pub mod tree;
