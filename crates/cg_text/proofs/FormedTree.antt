@@ -14,7 +14,6 @@ use Rattle.cg_tree.specs.States.{State, row_at, process_at, is_used}
 use Rattle.cg_tree.specs.WellFormed.{has_row, enabled_at, enabled_above, available_at, may_hold, IsFormedRow, IsWellFormed}
 use Rattle.cg_tree.proofs.PathOrder.{path_cmp-IsAntisymmetric}
 use Rattle.cg_tree.proofs.PathParents.{parent-root}
-use Rattle.cg_tree.proofs.FormedParts.{formed_by}
 use Rattle.cg_tree.proofs.CgroupLaws.{accepts-default_value, file_of-with_files_of}
 use Rattle.cg_tree.specs.declared.user.Entry.{Entry}
 use Rattle.cg_tree.specs.declared.files.ControllerSet.{ControllerSet}
@@ -177,11 +176,11 @@ module _ (rows : List NamedRow) (controllers : ControllerSet) (processes : List 
       ∙ ap (λ set. is_root place || enables_nothing set) (sym enabled) ∙ at.holds
 
   pub formed-state : IsWellFormed st
-  formed-state = formed_by (record {
+  formed-state = record {
     root = has_row-state [] ∙ root;
     parents = parents_there;
     top_down = rows_within;
     rows = rows_formed;
     places = λ pid process is. may_hold-placed process.place (placed_at pid process is);
     used = λ pid process is. is_used-state rows controllers processes pid ∙ ap is_some is;
-  })
+  }

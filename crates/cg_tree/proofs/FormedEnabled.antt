@@ -17,7 +17,7 @@ use Rattle.cg_tree.proofs.StateLaws.{row_at-with_enabled}
 use Rattle.cg_tree.proofs.StateTests.{row-child_enables, child_enables-row, process-has_live, has_live-process}
 use Rattle.cg_tree.proofs.ControllerLaws.{is_within-each, is_within-enables}
 use Rattle.cg_tree.proofs.FormedRows.{formed_row-with_files_of}
-use Rattle.cg_tree.proofs.FormedParts.{formed_row-at, formed_by, may_hold-row, row-may_hold, enabled_at-row}
+use Rattle.cg_tree.proofs.FormedParts.{may_hold-row, row-may_hold, enabled_at-row}
 
 -- no path is a child of itself
 pub is_child-itself : (path : Names) → is_child path path ≡ false
@@ -103,7 +103,7 @@ module _ (st : State) (path : Names) (enabled : ControllerSet) (user : Identity)
 
     stays_formed : (q : Names) (row : Cgroup) → row_at st q ≡ Some row → IsFormedRow (enabled_above (with_enabled st path enabled user) q) (enabling path enabled user q row)
     stays_formed q row is =
-        let formed = formed_row-at whole q row is in
+        let formed = whole.rows q row is in
         enabling-by path enabled user (IsFormedRow (enabled_above (with_enabled st path enabled user) q)) q row
         (λ same. subst (λ set. IsFormedRow set (enabling_these enabled row)) (sym (above_same no_controllers q same)) (enabling_row (enabled_above st q) row formed))
         (λ child. subst (λ set. IsFormedRow set (with_files_of enabled user row)) (sym (above_child there no_controllers q child)) (formed_row-with_files_of (enabled_above st q) enabled user row formed))
@@ -130,14 +130,14 @@ module _ (st : State) (path : Names) (enabled : ControllerSet) (user : Identity)
         (held_here pid process is) (λ _. held.2) (λ _ _. held.2))
 
     pub formed-with_enabled : IsWellFormed (with_enabled st path enabled user)
-    formed-with_enabled = formed_by (record {
+    formed-with_enabled = record {
       root = has_row-with_enabled [] ∙ whole.root;
       parents = λ q h. has_row-with_enabled (parent q) ∙ whole.parents q (sym (has_row-with_enabled q) ∙ h);
       top_down = each_row (λ q row. is_within row.enabled (available_at (with_enabled st path enabled user) q) ≡ true) stays_top_down;
       rows = each_row (λ q row. IsFormedRow (enabled_above (with_enabled st path enabled user) q) row) stays_formed;
       places = stays_held;
       used = whole.used;
-    })
+    }
 
   -- a cgroup may enable just what keeps the tree well-formed
   pub may_enable-formed : has_row st path ≡ true → IsWellFormed (with_enabled st path enabled user) → MayEnable st path enabled

@@ -64,9 +64,7 @@ with_live st live used places used_too formed = record {
   root = formed.root;
   parents = formed.parents;
   top_down = formed.top_down;
-  files = formed.files;
-  values = formed.values;
-  modes = formed.modes;
+  rows = formed.rows;
   places = places;
   used = used_too;
 }

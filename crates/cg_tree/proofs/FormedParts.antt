@@ -7,35 +7,6 @@ use Rattle.cg_tree.specs.WellFormed.{has_row, enables_nothing, is_within, enable
 use Rattle.cg_tree.specs.declared.cgroup.Cgroup.{Cgroup}
 use Rattle.cg_tree.specs.declared.process.Process.{Process}
 
--- ---- states
-
-pub formed_row-at : {st : State} → IsWellFormed st → (path : Names) (row : Cgroup) → row_at st path ≡ Some row → IsFormedRow (enabled_above st path) row
-formed_row-at formed path row is = record {
-  files = λ file. formed.files path row file is;
-  values = λ file held. formed.values path row file held is;
-  modes = λ name entry. formed.modes path row name entry is;
-}
-
-pub record IsFormedBy (st : State) : Type 0 where
-  pub root : has_row st [] ≡ true
-  pub parents : (path : Names) → has_row st path ≡ true → has_row st (parent path) ≡ true
-  pub top_down : (path : Names) (row : Cgroup) → row_at st path ≡ Some row → is_within row.enabled (available_at st path) ≡ true
-  pub rows : (path : Names) (row : Cgroup) → row_at st path ≡ Some row → IsFormedRow (enabled_above st path) row
-  pub places : (pid : ℕ) (process : Process) → process_at st pid ≡ Some process → may_hold st process.place ≡ true
-  pub used : (pid : ℕ) (process : Process) → process_at st pid ≡ Some process → is_used st pid ≡ true
-
-pub formed_by : {st : State} → IsFormedBy st → IsWellFormed st
-formed_by by = record {
-  root = by.root;
-  parents = by.parents;
-  top_down = by.top_down;
-  files = λ path row file is. (by.rows path row is).files file;
-  values = λ path row file held is. (by.rows path row is).values file held;
-  modes = λ path row name entry is. (by.rows path row is).modes name entry;
-  places = by.places;
-  used = by.used;
-}
-
 -- a cgroup that may hold processes is there
 pub may_hold-row : (st : State) (path : Names) → may_hold st path ≡ true → (row : Cgroup) × (row_at st path ≡ Some row) × ((is_root path || enables_nothing row.enabled) ≡ true)
 may_hold-row st path h =

@@ -8,7 +8,7 @@ use Rattle.cg_tree.specs.WellFormed.{has_row, enables_nothing, is_within, enable
 use Rattle.cg_tree.specs.declared.files.ControllerSet.{ControllerSet}
 use Rattle.cg_tree.specs.declared.cgroup.Cgroup.{Cgroup}
 use Rattle.cg_tree.proofs.Options.{mapped_from, is_some-mapped}
-use Rattle.cg_tree.proofs.FormedParts.{formed_row-at, formed_by, may_hold-row, row-may_hold}
+use Rattle.cg_tree.proofs.FormedParts.{may_hold-row, row-may_hold}
 
 abbrev pub with_rows : State → finite.FinMap path_cmp Cgroup → State
 with_rows st rows = record st { rows = rows }
@@ -33,7 +33,7 @@ module _ (st : State) (m : finite.FinMap path_cmp Cgroup) (f : Names → Cgroup 
       row-may_hold (with_rows st m) q (f q held.0) (rows q ∙ ap (option_map (f q)) held.1) (ap (λ set. is_root q || enables_nothing set) (enables_same q held.0) ∙ held.2)
 
   pub formed-reshaped : ((above : ControllerSet) (q : Names) (row : Cgroup) → IsFormedRow above row → IsFormedRow above (f q row)) → IsWellFormed st → IsWellFormed (with_rows st m)
-  formed-reshaped keeps formed = formed_by (record {
+  formed-reshaped keeps formed = record {
     root = same_row [] ∙ formed.root;
     parents = λ q h. same_row (parent q) ∙ formed.parents q (sym (same_row q) ∙ h);
     top_down = λ q row is.
@@ -42,7 +42,7 @@ module _ (st : State) (m : finite.FinMap path_cmp Cgroup) (f : Names → Cgroup 
         (λ i. is_within (enabled i) (same_above st.controllers q i)) ∙ formed.top_down q old.0 old.1;
     rows = λ q row is.
         let old = mapped_from (f q) (row_at st q) row (sym (rows q) ∙ is) in
-        subst (λ set. IsFormedRow set row) (sym (same_above no_controllers q)) (subst (IsFormedRow (enabled_above st q)) old.2 (keeps (enabled_above st q) q old.0 (formed_row-at formed q old.0 old.1)));
+        subst (λ set. IsFormedRow set row) (sym (same_above no_controllers q)) (subst (IsFormedRow (enabled_above st q)) old.2 (keeps (enabled_above st q) q old.0 (formed.rows q old.0 old.1)));
     places = λ pid process is. same_hold process.place (formed.places pid process is);
     used = formed.used;
-  })
+  }

@@ -15,7 +15,7 @@ use Rattle.cg_tree.proofs.PathParents.{is_child-parent, parent-root, is_root-is}
 use Rattle.cg_tree.proofs.StateLaws.{row_at-with_row, row_at-with_row-other, row_at-without_row, row_at-without_row-other}
 use Rattle.cg_tree.proofs.StateTests.{row-has_child, process-has_live}
 use Rattle.cg_tree.proofs.FormedRows.{formed_row-cgroup_made_by}
-use Rattle.cg_tree.proofs.FormedParts.{formed_row-at, formed_by, may_hold-row, row-may_hold}
+use Rattle.cg_tree.proofs.FormedParts.{may_hold-row, row-may_hold}
 
 -- the root is above each path
 pub parent-there : (st : State) → IsWellFormed st → (q : Names) → is_root q ≡ true → has_row st q ≡ true
@@ -68,7 +68,7 @@ module _ (st : State) (path : Names) (row : Cgroup) (new_row : IsNewRow st path 
   there_still q there = ap is_some (kept_row q there) ∙ there
 
   pub formed-with_row : IsWellFormed (with_row st path row)
-  formed-with_row = formed_by (record {
+  formed-with_row = record {
     root = there_still [] whole.root;
     parents = λ q h.
         let found = some_value (row_at (with_row st path row) q) h in
@@ -78,12 +78,12 @@ module _ (st : State) (path : Names) (row : Cgroup) (new_row : IsNewRow st path 
         (λ q r is. ap (is_within r.enabled) (above_kept st.controllers q r is) ∙ whole.top_down q r is);
     rows = one_row (λ q r. IsFormedRow (enabled_above (with_row st path row) q) r)
         (subst (λ set. IsFormedRow set row) (sym (above_new no_controllers)) new_row.formed)
-        (λ q r is. subst (λ set. IsFormedRow set r) (sym (above_kept no_controllers q r is)) (formed_row-at whole q r is));
+        (λ q r is. subst (λ set. IsFormedRow set r) (sym (above_kept no_controllers q r is)) (whole.rows q r is));
     places = λ pid process is.
         let held = may_hold-row st process.place (whole.places pid process is) in
         row-may_hold (with_row st path row) process.place held.0 (kept_row process.place (ap is_some held.1) ∙ held.1) held.2;
     used = whole.used;
-  })
+  }
 
 pub new_row-cgroup_made_by : (st : State) (path : Names) (user : Identity) → has_row st path ≡ false → has_row st (parent path) ≡ true → IsNewRow st path (cgroup_made_by user (enabled_at st (parent path)))
 new_row-cgroup_made_by st path user absent there = record {
@@ -122,7 +122,7 @@ module _ (st : State) (path : Names) (not_root : is_root path ≡ false) (no_chi
   root_other q root = false_from_ne_true (same_path path q) (λ same. true≢false (sym root ∙ ap is_root (sym (same_path-is path q same)) ∙ not_root))
 
   pub formed-without_row : IsWellFormed (without_row st path)
-  formed-without_row = formed_by (record {
+  formed-without_row = record {
     root = ap is_some (row_at-without_row-other path st [] (root_other [] refl)) ∙ whole.root;
     parents = λ q h.
         let found = some_value (row_at (without_row st path) q) h in
@@ -132,10 +132,10 @@ module _ (st : State) (path : Names) (not_root : is_root path ≡ false) (no_chi
           | false ↦ λ below_root. ap is_some (row_at-without_row-other path st (parent q) (parent_other q found.0 left.1 below_root)) ∙ whole.parents q (ap is_some left.1)
         ] refl;
     top_down = λ q r is. let left = left_row q r is in ap (is_within r.enabled) (above_left st.controllers q r left.1) ∙ whole.top_down q r left.1;
-    rows = λ q r is. let left = left_row q r is in subst (λ set. IsFormedRow set r) (sym (above_left no_controllers q r left.1)) (formed_row-at whole q r left.1);
+    rows = λ q r is. let left = left_row q r is in subst (λ set. IsFormedRow set r) (sym (above_left no_controllers q r left.1)) (whole.rows q r left.1);
     places = λ pid process is.
         let held = may_hold-row st process.place (whole.places pid process is) in
         let other = false_from_ne_true (same_path path process.place) (λ same. true≢false (sym (process-has_live st path pid process is (same_path_comm process.place path ∙ same)) ∙ no_process)) in
         row-may_hold (without_row st path) process.place held.0 (row_at-without_row-other path st process.place other ∙ held.1) held.2;
     used = whole.used;
-  })
+  }

@@ -136,9 +136,7 @@ module _ (controllers : ControllerSet) (row : Cgroup) where
       root = ap is_some at_root;
       parents = parents_of;
       top_down = top_down_of;
-      files = λ path other file e. (row_of path other e).files file;
-      values = λ path other file held e. (row_of path other e).values file held;
-      modes = λ path other name entry e. (row_of path other e).modes name entry;
+      rows = row_of;
       places = λ pid process e. no_process pid process e;
       used = λ pid process e. no_process pid process e;
     }

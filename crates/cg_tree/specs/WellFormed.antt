@@ -40,21 +40,23 @@ pub record MayEnable (st : State) (path : Names) (enabled : ControllerSet) : Typ
   pub children : (controller : Controller) → child_enables st path controller ≡ true → enables enabled controller ≡ true
   pub no_internal : (is_root path || (enables_nothing enabled || not (has_live st path))) ≡ true
 
--- A row under a cgroup that enables these: which limit files stand, with which values, and the modes.
+-- A row under a cgroup that enables these.
 pub record IsFormedRow (above : ControllerSet) (row : Cgroup) : Type 0 where
+  -- Enabling and Disabling: limit files stand exactly where they belong
   pub files : (file : LimitFile) → is_some (file_of row file) ≡ stands_under above file
+  -- Own: with accepted values
   pub values : (file : LimitFile) (held : LimitEntry) → file_of row file ≡ Some held → accepts file held.value ≡ true
+  -- Own: modes are permission bits, at most 0o777
   pub modes : (name : EntryName) (entry : Entry) → entry_in row name ≡ Some entry → entry.mode ≤ 511
 
 pub record IsWellFormed (st : State) : Type 0 where
+  -- Organizing Processes: one tree, in which each cgroup but the root is a directory of another
   pub root : has_row st [] ≡ true
   pub parents : (path : Names) → has_row st path ≡ true → has_row st (parent path) ≡ true
   -- Top-down Constraint
   pub top_down : (path : Names) (row : Cgroup) → row_at st path ≡ Some row → is_within row.enabled (available_at st path) ≡ true
-  -- Enabling and Disabling: limit files stand exactly where they belong
-  pub files : (path : Names) (row : Cgroup) (file : LimitFile) → row_at st path ≡ Some row → is_some (file_of row file) ≡ stands_under (enabled_above st path) file
-  pub values : (path : Names) (row : Cgroup) (file : LimitFile) (held : LimitEntry) → row_at st path ≡ Some row → file_of row file ≡ Some held → accepts file held.value ≡ true
-  pub modes : (path : Names) (row : Cgroup) (name : EntryName) (entry : Entry) → row_at st path ≡ Some row → entry_in row name ≡ Some entry → entry.mode ≤ 511
-  -- No Internal Process Constraint, and each live process is at a row
+  pub rows : (path : Names) (row : Cgroup) → row_at st path ≡ Some row → IsFormedRow (enabled_above st path) row
+  -- No Internal Process Constraint. Organizing Processes: each live process is in one cgroup.
   pub places : (pid : ℕ) (process : Process) → process_at st pid ≡ Some process → may_hold st process.place ≡ true
+  -- Own: a PID is used once, so each live one counts as used
   pub used : (pid : ℕ) (process : Process) → process_at st pid ≡ Some process → is_used st pid ≡ true
