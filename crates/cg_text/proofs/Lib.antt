@@ -4,3 +4,8 @@ pub mod TreeLaws
 pub mod FormedTree
 pub mod SoundRows
 pub mod OutcomeLaws
+pub mod LineWords
+pub mod LineNumbers
+pub mod LineChanges
+pub mod LineSpelled
+pub mod LineLaws

@@ -4,3 +4,6 @@ pub mod Document
 pub mod TopView
 pub mod Tree
 pub mod Outcomes
+pub mod OperationLines
+pub mod LineReading
+pub mod LineFaults
