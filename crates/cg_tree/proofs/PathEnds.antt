@@ -79,9 +79,9 @@ prefix_names path text len end spelled e =
     let n : end - 0 ≡ length (names_text (take len path)) = omega (arith, e) in
     rw (n, ← spelled) (front_text path len)
 
-pub prefix_text : (path : Names) (text : List ℕ) (len end : ℕ) → names_text path ≡ text → 0 < len → len ≤ length path → end ≡ length (names_text (take len path)) → take (end - 0) text ≡ path_text (take len path)
-prefix_text path text len end spelled p h e =
-    prefix_names path text len end spelled e ∙ sym (path_text-names (take len path) (omega (arith, length-take-le len path h)))
+pub prefix_text : (path : Names) (len : ℕ) → 0 < len → len ≤ length path → names_text (take len path) ≡ path_text (take len path)
+prefix_text path len p h =
+    sym (path_text-names (take len path) (omega (arith, length-take-le len path h)))
 
 -- each name takes a byte at least
 pub depth_le : (path : Names) → length path ≤ length (names_text path)

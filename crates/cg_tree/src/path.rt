@@ -90,17 +90,23 @@ impl Path {
         }
     }
 
+    /// The text of the first `len` names alone: nothing for none.
+    fn front(&self, len: usize) -> &str
+        requires { len ≤ length self.now }
+        ensures text { result.now ≡ names_text (take len self.now) }
+        ensures path { IsPath self.now }
+    {
+        &self.text.as_str()[..self.end(len)]
+    }
+
     /// The text of the path of the first `len` names.
     pub fn prefix(&self, len: usize) -> &str
         requires { len ≤ length self.now }
         ensures text { result.now ≡ path_text (take len self.now) }
         ensures path { IsPath self.now }
     {
-        if len == 0 {
-            "/"
-        } else {
-            &self.text.as_str()[..self.end(len)]
-        }
+        let front = self.front(len);
+        if len == 0 { "/" } else { front }
     }
 
     /// The name at `i`, counted from 0 at the root's child.

@@ -21,7 +21,7 @@ impl Path {
         requires { len ≤ length self.now }
         ensures { IfOk result (λ path. path ≡ take len self.now) }
     {
-        let text = String::from_str(alloc, &self.text.as_str()[..self.end(len)])?;
+        let text = String::from_str(alloc, self.front(len))?;
         let ends = Vec::from_slice(alloc, &self.ends.as_slice()[..len])?;
         Ok(Path { text, ends })
     }

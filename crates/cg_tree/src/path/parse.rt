@@ -24,10 +24,7 @@ impl Path {
             return Err(PathFault::BadPath);
         };
         if names.is_empty() {
-            return Ok(Path {
-                text: String::new(alloc),
-                ends: Vec::new(alloc),
-            });
+            return Ok(Path::root(alloc));
         }
         if text.len() > LONGEST_TEXT || !are_names(names) {
             return Err(PathFault::BadPath);
@@ -45,7 +42,7 @@ impl Path {
         ensures bad { result ≡ Err PathFault.BadPath
             → is_path (take len self.now ++ name.now ∷ []) ≡ false }
     {
-        let parent = &self.text.as_str()[..self.end(len)];
+        let parent = self.front(len);
         let end = parent.len() + 1 + name.len();
         if end > LONGEST_TEXT || !is_name(name) {
             return Err(PathFault::BadPath);

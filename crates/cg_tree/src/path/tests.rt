@@ -118,6 +118,7 @@ fn names_and_prefixes(rt: HostRuntime) -> Result<(), Fail> {
     assert!(rt; parent != long);
     let root = path(rt.alloc(), "/")?;
     assert_eq!(rt; root.depth(), 0);
+    assert!(rt; Path::root(rt.alloc()) == root);
     assert!(rt; long.try_prefix(rt.alloc(), 0)? == root);
     Ok(())
 }

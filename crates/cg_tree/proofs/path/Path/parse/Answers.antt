@@ -26,8 +26,8 @@ returns-then-text-gt-LONGEST_TEXT-clause-bad c =
     λ e path h.
     path_at-none c.args.text.now path (path_at-bad c.args.text.now c.in-Some.names.now slash long (elim c.then-text-gt-LONGEST_TEXT.branch [ then-text-gt-LONGEST_TEXT-via-then-text-gt-LONGEST_TEXT w ↦ inl w.if-text-gt-LONGEST_TEXT.true | then-text-gt-LONGEST_TEXT-via-else-text-gt-LONGEST_TEXT+then-not-are_names w ↦ inr (sym w.are_names.ensures ∙ w.if-not-are_names.true) ])) h
 
-pub invariant_of-result-2 : goal.invariant_of-result-2
-invariant_of-result-2 c =
+pub invariant_of-result : goal.invariant_of-result
+invariant_of-result c =
     let slash = rw c.in-Some.is at (strip_prefix_char 47 c.args.text.now _ c.strip_prefix.ensures.cases (lit< tt)) in
     let found = path_at-found c.args.text.now c.in-Some.names.now slash (omega arith) (sym c.are_names.ensures ∙ c.if-not-are_names.false) in
     IsKept-at _ _ (names_of c.args.text.now) found.0 (c.in_ok-text.ensures.ok ∙ sym found.1) (c.in_ok-ends.ensures ∙ ap (ends_from 0) (sym (ap names_of slash)))

@@ -1,13 +1,7 @@
-use Rattle.std.proofs.Common.{arith, ◌∙◌}
-use Rattle.cg_tree.proofs.PathEnds.{kept_path, kept_text, cut_anywhere, end_le, prefix_text}
+use Rattle.std.proofs.Common.{◌∙◌, arith}
+use Rattle.cg_tree.proofs.PathEnds.{prefix_text}
 use Rattle.cg_tree.proofs.path.Path.prefix.Goals as goal
-
-pub range-requires-clause-end_boundary : goal.range-requires-clause-end_boundary
-range-requires-clause-end_boundary c =
-    let path = c.args.self.now in
-    rw c.as_str.ensures.value (cut_anywhere path _ _ (kept_path _ _ path c.self.invariant c.self.view_is) (kept_text _ _ path c.self.invariant c.self.view_is) (omega (arith, end_le path c.args.len)))
 
 pub returns-else-len-eq0-clause-text : goal.returns-else-len-eq0-clause-text
 returns-else-len-eq0-clause-text c =
-    let path = c.args.self.now in
-    c.range.ensures.value ∙ rw c.as_str.ensures.value (prefix_text path _ c.args.len _ (kept_text _ _ path c.self.invariant c.self.view_is) (omega arith) c.requires c.end.ensures)
+    c.front-front.ensures.text ∙ prefix_text c.args.self.now c.args.len (omega arith) c.requires
