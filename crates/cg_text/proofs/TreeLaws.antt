@@ -1,5 +1,6 @@
 -- What it says of a tree text's rows that no fault was found, and what the state has at a path and at a PID.
-use Rattle.std.proofs.Common.{◌≡◌, ℕ, ◌+◌, Bool, true, false, cond, ◌||◌, List, [], ◌∷◌, map as map_list, refl, sym, ap, subst, ◌∙◌, true≢false, Option, Some, None, is_some, option_map, unwrap_or, arith}
+use Rattle.std.proofs.Common.{◌≡◌, ℕ, ◌+◌, ◌<◌, length, drop, get_or, Bool, true, false, cond, ◌||◌, List, [], ◌∷◌, map as map_list, refl, sym, ap, subst, ◌∙◌, true≢false, Option, Some, None, is_some, option_map, unwrap_or, arith}
+use Rattle.std.proofs.lemmas.List.{drop_more}
 use Rattle.std.specs.List.{AllByRecursion, list_any}
 use Rattle.std.specs.Ordering.{nat_cmp, eq_by_cmp, is_eq}
 use Rattle.std.specs.declared.cmp.Ordering.TheVariants.{Less, Equal, Greater}
@@ -40,6 +41,12 @@ first_row_none test i [] e = tt
 first_row_none test i (row ∷ rows) e =
     let parts = or_else_none (test i row) (first_row test (i + 1) rows) e in
     ((i, parts.0), first_row_none test (i + 1) rows parts.1)
+
+-- a row that passes is gone over
+pub first_row_next : {A : Type 0} (test : ℕ → A → Option TreeFault) (i : ℕ) (rows : List A) (row : A) (whole : Option TreeFault) → i < length rows → row ≡ get_or rows i row → test i row ≡ None
+    → first_row test i (drop i rows) ≡ whole → first_row test (i + 1) (drop (i + 1) rows) ≡ whole
+first_row_next test i rows row whole inside is none kept =
+    sym (ap (first_row test i) (drop_more rows i row inside ∙ ap (λ x. x ∷ drop (i + 1) rows) (sym is)) ∙ ap (λ fault. or_else fault (first_row test (i + 1) (drop (i + 1) rows))) none) ∙ kept
 
 -- ---- entries
 

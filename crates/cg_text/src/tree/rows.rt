@@ -1,16 +1,19 @@
 //! The cgroups of a tree text: each row alone.
 ghost use Rattle.std.specs.Prelude.{◌≡◌, ◌≤◌, ◌<◌, length, map, Some, is_some};
-ghost use Rattle.cg_tree.specs.Paths.{path_at};
+ghost use Rattle.cg_tree.specs.Paths.{Names, path_at, path_cmp};
+ghost use Rattle.std.specs.BTreeMap.{get};
 ghost use Rattle.cg_text.specs.Faults.{Passes};
-ghost use Rattle.cg_text.specs.Tree.{unless, first_row, row_fault, named};
+ghost use Rattle.cg_text.specs.Tree.{unless, first_row, row_fault, named, cgroup_at, duplicate};
 
 use crate::tree::document::row_number;
 use crate::tree::fault::{Place, TreeFault};
 use crate::tree::named::NamedRow;
 use crate::tree::records::{CgroupRecord, Format};
 use crate::tree::written::{cgroup_written, controllers_read, entries_pass, values_pass};
+use cg_tree::cgroup::Cgroup;
 use cg_tree::path::{Path, PathFault};
 use std::alloc::Global;
+use std::collections::BTreeMap;
 
 /// The path of a text, or `fault` where it is none.
 pub fn path_of(alloc: Global, text: &str, fault: TreeFault) -> Result<Path, TreeFault>
@@ -66,4 +69,24 @@ pub fn named_rows(
         found.push(row)?;
     }
     Ok(found)
+}
+
+/// The cgroups by their paths, or the first row whose path an earlier row has.
+pub fn cgroups_by_path(
+    alloc: Global,
+    rows: &[NamedRow],
+) -> Result<BTreeMap<Path, Cgroup>, TreeFault>
+    requires { length rows.now ≤ 4096 }
+    ensures { Passes (λ table. (path : Names) → get path_cmp table path ≡ cgroup_at rows.now path)
+        (first_row (duplicate rows.now) 0 rows.now) result }
+{
+    let mut table = BTreeMap::new(alloc);
+    for (index, row) in rows.iter().enumerate() {
+        if table.contains_key(&row.path) {
+            return Err(TreeFault::Duplicate(Place::Cgroup(row_number(index))));
+        }
+        let path = row.path.try_clone(alloc)?;
+        table.insert(path, row.cgroup)?;
+    }
+    Ok(table)
 }
