@@ -87,13 +87,13 @@ module _ (above : ControllerSet) (cgroup : Cgroup) (fine : IsInRange cgroup) whe
 -- what holds of a cgroup at a path that has no fault, among all rows
 pub record IsSound (rows : List NamedRow) (controllers : ControllerSet) (path : Names) (cgroup : Cgroup) : Type 0 where
   pub parent_there : (is_root path || is_some (cgroup_at rows (parent path))) ≡ true
-  pub within : is_within cgroup.enabled (available_to rows controllers path) ≡ true
+  pub within : is_within cgroup.enabled (available_to (cgroup_at rows) controllers path) ≡ true
   pub in_range : IsInRange cgroup
 
 -- what holds of the place of a process that has no fault
 pub record IsPlaced (rows : List NamedRow) (place : Names) : Type 0 where
   pub there : is_some (cgroup_at rows place) ≡ true
-  pub holds : holds_processes rows place ≡ true
+  pub holds : holds_processes (cgroup_at rows) place ≡ true
 
 pairs_each : (P : Names → Cgroup → Type 0) (rows : List NamedRow) → AllByRecursion (λ row. P row.path row.cgroup) rows → AllByRecursion (λ e. P e.0 e.1) (pairs_of rows)
 pairs_each P [] each = tt
@@ -124,16 +124,16 @@ module _ (rows : List NamedRow) (controllers : ControllerSet) (processes : List 
     (root : is_some (cgroup_at rows []) ≡ true) (sound : AllByRecursion (λ row. IsSound rows controllers row.path row.cgroup) rows)
     (placed : AllByRecursion (λ row. IsPlaced rows (live_process row).1.place) processes) where
   abbrev st : State
-  st = state_with rows controllers processes
+  st = state_with rows (cgroup_at rows) controllers processes
 
   sound_at : (path : Names) (cgroup : Cgroup) → cgroup_at rows path ≡ Some cgroup → IsSound rows controllers path cgroup
   sound_at path cgroup is = find_each path_cmp-IsAntisymmetric (IsSound rows controllers) (pairs_of rows) (pairs_each (IsSound rows controllers) rows sound) path cgroup is
 
-  found_at : (path : Names) (row : Cgroup) → row_at st path ≡ Some row → (cgroup : Cgroup) × (cgroup_at rows path ≡ Some cgroup) × (with_files_of (enabled_over rows path) superuser cgroup ≡ row)
-  found_at path row is = mapped_from (with_files_of (enabled_over rows path) superuser) (cgroup_at rows path) row (sym (row_at-state rows controllers processes path) ∙ is)
+  found_at : (path : Names) (row : Cgroup) → row_at st path ≡ Some row → (cgroup : Cgroup) × (cgroup_at rows path ≡ Some cgroup) × (with_files_of (enabled_over (cgroup_at rows) path) superuser cgroup ≡ row)
+  found_at path row is = mapped_from (with_files_of (enabled_over (cgroup_at rows) path) superuser) (cgroup_at rows path) row (sym (row_at-state rows controllers processes path) ∙ is)
 
   has_row-state : (path : Names) → has_row st path ≡ is_some (cgroup_at rows path)
-  has_row-state path = ap is_some (row_at-state rows controllers processes path) ∙ is_some-mapped (with_files_of (enabled_over rows path) superuser) (cgroup_at rows path)
+  has_row-state path = ap is_some (row_at-state rows controllers processes path) ∙ is_some-mapped (with_files_of (enabled_over (cgroup_at rows) path) superuser) (cgroup_at rows path)
 
   parents_there : (path : Names) → has_row st path ≡ true → has_row st (parent path) ≡ true
   parents_there path is =
@@ -144,24 +144,24 @@ module _ (rows : List NamedRow) (controllers : ControllerSet) (processes : List 
         | false ↦ λ at. has_row-state (parent path) ∙ other_so (is_root path) (is_some (cgroup_at rows (parent path))) there at
       ] refl
 
-  available_at-state : (path : Names) → available_at st path ≡ available_to rows controllers path
+  available_at-state : (path : Names) → available_at st path ≡ available_to (cgroup_at rows) controllers path
   available_at-state path = ap (λ below. cond (is_root path) controllers below) (enabled_at-state rows controllers processes (parent path))
 
-  enabled_above-state : (path : Names) → enabled_above st path ≡ enabled_over rows path
+  enabled_above-state : (path : Names) → enabled_above st path ≡ enabled_over (cgroup_at rows) path
   enabled_above-state path = ap (λ below. cond (is_root path) no_controllers below) (enabled_at-state rows controllers processes (parent path))
 
   rows_formed : (path : Names) (row : Cgroup) → row_at st path ≡ Some row → IsFormedRow (enabled_above st path) row
   rows_formed path row is =
       let found = found_at path row is in
-      let formed : IsFormedRow (enabled_over rows path) (with_files_of (enabled_over rows path) superuser found.0) =
-      formed_row-fitted (enabled_over rows path) found.0 (sound_at path found.0 found.1).in_range in
-      subst (λ above. IsFormedRow above row) (sym (enabled_above-state path)) (subst (IsFormedRow (enabled_over rows path)) found.2 formed)
+      let formed : IsFormedRow (enabled_over (cgroup_at rows) path) (with_files_of (enabled_over (cgroup_at rows) path) superuser found.0) =
+      formed_row-fitted (enabled_over (cgroup_at rows) path) found.0 (sound_at path found.0 found.1).in_range in
+      subst (λ above. IsFormedRow above row) (sym (enabled_above-state path)) (subst (IsFormedRow (enabled_over (cgroup_at rows) path)) found.2 formed)
 
   rows_within : (path : Names) (row : Cgroup) → row_at st path ≡ Some row → is_within row.enabled (available_at st path) ≡ true
   rows_within path row is =
       let found = found_at path row is in
-      let within : is_within found.0.enabled (available_to rows controllers path) ≡ true = (sound_at path found.0 found.1).within in
-      ap (is_within row.enabled) (available_at-state path) ∙ ap (λ (cgroup : Cgroup). is_within cgroup.enabled (available_to rows controllers path)) (sym found.2) ∙ within
+      let within : is_within found.0.enabled (available_to (cgroup_at rows) controllers path) ≡ true = (sound_at path found.0 found.1).within in
+      ap (is_within row.enabled) (available_at-state path) ∙ ap (λ (cgroup : Cgroup). is_within cgroup.enabled (available_to (cgroup_at rows) controllers path)) (sym found.2) ∙ within
 
   placed_at : (pid : ℕ) (process : Process) → process_at st pid ≡ Some process → IsPlaced rows process.place
   placed_at pid process is =
@@ -171,8 +171,8 @@ module _ (rows : List NamedRow) (controllers : ControllerSet) (processes : List 
   may_hold-placed : (place : Names) → IsPlaced rows place → may_hold st place ≡ true
   may_hold-placed place at =
       let found = some_of (cgroup_at rows place) at.there in
-      let enabled : enabled_by rows place ≡ found.0.enabled = ap (λ (o : Option Cgroup). elim o [ None ↦ no_controllers | Some cgroup ↦ cgroup.enabled ]) found.1 in
-      ap (λ (o : Option Cgroup). elim o [ None ↦ false | Some row ↦ is_root place || enables_nothing row.enabled ]) (row_at-state rows controllers processes place ∙ ap (option_map (with_files_of (enabled_over rows place) superuser)) found.1)
+      let enabled : enabled_by (cgroup_at rows) place ≡ found.0.enabled = ap (λ (o : Option Cgroup). elim o [ None ↦ no_controllers | Some cgroup ↦ cgroup.enabled ]) found.1 in
+      ap (λ (o : Option Cgroup). elim o [ None ↦ false | Some row ↦ is_root place || enables_nothing row.enabled ]) (row_at-state rows controllers processes place ∙ ap (option_map (with_files_of (enabled_over (cgroup_at rows) place) superuser)) found.1)
       ∙ ap (λ set. is_root place || enables_nothing set) (sym enabled) ∙ at.holds
 
   pub formed-state : IsWellFormed st

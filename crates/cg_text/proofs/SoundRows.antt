@@ -134,13 +134,13 @@ in_range-named format (row ∷ rows) = (in_range-written format row, in_range-na
 -- ---- rows without a fault
 
 module _ (rows : List NamedRow) (controllers : ControllerSet) where
-  sound_rows : (some : List NamedRow) → AllByRecursion (λ row. IsInRange row.cgroup) some → AllByRecursion (λ row. (k : ℕ) × (no_parent rows k row ≡ None)) some
-      → AllByRecursion (λ row. (k : ℕ) × (top_down rows controllers k row ≡ None)) some → AllByRecursion (λ row. IsSound rows controllers row.path row.cgroup) some
+  sound_rows : (some : List NamedRow) → AllByRecursion (λ row. IsInRange row.cgroup) some → AllByRecursion (λ row. (k : ℕ) × (no_parent (cgroup_at rows) k row ≡ None)) some
+      → AllByRecursion (λ row. (k : ℕ) × (top_down (cgroup_at rows) controllers k row ≡ None)) some → AllByRecursion (λ row. IsSound rows controllers row.path row.cgroup) some
   sound_rows [] fine parents within = tt
   sound_rows (row ∷ some) fine parents within = (
     record {
       parent_there = unless_none (is_root row.path || is_some (cgroup_at rows (parent row.path))) _ parents.0.1;
-      within = unless_none (is_within row.cgroup.enabled (available_to rows controllers row.path)) _ within.0.1;
+      within = unless_none (is_within row.cgroup.enabled (available_to (cgroup_at rows) controllers row.path)) _ within.0.1;
       in_range = fine.0;
     },
     sound_rows some fine.1 parents.1 within.1,
@@ -150,32 +150,32 @@ module _ (rows : List NamedRow) (controllers : ControllerSet) where
   there_from None is = absurd (true≢false (sym is))
   there_from (Some path) is = is
 
-  placed_row : (processes : List ProcessRow) (k : ℕ) (row : ProcessRow) → process_fault rows processes k row ≡ None → IsPlaced rows (live_process row).1.place
+  placed_row : (processes : List ProcessRow) (k : ℕ) (row : ProcessRow) → process_fault (cgroup_at rows) processes k row ≡ None → IsPlaced rows (live_process row).1.place
   unfolding process_fault
   placed_row processes k row none =
-      let at_place : Option TreeFault = or_else (no_such_place rows k row) (internal_process rows k row) in
+      let at_place : Option TreeFault = or_else (no_such_place (cgroup_at rows) k row) (internal_process (cgroup_at rows) k row) in
       let after_pid = (or_else_none (bad_pid k row) (or_else (bad_uid k row) (or_else (duplicate_pid processes k row) at_place)) none).1 in
       let after_uid = (or_else_none (bad_uid k row) (or_else (duplicate_pid processes k row) at_place) after_pid).1 in
       let after_earlier = (or_else_none (duplicate_pid processes k row) at_place after_uid).1 in
-      let last = or_else_none (no_such_place rows k row) (internal_process rows k row) after_earlier in
+      let last = or_else_none (no_such_place (cgroup_at rows) k row) (internal_process (cgroup_at rows) k row) after_earlier in
       record {
-        there = there_from (path_at row.at) (unless_none (is_place rows row.at) _ last.0);
-        holds = unless_none (holds_processes rows (live_process row).1.place) _ last.1;
+        there = there_from (path_at row.at) (unless_none (is_place (cgroup_at rows) row.at) _ last.0);
+        holds = unless_none (holds_processes (cgroup_at rows) (live_process row).1.place) _ last.1;
       }
 
-  placed_rows : (processes some : List ProcessRow) → AllByRecursion (λ row. (k : ℕ) × (process_fault rows processes k row ≡ None)) some
+  placed_rows : (processes some : List ProcessRow) → AllByRecursion (λ row. (k : ℕ) × (process_fault (cgroup_at rows) processes k row ≡ None)) some
       → AllByRecursion (λ row. IsPlaced rows (live_process row).1.place) some
   placed_rows processes [] none = tt
   placed_rows processes (row ∷ some) none = (placed_row processes none.0.0 row none.0.1, placed_rows processes some none.1)
 
-  pub formed-tree : (processes : List ProcessRow) → AllByRecursion (λ row. IsInRange row.cgroup) rows → tree_fault rows controllers processes ≡ None
-      → IsWellFormed (state_with rows controllers processes)
+  pub formed-tree : (processes : List ProcessRow) → AllByRecursion (λ row. IsInRange row.cgroup) rows → tree_fault rows (cgroup_at rows) controllers processes ≡ None
+      → IsWellFormed (state_with rows (cgroup_at rows) controllers processes)
   formed-tree processes fine none =
       let after_duplicates = (or_else_none (first_row (duplicate rows) 0 rows) _ none).1 in
-      let after_root = or_else_none (no_root rows) _ after_duplicates in
-      let after_parents = or_else_none (first_row (no_parent rows) 0 rows) _ after_root.1 in
-      let after_top_down = or_else_none (first_row (top_down rows controllers) 0 rows) _ after_parents.1 in
-      let last = or_else_none (first_row (no_such_file rows) 0 rows) _ after_top_down.1 in
+      let after_root = or_else_none (no_root (cgroup_at rows)) _ after_duplicates in
+      let after_parents = or_else_none (first_row (no_parent (cgroup_at rows)) 0 rows) _ after_root.1 in
+      let after_top_down = or_else_none (first_row (top_down (cgroup_at rows) controllers) 0 rows) _ after_parents.1 in
+      let last = or_else_none (first_row (no_such_file (cgroup_at rows)) 0 rows) _ after_top_down.1 in
       formed-state rows controllers processes (unless_none (is_some (cgroup_at rows [])) _ after_root.0)
-      (sound_rows rows fine (first_row_none (no_parent rows) 0 rows after_parents.0) (first_row_none (top_down rows controllers) 0 rows after_top_down.0))
-      (placed_rows processes processes (first_row_none (process_fault rows processes) 0 processes last.1))
+      (sound_rows rows fine (first_row_none (no_parent (cgroup_at rows)) 0 rows after_parents.0) (first_row_none (top_down (cgroup_at rows) controllers) 0 rows after_top_down.0))
+      (placed_rows processes processes (first_row_none (process_fault (cgroup_at rows) processes) 0 processes last.1))

@@ -81,28 +81,28 @@ keys_live [] = refl
 keys_live (row ∷ rows) = ap (λ rest. (live_process row).0 ∷ rest) (keys_live rows)
 
 entries_fitted : (all rows : List NamedRow)
-    → map_list {B = Names × Cgroup} (λ row. (row.path, fitted all row)) rows ≡ map_list {B = Names × Cgroup} (λ e. (e.0, with_files_of (enabled_over all e.0) superuser e.1)) (pairs_of rows)
+    → map_list {B = Names × Cgroup} (λ row. (row.path, fitted (cgroup_at all) row)) rows ≡ map_list {B = Names × Cgroup} (λ e. (e.0, with_files_of (enabled_over (cgroup_at all) e.0) superuser e.1)) (pairs_of rows)
 entries_fitted all [] = refl
-entries_fitted all (row ∷ rows) = ap (λ rest. (row.path, fitted all row) ∷ rest) (entries_fitted all rows)
+entries_fitted all (row ∷ rows) = ap (λ rest. (row.path, fitted (cgroup_at all) row) ∷ rest) (entries_fitted all rows)
 
 module _ (rows : List NamedRow) (controllers : ControllerSet) (processes : List ProcessRow) where
-  pub row_at-state : (path : Names) → row_at (state_with rows controllers processes) path ≡ option_map (with_files_of (enabled_over rows path) superuser) (cgroup_at rows path)
+  pub row_at-state : (path : Names) → row_at (state_with rows (cgroup_at rows) controllers processes) path ≡ option_map (with_files_of (enabled_over (cgroup_at rows) path) superuser) (cgroup_at rows path)
   row_at-state path =
       get-from_entries path_cmp_total _ path ∙ ap (map.find path_cmp path) (entries_fitted rows rows)
-      ∙ find_changed path_cmp-IsAntisymmetric (λ path cgroup. with_files_of (enabled_over rows path) superuser cgroup) (pairs_of rows) path
+      ∙ find_changed path_cmp-IsAntisymmetric (λ path cgroup. with_files_of (enabled_over (cgroup_at rows) path) superuser cgroup) (pairs_of rows) path
 
-  pub enabled_at-state : (path : Names) → enabled_at (state_with rows controllers processes) path ≡ enabled_by rows path
+  pub enabled_at-state : (path : Names) → enabled_at (state_with rows (cgroup_at rows) controllers processes) path ≡ enabled_by (cgroup_at rows) path
   enabled_at-state path =
       ap (λ (found : Option Cgroup). elim found [ None ↦ no_controllers | Some row ↦ row.enabled ]) (row_at-state path)
-      ∙ elim (cgroup_at rows path) as (λ o. elim (option_map (with_files_of (enabled_over rows path) superuser) o) [ None ↦ no_controllers | Some row ↦ row.enabled ] ≡ elim o [ None ↦ no_controllers | Some cgroup ↦ cgroup.enabled ]) [
+      ∙ elim (cgroup_at rows path) as (λ o. elim (option_map (with_files_of (enabled_over (cgroup_at rows) path) superuser) o) [ None ↦ no_controllers | Some row ↦ row.enabled ] ≡ elim o [ None ↦ no_controllers | Some cgroup ↦ cgroup.enabled ]) [
         | None ↦ refl
         | Some cgroup ↦ refl
       ]
 
-  pub process_at-state : (pid : ℕ) → process_at (state_with rows controllers processes) pid ≡ map.find nat_cmp pid (live_processes processes)
+  pub process_at-state : (pid : ℕ) → process_at (state_with rows (cgroup_at rows) controllers processes) pid ≡ map.find nat_cmp pid (live_processes processes)
   process_at-state pid = get-from_entries nat_cmp_total _ pid
 
-  pub is_used-state : (pid : ℕ) → is_used (state_with rows controllers processes) pid ≡ is_some (process_at (state_with rows controllers processes) pid)
+  pub is_used-state : (pid : ℕ) → is_used (state_with rows (cgroup_at rows) controllers processes) pid ≡ is_some (process_at (state_with rows (cgroup_at rows) controllers processes) pid)
   is_used-state pid =
       contains-from_list nat_cmp_total _ pid ∙ ap (list_any (eq_by_cmp nat_cmp pid)) (keys_live processes)
       ∙ sym (ap is_some (process_at-state pid) ∙ is_some-find nat_cmp pid (live_processes processes))

@@ -205,39 +205,43 @@ pairs_of rows = map_list (λ row. (row.path, row.cgroup)) rows
 abbrev pub cgroup_at : List NamedRow → Names → Option Cgroup
 cgroup_at rows path = map.find path_cmp path (pairs_of rows)
 
-abbrev pub enabled_by : List NamedRow → Names → ControllerSet
-enabled_by rows path = elim (cgroup_at rows path) [ None ↦ no_controllers | Some cgroup ↦ cgroup.enabled ]
+-- the cgroup at each path, where there is one
+abbrev pub LookUp : Type 0
+LookUp = Names → Option Cgroup
+
+abbrev pub enabled_by : LookUp → Names → ControllerSet
+enabled_by found path = elim (found path) [ None ↦ no_controllers | Some cgroup ↦ cgroup.enabled ]
 
 -- what the parent enables; the root has none
-abbrev pub enabled_over : List NamedRow → Names → ControllerSet
-enabled_over rows path = cond (is_root path) no_controllers (enabled_by rows (parent path))
+abbrev pub enabled_over : LookUp → Names → ControllerSet
+enabled_over found path = cond (is_root path) no_controllers (enabled_by found (parent path))
 
 -- what a cgroup may enable: at the root what there is, elsewhere what the parent enables
-abbrev pub available_to : List NamedRow → ControllerSet → Names → ControllerSet
-available_to rows controllers path = cond (is_root path) controllers (enabled_by rows (parent path))
+abbrev pub available_to : LookUp → ControllerSet → Names → ControllerSet
+available_to found controllers path = cond (is_root path) controllers (enabled_by found (parent path))
 
 abbrev pub duplicate : List NamedRow → ℕ → NamedRow → Option TreeFault
 duplicate rows i row = unless (not (is_some (cgroup_at (take i rows) row.path))) (Duplicate (AtCgroup (i + 1)))
 
-abbrev pub no_root : List NamedRow → Option TreeFault
-no_root rows = unless (is_some (cgroup_at rows [])) NoRoot
+abbrev pub no_root : LookUp → Option TreeFault
+no_root found = unless (is_some (found [])) NoRoot
 
-abbrev pub no_parent : List NamedRow → ℕ → NamedRow → Option TreeFault
-no_parent rows i row = unless (is_root row.path || is_some (cgroup_at rows (parent row.path))) (NoParent (AtCgroup (i + 1)))
+abbrev pub no_parent : LookUp → ℕ → NamedRow → Option TreeFault
+no_parent found i row = unless (is_root row.path || is_some (found (parent row.path))) (NoParent (AtCgroup (i + 1)))
 
-abbrev pub top_down : List NamedRow → ControllerSet → ℕ → NamedRow → Option TreeFault
-top_down rows controllers i row = unless (is_within row.cgroup.enabled (available_to rows controllers row.path)) (TopDown (AtCgroup (i + 1)))
+abbrev pub top_down : LookUp → ControllerSet → ℕ → NamedRow → Option TreeFault
+top_down found controllers i row = unless (is_within row.cgroup.enabled (available_to found controllers row.path)) (TopDown (AtCgroup (i + 1)))
 
 -- whether each limit file that a cgroup has stands under these controllers
 abbrev pub files_stand : ControllerSet → Cgroup → Bool
 files_stand above cgroup = list_all (λ name. not (is_some (file_of cgroup name)) || stands_under above name) all_files
 
-abbrev pub no_such_file : List NamedRow → ℕ → NamedRow → Option TreeFault
-no_such_file rows i row = unless (files_stand (enabled_over rows row.path) row.cgroup) (NoSuchFile (AtCgroup (i + 1)))
+abbrev pub no_such_file : LookUp → ℕ → NamedRow → Option TreeFault
+no_such_file found i row = unless (files_stand (enabled_over found row.path) row.cgroup) (NoSuchFile (AtCgroup (i + 1)))
 
 -- the cgroup with all files that stand at it: those that its row doesn't name are of uid 0 and have their defaults
-abbrev pub fitted : List NamedRow → NamedRow → Cgroup
-fitted rows row = with_files_of (enabled_over rows row.path) superuser row.cgroup
+abbrev pub fitted : LookUp → NamedRow → Cgroup
+fitted found row = with_files_of (enabled_over found row.path) superuser row.cgroup
 
 -- ---- processes
 
@@ -251,12 +255,12 @@ abbrev pub live_processes : List ProcessRow → List (ℕ × Process)
 live_processes rows = map_list live_process rows
 
 -- whether `at` is the path of a row
-abbrev pub is_place : List NamedRow → Text → Bool
-is_place rows text = is_some (option_and_then (λ path. cgroup_at rows path) (path_at text))
+abbrev pub is_place : LookUp → Text → Bool
+is_place found text = is_some (option_and_then found (path_at text))
 
 -- whether processes may be there: at the root, and where nothing is enabled
-abbrev pub holds_processes : List NamedRow → Names → Bool
-holds_processes rows path = is_root path || enables_nothing (enabled_by rows path)
+abbrev pub holds_processes : LookUp → Names → Bool
+holds_processes found path = is_root path || enables_nothing (enabled_by found path)
 
 abbrev pub bad_pid : ℕ → ProcessRow → Option TreeFault
 bad_pid i row = unless (is_some (pid_read row.pid)) (BadPid (AtProcess (i + 1)))
@@ -268,16 +272,16 @@ abbrev pub duplicate_pid : List ProcessRow → ℕ → ProcessRow → Option Tre
 duplicate_pid processes i row =
     unless (not (is_some (map.find nat_cmp (live_process row).0 (live_processes (take i processes))))) (DuplicatePid (AtProcess (i + 1)))
 
-abbrev pub no_such_place : List NamedRow → ℕ → ProcessRow → Option TreeFault
-no_such_place rows i row = unless (is_place rows row.at) (NoSuchPlace (AtProcess (i + 1)))
+abbrev pub no_such_place : LookUp → ℕ → ProcessRow → Option TreeFault
+no_such_place found i row = unless (is_place found row.at) (NoSuchPlace (AtProcess (i + 1)))
 
-abbrev pub internal_process : List NamedRow → ℕ → ProcessRow → Option TreeFault
-internal_process rows i row = unless (holds_processes rows (live_process row).1.place) (InternalProcess (AtProcess (i + 1)))
+abbrev pub internal_process : LookUp → ℕ → ProcessRow → Option TreeFault
+internal_process found i row = unless (holds_processes found (live_process row).1.place) (InternalProcess (AtProcess (i + 1)))
 
 -- for each row in turn: its PID, its uid, an earlier row of that PID, its place, what is enabled there
-unfoldable pub process_fault : List NamedRow → List ProcessRow → ℕ → ProcessRow → Option TreeFault
-process_fault rows processes i row =
-    or_else (bad_pid i row) (or_else (bad_uid i row) (or_else (duplicate_pid processes i row) (or_else (no_such_place rows i row) (internal_process rows i row))))
+unfoldable pub process_fault : LookUp → List ProcessRow → ℕ → ProcessRow → Option TreeFault
+process_fault found processes i row =
+    or_else (bad_pid i row) (or_else (bad_uid i row) (or_else (duplicate_pid processes i row) (or_else (no_such_place found i row) (internal_process found i row))))
 
 -- ---- the whole
 
@@ -288,25 +292,25 @@ abbrev pub controllers_of : TreeRecords → ControllerSet
 controllers_of records = unwrap_or (controllers_read records.controllers) no_controllers
 
 -- The faults of rows that all can be read, in their order.
-abbrev pub tree_fault : List NamedRow → ControllerSet → List ProcessRow → Option TreeFault
-tree_fault rows controllers processes =
+abbrev pub tree_fault : List NamedRow → LookUp → ControllerSet → List ProcessRow → Option TreeFault
+tree_fault rows found controllers processes =
     or_else (first_row (duplicate rows) 0 rows)
-    (or_else (no_root rows)
-    (or_else (first_row (no_parent rows) 0 rows)
-    (or_else (first_row (top_down rows controllers) 0 rows)
-    (or_else (first_row (no_such_file rows) 0 rows)
-    (first_row (process_fault rows processes) 0 processes)))))
+    (or_else (no_root found)
+    (or_else (first_row (no_parent found) 0 rows)
+    (or_else (first_row (top_down found controllers) 0 rows)
+    (or_else (first_row (no_such_file found) 0 rows)
+    (first_row (process_fault found processes) 0 processes)))))
 
 -- The first fault of the records.
 unfoldable pub first_fault : TreeRecords → Option TreeFault
 first_fault records =
     or_else (unless (is_some (controllers_read records.controllers)) (BadController Top))
     (or_else (first_row (row_fault records.format) 0 records.cgroups)
-    (tree_fault (named_rows records) (controllers_of records) records.processes))
+    (tree_fault (named_rows records) (cgroup_at (named_rows records)) (controllers_of records) records.processes))
 
-abbrev pub state_with : List NamedRow → ControllerSet → List ProcessRow → State
-state_with rows controllers processes = record {
-  rows = map.from_entries (map_list (λ row. (row.path, fitted rows row)) rows);
+abbrev pub state_with : List NamedRow → LookUp → ControllerSet → List ProcessRow → State
+state_with rows found controllers processes = record {
+  rows = map.from_entries (map_list (λ row. (row.path, fitted found row)) rows);
   live = map.from_entries (live_processes processes);
   used = set.from_list (map_list (λ row. (live_process row).0) processes);
   controllers = controllers;
@@ -314,7 +318,7 @@ state_with rows controllers processes = record {
 
 -- The state that the records say, where they have no fault.
 unfoldable pub state_of : TreeRecords → State
-state_of records = state_with (named_rows records) (controllers_of records) records.processes
+state_of records = state_with (named_rows records) (cgroup_at (named_rows records)) (controllers_of records) records.processes
 
 abbrev pub state_or : Option TreeFault → State → Result State TreeFault
 state_or None st = Ok st

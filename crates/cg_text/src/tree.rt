@@ -4,6 +4,7 @@ mod fault;
 mod named;
 mod records;
 mod rows;
+mod together;
 mod written;
 
 pub use fault::{Place, TreeFault};

@@ -14,8 +14,9 @@ pub loop-index-preserved : goal.loop-index-preserved
 loop-index-preserved c =
     let row = c.index-rows-index.result in
     let absent : get path_cmp c.loop-index.table row.path ≡ None = none_value _ (sym c.if-contains_key.ensures) in
-    let new : duplicate c.args.rows.now c.loop-index.index row ≡ None = ap (λ found. unless (not (is_some found)) (Duplicate (Cgroup (c.loop-index.index + 1)))) (sym (c.loop-index.invariant.1 row.path) ∙ absent) in
-    (first_row_next (duplicate c.args.rows.now) c.loop-index.index c.args.rows.now row _ c.loop-index-test.true c.index-rows-index.is new c.loop-index.invariant.0,
-     filled path_cmp_total (λ row. (row.path, row.cgroup)) c.args.rows.now c.loop-index.index row (get path_cmp c.loop-index.table) (get path_cmp c.insert.new.self)
-     c.loop-index-test.true c.index-rows-index.is absent c.loop-index.invariant.1
-     (λ q. c.in_ok-insert.ensures.updates.0 q ∙ ap (λ path. cond (is_eq (path_cmp path q)) (Some row.cgroup) (get path_cmp c.loop-index.table q)) c.in_ok-path.ensures))
+    let new : duplicate c.args.rows.now c.loop-index.index row ≡ None = ap (λ found. unless (not (is_some found)) (Duplicate (Cgroup (c.loop-index.index + 1)))) (sym (c.loop-index.invariant.1 row.path) ∙ absent) in (
+      first_row_next (duplicate c.args.rows.now) c.loop-index.index c.args.rows.now row _ c.loop-index-test.true c.index-rows-index.is new c.loop-index.invariant.0,
+      filled path_cmp_total (λ row. (row.path, row.cgroup)) c.args.rows.now c.loop-index.index row (get path_cmp c.loop-index.table) (get path_cmp c.insert.new.self)
+          c.loop-index-test.true c.index-rows-index.is absent c.loop-index.invariant.1
+          (λ q. c.in_ok-insert.ensures.updates.0 q ∙ ap (λ path. cond (is_eq (path_cmp path q)) (Some row.cgroup) (get path_cmp c.loop-index.table q)) c.in_ok-path.ensures),
+    )
