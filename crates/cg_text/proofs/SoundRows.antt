@@ -1,5 +1,5 @@
 -- Rows without a fault are sound, so that their state is well-formed.
-use Rattle.std.proofs.Common.{◌≡◌, ℕ, ◌≤◌, ℤ, pos, negsuc, Bool, true, false, cond, not, ◌&&◌, ◌||◌, nat_le, List, [], ◌∷◌, map as map_list, refl, sym, ap, subst, ◌∙◌, true≢false, Option, Some, None, is_some, option_map, unwrap_or, arith}
+use Rattle.std.proofs.Common.{◌≡◌, ℕ, ◌≤◌, ℤ, pos, negsuc, Bool, true, false, cond, not, ◌&&◌, ◌||◌, nat_le, take, List, [], ◌∷◌, map as map_list, refl, sym, ap, subst, ◌∙◌, true≢false, Option, Some, None, is_some, option_map, unwrap_or, arith}
 use Rattle.std.proofs.lemmas.Bool.Decides.{nat_tests}
 use Rattle.std.specs.List.{AllByRecursion}
 use Rattle.std.specs.Option.{option_and_then}
@@ -23,7 +23,7 @@ use Rattle.cg_tree.specs.declared.cgroup.LimitEntry.{LimitEntry}
 use Rattle.cg_tree.specs.declared.cgroup.Cgroup.{Cgroup}
 use Rattle.cg_text.specs.Records.{CgroupRow, ProcessRow}
 use Rattle.cg_text.specs.Document.{is_two}
-use Rattle.cg_text.specs.Tree.{or_else, unless, first_row, number_or, passing, mode_read, id_read, entry_read, accepted, value_read, superuser, file_mode, directory_mode, entry_written, file_written, core_file, cgroup_written, named, cgroup_at, no_root, no_parent, top_down, no_such_file, duplicate, tree_fault, pid_read, live_process, is_place, holds_processes, bad_pid, bad_uid, duplicate_pid, no_such_place, internal_process, process_fault, available_to, state_with}
+use Rattle.cg_text.specs.Tree.{or_else, unless, first_row, number_or, passing, mode_read, id_read, entry_read, accepted, value_read, superuser, file_mode, directory_mode, entry_written, file_written, core_file, cgroup_written, named, cgroup_at, no_root, no_parent, top_down, no_such_file, duplicate, tree_fault, pid_read, live_process, is_place, holds_processes, bad_pid, bad_uid, duplicate_pid, no_such_place, internal_process, Earlier, process_at, process_row_fault, process_fault, available_to, state_with}
 use Rattle.cg_text.specs.declared.tree.records.Format.{Format}
 use Rattle.cg_text.specs.declared.tree.records.EntryRecord.{EntryRecord}
 use Rattle.cg_text.specs.declared.tree.records.ValueRecord.{ValueRecord}
@@ -150,13 +150,13 @@ module _ (rows : List NamedRow) (controllers : ControllerSet) where
   there_from None is = absurd (true≢false (sym is))
   there_from (Some path) is = is
 
-  placed_row : (processes : List ProcessRow) (k : ℕ) (row : ProcessRow) → process_fault (cgroup_at rows) processes k row ≡ None → IsPlaced rows (live_process row).1.place
-  unfolding process_fault
-  placed_row processes k row none =
+  placed_row : (earlier : Earlier) (k : ℕ) (row : ProcessRow) → process_row_fault (cgroup_at rows) earlier k row ≡ None → IsPlaced rows (live_process row).1.place
+  unfolding process_row_fault
+  placed_row earlier k row none =
       let at_place : Option TreeFault = or_else (no_such_place (cgroup_at rows) k row) (internal_process (cgroup_at rows) k row) in
-      let after_pid = (or_else_none (bad_pid k row) (or_else (bad_uid k row) (or_else (duplicate_pid processes k row) at_place)) none).1 in
-      let after_uid = (or_else_none (bad_uid k row) (or_else (duplicate_pid processes k row) at_place) after_pid).1 in
-      let after_earlier = (or_else_none (duplicate_pid processes k row) at_place after_uid).1 in
+      let after_pid = (or_else_none (bad_pid k row) (or_else (bad_uid k row) (or_else (duplicate_pid earlier k row) at_place)) none).1 in
+      let after_uid = (or_else_none (bad_uid k row) (or_else (duplicate_pid earlier k row) at_place) after_pid).1 in
+      let after_earlier = (or_else_none (duplicate_pid earlier k row) at_place after_uid).1 in
       let last = or_else_none (no_such_place (cgroup_at rows) k row) (internal_process (cgroup_at rows) k row) after_earlier in
       record {
         there = there_from (path_at row.at) (unless_none (is_place (cgroup_at rows) row.at) _ last.0);
@@ -166,7 +166,7 @@ module _ (rows : List NamedRow) (controllers : ControllerSet) where
   placed_rows : (processes some : List ProcessRow) → AllByRecursion (λ row. (k : ℕ) × (process_fault (cgroup_at rows) processes k row ≡ None)) some
       → AllByRecursion (λ row. IsPlaced rows (live_process row).1.place) some
   placed_rows processes [] none = tt
-  placed_rows processes (row ∷ some) none = (placed_row processes none.0.0 row none.0.1, placed_rows processes some none.1)
+  placed_rows processes (row ∷ some) none = (placed_row (process_at (take none.0.0 processes)) none.0.0 row none.0.1, placed_rows processes some none.1)
 
   pub formed-tree : (processes : List ProcessRow) → AllByRecursion (λ row. IsInRange row.cgroup) rows → tree_fault rows (cgroup_at rows) controllers processes ≡ None
       → IsWellFormed (state_with rows (cgroup_at rows) controllers processes)

@@ -1,5 +1,5 @@
 -- What it says of a tree text's rows that no fault was found, and what the state has at a path and at a PID.
-use Rattle.std.proofs.Common.{◌≡◌, ℕ, ◌+◌, ◌<◌, length, drop, get_or, Bool, true, false, cond, ◌||◌, List, [], ◌∷◌, map as map_list, refl, sym, ap, subst, ◌∙◌, true≢false, Option, Some, None, is_some, option_map, unwrap_or, arith}
+use Rattle.std.proofs.Common.{◌≡◌, ℕ, ◌+◌, ◌<◌, length, drop, get_or, Bool, true, false, not, cond, ◌||◌, List, [], ◌∷◌, map as map_list, refl, sym, ap, subst, ◌∙◌, true≢false, Option, Some, None, is_some, option_map, unwrap_or, arith}
 use Rattle.std.proofs.lemmas.List.{drop_more}
 use Rattle.std.specs.List.{AllByRecursion, list_any}
 use Rattle.std.specs.Ordering.{nat_cmp, eq_by_cmp, is_eq}
@@ -15,13 +15,16 @@ use Rattle.cg_tree.specs.Paths.{Names, path_cmp, is_root, parent}
 use Rattle.cg_tree.specs.Cgroups.{with_files_of}
 use Rattle.cg_tree.specs.States.{State, row_at, process_at, is_used}
 use Rattle.cg_tree.specs.WellFormed.{enabled_at}
+use Rattle.cg_tree.proofs.Options.{none_value}
 use Rattle.cg_tree.proofs.PathOrder.{path_cmp_total, path_cmp-IsAntisymmetric}
 use Rattle.cg_tree.specs.declared.files.ControllerSet.{ControllerSet}
 use Rattle.cg_tree.specs.declared.cgroup.Cgroup.{Cgroup}
 use Rattle.cg_tree.specs.declared.process.Process.{Process}
 use Rattle.cg_text.specs.Records.{ProcessRow}
-use Rattle.cg_text.specs.Tree.{or_else, unless, first_row, pairs_of, cgroup_at, enabled_by, enabled_over, fitted, superuser, live_process, live_processes, state_with}
+use Rattle.cg_text.specs.Tree.{or_else, unless, first_row, pairs_of, cgroup_at, enabled_by, enabled_over, fitted, superuser, live_process, live_processes, LookUp, Earlier, pid_read, id_read, bad_pid, bad_uid, duplicate_pid, no_such_place, internal_process, process_row_fault, state_with}
 use Rattle.cg_text.specs.declared.tree.fault.TreeFault.{TreeFault}
+use Rattle.cg_text.specs.declared.tree.fault.TreeFault.TheVariants.{BadPid, BadEntry, DuplicatePid}
+use Rattle.cg_text.specs.declared.tree.fault.Place.TheVariants.{Process as AtProcess}
 use Rattle.cg_text.specs.declared.tree.named.NamedRow.{NamedRow}
 
 -- ---- no fault
@@ -29,6 +32,10 @@ use Rattle.cg_text.specs.declared.tree.named.NamedRow.{NamedRow}
 pub or_else_none : (one other : Option TreeFault) → or_else one other ≡ None → (one ≡ None) × (other ≡ None)
 or_else_none None other e = (refl, e)
 or_else_none (Some fault) other e = cc
+
+pub or_else_some : (one other : Option TreeFault) (fault : TreeFault) → one ≡ Some fault → or_else one other ≡ Some fault
+or_else_some None other fault e = cc
+or_else_some (Some found) other fault e = e
 
 pub unless_none : (test : Bool) (fault : TreeFault) → unless test fault ≡ None → test ≡ true
 unless_none true fault e = refl
@@ -47,6 +54,12 @@ pub first_row_next : {A : Type 0} (test : ℕ → A → Option TreeFault) (i : �
     → first_row test i (drop i rows) ≡ whole → first_row test (i + 1) (drop (i + 1) rows) ≡ whole
 first_row_next test i rows row whole inside is none kept =
     sym (ap (first_row test i) (drop_more rows i row inside ∙ ap (λ x. x ∷ drop (i + 1) rows) (sym is)) ∙ ap (λ fault. or_else fault (first_row test (i + 1) (drop (i + 1) rows))) none) ∙ kept
+
+-- the first row that doesn't pass
+pub first_row_stops : {A : Type 0} (test : ℕ → A → Option TreeFault) (i : ℕ) (rows : List A) (row : A) (whole : Option TreeFault) (fault : TreeFault) → i < length rows → row ≡ get_or rows i row → test i row ≡ Some fault
+    → first_row test i (drop i rows) ≡ whole → whole ≡ Some fault
+first_row_stops test i rows row whole fault inside is some kept =
+    sym kept ∙ ap (first_row test i) (drop_more rows i row inside ∙ ap (λ x. x ∷ drop (i + 1) rows) (sym is)) ∙ or_else_some (test i row) (first_row test (i + 1) (drop (i + 1) rows)) fault some
 
 -- ---- entries
 
@@ -106,3 +119,32 @@ module _ (rows : List NamedRow) (controllers : ControllerSet) (processes : List 
   is_used-state pid =
       contains-from_list nat_cmp_total _ pid ∙ ap (list_any (eq_by_cmp nat_cmp pid)) (keys_live processes)
       ∙ sym (ap is_some (process_at-state pid) ∙ is_some-find nat_cmp pid (live_processes processes))
+
+-- ---- processes
+
+-- the same earlier processes, the same fault
+pub earlier_same : (found : LookUp) (one other : Earlier) → ((pid : ℕ) → one pid ≡ other pid) → (i : ℕ) (row : ProcessRow) → process_row_fault found one i row ≡ process_row_fault found other i row
+earlier_same found one other same i row = ap (λ (earlier : Earlier). process_row_fault found earlier i row) (λ j pid. same pid j)
+
+not_so : (b : Bool) → not b ≡ true → b ≡ false
+not_so true h = absurd (true≢false (sym h))
+not_so false h = refl
+
+-- no earlier row has the PID of a row without a fault
+pub process_new : (found : LookUp) (earlier : Earlier) (i : ℕ) (row : ProcessRow) → process_row_fault found earlier i row ≡ None → earlier (live_process row).0 ≡ None
+unfolding process_row_fault
+process_new found earlier i row none =
+    let at_place : Option TreeFault = or_else (no_such_place found i row) (internal_process found i row) in
+    let after_pid = (or_else_none (bad_pid i row) (or_else (bad_uid i row) (or_else (duplicate_pid earlier i row) at_place)) none).1 in
+    let after_uid = (or_else_none (bad_uid i row) (or_else (duplicate_pid earlier i row) at_place) after_pid).1 in
+    none_value (earlier (live_process row).0) (not_so _ (unless_none (not (is_some (earlier (live_process row).0))) _ (or_else_none (duplicate_pid earlier i row) at_place after_uid).0))
+
+-- a row with a good PID and uid and a bad place
+pub process_nowhere : (found : LookUp) (earlier : Earlier) (i : ℕ) (row : ProcessRow) (fault : TreeFault) → is_some (pid_read row.pid) ≡ true → is_some (id_read (Some row.uid)) ≡ true
+    → is_some (earlier (live_process row).0) ≡ false → no_such_place found i row ≡ Some fault → process_row_fault found earlier i row ≡ Some fault
+unfolding process_row_fault
+process_nowhere found earlier i row fault pid uid new nowhere =
+    ap (λ b. or_else (unless b (BadPid (AtProcess (i + 1)))) (or_else (bad_uid i row) (or_else (duplicate_pid earlier i row) (or_else (no_such_place found i row) (internal_process found i row))))) pid
+    ∙ ap (λ b. or_else (unless b (BadEntry (AtProcess (i + 1)))) (or_else (duplicate_pid earlier i row) (or_else (no_such_place found i row) (internal_process found i row)))) uid
+    ∙ ap (λ b. or_else (unless (not b) (DuplicatePid (AtProcess (i + 1)))) (or_else (no_such_place found i row) (internal_process found i row))) new
+    ∙ or_else_some (no_such_place found i row) (internal_process found i row) fault nowhere

@@ -268,9 +268,12 @@ bad_pid i row = unless (is_some (pid_read row.pid)) (BadPid (AtProcess (i + 1)))
 abbrev pub bad_uid : ℕ → ProcessRow → Option TreeFault
 bad_uid i row = unless (is_some (id_read (Some row.uid))) (BadEntry (AtProcess (i + 1)))
 
-abbrev pub duplicate_pid : List ProcessRow → ℕ → ProcessRow → Option TreeFault
-duplicate_pid processes i row =
-    unless (not (is_some (map.find nat_cmp (live_process row).0 (live_processes (take i processes))))) (DuplicatePid (AtProcess (i + 1)))
+-- the process of each PID, where there is one
+abbrev pub Earlier : Type 0
+Earlier = ℕ → Option Process
+
+abbrev pub duplicate_pid : Earlier → ℕ → ProcessRow → Option TreeFault
+duplicate_pid earlier i row = unless (not (is_some (earlier (live_process row).0))) (DuplicatePid (AtProcess (i + 1)))
 
 abbrev pub no_such_place : LookUp → ℕ → ProcessRow → Option TreeFault
 no_such_place found i row = unless (is_place found row.at) (NoSuchPlace (AtProcess (i + 1)))
@@ -279,9 +282,16 @@ abbrev pub internal_process : LookUp → ℕ → ProcessRow → Option TreeFault
 internal_process found i row = unless (holds_processes found (live_process row).1.place) (InternalProcess (AtProcess (i + 1)))
 
 -- for each row in turn: its PID, its uid, an earlier row of that PID, its place, what is enabled there
-unfoldable pub process_fault : LookUp → List ProcessRow → ℕ → ProcessRow → Option TreeFault
-process_fault found processes i row =
-    or_else (bad_pid i row) (or_else (bad_uid i row) (or_else (duplicate_pid processes i row) (or_else (no_such_place found i row) (internal_process found i row))))
+unfoldable pub process_row_fault : LookUp → Earlier → ℕ → ProcessRow → Option TreeFault
+process_row_fault found earlier i row =
+    or_else (bad_pid i row) (or_else (bad_uid i row) (or_else (duplicate_pid earlier i row) (or_else (no_such_place found i row) (internal_process found i row))))
+
+-- the process of the first row that has the PID
+abbrev pub process_at : List ProcessRow → Earlier
+process_at rows pid = map.find nat_cmp pid (live_processes rows)
+
+abbrev pub process_fault : LookUp → List ProcessRow → ℕ → ProcessRow → Option TreeFault
+process_fault found processes i row = process_row_fault found (process_at (take i processes)) i row
 
 -- ---- the whole
 

@@ -2,6 +2,7 @@
 mod document;
 mod fault;
 mod named;
+mod processes;
 mod records;
 mod rows;
 mod together;

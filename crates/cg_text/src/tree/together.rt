@@ -25,7 +25,7 @@ fn parent_of<'a>(cgroups: &'a PathTable<Cgroup>, path: &Path) -> Option<&'a Cgro
     cgroups.get(path, path.parent_len())
 }
 
-fn is_root(path: &Path) -> bool
+pub fn is_root(path: &Path) -> bool
     ensures { result ≡ is_root path.now }
 {
     path.depth() == 0
