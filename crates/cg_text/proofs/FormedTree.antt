@@ -1,17 +1,12 @@
 -- A tree text without a fault says a well-formed state.
-use Rattle.std.proofs.Common.{◌≡◌, ℕ, ◌≤◌, Bool, true, false, cond, not, ◌&&◌, ◌||◌, List, [], ◌∷◌, refl, sym, ap, subst, ◌∙◌, true≢false, Option, Some, None, is_some, option_map, unwrap_or, arith}
-use Rattle.std.proofs.lemmas.Bool.Decides.{nat_tests}
+use Rattle.std.proofs.Common.{◌≡◌, ℕ, ◌≤◌, Bool, true, false, cond, ◌||◌, List, [], ◌∷◌, refl, sym, ap, subst, ◌∙◌, true≢false, Option, Some, None, is_some, option_map, unwrap_or, arith}
 use Rattle.std.specs.List.{AllByRecursion}
-use Rattle.std.specs.Cmp.{first_so, second_so}
-use Rattle.std.specs.Ordering.{nat_cmp}
-use Rattle.std.specs.FinMap as map
 use Rattle.std.specs.FinMap.{nat_cmp-IsAntisymmetric}
-use Rattle.cg_tree.specs.Paths.{Names, path_cmp, is_root, parent}
-use Rattle.cg_tree.specs.Identity.{Identity}
-use Rattle.cg_tree.specs.Files.{no_controllers, default_value, accepts, stands_under, enables_nothing, is_within}
-use Rattle.cg_tree.specs.Cgroups.{file_of, entry_in, file_made_by, refitted, with_files_of}
-use Rattle.cg_tree.specs.States.{State, row_at, process_at, is_used}
-use Rattle.cg_tree.specs.WellFormed.{has_row, enabled_at, enabled_above, available_at, may_hold, IsFormedRow, IsWellFormed}
+use Rattle.cg_tree.specs.Paths.{Names, is_root, parent}
+use Rattle.cg_tree.specs.Files.{no_controllers, accepts, stands_under, enables_nothing, is_within}
+use Rattle.cg_tree.specs.Cgroups.{file_of, entry_in, file_made_by, with_files_of}
+use Rattle.cg_tree.specs.States.{State, row_at, process_at}
+use Rattle.cg_tree.specs.WellFormed.{has_row, enabled_above, available_at, may_hold, IsFormedRow, IsWellFormed}
 use Rattle.cg_tree.proofs.PathOrder.{path_cmp-IsAntisymmetric}
 use Rattle.cg_tree.proofs.PathParents.{parent-root}
 use Rattle.cg_tree.proofs.CgroupLaws.{accepts-default_value, file_of-with_files_of}

@@ -1,6 +1,7 @@
 -- A map that is filled with the items of a list in turn, none twice.
-use Rattle.std.proofs.Common.{◌≡◌, ℕ, ◌+◌, ◌<◌, Bool, cond, List, [], ◌∷◌, ◌++◌, length, take, get_or, map as map_list, refl, sym, ap, ◌∙◌, Option, Some, None}
+use Rattle.std.proofs.Common.{◌≡◌, ℕ, ◌+◌, ◌<◌, Bool, true, false, ◌||◌, is_some, cond, List, [], ◌∷◌, ◌++◌, length, take, get_or, map as map_list, refl, sym, ap, ◌∙◌, Option, Some, None}
 use Rattle.std.proofs.lemmas.List.{take_more, map-append}
+use Rattle.std.specs.List.{list_any}
 use Rattle.std.specs.Ordering.{eq_by_cmp, is_eq}
 use Rattle.std.specs.Cmp.{IsTotalOrder, eq_by_cmp_equiv}
 use Rattle.std.specs.declared.cmp.Ordering.{Ordering}
@@ -24,3 +25,28 @@ module _ {A K X : Type 0} {R : K → K → Ordering} (total : IsTotalOrder R) (p
       updated q ∙ ap (λ b. cond b (Some (pair item).1) (before q)) ((eq_by_cmp_equiv total).symm (pair item).0 q)
       ∙ ap (cond (eq_by_cmp R q (pair item).0) (Some (pair item).1)) (kept q)
       ∙ sym (find-more items i item inside is (sym (kept (pair item).0) ∙ new) q)
+
+or_swap : (a b c : Bool) → (a || (b || c)) ≡ (b || (a || c))
+or_swap true true c = refl
+or_swap true false c = refl
+or_swap false b c = refl
+
+any_push : {K : Type 0} (p : K → Bool) (ks : List K) (k : K) → list_any p (ks ++ k ∷ []) ≡ (p k || list_any p ks)
+any_push p [] k = refl
+any_push p (x ∷ ks) k = ap (λ b. p x || b) (any_push p ks k) ∙ or_swap (p x) (p k) (list_any p ks)
+
+some_or : (b : Bool) (o : Option (Unit {0})) → is_some (cond b (Some tt) o) ≡ (b || is_some o)
+some_or true o = refl
+some_or false o = refl
+
+module _ {A K : Type 0} {R : K → K → Ordering} (total : IsTotalOrder R) (key : A → K) where
+  -- the keys of a map that has the items so far, once it takes the next
+  pub marked : (items : List A) (i : ℕ) (item : A) (before after : K → Option (Unit {0})) → i < length items → item ≡ get_or items i item
+      → ((q : K) → is_some (before q) ≡ list_any (eq_by_cmp R q) (map_list key (take i items)))
+      → ((q : K) → after q ≡ cond (is_eq (R (key item) q)) (Some tt) (before q))
+      → (q : K) → is_some (after q) ≡ list_any (eq_by_cmp R q) (map_list key (take (i + 1) items))
+  marked items i item before after inside is kept updated q =
+      ap is_some (updated q) ∙ some_or (is_eq (R (key item) q)) (before q) ∙ ap (λ b. b || is_some (before q)) ((eq_by_cmp_equiv total).symm (key item) q)
+      ∙ ap (λ b. eq_by_cmp R q (key item) || b) (kept q) ∙ sym (any_push (eq_by_cmp R q) (map_list key (take i items)) (key item))
+      ∙ sym (ap (λ some. list_any (eq_by_cmp R q) (map_list key some)) (take_more items i item inside ∙ ap (λ x. take i items ++ x ∷ []) (sym is))
+      ∙ ap (list_any (eq_by_cmp R q)) (map-append key (take i items) (item ∷ [])))

@@ -4,6 +4,9 @@ pub mod TreeLaws
 pub mod FoundLaws
 pub mod FormedTree
 pub mod SoundRows
+pub mod TableLaws
+pub mod TablesLaws
+pub mod TextLaws
 pub mod OutcomeLaws
 pub mod LineWords
 pub mod LineNumbers

@@ -3,12 +3,12 @@ use Rattle.std.proofs.Common.{◌≡◌, ℕ, ◌≤◌, ℤ, pos, negsuc, Bool,
 use Rattle.std.proofs.lemmas.Bool.Decides.{nat_tests}
 use Rattle.std.specs.List.{AllByRecursion}
 use Rattle.std.specs.Option.{option_and_then}
-use Rattle.std.specs.Cmp.{first_so, second_so}
+use Rattle.std.specs.Cmp.{first_so}
 use Rattle.cg_tree.specs.Paths.{Names, is_root, parent, path_at}
 use Rattle.cg_tree.specs.Numbers.{is_mode}
 use Rattle.cg_tree.specs.Users.{has_bit}
 use Rattle.cg_tree.specs.Files.{default_value, accepts, is_within}
-use Rattle.cg_tree.specs.Cgroups.{file_of, entry_in, file_made_by, entry_made_by}
+use Rattle.cg_tree.specs.Cgroups.{file_of, entry_in, entry_made_by}
 use Rattle.cg_tree.specs.WellFormed.{IsWellFormed}
 use Rattle.cg_tree.proofs.CgroupLaws.{accepts-default_value}
 use Rattle.cg_tree.specs.declared.user.Entry.{Entry}
@@ -20,10 +20,9 @@ use Rattle.cg_tree.specs.declared.files.LimitFile.TheVariants.{MaxDescendants, M
 use Rattle.cg_tree.specs.declared.files.EntryName.{EntryName}
 use Rattle.cg_tree.specs.declared.files.EntryName.TheVariants.{Dir, Procs, SubtreeControl, File}
 use Rattle.cg_tree.specs.declared.cgroup.LimitEntry.{LimitEntry}
-use Rattle.cg_tree.specs.declared.cgroup.Cgroup.{Cgroup}
 use Rattle.cg_text.specs.Records.{CgroupRow, ProcessRow}
 use Rattle.cg_text.specs.Document.{is_two}
-use Rattle.cg_text.specs.Tree.{or_else, unless, first_row, number_or, passing, mode_read, id_read, entry_read, accepted, value_read, superuser, file_mode, directory_mode, entry_written, file_written, core_file, cgroup_written, named, cgroup_at, no_root, no_parent, top_down, no_such_file, duplicate, tree_fault, pid_read, live_process, is_place, holds_processes, bad_pid, bad_uid, duplicate_pid, no_such_place, internal_process, Earlier, process_at, process_row_fault, process_fault, available_to, state_with}
+use Rattle.cg_text.specs.Tree.{or_else, first_row, number_or, passing, mode_read, id_read, entry_read, accepted, value_read, superuser, file_mode, directory_mode, entry_written, file_written, core_file, cgroup_written, named, cgroup_at, no_root, no_parent, top_down, no_such_file, duplicate, tree_fault, live_process, is_place, holds_processes, bad_pid, bad_uid, duplicate_pid, no_such_place, internal_process, Earlier, process_at, process_row_fault, process_fault, available_to, state_with}
 use Rattle.cg_text.specs.declared.tree.records.Format.{Format}
 use Rattle.cg_text.specs.declared.tree.records.EntryRecord.{EntryRecord}
 use Rattle.cg_text.specs.declared.tree.records.ValueRecord.{ValueRecord}

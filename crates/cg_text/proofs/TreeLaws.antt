@@ -1,5 +1,5 @@
 -- What it says of a tree text's rows that no fault was found, and what the state has at a path and at a PID.
-use Rattle.std.proofs.Common.{◌≡◌, ℕ, ◌+◌, ◌<◌, length, drop, get_or, Bool, true, false, not, cond, ◌||◌, List, [], ◌∷◌, map as map_list, refl, sym, ap, subst, ◌∙◌, true≢false, Option, Some, None, is_some, option_map, unwrap_or, arith}
+use Rattle.std.proofs.Common.{◌≡◌, ℕ, ◌+◌, ◌<◌, length, drop, get_or, Bool, true, false, not, cond, List, [], ◌∷◌, map as map_list, refl, sym, ap, subst, ◌∙◌, true≢false, Option, Some, None, is_some, option_map, unwrap_or}
 use Rattle.std.proofs.lemmas.List.{drop_more}
 use Rattle.std.specs.List.{AllByRecursion, list_any}
 use Rattle.std.specs.Ordering.{nat_cmp, eq_by_cmp, is_eq}
@@ -11,17 +11,16 @@ use Rattle.cg_tree.specs.Files.{no_controllers}
 use Rattle.std.specs.declared.cmp.Ordering.{Ordering}
 use Rattle.std.specs.FinMap as map
 use Rattle.std.specs.FinMap.{IsAntisymmetric, get-from_entries}
-use Rattle.cg_tree.specs.Paths.{Names, path_cmp, is_root, parent}
+use Rattle.cg_tree.specs.Paths.{Names, path_cmp}
 use Rattle.cg_tree.specs.Cgroups.{with_files_of}
-use Rattle.cg_tree.specs.States.{State, row_at, process_at, is_used}
+use Rattle.cg_tree.specs.States.{row_at, process_at, is_used}
 use Rattle.cg_tree.specs.WellFormed.{enabled_at}
 use Rattle.cg_tree.proofs.Options.{none_value}
 use Rattle.cg_tree.proofs.PathOrder.{path_cmp_total, path_cmp-IsAntisymmetric}
 use Rattle.cg_tree.specs.declared.files.ControllerSet.{ControllerSet}
 use Rattle.cg_tree.specs.declared.cgroup.Cgroup.{Cgroup}
-use Rattle.cg_tree.specs.declared.process.Process.{Process}
 use Rattle.cg_text.specs.Records.{ProcessRow}
-use Rattle.cg_text.specs.Tree.{or_else, unless, first_row, pairs_of, cgroup_at, enabled_by, enabled_over, fitted, superuser, live_process, live_processes, LookUp, Earlier, pid_read, id_read, bad_pid, bad_uid, duplicate_pid, no_such_place, internal_process, process_row_fault, state_with}
+use Rattle.cg_text.specs.Tree.{or_else, unless, first_row, pairs_of, cgroup_at, enabled_by, enabled_over, fitted, superuser, live_process, live_processes, LookUp, Earlier, pid_read, id_read, bad_pid, bad_uid, duplicate_pid, no_such_place, internal_process, process_row_fault, duplicate, no_root, no_parent, top_down, no_such_file, process_fault, tree_fault, state_with}
 use Rattle.cg_text.specs.declared.tree.fault.TreeFault.{TreeFault}
 use Rattle.cg_text.specs.declared.tree.fault.TreeFault.TheVariants.{BadPid, BadEntry, DuplicatePid}
 use Rattle.cg_text.specs.declared.tree.fault.Place.TheVariants.{Process as AtProcess}
@@ -126,7 +125,7 @@ module _ (rows : List NamedRow) (controllers : ControllerSet) (processes : List 
 pub earlier_same : (found : LookUp) (one other : Earlier) → ((pid : ℕ) → one pid ≡ other pid) → (i : ℕ) (row : ProcessRow) → process_row_fault found one i row ≡ process_row_fault found other i row
 earlier_same found one other same i row = ap (λ (earlier : Earlier). process_row_fault found earlier i row) (λ j pid. same pid j)
 
-not_so : (b : Bool) → not b ≡ true → b ≡ false
+pub not_so : (b : Bool) → not b ≡ true → b ≡ false
 not_so true h = absurd (true≢false (sym h))
 not_so false h = refl
 
@@ -148,3 +147,43 @@ process_nowhere found earlier i row fault pid uid new nowhere =
     ∙ ap (λ b. or_else (unless b (BadEntry (AtProcess (i + 1)))) (or_else (duplicate_pid earlier i row) (or_else (no_such_place found i row) (internal_process found i row)))) uid
     ∙ ap (λ b. or_else (unless (not b) (DuplicatePid (AtProcess (i + 1)))) (or_else (no_such_place found i row) (internal_process found i row))) new
     ∙ or_else_some (no_such_place found i row) (internal_process found i row) fault nowhere
+
+-- ---- the order of the faults
+
+pub or_else_past : (one other : Option TreeFault) → one ≡ None → or_else one other ≡ other
+or_else_past one other none = ap (λ fault. or_else fault other) none
+
+module _ (rows : List NamedRow) (found : LookUp) (controllers : ControllerSet) (processes : List ProcessRow) (once : first_row (duplicate rows) 0 rows ≡ None) where
+  abbrev faults : Option TreeFault
+  faults = tree_fault rows found controllers processes
+
+  from_root : faults ≡ or_else (no_root found) (or_else (first_row (no_parent found) 0 rows) (or_else (first_row (top_down found controllers) 0 rows) (or_else (first_row (no_such_file found) 0 rows) (first_row (process_fault found processes) 0 processes))))
+  from_root = or_else_past (first_row (duplicate rows) 0 rows) _ once
+
+  pub root_stops : (fault : TreeFault) → no_root found ≡ Some fault → faults ≡ Some fault
+  root_stops fault some = from_root ∙ or_else_some (no_root found) _ fault some
+
+  module _ (root : no_root found ≡ None) where
+    from_parents : faults ≡ or_else (first_row (no_parent found) 0 rows) (or_else (first_row (top_down found controllers) 0 rows) (or_else (first_row (no_such_file found) 0 rows) (first_row (process_fault found processes) 0 processes)))
+    from_parents = from_root ∙ or_else_past (no_root found) _ root
+
+    pub parents_stop : (fault : TreeFault) → first_row (no_parent found) 0 rows ≡ Some fault → faults ≡ Some fault
+    parents_stop fault some = from_parents ∙ or_else_some (first_row (no_parent found) 0 rows) _ fault some
+
+    module _ (parents : first_row (no_parent found) 0 rows ≡ None) where
+      from_top_down : faults ≡ or_else (first_row (top_down found controllers) 0 rows) (or_else (first_row (no_such_file found) 0 rows) (first_row (process_fault found processes) 0 processes))
+      from_top_down = from_parents ∙ or_else_past (first_row (no_parent found) 0 rows) _ parents
+
+      pub top_down_stops : (fault : TreeFault) → first_row (top_down found controllers) 0 rows ≡ Some fault → faults ≡ Some fault
+      top_down_stops fault some = from_top_down ∙ or_else_some (first_row (top_down found controllers) 0 rows) _ fault some
+
+      module _ (within : first_row (top_down found controllers) 0 rows ≡ None) where
+        from_files : faults ≡ or_else (first_row (no_such_file found) 0 rows) (first_row (process_fault found processes) 0 processes)
+        from_files = from_top_down ∙ or_else_past (first_row (top_down found controllers) 0 rows) _ within
+
+        pub files_stop : (fault : TreeFault) → first_row (no_such_file found) 0 rows ≡ Some fault → faults ≡ Some fault
+        files_stop fault some = from_files ∙ or_else_some (first_row (no_such_file found) 0 rows) _ fault some
+
+        -- the processes decide
+        pub from_processes : first_row (no_such_file found) 0 rows ≡ None → faults ≡ first_row (process_fault found processes) 0 processes
+        from_processes stand = from_files ∙ or_else_past (first_row (no_such_file found) 0 rows) _ stand

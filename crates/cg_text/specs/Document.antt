@@ -1,9 +1,9 @@
 -- From a TOML document to plain records, or the first fault of its form. Own.
-use Rattle.std.specs.Prelude.{ℕ, ◌+◌, ℤ, pos, negsuc, Bool, true, false, ◌&&◌, ◌||◌, nat_le, ◌==◌, if◌then◌else◌, List, [], ◌∷◌, codes, Option, Some, None, option_and_then, Result, Ok, Err}
+use Rattle.std.specs.Prelude.{ℕ, ◌+◌, ◌≤◌, length, ℤ, pos, negsuc, Bool, true, false, ◌&&◌, ◌||◌, nat_le, ◌==◌, if◌then◌else◌, List, [], ◌∷◌, codes, Option, Some, None, option_and_then, Result, Ok, Err}
 use Rattle.std.specs.Option.{option_map}
 use Rattle.cg_tree.specs.Paths.{same_name}
 use Rattle.cg_tree.specs.Texts as texts
-use Rattle.toml.specs.Data.{Data, string, integer, array, table, Items, no_items, item, Members, no_members, member, get_member, as_str, as_integer, as_array}
+use Rattle.toml.specs.Data.{Data, string, integer, array, table, Items, no_items, item, Members, no_members, member, get_member, as_str, as_integer}
 use Rattle.cg_text.specs.Records.{Text, CgroupRow, ProcessRow, TreeRecords, no_entry, no_files}
 use Rattle.cg_text.specs.Faults.{or_fault}
 use Rattle.cg_text.specs.Faults as fault
@@ -213,3 +213,8 @@ records_of keys =
     fault.bind (or_fault (top_of keys) (Shape Top)) (λ top.
     fault.bind (or_fault (format_of top.format) BadFormat) (λ format.
     if has_few_rows top then records_as top format else Err TooMany))
+
+-- what holds of the records of a document
+pub record HasFewRows (records : TreeRecords) : Type 0 where
+  pub cgroups : length records.cgroups ≤ most_rows
+  pub processes : length records.processes ≤ most_rows

@@ -3,6 +3,8 @@ pub mod Records
 pub mod Document
 pub mod TopView
 pub mod Tree
+pub mod TreeTexts
+pub mod Tables
 pub mod Outcomes
 pub mod OperationLines
 pub mod LineReading

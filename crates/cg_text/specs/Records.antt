@@ -1,5 +1,5 @@
 -- What a tree text says, as plain records: texts, numbers, and what is left out.
-use Rattle.std.specs.Prelude.{ℕ, ℤ, List, Option, Some, None}
+use Rattle.std.specs.Prelude.{ℕ, ℤ, List, None}
 use Rattle.cg_text.specs.declared.tree.records.Format.{Format}
 use Rattle.cg_text.specs.declared.tree.records.EntryRecord.{EntryRecord}
 use Rattle.cg_text.specs.declared.tree.records.FilesRecord.{FilesRecord}

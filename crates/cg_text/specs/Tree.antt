@@ -1,7 +1,7 @@
 -- From plain records to the state of a tree, or the first fault. Own. Nothing here sees how the records were written.
-use Rattle.std.specs.Prelude.{ℕ, ◌+◌, ℤ, pos, negsuc, Bool, true, false, ◌&&◌, ◌||◌, not, nat_le, nat_eq, cond, List, [], ◌∷◌, map as map_list, take, Option, Some, None, is_some, option_and_then, unwrap_or, Result, Ok, Err}
+use Rattle.std.specs.Prelude.{ℕ, ◌+◌, ℤ, pos, negsuc, Bool, true, false, ◌&&◌, ◌||◌, not, nat_le, cond, List, [], ◌∷◌, map as map_list, take, Option, Some, None, is_some, option_and_then, unwrap_or, Result, Ok, Err}
 use Rattle.std.specs.Option.{option_map}
-use Rattle.std.specs.List.{list_any, list_all}
+use Rattle.std.specs.List.{list_all}
 use Rattle.std.specs.Ordering.{nat_cmp}
 use Rattle.std.specs.FinMap as map
 use Rattle.std.specs.FinSet as set
@@ -26,7 +26,6 @@ use Rattle.cg_text.specs.declared.tree.fault.Place.TheVariants.{Top, Cgroup as A
 use Rattle.cg_text.specs.declared.tree.fault.TreeFault.{TreeFault}
 use Rattle.cg_text.specs.declared.tree.fault.TreeFault.TheVariants.{BadController, BadPath, BadEntry, BadValue, Duplicate, NoRoot, NoParent, TopDown, NoSuchFile, BadPid, DuplicatePid, NoSuchPlace, InternalProcess}
 use Rattle.cg_text.specs.declared.tree.records.Format.{Format}
-use Rattle.cg_text.specs.declared.tree.records.Format.TheVariants.{One, Two}
 use Rattle.cg_text.specs.declared.tree.records.EntryRecord.{EntryRecord}
 use Rattle.cg_text.specs.declared.tree.records.ValueRecord.{ValueRecord}
 use Rattle.cg_text.specs.declared.tree.records.ValueRecord.TheVariants.{Number, Max, OtherText}

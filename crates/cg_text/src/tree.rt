@@ -1,11 +1,57 @@
 //! Tree texts: from bytes to a tree, or the first fault of the text.
+ghost use Rattle.std.specs.Prelude.{◌≡◌, ◌<◌, length, Err};
+ghost use Rattle.toml.specs.View.{table_view};
+ghost use Rattle.cg_text.specs.Faults.{Reads, or_fault};
+ghost use Rattle.cg_text.specs.TreeTexts.{longest_text, document_of, tree_of};
+ghost use Rattle.cg_text.specs.declared.tree.fault.TreeFault.TheVariants.{NotToml};
+
 mod document;
 mod fault;
 mod named;
 mod processes;
 mod records;
 mod rows;
+mod state;
 mod together;
 mod written;
 
+use cg_tree::rows::Rows;
+use document::records_of;
 pub use fault::{Place, TreeFault};
+use state::tree_of_records;
+use std::alloc::Global;
+use toml::Table;
+
+/// The largest number of bytes of a tree text.
+const LONGEST_TEXT: usize = 16777216;
+
+/// The document that bytes are.
+fn document_of(alloc: Global, bytes: &[u8]) -> Result<Table, TreeFault>
+    ensures { Reads table_view result (or_fault (document_of bytes.now) NotToml) }
+{
+    match toml::table_from_slice(alloc, bytes) {
+        Ok(table) => Ok(table),
+        Err(error) => {
+            if error.is_memory() {
+                Err(TreeFault::NoMemory)
+            } else {
+                Err(TreeFault::NotToml)
+            }
+        }
+    }
+}
+
+/// The tree of a text of format 1 or 2, or the text's first fault. `NoMemory` where an allocation was refused.
+/// A text that is too long takes no memory.
+#[tactic(auto, unfolding(crate::specs::TreeTexts::tree_of))]
+pub fn read_tree(alloc: Global, bytes: &[u8]) -> Result<Rows, TreeFault>
+    ensures read { Reads (λ rows. rows) result (tree_of bytes.now) }
+    ensures too_long { longest_text < length bytes.now → result ≡ Err TreeFault.TooLong }
+{
+    if bytes.len() > LONGEST_TEXT {
+        return Err(TreeFault::TooLong);
+    }
+    let table = document_of(alloc, bytes)?;
+    let records = records_of(alloc, &table)?;
+    tree_of_records(alloc, &records)
+}

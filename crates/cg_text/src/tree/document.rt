@@ -1,5 +1,5 @@
 //! From a TOML document to plain records.
-ghost use Rattle.std.specs.Prelude.{◌≡◌, true, ◌≤◌, ◌<◌, ◌+◌, length, Some, None, map, [], codes};
+ghost use Rattle.std.specs.Prelude.{◌≡◌, true, ◌≤◌, ◌<◌, ◌+◌, length, Some, None, map, [], codes, IfOk, vec_len};
 ghost use Rattle.std.specs.Option.{option_map, option_copied};
 ghost use Rattle.toml.specs.Data.{get_member, as_integer, as_str, no_items};
 ghost use Rattle.toml.specs.View.{view, table_view, array_view, items_view};
@@ -7,7 +7,7 @@ ghost use Rattle.cg_text.specs.declared.tree.document.TableKind.TheVariants.{Fil
 ghost use Rattle.cg_text.specs.declared.tree.fault.TreeFault.TheVariants.{Shape};
 ghost use Rattle.cg_text.specs.declared.tree.fault.Place.TheVariants.{Top, Cgroup, Process};
 ghost use Rattle.cg_text.specs.Records.{no_entry, no_files};
-ghost use Rattle.cg_text.specs.Document.{optional, required, with_default, has_only, is_key, entry_keys, entry_of, value_of, file_keys, file_of, files_keys, files_of, texts_of, texts_in, cgroup_keys, cgroup_of, process_keys, process_of, rows_from, items_in, top_keys, top_of, format_of, has_few_rows, records_as, records_of};
+ghost use Rattle.cg_text.specs.Document.{optional, required, with_default, has_only, is_key, entry_keys, entry_of, value_of, file_keys, file_of, files_keys, files_of, texts_of, texts_in, cgroup_keys, cgroup_of, process_keys, process_of, rows_from, items_in, top_keys, top_of, format_of, has_few_rows, records_as, records_of, HasFewRows};
 ghost use Rattle.cg_text.specs.TopView.{top_view};
 ghost use Rattle.cg_text.specs.Faults.{Reads, or_fault};
 
@@ -349,8 +349,9 @@ fn cgroup_rows<'a>(
     items: &'a [Value],
 ) -> Result<Vec<CgroupRecord<'a>>, TreeFault>
     requires { length items.now ≤ 4096 }
-    ensures { Reads (λ rows. rows.items) result
+    ensures read { Reads (λ rows. rows.items) result
         (rows_from (cgroup_of format) Cgroup 1 (items_view items.now)) }
+    ensures len { IfOk result (λ rows. vec_len rows ≡ length items.now) }
 {
     let mut rows = Vec::new(alloc);
     for (index, value) in items.iter().enumerate() {
@@ -363,8 +364,9 @@ fn cgroup_rows<'a>(
 
 fn process_rows<'a>(alloc: Global, items: &'a [Value]) -> Result<Vec<ProcessRecord<'a>>, TreeFault>
     requires { length items.now ≤ 4096 }
-    ensures { Reads (λ rows. rows.items) result
+    ensures read { Reads (λ rows. rows.items) result
         (rows_from process_of Process 1 (items_view items.now)) }
+    ensures len { IfOk result (λ rows. vec_len rows ≡ length items.now) }
 {
     let mut rows = Vec::new(alloc);
     for (index, value) in items.iter().enumerate() {
@@ -458,7 +460,8 @@ fn records_as<'a>(
     format: Format,
 ) -> Result<Records<'a>, TreeFault>
     requires { has_few_rows (top_view top) ≡ true }
-    ensures { Reads (λ records. records) result (records_as (top_view top.entry) format) }
+    ensures read { Reads (λ records. records) result (records_as (top_view top.entry) format) }
+    ensures few { IfOk result HasFewRows }
 {
     let TopTable {
         format: _,
@@ -479,7 +482,8 @@ fn records_as<'a>(
 /// What a document says, or the first fault of its form.
 #[tactic(auto, unfolding(crate::specs::Document::records_of))]
 pub fn records_of<'a>(alloc: Global, table: &'a Table) -> Result<Records<'a>, TreeFault>
-    ensures { Reads (λ records. records) result (records_of (table_view table.now)) }
+    ensures read { Reads (λ records. records) result (records_of (table_view table.now)) }
+    ensures few { IfOk result HasFewRows }
 {
     let top = top_of(alloc, table)?;
     let format = format_of(top.format).ok_or(TreeFault::Format)?;

@@ -1,7 +1,7 @@
 //! The processes of a tree text.
 ghost use Rattle.std.specs.Prelude.{◌≡◌, ◌≤◌, ◌<◌, ℕ, length, Some};
 ghost use Rattle.std.specs.Ordering.{nat_cmp};
-ghost use Rattle.std.specs.BTreeMap.{get};
+ghost use Rattle.std.specs.BTreeMap.{get, IsOrdered};
 ghost use Rattle.std.specs.FinMap as map;
 ghost use Rattle.cg_tree.specs.Paths.{path_at};
 ghost use Rattle.cg_text.specs.Faults.{Passes};
@@ -97,7 +97,7 @@ pub fn processes_by_pid(
     rows: &[ProcessRecord],
 ) -> Result<BTreeMap<Pid, Process>, TreeFault>
     requires { length rows.now ≤ 4096 }
-    ensures { Passes (λ live. (pid : ℕ) → get nat_cmp live pid ≡ process_at rows.now pid)
+    ensures { Passes (λ live. IsOrdered nat_cmp live × ((pid : ℕ) → get nat_cmp live pid ≡ process_at rows.now pid))
         (first_row (process_fault (map.get cgroups.now) rows.now) 0 rows.now) result }
 {
     let mut live = BTreeMap::new(alloc);

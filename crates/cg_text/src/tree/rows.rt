@@ -1,7 +1,7 @@
 //! The cgroups of a tree text: each row alone.
 ghost use Rattle.std.specs.Prelude.{◌≡◌, ◌≤◌, ◌<◌, length, map, Some, is_some};
 ghost use Rattle.cg_tree.specs.Paths.{Names, path_at, path_cmp};
-ghost use Rattle.std.specs.BTreeMap.{get};
+ghost use Rattle.std.specs.BTreeMap.{get, IsOrdered};
 ghost use Rattle.cg_text.specs.Faults.{Passes};
 ghost use Rattle.cg_text.specs.Tree.{unless, first_row, row_fault, named, cgroup_at, duplicate};
 
@@ -77,7 +77,7 @@ pub fn cgroups_by_path(
     rows: &[NamedRow],
 ) -> Result<BTreeMap<Path, Cgroup>, TreeFault>
     requires { length rows.now ≤ 4096 }
-    ensures { Passes (λ table. (path : Names) → get path_cmp table path ≡ cgroup_at rows.now path)
+    ensures { Passes (λ table. IsOrdered path_cmp table × ((path : Names) → get path_cmp table path ≡ cgroup_at rows.now path))
         (first_row (duplicate rows.now) 0 rows.now) result }
 {
     let mut table = BTreeMap::new(alloc);

@@ -1,4 +1,4 @@
-use Rattle.std.proofs.Common.{◌≡◌, ◌++◌, ◌+◌, drop, map}
+use Rattle.std.proofs.Common.{◌≡◌, ◌++◌, drop, map}
 use Rattle.std.specs.Option.{option_map}
 use Rattle.toml.specs.View.{items_view}
 use Rattle.cg_text.specs.Document.{texts_of}

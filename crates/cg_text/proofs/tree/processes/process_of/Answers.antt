@@ -1,10 +1,10 @@
-use Rattle.std.proofs.Common.{rules, ◌≡◌, ◌+◌, ℕ, ap, sym, ◌∙◌, true, Some, is_some, unwrap_or}
+use Rattle.std.proofs.Common.{rules, ◌≡◌, ◌+◌, ap, sym, ◌∙◌, Some, is_some, unwrap_or}
 use Rattle.std.proofs.lemmas.Result.{err_from_is_err_and}
 use Rattle.std.specs.Ordering.{nat_cmp}
 use Rattle.std.specs.BTreeMap.{get}
 use Rattle.std.specs.FinMap as map
 use Rattle.cg_text.specs.Records.{ProcessRow}
-use Rattle.cg_text.specs.Tree.{unless, pid_read, id_read, is_place, no_such_place}
+use Rattle.cg_text.specs.Tree.{unless, pid_read, id_read, is_place}
 use Rattle.cg_text.specs.declared.tree.fault.Place.TheVariants.{Process as AtProcess}
 use Rattle.cg_text.specs.declared.tree.fault.TreeFault.TheVariants.{NoSuchPlace}
 use Rattle.cg_text.proofs.TreeLaws.{process_nowhere}

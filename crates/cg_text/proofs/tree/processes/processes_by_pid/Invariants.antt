@@ -1,6 +1,6 @@
 use Rattle.std.proofs.Common.{◌≡◌, ℕ, take, drop}
 use Rattle.std.specs.Ordering.{nat_cmp}
-use Rattle.std.specs.BTreeMap.{get}
+use Rattle.std.specs.BTreeMap.{get, IsOrdered}
 use Rattle.std.specs.FinMap as map
 use Rattle.cg_text.specs.Tree.{first_row, process_fault, process_at}
 use Rattle.cg_text.proofs.tree.processes.processes_by_pid.Given as goal
@@ -8,4 +8,4 @@ use Rattle.cg_text.proofs.tree.processes.processes_by_pid.Given as goal
 abbrev pub invariant-loop-index : goal.invariant-loop-index
 invariant-loop-index l =
     (first_row (process_fault (map.get l.cgroups) l.rows) l.index (drop l.index l.rows) ≡ first_row (process_fault (map.get l.cgroups) l.rows) 0 l.rows)
-    × ((pid : ℕ) → get nat_cmp l.live pid ≡ process_at (take l.index l.rows) pid)
+    × IsOrdered nat_cmp l.live × ((pid : ℕ) → get nat_cmp l.live pid ≡ process_at (take l.index l.rows) pid)

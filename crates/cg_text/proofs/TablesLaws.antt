@@ -1,0 +1,80 @@
+-- The tables of a tree text's rows say its state, which is well-formed.
+use Rattle.std.proofs.Common.{◌≡◌, List, map as map_list, sym, ap, subst, ◌∙◌, Option, Some, None, is_some, unwrap_or, Ok, Err}
+use Rattle.std.specs.List.{AllByRecursion}
+use Rattle.std.specs.Cmp.{nat_cmp_total}
+use Rattle.std.specs.FinMap as map
+use Rattle.std.specs.FinMap.{nat_cmp-IsAntisymmetric, same_map, contains_key-keys}
+use Rattle.std.specs.FinSet as set
+use Rattle.std.specs.FinSet.{same_set, contains-from_list}
+use Rattle.cg_tree.specs.Paths.{Names}
+use Rattle.cg_tree.specs.Files.{no_controllers}
+use Rattle.cg_tree.specs.RowsForm.{state_of_tables}
+use Rattle.cg_tree.specs.WellFormed.{IsWellFormed}
+use Rattle.cg_tree.proofs.PathOrder.{path_cmp_total, path_cmp-IsAntisymmetric}
+use Rattle.cg_tree.specs.declared.files.ControllerSet.{ControllerSet}
+use Rattle.cg_text.specs.Records.{CgroupRow, ProcessRow, TreeRecords}
+use Rattle.cg_text.specs.Tables.{AreTablesOf}
+use Rattle.cg_text.specs.Tree.{or_else, unless, first_row, row_fault, tree_fault, controllers_read, named, named_rows, controllers_of, cgroup_at, first_fault, state_with, state_of, state_or, tree_of_records, LookUp}
+use Rattle.cg_text.specs.declared.tree.fault.Place.TheVariants.{Top}
+use Rattle.cg_text.specs.declared.tree.fault.TreeFault.{TreeFault}
+use Rattle.cg_text.specs.declared.tree.fault.TreeFault.TheVariants.{BadController}
+use Rattle.cg_text.specs.declared.tree.records.Format.{Format}
+use Rattle.cg_text.specs.declared.tree.named.NamedRow.{NamedRow}
+use Rattle.cg_text.specs.declared.tree.state.Tables.{Tables}
+use Rattle.cg_text.proofs.TreeLaws.{or_else_some, or_else_past, row_at-state, process_at-state, is_used-state}
+use Rattle.cg_text.proofs.FormedTree.{IsInRange}
+use Rattle.cg_text.proofs.SoundRows.{formed-tree, in_range-named}
+
+module _ (rows : List NamedRow) (controllers : ControllerSet) (processes : List ProcessRow) (tables : Tables) (are : AreTablesOf rows processes tables) where
+  same_used : set.from_list (map.keys tables.used) ≡ (state_with rows (cgroup_at rows) controllers processes).used
+  same_used = same_set nat_cmp_total nat_cmp-IsAntisymmetric _ _ (λ pid.
+      contains-from_list nat_cmp_total (map.keys tables.used) pid ∙ sym (contains_key-keys tables.used pid) ∙ are.used pid
+      ∙ sym (is_used-state rows controllers processes pid ∙ ap is_some (process_at-state rows controllers processes pid)))
+
+  pub tables_state : state_of_tables tables.cgroups tables.live tables.used controllers ≡ state_with rows (cgroup_at rows) controllers processes
+  tables_state =
+      let cgroups : tables.cgroups ≡ (state_with rows (cgroup_at rows) controllers processes).rows =
+      same_map path_cmp_total path_cmp-IsAntisymmetric _ _ (λ path. are.cgroups path ∙ sym (row_at-state rows controllers processes path)) in
+      let live : tables.live ≡ (state_with rows (cgroup_at rows) controllers processes).live =
+      same_map nat_cmp_total nat_cmp-IsAntisymmetric _ _ (λ pid. are.live pid ∙ sym (process_at-state rows controllers processes pid)) in
+      λ i. record { rows = cgroups i; live = live i; used = same_used i; controllers = controllers }
+
+  pub formed_tables : AllByRecursion (λ row. IsInRange row.cgroup) rows → tree_fault rows (cgroup_at rows) controllers processes ≡ None
+      → IsWellFormed (state_of_tables tables.cgroups tables.live tables.used controllers)
+  formed_tables fine none = subst IsWellFormed (sym tables_state) (formed-tree rows controllers processes fine none)
+
+module _ (records : TreeRecords) (controllers : ControllerSet) (read : controllers_read records.controllers ≡ Some controllers) where
+  from_rows : first_fault records ≡ or_else (first_row (row_fault records.format) 0 records.cgroups) (tree_fault (named_rows records) (cgroup_at (named_rows records)) (controllers_of records) records.processes)
+  unfolding first_fault
+  from_rows = or_else_past (unless (is_some (controllers_read records.controllers)) (BadController Top)) _ (ap (λ o. unless (is_some o) (BadController Top)) read)
+
+  pub rows_stop : (fault : TreeFault) → first_row (row_fault records.format) 0 records.cgroups ≡ Some fault → first_fault records ≡ Some fault
+  rows_stop fault some = from_rows ∙ or_else_some (first_row (row_fault records.format) 0 records.cgroups) _ fault some
+
+  module _ (rows : List NamedRow) (pass : first_row (row_fault records.format) 0 records.cgroups ≡ None) (are : rows ≡ map_list (named records.format) records.cgroups) where
+    pub from_tables : first_fault records ≡ tree_fault rows (cgroup_at rows) controllers records.processes
+    from_tables =
+        from_rows ∙ or_else_past (first_row (row_fault records.format) 0 records.cgroups) _ pass
+        ∙ ap (λ some. tree_fault some (cgroup_at some) (controllers_of records) records.processes) (sym are)
+        ∙ ap (λ set. tree_fault rows (cgroup_at rows) set records.processes) (ap (λ o. unwrap_or o no_controllers) read)
+
+    pub tree_said : (tables : Tables) → tree_fault rows (cgroup_at rows) controllers records.processes ≡ None → AreTablesOf rows records.processes tables
+        → tree_of_records records ≡ Ok (state_of_tables tables.cgroups tables.live tables.used controllers)
+    unfolding state_of
+    tree_said tables none say =
+        ap (λ fault. state_or fault (state_of records)) (from_tables ∙ none)
+        ∙ ap Ok (ap (λ some. state_with some (cgroup_at some) (controllers_of records) records.processes) (sym are)
+        ∙ ap (λ set. state_with rows (cgroup_at rows) set records.processes) (ap (λ o. unwrap_or o no_controllers) read)
+        ∙ sym (tables_state rows controllers records.processes tables say))
+
+pub fine_rows : (format : Format) (cgroups : List CgroupRow) (rows : List NamedRow) → rows ≡ map_list (named format) cgroups → AllByRecursion (λ row. IsInRange row.cgroup) rows
+fine_rows format cgroups rows are = subst (AllByRecursion (λ row. IsInRange row.cgroup)) (sym are) (in_range-named format cgroups)
+
+-- the first fault is that of the records
+pub refused : (records : TreeRecords) (fault : TreeFault) → first_fault records ≡ Some fault → tree_of_records records ≡ Err fault
+refused records fault is = ap (λ found. state_or found (state_of records)) is
+
+-- what is said of a table's look-ups is said of the rows'
+pub through : (rows : List NamedRow) (found : LookUp) (controllers : ControllerSet) (processes : List ProcessRow) → ((path : Names) → found path ≡ cgroup_at rows path)
+    → {fault : Option TreeFault} → tree_fault rows found controllers processes ≡ fault → tree_fault rows (cgroup_at rows) controllers processes ≡ fault
+through rows found controllers processes same is = ap (λ (look : LookUp). tree_fault rows look controllers processes) (λ j path. sym (same path) j) ∙ is
