@@ -7,9 +7,9 @@ use Rattle.std.proofs.lemmas.Option.{none-some, same_Some}
 use Rattle.cg_tree.specs.Paths.{same_name}
 use Rattle.cg_tree.specs.Files.{AreNames, all_controllers, all_files, all_entries, controller_name, controller_named, file_name, file_named, entry_text, entry_named}
 use Rattle.cg_tree.specs.declared.files.Controller.{Controller}
-use Rattle.cg_tree.specs.declared.files.Controller.TheVariants.{Cpu, Memory, Pids}
+use Rattle.cg_tree.specs.declared.files.Controller.TheVariants.{Cpu}
 use Rattle.cg_tree.specs.declared.files.LimitFile.{LimitFile}
-use Rattle.cg_tree.specs.declared.files.LimitFile.TheVariants.{MaxDescendants, MaxDepth, CpuWeight, MemoryMin, MemoryLow, MemoryHigh, MemoryMax, PidsMax}
+use Rattle.cg_tree.specs.declared.files.LimitFile.TheVariants.{MaxDescendants}
 use Rattle.cg_tree.specs.declared.files.EntryName.{EntryName}
 use Rattle.cg_tree.specs.declared.files.EntryName.TheVariants.{Dir, Procs, SubtreeControl, File}
 
