@@ -2,9 +2,9 @@
 ghost use Rattle.std.specs.Prelude.{◌≡◌, ◌++◌, [], ◌∷◌, IfOk, OnOk};
 ghost use Rattle.std.specs.String.{string_bytes};
 ghost use Rattle.std.specs.List.{flat_map};
-ghost use Rattle.cg_tree.specs.Paths.{path_text};
+ghost use Rattle.cg_tree.specs.Paths.{path_text, IsPath};
 ghost use Rattle.cg_ops.specs.declared.operation.Op.TheVariants.{Move, Control, Mkdir, Rmdir, Set, Fork, Exit, Chmod};
-ghost use Rattle.cg_text.specs.OperationLines.{change_word, limit_word, mode_word, spelling};
+ghost use Rattle.cg_text.specs.OperationLines.{change_word, limit_word, mode_word, spelling, IsHeld};
 
 use cg_ops::changes::{Change, Changes};
 use cg_ops::operation::Op;
@@ -16,13 +16,15 @@ use cg_tree::user::Mode;
 use std::alloc::Global;
 
 fn whole(path: &Path) -> &str
-    ensures { result.now ≡ path_text path.now }
+    ensures text { result.now ≡ path_text path.now }
+    ensures path { IsPath path.now }
 {
     path.prefix(path.depth())
 }
 
 fn move_line(alloc: Global, pid: Pid, to: &Path) -> Result<String, NoMemory>
-    ensures { IfOk result (λ line. string_bytes line ≡ spelling (Move pid to.now) ++ 10 ∷ []) }
+    ensures text { IfOk result (λ line. string_bytes line ≡ spelling (Move pid to.now) ++ 10 ∷ []) }
+    ensures held { IsHeld (Move pid to.now) }
 {
     let pid = pid.get();
     let to = whole(to);
@@ -47,7 +49,8 @@ fn push_changes(line: &mut String, changes: &[Change]) -> Result<(), NoMemory>
 }
 
 fn control_line(alloc: Global, at: &Path, changes: &Changes) -> Result<String, NoMemory>
-    ensures { IfOk result (λ line. string_bytes line ≡ spelling (Control at.now changes.now) ++ 10 ∷ []) }
+    ensures text { IfOk result (λ line. string_bytes line ≡ spelling (Control at.now changes.now) ++ 10 ∷ []) }
+    ensures held { IsHeld (Control at.now changes.now) }
 {
     let at = whole(at);
     let mut line = format!(in alloc; "control {at}")?;
@@ -57,21 +60,24 @@ fn control_line(alloc: Global, at: &Path, changes: &Changes) -> Result<String, N
 }
 
 fn mkdir_line(alloc: Global, path: &Path) -> Result<String, NoMemory>
-    ensures { IfOk result (λ line. string_bytes line ≡ spelling (Mkdir path.now) ++ 10 ∷ []) }
+    ensures text { IfOk result (λ line. string_bytes line ≡ spelling (Mkdir path.now) ++ 10 ∷ []) }
+    ensures held { IsHeld (Mkdir path.now) }
 {
     let path = whole(path);
     Ok(format!(in alloc; "mkdir {path}\n")?)
 }
 
 fn rmdir_line(alloc: Global, path: &Path) -> Result<String, NoMemory>
-    ensures { IfOk result (λ line. string_bytes line ≡ spelling (Rmdir path.now) ++ 10 ∷ []) }
+    ensures text { IfOk result (λ line. string_bytes line ≡ spelling (Rmdir path.now) ++ 10 ∷ []) }
+    ensures held { IsHeld (Rmdir path.now) }
 {
     let path = whole(path);
     Ok(format!(in alloc; "rmdir {path}\n")?)
 }
 
 fn set_line(alloc: Global, at: &Path, file: LimitFile, value: Limit) -> Result<String, NoMemory>
-    ensures { IfOk result (λ line. string_bytes line ≡ spelling (Set at.now file value) ++ 10 ∷ []) }
+    ensures text { IfOk result (λ line. string_bytes line ≡ spelling (Set at.now file value) ++ 10 ∷ []) }
+    ensures held { IsHeld (Set at.now file value) }
 {
     let at = whole(at);
     let file = file.name();
@@ -82,7 +88,8 @@ fn set_line(alloc: Global, at: &Path, file: LimitFile, value: Limit) -> Result<S
 }
 
 fn fork_line(alloc: Global, parent: Pid, child: Pid) -> Result<String, NoMemory>
-    ensures { IfOk result (λ line. string_bytes line ≡ spelling (Fork parent child) ++ 10 ∷ []) }
+    ensures text { IfOk result (λ line. string_bytes line ≡ spelling (Fork parent child) ++ 10 ∷ []) }
+    ensures held { IsHeld (Fork parent child) }
 {
     let parent = parent.get();
     let child = child.get();
@@ -90,14 +97,16 @@ fn fork_line(alloc: Global, parent: Pid, child: Pid) -> Result<String, NoMemory>
 }
 
 fn exit_line(alloc: Global, pid: Pid) -> Result<String, NoMemory>
-    ensures { IfOk result (λ line. string_bytes line ≡ spelling (Exit pid) ++ 10 ∷ []) }
+    ensures text { IfOk result (λ line. string_bytes line ≡ spelling (Exit pid) ++ 10 ∷ []) }
+    ensures held { IsHeld (Exit pid) }
 {
     let pid = pid.get();
     Ok(format!(in alloc; "exit {pid}\n")?)
 }
 
 fn chmod_line(alloc: Global, at: &Path, entry: EntryName, mode: Mode) -> Result<String, NoMemory>
-    ensures { IfOk result (λ line. string_bytes line ≡ spelling (Chmod at.now entry mode) ++ 10 ∷ []) }
+    ensures text { IfOk result (λ line. string_bytes line ≡ spelling (Chmod at.now entry mode) ++ 10 ∷ []) }
+    ensures held { IsHeld (Chmod at.now entry mode) }
 {
     let at = whole(at);
     let entry = entry.name();
@@ -109,7 +118,8 @@ fn chmod_line(alloc: Global, at: &Path, entry: EntryName, mode: Mode) -> Result<
 }
 
 fn line_of(alloc: Global, op: &Op) -> Result<String, NoMemory>
-    ensures { IfOk result (λ line. string_bytes line ≡ spelling op.now ++ 10 ∷ []) }
+    ensures text { IfOk result (λ line. string_bytes line ≡ spelling op.now ++ 10 ∷ []) }
+    ensures held { IsHeld op.now }
 {
     match op {
         Op::Move { pid, to } => move_line(alloc, *pid, to),
@@ -123,9 +133,11 @@ fn line_of(alloc: Global, op: &Op) -> Result<String, NoMemory>
     }
 }
 
-/// The line of an operation, and a newline.
+/// The line of an operation, and a newline. `read_op` of the line gives the operation back, where it has at most 8192
+/// bytes.
 pub fn op_text(alloc: Global, op: &Op) -> Result<Vec<u8>, NoMemory>
-    ensures { IfOk result (λ text. text.items ≡ spelling op.now ++ 10 ∷ []) }
+    ensures text { IfOk result (λ text. text.items ≡ spelling op.now ++ 10 ∷ []) }
+    ensures held { IsHeld op.now }
 {
     Ok(line_of(alloc, op)?.into_bytes())
 }

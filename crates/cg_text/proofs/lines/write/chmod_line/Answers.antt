@@ -5,7 +5,7 @@ use Rattle.cg_tree.specs.Files.{entry_text}
 use Rattle.cg_text.proofs.LineSpelled.{written_mode}
 use Rattle.cg_text.proofs.lines.write.chmod_line.Goals as goal
 
-pub returns : goal.returns
-returns c =
+pub returns-clause-text : goal.returns-clause-text
+returns-clause-text c =
     c.in_ok-format.ensures.ok
-    ∙ rw (c.whole-at.ensures, c.name-entry.ensures, ← c.get-bits.ensures.value) (ap (λ (text : List ℕ). codes "chmod " ++ text) (written_mode (path_text c.args.at.now) (entry_text c.args.entry) c.get-bits.result c.get-bits.ensures.range))
+    ∙ rw (c.whole-at.ensures.text, c.name-entry.ensures, ← c.get-bits.ensures.value) (ap (λ (text : List ℕ). codes "chmod " ++ text) (written_mode (path_text c.args.at.now) (entry_text c.args.entry) c.get-bits.result c.get-bits.ensures.range))

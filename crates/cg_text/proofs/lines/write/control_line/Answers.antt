@@ -4,7 +4,7 @@ use Rattle.cg_tree.specs.Paths.{path_text}
 use Rattle.cg_text.proofs.LineSpelled.{written_changes}
 use Rattle.cg_text.proofs.lines.write.control_line.Goals as goal
 
-pub returns : goal.returns
-returns c =
+pub returns-clause-text : goal.returns-clause-text
+returns-clause-text c =
     c.in_ok-push_str.ensures.bytes
-    ∙ rw (c.in_ok-push_changes.ensures, c.in_ok-line.ensures.ok, c.whole-at.ensures, c.as_slice.ensures) (ap (λ (text : List ℕ). codes "control " ++ (text ++ (10 ∷ []))) (sym (written_changes (path_text c.args.at.now) c.args.changes.now)))
+    ∙ rw (c.in_ok-push_changes.ensures, c.in_ok-line.ensures.ok, c.whole-at.ensures.text, c.as_slice.ensures) (ap (λ (text : List ℕ). codes "control " ++ (text ++ (10 ∷ []))) (sym (written_changes (path_text c.args.at.now) c.args.changes.now)))
