@@ -9,3 +9,6 @@ mod write;
 pub use fault::LineFault;
 pub use read::{LONGEST_LINE, read_op};
 pub use write::op_text;
+
+#[cfg(test)]
+mod tests;
