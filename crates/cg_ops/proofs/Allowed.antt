@@ -1,5 +1,5 @@
 -- What holds where nothing bars an operation: what the tree asks for before it makes the change.
-use Rattle.std.proofs.Common.{◌≡◌, ℕ, ◌+◌, ◌-◌, Bool, true, false, not, ◌||◌, cond, [], length, option_and_then, take, Option, Some, None, is_some, refl, sym, ap, ◌∙◌, subst, true≢false, arith}
+use Rattle.std.proofs.Common.{◌≡◌, ℕ, ◌+◌, Bool, true, false, not, ◌||◌, cond, [], length, option_and_then, take, Option, Some, None, is_some, refl, sym, ap, ◌∙◌, subst, true≢false}
 use Rattle.cg_tree.specs.Paths.{Names, is_root, parent}
 use Rattle.cg_tree.specs.Identity.{Identity}
 use Rattle.cg_tree.specs.Files.{enables_nothing, accepts}
@@ -15,6 +15,7 @@ use Rattle.cg_ops.specs.Clauses.{unless, absent, present}
 use Rattle.cg_ops.specs.Bars.{row_above, move_bars, mkdir_bars, rmdir_bars, set_bars, fork_bars}
 use Rattle.cg_ops.specs.declared.outcome.Refusal.{Refusal}
 use Rattle.cg_ops.specs.declared.outcome.Refusal.TheVariants.{NoSuchCgroup, InternalProcess, RootCgroup, HasChildren, HasProcesses, NoSuchFile, BadValue}
+use Rattle.cg_ops.proofs.Prefixes.{take_parent}
 use Rattle.cg_ops.proofs.ClauseLaws.{no_parts, no_unless, no_absent, none_present}
 
 there_above : (root : Bool) (above : Option Cgroup) → is_some (cond root None above) ≡ true → (root ≡ false) × (is_some above ≡ true)
@@ -27,14 +28,11 @@ allowed_mkdir st user path h =
     let above = there_above (is_root path) (row_at st (parent path)) (no_absent (row_above st path) _ parts.1) in
     (ap is_some (none_present (row_at st path) _ parts.0), above.0, above.1)
 
-pub parent_of_len : (path : Names) (len : ℕ) → len + 1 ≡ length path → take len path ≡ parent path
-parent_of_len path len h = ap (λ n. take n path) (let e : len ≡ length path - 1 = omega arith in e)
-
 -- the tree with a cgroup that a user makes, where nothing bars it
 pub formed_mkdir : (st : State) (user : Identity) (path : Names) (len : ℕ) (row made : Cgroup) → mkdir_bars st user path ≡ [] → IsWellFormed st → len + 1 ≡ length path → row_at st (take len path) ≡ Some row → made ≡ cgroup_made_by user row.enabled → IsWellFormed (with_row st path made)
 formed_mkdir st user path len row made h whole at is is_made =
     let allowed = allowed_mkdir st user path h in
-    let above : row_at st (parent path) ≡ Some row = ap (row_at st) (sym (parent_of_len path len at)) ∙ is in
+    let above : row_at st (parent path) ≡ Some row = ap (row_at st) (sym (take_parent path len at)) ∙ is in
     let same : cgroup_made_by user (enabled_at st (parent path)) ≡ made = ap (cgroup_made_by user) (enabled_at-row st (parent path) row above) ∙ sym is_made in
     subst (λ r. IsWellFormed (with_row st path r)) same (formed-with_made_row st path user allowed.0 allowed.2 whole)
 

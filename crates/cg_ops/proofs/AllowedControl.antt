@@ -1,4 +1,5 @@
 -- Where nothing bars a write of changes, the cgroup may enable what they leave.
+use Rattle.std.proofs.lemmas.Bool.{false_from_ne_true}
 use Rattle.std.proofs.Common.{◌≡◌, Bool, true, false, not, ◌&&◌, ◌||◌, List, [], Option, Some, None, unwrap_or, refl, sym, ap, ◌∙◌, subst, true≢false}
 use Rattle.cg_tree.specs.Paths.{Names, is_root, parent}
 use Rattle.cg_tree.specs.Identity.{Identity}
@@ -59,13 +60,9 @@ live-enables_nothing st path row whole is live =
     let same : held.0 ≡ row = cc in
     subst (λ r. (is_root path || enables_nothing r.enabled) ≡ true) same held.2
 
-false_unless : (b : Bool) → (b ≡ true → ⊥) → b ≡ false
-false_unless true h = absurd (h refl)
-false_unless false h = refl
-
 within-nothing : (set other : ControllerSet) → is_within set other ≡ true → enables_nothing other ≡ true → enables_nothing set ≡ true
 within-nothing set other within nothing =
-    enables_nothing-none set (λ controller. false_unless _ (λ on. true≢false (sym (is_within-enables set other within controller on) ∙ enables_nothing-enables other nothing controller)))
+    enables_nothing-none set (λ controller. false_from_ne_true _ (λ on. true≢false (sym (is_within-enables set other within controller on) ∙ enables_nothing-enables other nothing controller)))
 
 no_internal_cases : (root within nothing live before : Bool) → (root || (within || not live)) ≡ true → (live ≡ true → (root || before) ≡ true) → (within ≡ true → before ≡ true → nothing ≡ true) → (root || (nothing || not live)) ≡ true
 no_internal_cases true within nothing live before h held kept = refl

@@ -7,7 +7,7 @@ use Rattle.cg_tree.specs.declared.files.Controller.TheVariants.{Cpu, Memory, Pid
 use Rattle.cg_tree.specs.declared.files.ControllerSet.{ControllerSet}
 use Rattle.cg_ops.specs.declared.changes.Change.{Change}
 
--- Enabling and Disabling: "If a controller appears more than once on the list, the last one is effective."
+-- Enabling and Disabling: of several changes on one controller the last is effective.
 abbrev pub effective : List Change → Controller → Option Bool
 effective changes controller = option_map (λ change. change.on) (find (λ change. same_controller change.controller controller) (reverse changes))
 

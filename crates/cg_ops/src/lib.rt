@@ -10,14 +10,14 @@ ghost use Rattle.cg_ops.specs.Outcomes.{IsRefused, RefusedBy};
 
 pub mod changes;
 pub mod laws;
-pub mod limits;
-pub mod make_remove;
-pub mod modes;
+mod limits;
+mod make_remove;
+mod modes;
 pub mod operation;
 pub mod outcome;
-pub mod process_events;
-pub mod procs_rule;
-pub mod subtree_control;
+mod process_events;
+mod procs_rule;
+mod subtree_control;
 
 use cg_tree::hierarchy::Hierarchy;
 use cg_tree::memory::NoMemory;
@@ -74,3 +74,6 @@ pub fn apply<H: Hierarchy>(
     }
     Ok(Outcome::Done)
 }
+
+#[cfg(test)]
+mod tests;

@@ -15,11 +15,8 @@ use std::alloc::Global;
 pub fn fork_refusal<H: Hierarchy>(tree: &H, user: &User, parent: Pid, child: Pid) -> Option<Refusal>
     ensures { result ≡ first (fork_bars (H.state tree.now) user.now parent child) }
 {
-    let Some(uid) = tree.owner(parent) else {
-        return Some(Refusal::NoSuchProcess { pid: parent });
-    };
-    if uid != user.uid() {
-        return Some(Refusal::NotYours { pid: parent });
+    if let Some(refusal) = exit_refusal(tree, user, parent) {
+        return Some(refusal);
     }
     if tree.is_used(child) {
         return Some(Refusal::PidUsed { pid: child });
