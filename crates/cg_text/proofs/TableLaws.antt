@@ -43,7 +43,7 @@ module _ {A : Type 0} (test : ℕ → A → Option TreeFault) where
       let place : i + suc k ≡ (i + 1) + k = omega arith in
       ap (λ n. test n (get_or rows k d)) place ∙ first_row_at (i + 1) rows (or_else_none (test i row) (first_row test (i + 1) rows) none).1 k d (omega arith)
 
-find_past : {K X : Type 0} (R : K → K → Ordering) (es fs : List (K × X)) (q : K) → map.find R q es ≡ None → map.find R q (es ++ fs) ≡ map.find R q fs
+pub find_past : {K X : Type 0} (R : K → K → Ordering) (es fs : List (K × X)) (q : K) → map.find R q es ≡ None → map.find R q (es ++ fs) ≡ map.find R q fs
 find_past R [] fs q none = refl
 find_past R (e ∷ es) fs q none =
     elim (is_eq (R q e.0)) as (λ b. cond b (Some e.1) (map.find R q es) ≡ None → cond b (Some e.1) (map.find R q (es ++ fs)) ≡ map.find R q fs) [
