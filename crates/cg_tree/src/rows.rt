@@ -63,21 +63,21 @@ impl Rows {
         })
     }
 
-    /// The tree of these cgroups, live processes and used PIDs.
+    /// The tree of these cgroups, live processes and used PIDs, where the root has the controllers that are available.
     pub fn from_tables(
         rows: PathTable<Cgroup>,
         live: PidTable<Process>,
         used: PidTable<()>,
-        controllers: ControllerSet,
+        available: ControllerSet,
     ) -> Rows
-        requires { IsWellFormed (state_of_tables rows live used controllers) }
-        ensures { result ≡ state_of_tables rows live used controllers }
+        requires { IsWellFormed (state_of_tables rows live used available) }
+        ensures { result ≡ state_of_tables rows live used available }
     {
         Rows {
             rows,
             live,
             used,
-            controllers,
+            controllers: available,
         }
     }
 }

@@ -90,7 +90,7 @@ impl<V> PathTable<V> {
     pub fn entries(&self) -> &[(Path, V)]
         ensures { result.now ≡ map.entries self.now }
     {
-        &self.entries
+        self.entries.as_slice()
     }
 
     /// The entries below the path of the first `len` names of `path`, in the order of their paths.

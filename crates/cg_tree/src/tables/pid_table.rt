@@ -77,7 +77,7 @@ impl<V> PidTable<V> {
     pub fn entries(&self) -> &[(Pid, V)]
         ensures { result.now ≡ map.entries self.now }
     {
-        &self.entries
+        self.entries.as_slice()
     }
 
     /// Whether the table has a PID.

@@ -3,4 +3,4 @@ use Rattle.cg_tree.proofs.Sorted.{shown_entries}
 use Rattle.cg_tree.proofs.tables.pid_table.PidTable.entries.Goals as goal
 
 pub returns : goal.returns
-returns g c = shown_entries nat_cmp_total _ _ c.self.view_is c.self.invariant c.deref.ensures.value
+returns g c = shown_entries nat_cmp_total _ _ c.self.view_is c.self.invariant c.as_slice.ensures.value
