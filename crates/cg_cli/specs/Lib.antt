@@ -1,3 +1,6 @@
 pub mod Written
 pub mod Faults
 pub mod FaultLines
+pub mod Arguments
+pub mod Reports
+pub mod May

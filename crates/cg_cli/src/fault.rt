@@ -1,12 +1,13 @@
 //! Why a call of this crate gives no status, and the line that says so.
 ghost use Rattle.std.specs.Prelude.{◌≡◌, IfOk};
 ghost use Rattle.cg_cli.specs.FaultLines.{fault_line, fault_parts, tree_fault_parts};
-ghost use Rattle.cg_cli.specs.Faults.{lifted};
+ghost use Rattle.cg_cli.specs.Faults.{lifted, lifted_path};
 ghost use Rattle.cg_cli.specs.declared.fault.CliFault.TheVariants.{Write as WriteFault, NoMemory as MemoryFault};
 
 use crate::write::WriteFailed;
 use cg_text::tree::{Place, TreeFault};
 use cg_tree::memory::NoMemory;
+use cg_tree::path::PathFault;
 use std::alloc::{AllocError, AllocFailed, Global};
 use thiserror::Error;
 
@@ -60,6 +61,17 @@ impl<T: Drop> From<AllocFailed<T>> for CliFault {
 
     fn from(_failed: AllocFailed<T>) -> CliFault {
         CliFault::NoMemory
+    }
+}
+
+impl From<PathFault> for CliFault {
+    ghost from_gives = { λ inner fault. fault ≡ lifted_path inner };
+
+    fn from(inner: PathFault) -> CliFault {
+        match inner {
+            PathFault::BadPath => CliFault::BadPath,
+            PathFault::NoMemory => CliFault::NoMemory,
+        }
     }
 }
 

@@ -1,8 +1,10 @@
 //! The commands over bytes: a tree's text and a writer in, a status or a fault out.
 #![tactic(auto)]
 
+pub mod arguments;
 pub mod fault;
 pub mod input;
+pub mod may;
 #[cfg(test)]
 mod tests;
 pub mod write;

@@ -1,5 +1,7 @@
 //! What no clause says: that good calls succeed, and that a failed write is never tried again.
 mod input;
+mod may;
 mod readers;
+mod trees;
 mod writers;
 mod written;

@@ -1,0 +1,64 @@
+//! One migration: whether a user may move a process to a cgroup.
+ghost use Rattle.std.specs.Prelude.{◌≡◌, IfOk};
+ghost use Rattle.cg_ops.specs.Clauses.{first};
+ghost use Rattle.cg_ops.specs.Bars.{bars};
+ghost use Rattle.cg_cli.specs.May.{permission, may_report};
+ghost use Rattle.cg_cli.specs.Reports.{Reports};
+
+use crate::arguments::{UserIds, read_path, read_pid, read_user};
+use crate::fault::CliFault;
+use crate::write::write_whole;
+use cg_ops::operation::Op;
+use cg_ops::outcome::Outcome;
+use cg_ops::refusal;
+use cg_text::outcome::outcome_text;
+use cg_text::tree::read_tree;
+use cg_tree::hierarchy::Hierarchy;
+use cg_tree::memory::NoMemory;
+use cg_tree::user::User;
+use std::alloc::Global;
+use std::io::Write;
+
+/// Writes whether a user may move the process `pid` to the cgroup `to`: `granted` with status 0, or the first refusal
+/// with status 1.
+///
+/// # Errors
+/// The first that holds of `Uid`, `Gids`, `Pid`, `BadPath` and `Tree`, and then nothing is written; `Write` where a
+/// write failed or took nothing; `NoMemory` where an allocation was refused.
+pub fn may_bytes<W: Write>(
+    alloc: Global,
+    tree: &[u8],
+    user: UserIds<'_>,
+    pid: u32,
+    to: &str,
+    out: &mut W,
+) -> Result<u8, CliFault>
+    ensures { Reports (may_report tree.now user.entry.uid user.entry.gids.now pid to.now)
+        (W.contents out.old) (W.contents out.new) result }
+{
+    let user = read_user(user)?;
+    let pid = read_pid(pid)?;
+    let to = read_path(alloc, to)?;
+    let tree = read_tree(alloc, tree)?;
+    let (text, status) = permission(alloc, &tree, &user, &Op::Move { pid, to })?;
+    write_whole(out, text.as_slice())?;
+    Ok(status)
+}
+
+/// What is said of an operation that may be refused, and the status.
+fn permission<H: Hierarchy>(
+    alloc: Global,
+    tree: &H,
+    user: &User,
+    op: &Op,
+) -> Result<(Vec<u8>, u8), NoMemory>
+    ensures text { IfOk result (λ said. said.0.items
+        ≡ (permission op.now (first (bars (H.state tree.now) user.now op.now))).0) }
+    ensures status { IfOk result (λ said. said.1
+        ≡ (permission op.now (first (bars (H.state tree.now) user.now op.now))).1) }
+{
+    match refusal(tree, user, op) {
+        None => Ok((b"granted\n".to_vec(alloc)?, 0)),
+        Some(refusal) => Ok((outcome_text(alloc, op, &Outcome::Refused(refusal))?, 1)),
+    }
+}

@@ -1,0 +1,115 @@
+//! Tree texts.
+
+/// Two subtrees delegated to user 1000, as in the document's example: `/c0` and `/c1`, each with limits that aren't his.
+pub const DELEGATION: &[u8] = b"
+format = 1
+controllers = [\"cpu\", \"memory\", \"pids\"]
+
+[[cgroup]]
+path = \"/\"
+enabled = [\"memory\"]
+
+[[cgroup]]
+path = \"/c0\"
+dir = { uid = 1000 }
+[cgroup.files]
+\"cgroup.procs\" = { uid = 1000 }
+\"cgroup.subtree_control\" = { uid = 1000 }
+\"cgroup.max.depth\" = { value = 2 }
+\"cgroup.max.descendants\" = { value = 4 }
+\"memory.max\" = { value = 1073741824 }
+
+[[cgroup]]
+path = \"/c1\"
+dir = { uid = 1000 }
+[cgroup.files]
+\"cgroup.procs\" = { uid = 1000 }
+\"cgroup.subtree_control\" = { uid = 1000 }
+
+[[cgroup]]
+path = \"/c0/c00\"
+dir = { uid = 1000 }
+[cgroup.files]
+\"cgroup.procs\" = { uid = 1000 }
+\"cgroup.subtree_control\" = { uid = 1000 }
+\"cgroup.max.depth\" = { uid = 1000 }
+\"cgroup.max.descendants\" = { uid = 1000 }
+
+[[cgroup]]
+path = \"/c0/c01\"
+dir = { uid = 1000 }
+[cgroup.files]
+\"cgroup.procs\" = { uid = 1000 }
+\"cgroup.subtree_control\" = { uid = 1000 }
+\"cgroup.max.depth\" = { uid = 1000 }
+\"cgroup.max.descendants\" = { uid = 1000 }
+
+[[cgroup]]
+path = \"/c1/c10\"
+dir = { uid = 1000 }
+[cgroup.files]
+\"cgroup.procs\" = { uid = 1000 }
+\"cgroup.subtree_control\" = { uid = 1000 }
+\"cgroup.max.depth\" = { uid = 1000 }
+\"cgroup.max.descendants\" = { uid = 1000 }
+
+[[process]]
+pid = 10
+uid = 1000
+at = \"/c1/c10\"
+
+[[process]]
+pid = 11
+uid = 1000
+at = \"/c0/c00\"
+";
+
+/// `/p` is delegated to user 1000 and enables memory; process 20 is below it.
+pub const PARENT_DELEGATED: &[u8] = b"
+format = 1
+controllers = [\"memory\"]
+
+[[cgroup]]
+path = \"/\"
+enabled = [\"memory\"]
+
+[[cgroup]]
+path = \"/p\"
+enabled = [\"memory\"]
+[cgroup.files]
+\"cgroup.procs\" = { uid = 1000 }
+
+[[cgroup]]
+path = \"/p/s\"
+
+[[process]]
+pid = 20
+uid = 1000
+at = \"/p/s\"
+";
+
+/// The parent of `/a/b` isn't there.
+pub const NO_PARENT: &[u8] = b"
+format = 1
+controllers = []
+[[cgroup]]
+path = \"/\"
+[[cgroup]]
+path = \"/a/b\"
+";
+
+/// Process 5 is in `/a`, which enables memory.
+pub const INTERNAL_PROCESS: &[u8] = b"
+format = 1
+controllers = [\"memory\"]
+[[cgroup]]
+path = \"/\"
+enabled = [\"memory\"]
+[[cgroup]]
+path = \"/a\"
+enabled = [\"memory\"]
+[[process]]
+pid = 5
+uid = 1000
+at = \"/a\"
+";
