@@ -1,0 +1,88 @@
+//! The run of a command: its arguments, its tree, and the call that answers.
+use crate::arguments::{self, May};
+use crate::fault::Fault;
+use cg_cli::arguments::UserIds;
+use cg_cli::fault::CliFault;
+use cg_cli::input::read_input;
+use cg_cli::may::may_bytes;
+use cg_cli::write::write_whole;
+use clap::ArgMatches;
+use std::alloc::Global;
+use std::env;
+use std::fs::File;
+use std::io::{ErrorKind, Read, Write};
+use std::rt::{Env, Files};
+
+/// Runs the command that the program's arguments name, and gives its status.
+///
+/// The tree is read from `input` where no file is named, and the report goes to `out`.
+pub fn run<R: AllocGlobal + Env + Files, I: Read + Drop, W: Write>(
+    rt: &R,
+    input: I,
+    out: &mut W,
+) -> Result<u8, Fault> {
+    let alloc = rt.alloc();
+    let words: Vec<String> = env::args(rt).map_err(Fault::of_words)?.collect(alloc)?;
+    let status = match arguments::command(alloc)?.try_get_matches_from(words.as_slice()) {
+        Ok(matches) => command(rt, &matches, input, out)?,
+        Err(error) if error.use_stderr() => return Err(Fault::from(error)),
+        Err(help) => show_help(alloc, &help, out)?,
+    };
+    out.flush().map_err(|_| CliFault::Write)?;
+    Ok(status)
+}
+
+fn show_help<W: Write>(alloc: Global, help: &clap::Error, out: &mut W) -> Result<u8, Fault> {
+    let text = format!(in alloc; "{help}")?;
+    write_whole(out, text.as_bytes()).map_err(CliFault::from)?;
+    Ok(0)
+}
+
+fn command<R: AllocGlobal + Files, I: Read + Drop, W: Write>(
+    rt: &R,
+    matches: &ArgMatches<'_>,
+    input: I,
+    out: &mut W,
+) -> Result<u8, Fault> {
+    match matches.subcommand() {
+        Some(("may", given)) => may(rt, &May::from_matches(rt.alloc(), given)?, input, out),
+        _ => Err(Fault::Usage),
+    }
+}
+
+fn may<R: AllocGlobal + Files, I: Read + Drop, W: Write>(
+    rt: &R,
+    request: &May<'_>,
+    input: I,
+    out: &mut W,
+) -> Result<u8, Fault> {
+    let tree = tree_text(rt, request.tree, input)?;
+    let user = UserIds {
+        uid: request.uid,
+        gids: request.gids.as_slice(),
+    };
+    Ok(may_bytes(
+        rt.alloc(),
+        tree.as_slice(),
+        user,
+        request.pid,
+        request.to,
+        out,
+    )?)
+}
+
+/// The text of the tree: of the file where one is named, and else of the input.
+fn tree_text<R: AllocGlobal + Files, I: Read + Drop>(
+    rt: &R,
+    file: Option<&str>,
+    input: I,
+) -> Result<Vec<u8>, CliFault> {
+    match file {
+        None => read_input(rt.alloc(), input),
+        Some(name) => match File::open(rt, name) {
+            Ok(opened) => read_input(rt.alloc(), opened),
+            Err(error) if error.kind() == ErrorKind::OutOfMemory => Err(CliFault::NoMemory),
+            Err(_) => Err(CliFault::Read),
+        },
+    }
+}
