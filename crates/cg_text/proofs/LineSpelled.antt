@@ -1,27 +1,26 @@
 -- Each word of an operation's line: its bytes, what is read of it, and what a read one is.
-use Rattle.std.proofs.Common.{◌≡◌, ◌≢◌, ℕ, ◌+◌, ◌-◌, ◌*◌, ◌/◌, ◌%◌, ◌^◌, ◌<◌, ◌≤◌, ◌⊎◌, Bool, true, false, cond, List, [], ◌∷◌, ◌++◌, length, get_or, map, refl, ap, sym, ◌∙◌, subst, inl, inr, arith, lit<, append_assoc}
+use Rattle.std.proofs.Common.{◌≡◌, ℕ, ◌+◌, ◌-◌, ◌*◌, ◌/◌, ◌%◌, ◌^◌, ◌<◌, ◌≤◌, ◌⊎◌, Bool, true, false, cond, List, [], ◌∷◌, ◌++◌, get_or, map, refl, ap, sym, ◌∙◌, subst, inl, inr, arith, append_assoc}
 use Rattle.std.specs.Prelude.{◌&&◌, nat_lt, nat_le, nat_eq, Option, Some, None, codes}
 use Rattle.std.specs.Option.{option_map}
 use Rattle.std.specs.List.{list_all, flat_map, join_with_byte}
-use Rattle.std.specs.Char.{digit_value}
 use Rattle.std.specs.Fmt.{decimal}
 use Rattle.std.specs.Str.Parse.{AllDigits}
 use Rattle.std.specs.Cmp.Lexicographic.{bytes_decides}
-use Rattle.std.proofs.lemmas.Bool.{and_parts, and_from, lt-ltb, le-leb, ltb-true, leb-true, eqb-true, false_from_ne_true}
+use Rattle.std.proofs.lemmas.Bool.{and_parts, and_from, lt-ltb, le-leb, leb-true, eqb-true, false_from_ne_true}
 use Rattle.std.proofs.lemmas.List.{append-nil}
 use Rattle.std.proofs.lemmas.List.Folds.{list_all-append}
 use Rattle.std.proofs.lemmas.Option.{cond_some, none-some, same_Some}
 use Rattle.std.proofs.lemmas.Str.Parse.{digit_from_value}
 use Rattle.std.proofs.lemmas.Fmt.{decimal_is_IsNumeral, decimal_digit}
-use Rattle.cg_tree.specs.Paths.{Name, Names, same_name, is_name, is_name_byte, path_text, path_at, IsPath}
+use Rattle.cg_tree.specs.Paths.{Name, Names, same_name, is_name, is_name_byte, path_text, IsPath}
 use Rattle.cg_tree.specs.Numbers.{is_pid, pid_of, is_mode, mode_of}
-use Rattle.cg_tree.specs.Files.{controller_name, controller_named, file_name, file_named, entry_text, entry_named}
+use Rattle.cg_tree.specs.Files.{controller_name, controller_named, file_name, entry_text}
 use Rattle.cg_tree.specs.declared.files.Limit.{Limit}
 use Rattle.cg_tree.specs.declared.files.Limit.TheVariants.{Max, At}
 use Rattle.cg_tree.specs.declared.files.Controller.{Controller}
-use Rattle.cg_tree.specs.declared.files.Controller.TheVariants.{Cpu, Memory, Pids}
+use Rattle.cg_tree.specs.declared.files.Controller.TheVariants.{Cpu}
 use Rattle.cg_tree.specs.declared.files.LimitFile.{LimitFile}
-use Rattle.cg_tree.specs.declared.files.LimitFile.TheVariants.{MaxDescendants, MaxDepth, CpuWeight, MemoryMin, MemoryLow, MemoryHigh, MemoryMax, PidsMax}
+use Rattle.cg_tree.specs.declared.files.LimitFile.TheVariants.{MaxDescendants}
 use Rattle.cg_tree.specs.declared.files.EntryName.{EntryName}
 use Rattle.cg_tree.specs.declared.files.EntryName.TheVariants.{Dir, Procs, SubtreeControl, File}
 use Rattle.cg_tree.proofs.PathEnds.{path_names, is_name-bytes}

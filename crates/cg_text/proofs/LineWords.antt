@@ -1,13 +1,13 @@
 -- Words without a space, and texts that are cut between words.
-use Rattle.std.proofs.Common.{get_or, ◌≡◌, ◌≢◌, ℕ, ◌+◌, ◌<◌, Bool, true, false, cond, List, [], ◌∷◌, ◌++◌, length, take, drop, map, refl, ap, sym, ◌∙◌, subst, arith, append_assoc, lit<}
-use Rattle.std.specs.Prelude.{not, ◌&&◌, nat_lt, ◌==◌, Option, Some, None}
+use Rattle.std.proofs.Common.{get_or, ◌≡◌, ℕ, ◌+◌, Bool, true, false, cond, List, [], ◌∷◌, ◌++◌, length, take, drop, refl, ap, sym, ◌∙◌, arith, append_assoc, lit<}
+use Rattle.std.specs.Prelude.{◌&&◌, nat_lt, Some, None}
 use Rattle.std.specs.List.{list_all, slice_split, position_or_len, before_first, after_first, join_with_byte, All}
 use Rattle.std.proofs.lemmas.Bool.{and_parts, ne_eqb, lt-ltb, ltb-true, le-ltb, eqb-true}
-use Rattle.std.proofs.lemmas.List.{take_at, drop_at, length-append, append-nil}
+use Rattle.std.proofs.lemmas.List.{take_at, drop_at, length-append}
 use Rattle.std.proofs.lemmas.List.Elements.{All-nil, All-cons}
 use Rattle.std.proofs.lemmas.List.Sums.{split_at_first, passes_at_first}
 use Rattle.std.proofs.lemmas.List.Splits.{slice_split_none, slice_split_at}
-use Rattle.std.proofs.lemmas.Option.{none-some, cond_some, same_Some, some_pair_parts}
+use Rattle.std.proofs.lemmas.Option.{cond_some}
 use Rattle.std.specs.Str.{IsAscii}
 use Rattle.std.proofs.lemmas.Str.{IsAscii-append}
 use Rattle.std.proofs.lemmas.Str.Ascii.{IsAscii-nil, IsAscii-cons}

@@ -4,7 +4,7 @@ use Rattle.std.specs.List.{position_or_len, before_first, after_first, slice_spl
 use Rattle.std.specs.Option.{option_map}
 use Rattle.std.specs.Str.Parse.{digits_value}
 use Rattle.std.specs.Fmt.{decimal}
-use Rattle.cg_tree.specs.Paths.{Names, same_name, path_at}
+use Rattle.cg_tree.specs.Paths.{same_name, path_at}
 use Rattle.cg_tree.specs.Numbers.{pid_of, mode_of}
 use Rattle.cg_tree.specs.Files.{controller_named, file_named, entry_named}
 use Rattle.cg_tree.specs.declared.files.Limit.{Limit}

@@ -1,4 +1,4 @@
-use Rattle.std.proofs.Common.{◌≡◌, arith, subst, sym, List, ℕ}
+use Rattle.std.proofs.Common.{arith, subst, sym, List, ℕ}
 use Rattle.std.specs.Str.{IsUtf8}
 use Rattle.cg_text.specs.LineReading.{Gives, operation_at}
 use Rattle.cg_text.proofs.LineLaws.{line_utf8, read_ok, read_bad}

@@ -1,5 +1,5 @@
 -- A word that begins with neither sign is no change.
-use Rattle.std.proofs.Common.{◌≡◌, List, ℕ, ◌++◌, sym, ap, ◌∙◌, lit<}
+use Rattle.std.proofs.Common.{List, ℕ, ◌++◌, sym, ap, ◌∙◌, lit<}
 use Rattle.std.proofs.lemmas.Str.{encode_ascii}
 use Rattle.cg_text.proofs.LineChanges.{change_none}
 use Rattle.cg_text.proofs.lines.words.change_of.Goals as goal

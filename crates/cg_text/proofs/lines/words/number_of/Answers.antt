@@ -1,5 +1,5 @@
 -- A sign or a leading zero is seen at the first byte, and is in no number's text; what is left is what `parse` reads.
-use Rattle.std.proofs.Common.{◌≡◌, sym, ◌∙◌, arith, lit<}
+use Rattle.std.proofs.Common.{sym, ◌∙◌, arith, lit<}
 use Rattle.std.proofs.lemmas.Bool.{both_ways}
 use Rattle.std.proofs.lemmas.Str.Pattern.{starts_char}
 use Rattle.cg_text.proofs.LineNumbers.{number_plus, number_zero, number_parsed}

@@ -1,4 +1,4 @@
-use Rattle.std.proofs.Common.{◌≡◌, ◌∙◌, ◌++◌, List, ℕ, ap}
+use Rattle.std.proofs.Common.{◌∙◌, ◌++◌, List, ℕ, ap}
 use Rattle.std.specs.Prelude.{codes}
 use Rattle.cg_tree.specs.Paths.{path_text}
 use Rattle.cg_tree.specs.Files.{entry_text}

@@ -1,4 +1,4 @@
-use Rattle.std.proofs.Common.{◌≡◌, ◌∙◌, ◌∷◌, [], ◌++◌, List, ℕ, ap, sym}
+use Rattle.std.proofs.Common.{◌∙◌, ◌∷◌, [], ◌++◌, List, ℕ, ap, sym}
 use Rattle.std.specs.Prelude.{codes}
 use Rattle.cg_tree.specs.Paths.{path_text}
 use Rattle.cg_text.proofs.LineSpelled.{written_changes}
