@@ -1,5 +1,5 @@
 //! The lines of outcomes, each once.
-use super::outcome_text;
+use super::{depth, named_len, outcome_text};
 use cg_ops::operation::Op;
 use cg_ops::outcome::{Outcome, Refusal};
 use cg_tree::files::{Controller, EntryName, LimitFile};
@@ -67,6 +67,7 @@ fn each_outcome_has_its_line(rt: HostRuntime) -> Result<(), Fail> {
             "refused not-owner /c0/c01 memory.max\n",
         ),
     ] {
+        assert!(rt; named_len(&refusal) <= depth(&op));
         let text = outcome_text(rt.alloc(), &op, &Outcome::Refused(refusal))?;
         assert_eq!(rt; text.as_slice(), line.as_bytes());
     }
