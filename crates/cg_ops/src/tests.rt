@@ -262,6 +262,14 @@ fn directories_are_made_and_removed(rt: HostRuntime) -> Result<(), Fail> {
 }
 
 #[test]
+fn children_are_asked_before_processes(rt: HostRuntime) -> Result<(), Fail> {
+    let a = rt.alloc();
+    let mut t = Trial::new(&rt, a, 1000)?;
+    t.done(&rt, mkdir(a, "/c0/c00/x"))?;
+    t.refused(&rt, rmdir(a, "/c0/c00"), Refusal::HasChildren)
+}
+
+#[test]
 fn controllers_are_enabled_from_the_top_down(rt: HostRuntime) -> Result<(), Fail> {
     let a = rt.alloc();
     let memory = Controller::Memory;
