@@ -1,12 +1,11 @@
 -- What bars an operation of a user: the clauses that it fails, each as its refusal, in order. The orders are own.
 use Rattle.std.specs.Prelude.{ℕ, zero, suc, ◌-◌, Bool, true, false, ◌&&◌, ◌||◌, not, nat_eq, nat_lt, List, [], ◌∷◌, ◌++◌, length, take, flat_map, Option, Some, None, cond}
-use Rattle.std.specs.Option.{option_map}
 use Rattle.cg_tree.specs.Paths.{Names, common, is_root, parent}
 use Rattle.cg_tree.specs.Identity.{Identity}
 use Rattle.cg_tree.specs.Users.{writes, owns}
 use Rattle.cg_tree.specs.Files.{all_controllers, enables, enables_nothing, is_within, accepts}
 use Rattle.cg_tree.specs.Cgroups.{file_of}
-use Rattle.cg_tree.specs.States.{State, row_at, process_at, file_at, entry_at, is_used, has_child, has_live, child_enables, count_below}
+use Rattle.cg_tree.specs.States.{State, row_at, place_at, owner_at, file_at, entry_at, is_used, has_child, has_live, child_enables, count_below}
 use Rattle.cg_tree.specs.WellFormed.{available_at}
 use Rattle.cg_tree.specs.declared.files.Controller.{Controller}
 use Rattle.cg_tree.specs.declared.files.LimitFile.{LimitFile}
@@ -22,13 +21,6 @@ use Rattle.cg_ops.specs.declared.operation.Op.{Op}
 use Rattle.cg_ops.specs.declared.operation.Op.TheVariants.{Move, Control, Mkdir, Rmdir, Set, Fork, Exit, Chmod}
 use Rattle.cg_ops.specs.declared.outcome.Refusal.{Refusal}
 use Rattle.cg_ops.specs.declared.outcome.Refusal.TheVariants.{NoSuchCgroup, NoAccess, NoSuchProcess, InternalProcess, NotAvailable, ChildUses, Exists, DescendantLimit, DepthLimit, RootCgroup, HasChildren, HasProcesses, NoSuchFile, BadValue, NotYours, PidUsed, NotOwner}
-
--- where a live process is, and whose it is
-abbrev pub place_at : State → ℕ → Option Names
-place_at st pid = option_map (λ process. process.place) (process_at st pid)
-
-abbrev pub owner_at : State → ℕ → Option ℕ
-owner_at st pid = option_map (λ process. process.uid) (process_at st pid)
 
 -- ---- move
 

@@ -15,7 +15,7 @@ use Rattle.cg_tree.specs.declared.files.EntryName.TheVariants.{Dir, Procs, Subtr
 use Rattle.cg_tree.specs.declared.cgroup.Cgroup.{Cgroup}
 use Rattle.cg_ops.specs.Clauses.{unless, absent, present, first}
 use Rattle.cg_ops.specs.Changes.{effective}
-use Rattle.cg_ops.specs.Bars.{bars, move_bars, control_bars, mkdir_bars, rmdir_bars, set_bars, fork_bars, exit_bars, chmod_bars, change_bars, changes_bars, may_enable_new, level_bars, limit_bars, missing_bars, place_at, owner_at, passes, row_above, writes_above, is_under}
+use Rattle.cg_ops.specs.Bars.{bars, move_bars, control_bars, mkdir_bars, rmdir_bars, set_bars, fork_bars, exit_bars, chmod_bars, change_bars, changes_bars, may_enable_new, level_bars, limit_bars, missing_bars, passes, row_above, writes_above, is_under}
 use Rattle.cg_ops.specs.declared.changes.Change.{Change}
 use Rattle.cg_ops.specs.declared.operation.Op.{Op}
 use Rattle.cg_ops.specs.declared.operation.Op.TheVariants.{Move, Control, Mkdir, Rmdir, Set, Fork, Exit, Chmod}

@@ -40,25 +40,6 @@ pub used_empty : set.from_list {R = nat_cmp} (map.keys (map.empty {X = Unit {0}}
 used_empty = set.same_set nat_cmp_total map.nat_cmp-IsAntisymmetric _ _ (λ q.
     used_keys map.empty q ∙ ap is_some (map.get-empty nat_cmp q) ∙ sym (set.contains-empty nat_cmp q))
 
-pub inserted_key : {X : Type 0} (m n : map.FinMap nat_cmp X) (pid : ℕ) (v : X) → n ≡ map.insert m pid v → map.contains_key n pid ≡ true
-inserted_key m n pid v e =
-    ap (λ k. map.contains_key k pid) e ∙ ap is_some (map.get-insert nat_cmp_total m pid v pid) ∙ ap (λ r. is_some (cond (is_eq r) (Some v) (map.get m pid))) (tied_itself nat_cmp_total pid)
-
-no_value : {X : Type 0} (o : Option X) → is_some o ≡ false → o ≡ None
-no_value None e = refl
-no_value (Some x) e = absurd (true≢false e)
-
-undone_value : (b : Bool) (q pid : ℕ) (m : Used) → eq_by_cmp nat_cmp q pid ≡ b → map.contains_key m pid ≡ false → cond b None (cond b (Some tt) (map.get m q)) ≡ map.get m q
-undone_value true q pid m e none = sym (map.get_tied nat_cmp_total m pid q (tied_back nat_cmp_total q pid ((Equal-is (nat_cmp q pid)).0 e)) ∙ no_value _ none)
-undone_value false q pid m e none = refl
-
-pub used_undone : (m n k : Used) (pid : ℕ) → map.contains_key m pid ≡ false → n ≡ map.insert m pid tt → k ≡ map.remove n pid → k ≡ m
-used_undone m n k pid none new undone =
-    undone ∙ ap (λ j. map.remove j pid) new ∙ map.same_map nat_cmp_total map.nat_cmp-IsAntisymmetric _ _ (λ q.
-    map.get-remove nat_cmp_total (map.insert m pid tt) pid q
-    ∙ ap (cond (eq_by_cmp nat_cmp q pid) None) (map.get-insert nat_cmp_total m pid tt q)
-    ∙ undone_value (eq_by_cmp nat_cmp q pid) q pid m refl none)
-
 -- ---- the state after an added process
 
 pub tables_with_process : (st : State) (rows : map.FinMap path_cmp Cgroup) (live live' : map.FinMap nat_cmp Process) (used used' : Used) (controllers : ControllerSet) (pid uid : ℕ) (path place : Names)

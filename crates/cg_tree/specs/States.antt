@@ -1,6 +1,7 @@
 -- The state of a tree: what every call of `Hierarchy` reads or changes.
 use Rattle.std.specs.Prelude.{ℕ, ◌-◌, Bool, ◌&&◌, cond, List, length, map as map_list, filter, fold, count_by, max, Option, Some, None, option_and_then}
 use Rattle.std.specs.List.{list_any}
+use Rattle.std.specs.Option.{option_map}
 use Rattle.std.specs.Ordering.{nat_cmp}
 use Rattle.std.specs.FinMap as map
 use Rattle.std.specs.FinSet as set
@@ -30,6 +31,14 @@ row_at st path = map.get st.rows path
 
 abbrev pub process_at : State → ℕ → Option Process
 process_at st pid = map.get st.live pid
+
+-- where a live process is
+abbrev pub place_at : State → ℕ → Option Names
+place_at st pid = option_map (λ process. process.place) (process_at st pid)
+
+-- whose a live process is
+abbrev pub owner_at : State → ℕ → Option ℕ
+owner_at st pid = option_map (λ process. process.uid) (process_at st pid)
 
 abbrev pub is_used : State → ℕ → Bool
 is_used st pid = set.contains st.used pid

@@ -1,7 +1,6 @@
 //! `Hierarchy`: a tree of cgroups with its processes, however it is kept.
 ghost use Rattle.std.specs.Prelude.{◌≡◌, ◌≤◌, true, false, length, take, OnOk, OnErr, IfOk, option_copied, is_some};
-ghost use Rattle.std.specs.Option.{option_map};
-ghost use Rattle.cg_tree.specs.States.{State, row_at, process_at, is_used, has_child, has_live, child_enables, count_below, depth_below, paths_of, pids_of, file_at, entry_at, with_row, without_row, with_value, with_mode, with_enabled, with_place, with_process, without_process};
+ghost use Rattle.cg_tree.specs.States.{State, row_at, process_at, place_at, owner_at, is_used, has_child, has_live, child_enables, count_below, depth_below, paths_of, pids_of, file_at, entry_at, with_row, without_row, with_value, with_mode, with_enabled, with_place, with_process, without_process};
 ghost use Rattle.cg_tree.specs.WellFormed.{IsWellFormed, has_row, may_hold, MayEnable};
 ghost use Rattle.cg_tree.specs.Paths.{is_root};
 ghost use Rattle.cg_tree.specs.Files.{accepts};
@@ -29,13 +28,12 @@ pub trait Hierarchy {
 
     /// Where a live process is.
     fn place(&self, pid: Pid) -> Option<&Path>
-        ensures place { option_copied result
-            ≡ option_map (λ process. process.place) (process_at (state self.now) pid) }
+        ensures place { option_copied result ≡ place_at (state self.now) pid }
         ensures formed { IsWellFormed (state self.now) };
 
     /// The uid of a live process.
     fn owner(&self, pid: Pid) -> Option<u32>
-        ensures { result ≡ option_map (λ process. process.uid) (process_at (state self.now) pid) };
+        ensures { result ≡ owner_at (state self.now) pid };
 
     /// Whether a PID was ever used.
     fn is_used(&self, pid: Pid) -> bool

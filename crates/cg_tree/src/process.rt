@@ -45,7 +45,7 @@ impl Pid {
 }
 
 /// A live process: its owner and the cgroup that it is in.
-#[derive(Debug, Drop)]
+#[derive(Debug, PartialEq, Eq, Drop)]
 pub struct Process {
     pub uid: u32,
     pub place: Path,

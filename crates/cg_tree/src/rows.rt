@@ -12,7 +12,7 @@ use crate::memory::NoMemory;
 use crate::path::Path;
 use crate::process::{Pid, Process};
 use crate::tables::path_table::PathTable;
-use crate::tables::pid_table::PidTable;
+use crate::tables::pid_table::{PidTable, insert_both};
 use crate::user::{Mode, User};
 use std::alloc::Global;
 use std::marker::Model;
@@ -210,11 +210,6 @@ impl Hierarchy for Rows {
         path: &Path,
     ) -> Result<(), NoMemory> {
         let place = path.try_clone(alloc)?;
-        self.used.insert(pid, ())?;
-        if let Err(fault) = self.live.insert(pid, Process { uid, place }) {
-            self.used.remove(pid);
-            return Err(fault);
-        }
-        Ok(())
+        insert_both(&mut self.used, &mut self.live, pid, Process { uid, place })
     }
 }

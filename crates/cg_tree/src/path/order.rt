@@ -1,25 +1,55 @@
 //! The order of paths, and which of two lies inside the other.
 ghost use Rattle.std.specs.Prelude.{◌≡◌, ◌≤◌, length, take};
-ghost use Rattle.cg_tree.specs.Paths.{path_cmp, inside, common};
+ghost use Rattle.cg_tree.specs.Paths.{path_cmp, same_path, inside, common};
 
 use crate::path::Path;
 use std::cmp::Ordering;
 
 impl Path {
+    /// Whether the first `len` names of two paths are the same.
+    fn shares(&self, other: &Path, len: usize) -> bool
+        requires own { len ≤ length self.now }
+        requires others { len ≤ length other.now }
+        ensures { result ≡ same_path (take len self.now) (take len other.now) }
+    {
+        self.front(len) == other.front(len)
+    }
+
+    /// How many first names this path has in common with the path of the first `len` names of `other`.
+    ///
+    /// It compares texts and no names, and halves the places that are left each time: a deep path costs little more than
+    /// a shallow one.
+    fn shared_len(&self, other: &Path, len: usize) -> usize
+        requires { len ≤ length other.now }
+        ensures { result ≡ length (common self.now (take len other.now)) }
+    {
+        let mut high = self.depth().min(len);
+        if self.shares(other, high) {
+            return high;
+        }
+        let mut low = 0;
+        while low < high {
+            let middle = high - (high - low) / 2;
+            if self.shares(other, middle) {
+                low = middle;
+            } else {
+                high = middle - 1;
+            }
+        }
+        low
+    }
+
     /// The order of this path and that of the first `len` names of `other`.
     pub fn cmp_prefix(&self, other: &Path, len: usize) -> Ordering
         requires { len ≤ length other.now }
         ensures { result ≡ path_cmp self.now (take len other.now) }
     {
         let depth = self.depth();
-        let shared = depth.min(len);
-        for i in 0..shared {
-            match self.name(i).cmp(other.name(i)) {
-                Ordering::Equal => {}
-                order => return order,
-            }
+        let shared = self.shared_len(other, len);
+        if shared == depth || shared == len {
+            return depth.cmp(&len);
         }
-        depth.cmp(&len)
+        self.name(shared).cmp(other.name(shared))
     }
 
     /// Whether `other` is inside the path of the first `len` names: that path itself or below it.
@@ -30,12 +60,7 @@ impl Path {
         if other.depth() < len {
             return false;
         }
-        for i in 0..len {
-            if self.name(i) != other.name(i) {
-                return false;
-            }
-        }
-        true
+        self.shares(other, len)
     }
 
     /// Whether `other` is inside this path: the path itself or below it.
@@ -49,13 +74,7 @@ impl Path {
     pub fn common_len(&self, other: &Path) -> usize
         ensures { result ≡ length (common self.now other.now) }
     {
-        let shared = self.depth().min(other.depth());
-        for i in 0..shared {
-            if self.name(i) != other.name(i) {
-                return i;
-            }
-        }
-        shared
+        self.shared_len(other, other.depth())
     }
 }
 

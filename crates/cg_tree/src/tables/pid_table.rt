@@ -144,3 +144,24 @@ impl<V: Drop> PidTable<V> {
         Ok(Self { entries })
     }
 }
+
+/// Adds a PID to two tables. Room is made in both before either changes. Fails where memory is wanted.
+pub fn insert_both<V: Drop>(
+    used: &mut PidTable<()>,
+    live: &mut PidTable<V>,
+    pid: Pid,
+    value: V,
+) -> Result<(), NoMemory>
+    requires unused { map.contains_key used.old pid ≡ false }
+    requires not_live { map.contains_key live.old pid ≡ false }
+    ensures ok { OnOk result ((used.new ≡ map.insert used.old pid tt) × (live.new ≡ map.insert live.old pid value)) }
+    ensures err { OnErr result ((used.new ≡ used.old) × (live.new ≡ live.old)) }
+{
+    used.entries.reserve(1)?;
+    live.entries.reserve(1)?;
+    used.insert(pid, ())?;
+    if let Err(at) = search(&live.entries, pid) {
+        live.entries.insert(at, (pid, value))?;
+    }
+    Ok(())
+}

@@ -1,15 +1,18 @@
-use Rattle.std.proofs.Common.{arith}
-use Rattle.cg_tree.proofs.PathSteps.{cmp_kept, cmp_told, cmp_all}
+use Rattle.std.proofs.Common.{arith, ⊎_elim, inl, inr}
+use Rattle.cg_tree.proofs.PathSteps.{shared_within, order_ended, order_parted}
 use Rattle.cg_tree.proofs.path.Path.cmp_prefix.Goals as goal
 
-pub loop-i-preserved : goal.loop-i-preserved
-loop-i-preserved c =
-    cmp_kept c.args.self.now c.args.other.now c.args.len c.loop-i.i _ _ _ _ c.loop-i.invariant (omega arith) (omega arith) c.requires c.name.ensures c.name-in-loop-i.ensures c.cmp.ensures c.in-Equal.is
+pub returns-then-shared-depth : goal.returns-then-shared-depth
+returns-then-shared-depth c =
+    order_ended c.args.self.now c.args.other.now c.args.len _ _ _ c.shared_len-shared.ensures c.depth-depth.ensures.depth c.requires (⊎_elim (λ h. inl h) (λ h. inr h.1) c.then-shared-depth.either) c.cmp.ensures
 
-pub returns-in_default : goal.returns-in_default
-returns-in_default c =
-    cmp_told c.args.self.now c.args.other.now c.args.len c.loop-i.i _ _ _ _ c.loop-i.invariant (omega arith) (omega arith) c.requires c.name.ensures c.name-in-loop-i.ensures c.cmp.ensures c.in_default.not-Equal
+pub name-requires : goal.name-requires
+name-requires c = omega (arith, shared_within c.args.self.now c.args.other.now c.args.len c.requires)
+
+pub name-requires-2 : goal.name-requires-2
+name-requires-2 c = omega (arith, shared_within c.args.self.now c.args.other.now c.args.len c.requires)
 
 pub returns : goal.returns
 returns c =
-    cmp_all c.args.self.now c.args.other.now c.args.len c.loop-i.i _ _ _ c.loop-i.invariant c.depth-depth.ensures.depth (omega arith) c.requires c.cmp-2.ensures
+    let within = shared_within c.args.self.now c.args.other.now c.args.len c.requires in
+    order_parted c.args.self.now c.args.other.now c.args.len _ _ _ _ c.shared_len-shared.ensures (omega arith) (omega arith) c.requires c.name.ensures c.name-2.ensures c.cmp-2.ensures
