@@ -289,3 +289,11 @@ pub read_bad : (line : List ℕ) (r : Result Op LineFault) → Gives r (operatio
 read_bad line r h e op k spelled =
     let none : operation_at line ≡ None = subst (λ (q : Result Op LineFault). Gives q (operation_at line)) e h in
     none-some op (sym none ∙ (ap operation_at spelled ∙ line_again op k))
+
+-- A line that is no operation's is read as none.
+nothing_in : (line : List ℕ) (read : Option Op) → operation_at line ≡ read → ((op : Op) → IsHeld op → line ≢ spelling op) → read ≡ None
+nothing_in line None e none = refl
+nothing_in line (Some op) e none = let p = line_takes line op e in absurd (none op p.0 p.1)
+
+pub nothing_read : (line : List ℕ) → ((op : Op) → IsHeld op → line ≢ spelling op) → operation_at line ≡ None
+nothing_read line none = nothing_in line (operation_at line) refl none
