@@ -21,7 +21,8 @@ use Rattle.cg_ops.specs.declared.changes.Change.{Change}
 use Rattle.cg_ops.specs.declared.operation.Op.{Op}
 use Rattle.cg_ops.specs.declared.operation.Op.TheVariants.{Move, Control, Mkdir, Rmdir, Set, Fork, Exit, Chmod}
 use Rattle.cg_text.specs.OperationLines.{change_word, limit_word, mode_word, words, spelling, IsHeld, IsHeldLimit}
-use Rattle.cg_text.specs.LineReading.{is_space, cut, pid_at, limit_at, mode_at, changes_at, move_at, control_from, control_at, mkdir_at, rmdir_at, set_at, fork_at, exit_at, chmod_at, operation_named, operation_at, Gives, ◌>>=◌}
+use Rattle.cg_text.specs.LineReading.{is_space, cut, pid_at, limit_at, mode_at, changes_at, move_at, control_from, control_at, mkdir_at, rmdir_at, set_at, fork_at, exit_at, chmod_at, operation_named, operation_at, Gives}
+use Rattle.cg_text.specs.Options.{◌>>=◌}
 use Rattle.cg_text.specs.declared.lines.fault.LineFault.{LineFault}
 use Rattle.cg_text.specs.declared.lines.fault.LineFault.TheVariants.{BadWord}
 use Rattle.cg_text.proofs.LineWords.{is_word, are_words, cut_word, cut_none, cut_parts, split_joined, IsAscii-joined}
