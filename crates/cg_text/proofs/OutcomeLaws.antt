@@ -1,6 +1,6 @@
 -- What bars an operation can be shown: it is one of its kind's, and names no more than the operation's path.
 use Rattle.std.proofs.Common.{◌≡◌, refl, ℕ, zero, suc, ◌-◌, ◌≤◌, Bool, true, false, not, ◌&&◌, ◌||◌, nat_eq, List, [], ◌∷◌, ◌++◌, length, take, flat_map, Option, Some, None, arith, subst}
-use Rattle.cg_tree.specs.Paths.{Names, common, is_root}
+use Rattle.cg_tree.specs.Paths.{Names, is_root}
 use Rattle.cg_tree.specs.Identity.{Identity}
 use Rattle.cg_tree.specs.States.{State, row_at, file_at, entry_at, is_used, has_child, has_live, child_enables, count_below}
 use Rattle.cg_tree.specs.WellFormed.{available_at}
@@ -15,7 +15,7 @@ use Rattle.cg_tree.specs.declared.files.EntryName.TheVariants.{Dir, Procs, Subtr
 use Rattle.cg_tree.specs.declared.cgroup.Cgroup.{Cgroup}
 use Rattle.cg_ops.specs.Clauses.{unless, absent, present, first}
 use Rattle.cg_ops.specs.Changes.{effective}
-use Rattle.cg_ops.specs.Bars.{bars, move_bars, control_bars, mkdir_bars, rmdir_bars, set_bars, fork_bars, exit_bars, chmod_bars, change_bars, changes_bars, may_enable_new, level_bars, limit_bars, missing_bars, place_at, owner_at, passes, row_above, writes_above, is_under}
+use Rattle.cg_ops.specs.Bars.{bars, move_bars, control_bars, mkdir_bars, rmdir_bars, set_bars, fork_bars, exit_bars, chmod_bars, change_bars, may_enable_new, limit_bars, missing_bars, place_at, owner_at, passes, row_above, writes_above, is_under}
 use Rattle.cg_ops.specs.declared.changes.Change.{Change}
 use Rattle.cg_ops.specs.declared.operation.Op.{Op}
 use Rattle.cg_ops.specs.declared.operation.Op.TheVariants.{Move, Control, Mkdir, Rmdir, Set, Fork, Exit, Chmod}
