@@ -8,7 +8,8 @@ use Rattle.std.proofs.lemmas.Option.{cond_some, none-some}
 use Rattle.std.proofs.lemmas.List.Sums.{fails_before_first}
 use Rattle.std.proofs.lemmas.List.Splits.{slice_split_none, slice_split_first}
 use Rattle.cg_ops.specs.declared.changes.Change.{Change}
-use Rattle.cg_text.specs.LineReading.{is_space, cut, change_at, changes_at, ◌>>=◌}
+use Rattle.cg_text.specs.LineReading.{is_space, cut, change_at, changes_at}
+use Rattle.cg_text.specs.Options.{◌>>=◌}
 
 -- a word that begins with neither sign
 pub change_none : (word : List ℕ) → ((rest : List ℕ) → word ≢ 43 ∷ rest) → ((rest : List ℕ) → word ≢ 45 ∷ rest) → change_at word ≡ None

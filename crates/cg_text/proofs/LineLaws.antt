@@ -21,7 +21,8 @@ use Rattle.cg_ops.specs.declared.changes.Change.{Change}
 use Rattle.cg_ops.specs.declared.operation.Op.{Op}
 use Rattle.cg_ops.specs.declared.operation.Op.TheVariants.{Move, Control, Mkdir, Rmdir, Set, Fork, Exit, Chmod}
 use Rattle.cg_text.specs.OperationLines.{change_word, limit_word, mode_word, words, spelling, IsHeld, IsHeldLimit}
-use Rattle.cg_text.specs.LineReading.{is_space, cut, pid_at, limit_at, mode_at, changes_at, move_at, control_from, control_at, mkdir_at, rmdir_at, set_at, fork_at, exit_at, chmod_at, operation_named, operation_at, Gives, ◌>>=◌}
+use Rattle.cg_text.specs.LineReading.{is_space, cut, pid_at, limit_at, mode_at, changes_at, move_at, control_from, control_at, mkdir_at, rmdir_at, set_at, fork_at, exit_at, chmod_at, operation_named, operation_at, Gives}
+use Rattle.cg_text.specs.Options.{◌>>=◌}
 use Rattle.cg_text.specs.declared.lines.fault.LineFault.{LineFault}
 use Rattle.cg_text.specs.declared.lines.fault.LineFault.TheVariants.{BadWord}
 use Rattle.cg_text.proofs.LineWords.{is_word, are_words, cut_word, cut_none, cut_parts, split_joined, IsAscii-joined}
@@ -289,3 +290,11 @@ pub read_bad : (line : List ℕ) (r : Result Op LineFault) → Gives r (operatio
 read_bad line r h e op k spelled =
     let none : operation_at line ≡ None = subst (λ (q : Result Op LineFault). Gives q (operation_at line)) e h in
     none-some op (sym none ∙ (ap operation_at spelled ∙ line_again op k))
+
+-- A line that is no operation's is read as none.
+nothing_in : (line : List ℕ) (read : Option Op) → operation_at line ≡ read → ((op : Op) → IsHeld op → line ≢ spelling op) → read ≡ None
+nothing_in line None e none = refl
+nothing_in line (Some op) e none = let p = line_takes line op e in absurd (none op p.0 p.1)
+
+pub nothing_read : (line : List ℕ) → ((op : Op) → IsHeld op → line ≢ spelling op) → operation_at line ≡ None
+nothing_read line none = nothing_in line (operation_at line) refl none

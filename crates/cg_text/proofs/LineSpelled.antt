@@ -27,7 +27,8 @@ use Rattle.cg_tree.proofs.PathEnds.{path_names, is_name-bytes}
 use Rattle.cg_tree.proofs.NameLaws.{controller_names}
 use Rattle.cg_ops.specs.declared.changes.Change.{Change}
 use Rattle.cg_text.specs.OperationLines.{change_word, limit_word, mode_word, IsHeldLimit}
-use Rattle.cg_text.specs.LineReading.{number_at, pid_at, limit_at, octal_at, mode_at, sign_at, change_at, changes_at, ◌>>=◌}
+use Rattle.cg_text.specs.LineReading.{number_at, pid_at, limit_at, octal_at, mode_at, sign_at, change_at, changes_at}
+use Rattle.cg_text.specs.Options.{◌>>=◌}
 use Rattle.cg_text.proofs.LineWords.{is_graphic, is_word, are_words}
 use Rattle.cg_text.proofs.LineNumbers.{number_takes, number_again, decimal_byte}
 

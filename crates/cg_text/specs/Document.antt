@@ -20,10 +20,7 @@ use Rattle.cg_text.specs.declared.tree.records.ValueRecord.{ValueRecord}
 use Rattle.cg_text.specs.declared.tree.records.ValueRecord.TheVariants.{Number, Max, OtherText}
 use Rattle.cg_text.specs.declared.tree.records.FileRecord.{FileRecord}
 use Rattle.cg_text.specs.declared.tree.records.FilesRecord.{FilesRecord}
-
-infixl 10 ◌>>=◌
-abbrev pub ◌>>=◌ : {A B : Type 0} → Option A → (A → Option B) → Option B
-o >>= f = option_and_then f o
+use Rattle.cg_text.specs.Options.{◌>>=◌}
 
 -- ---- keys. What is read of a table or a value is None where its form is wrong.
 

@@ -1,3 +1,4 @@
+pub mod Options
 pub mod Faults
 pub mod Records
 pub mod Document

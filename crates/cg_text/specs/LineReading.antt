@@ -14,11 +14,7 @@ use Rattle.cg_ops.specs.declared.operation.Op.{Op}
 use Rattle.cg_ops.specs.declared.operation.Op.TheVariants.{Move, Control, Mkdir, Rmdir, Set, Fork, Exit, Chmod}
 use Rattle.cg_text.specs.declared.lines.fault.LineFault.{LineFault}
 use Rattle.cg_text.specs.declared.lines.fault.LineFault.TheVariants as faults
-
-infixl 10 ◌>>=◌
-abbrev pub ◌>>=◌ : {A B : Type 0} → Option A → (A → Option B) → Option B
-None >>= f = None
-(Some x) >>= f = f x
+use Rattle.cg_text.specs.Options.{◌>>=◌}
 
 -- What a reader returned is what reading gives, want of memory aside: nothing is read exactly of a bad word.
 abbrev pub Fails : {Y : Type 0} → LineFault → Option Y → Type 0

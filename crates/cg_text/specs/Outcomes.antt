@@ -1,5 +1,5 @@
 -- The text of an operation's outcome. Own.
-use Rattle.std.specs.Prelude.{ℕ, ◌≤◌, List, [], ◌∷◌, ◌++◌, length, take, codes}
+use Rattle.std.specs.Prelude.{◌≡◌, ℕ, ◌≤◌, Bool, true, false, List, [], ◌∷◌, ◌++◌, length, take, codes}
 use Rattle.std.specs.Fmt.{decimal}
 use Rattle.cg_tree.specs.Paths.{Names, path_text}
 use Rattle.cg_tree.specs.Files.{controller_name, file_name, entry_text}
@@ -33,10 +33,45 @@ named_len _ = 0
 abbrev pub IsShown : Names → Refusal → Type 0
 IsShown path refusal = named_len refusal ≤ length path
 
--- what a refusal names is there
+-- whether a refusal is one of those that an operation of its kind can meet
+abbrev pub can_meet : Op → Refusal → Bool
+can_meet (Move pid to) (NoSuchCgroup len) = true
+can_meet (Move pid to) (NoAccess len entry) = true
+can_meet (Move pid to) (NoSuchProcess number) = true
+can_meet (Move pid to) (InternalProcess len) = true
+can_meet (Control at changes) (NoSuchCgroup len) = true
+can_meet (Control at changes) (NoAccess len entry) = true
+can_meet (Control at changes) (NotAvailable controller) = true
+can_meet (Control at changes) (ChildUses controller) = true
+can_meet (Control at changes) (InternalProcess len) = true
+can_meet (Mkdir path) Exists = true
+can_meet (Mkdir path) (NoSuchCgroup len) = true
+can_meet (Mkdir path) (NoAccess len entry) = true
+can_meet (Mkdir path) (DescendantLimit len) = true
+can_meet (Mkdir path) (DepthLimit len) = true
+can_meet (Rmdir path) RootCgroup = true
+can_meet (Rmdir path) (NoSuchCgroup len) = true
+can_meet (Rmdir path) (NoAccess len entry) = true
+can_meet (Rmdir path) HasChildren = true
+can_meet (Rmdir path) HasProcesses = true
+can_meet (Set at file value) (NoSuchCgroup len) = true
+can_meet (Set at file value) (NoSuchFile other) = true
+can_meet (Set at file value) (NoAccess len entry) = true
+can_meet (Set at file value) (BadValue other) = true
+can_meet (Fork parent child) (NoSuchProcess number) = true
+can_meet (Fork parent child) (NotYours number) = true
+can_meet (Fork parent child) (PidUsed number) = true
+can_meet (Exit pid) (NoSuchProcess number) = true
+can_meet (Exit pid) (NotYours number) = true
+can_meet (Chmod at name mode) (NoSuchCgroup len) = true
+can_meet (Chmod at name mode) (NoSuchFile file) = true
+can_meet (Chmod at name mode) (NotOwner entry) = true
+can_meet op refusal = false
+
+-- a refusal that the operation can meet, and what it names is there
 abbrev pub CanShow : Op → Outcome → Type 0
 CanShow op Done = Unit {0}
-CanShow op (Refused refusal) = IsShown (path_of op) refusal
+CanShow op (Refused refusal) = (can_meet op refusal ≡ true) × IsShown (path_of op) refusal
 
 -- two words and the space between them
 abbrev pub spaced : List ℕ → List ℕ → List ℕ

@@ -33,10 +33,7 @@ use Rattle.cg_text.specs.declared.tree.records.FileRecord.{FileRecord}
 use Rattle.cg_text.specs.declared.tree.records.FilesRecord.{FilesRecord}
 use Rattle.cg_text.specs.declared.tree.named.NamedRow.{NamedRow}
 use Rattle.cg_text.specs.Document.{is_two}
-
-infixl 10 ◌>>=◌
-abbrev pub ◌>>=◌ : {A B : Type 0} → Option A → (A → Option B) → Option B
-o >>= f = option_and_then f o
+use Rattle.cg_text.specs.Options.{◌>>=◌}
 
 -- ---- faults in order
 

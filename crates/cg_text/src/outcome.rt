@@ -17,8 +17,8 @@ use std::alloc::{AllocError, Global};
 
 /// The line of an outcome, with its newline: `ok`, or `refused` and why.
 ///
-/// A refusal names so many first names of the operation's path as it says; these have to be there, as they are in what
-/// `cg_ops` answers.
+/// A refusal is one that the operation can meet, and names so many first names of its path as it says; these have to be
+/// there. So it is in what `cg_ops` answers.
 pub fn outcome_text(alloc: Global, op: &Op, outcome: &Outcome) -> Result<Vec<u8>, NoMemory>
     requires { CanShow op.now outcome.now }
     ensures { IfOk result (λ text. text.items ≡ outcome_text op.now outcome.now) }
@@ -125,7 +125,7 @@ fn path_of(op: &Op) -> Option<&Path>
     }
 }
 
-/// What bars an operation can be shown: it names no more than the operation's path.
+/// What bars an operation can be shown: it is one that the operation can meet, and names no more than its path.
 pub fn bars_are_shown()
     ensures { (st : State) (user : Identity) (op : Op) (refusal : Refusal)
         → first (bars st user op) ≡ Some refusal → CanShow op (Outcome.Refused refusal) }

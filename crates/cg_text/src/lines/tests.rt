@@ -2,7 +2,7 @@ use super::*;
 use cg_ops::changes::{Change, Changes};
 use cg_ops::operation::Op;
 use cg_tree::files::{Controller, EntryName, Limit, LimitFile};
-use cg_tree::path::Path;
+use cg_tree::path::{Path, PathFault};
 use cg_tree::process::Pid;
 use cg_tree::user::Mode;
 use std::alloc::{AllocError, Global};
@@ -20,6 +20,17 @@ fn is_line(alloc: Global, line: &str) -> Result<bool, LineFault> {
     }
 }
 
+/// Whether an operation is written as a line and a newline, and the line is read as the operation.
+fn is_written(alloc: Global, op: &Op, line: &str) -> Result<bool, LineFault> {
+    let text = op_text(alloc, op)?;
+    let read = read_op(alloc, line.as_bytes())?;
+    Ok(text.as_slice().strip_suffix(b"\n") == Some(line.as_bytes()) && read == *op)
+}
+
+fn path_of(alloc: Global, text: &str) -> Result<Path, PathFault> {
+    Path::parse(alloc, text)
+}
+
 /// `control /` and `count` times a word.
 fn control(alloc: Global, count: usize, word: &str) -> Result<String, AllocError> {
     let mut line = String::from_str(alloc, "control /")?;
@@ -30,49 +41,73 @@ fn control(alloc: Global, count: usize, word: &str) -> Result<String, AllocError
 }
 
 #[test]
-fn lines_of_no_operation(rt: HostRuntime) -> Result<(), Fail> {
+fn words_of_no_operation(rt: HostRuntime) -> Result<(), Fail> {
     let lines = [
         "",
-        " ",
         "move",
         "move 10",
-        "move 010 /c0",
-        "move 0 /c0",
-        "move 4194304 /c0",
-        "move 10 /c0 ",
-        "move 10 /c0\r",
-        "move 10  /c0",
-        "move +10 /c0",
-        " move 10 /c0",
         "Move 10 /c0",
-        "move 10 /c0\n",
+        "freeze /c0",
         "control",
-        "control /c0 ",
         "control /c0 memory",
-        "control /c0 + memory",
         "control /c0 +io",
         "mkdir /c0/cgroup.procs",
+        "mkdir /é",
         "rmdir c0",
         "set /c0 cgroup.procs 1",
-        "set /c0 pids.max -1",
-        "set /c0 pids.max 00",
         "set /c0 pids.max Max",
-        "set /c0 pids.max 18446744073709551616",
         "fork 11",
-        "exit 99 ",
-        "chmod /c0 dir 75",
-        "chmod /c0 dir 0755",
-        "chmod /c0 dir 788",
+        "exit /c0",
         "chmod /c0 cgroup.controllers 644",
-        "mkdir /é",
     ];
     for line in lines {
         assert!(rt; !is_line(rt.alloc(), line)?, "{line}");
     }
-    assert_eq!(rt;
-        read_op(rt.alloc(), b"mkdir /\xff").err(),
-        Some(LineFault::BadWord)
-    );
+    let bytes = read_op(rt.alloc(), b"mkdir /\xff");
+    assert_eq!(rt; bytes.err(), Some(LineFault::BadWord));
+    Ok(())
+}
+
+#[test]
+fn numbers_of_no_operation(rt: HostRuntime) -> Result<(), Fail> {
+    let lines = [
+        "move 010 /c0",
+        "move 0 /c0",
+        "move 4194304 /c0",
+        "move +10 /c0",
+        "set /c0 pids.max -1",
+        "set /c0 pids.max 00",
+        "set /c0 pids.max 18446744073709551616",
+        "fork 11 011",
+        "exit 0x63",
+        "chmod /c0 dir 75",
+        "chmod /c0 dir 0755",
+        "chmod /c0 dir 788",
+    ];
+    for line in lines {
+        assert!(rt; !is_line(rt.alloc(), line)?, "{line}");
+    }
+    Ok(())
+}
+
+#[test]
+fn spaces_of_no_operation(rt: HostRuntime) -> Result<(), Fail> {
+    let lines = [
+        " ",
+        " move 10 /c0",
+        "move 10 /c0 ",
+        "move 10 /c0\r",
+        "move 10 /c0\n",
+        "move 10  /c0",
+        "move\t10 /c0",
+        "control /c0 ",
+        "control /c0 + memory",
+        "control /c0 +cpu  -cpu",
+        "exit 99 ",
+    ];
+    for line in lines {
+        assert!(rt; !is_line(rt.alloc(), line)?, "{line}");
+    }
     Ok(())
 }
 
@@ -102,11 +137,38 @@ fn lines_of_operations(rt: HostRuntime) -> Result<(), Fail> {
 }
 
 #[test]
-fn what_lines_say(rt: HostRuntime) -> Result<(), Fail> {
+fn processes(rt: HostRuntime) -> Result<(), Fail> {
     let alloc = rt.alloc();
-    let pid = Pid::new(11).ok_or("pid")?;
-    let child = Pid::new(4194303).ok_or("pid")?;
-    let mode = Mode::new(0o640).ok_or("mode")?;
+    let pid = Pid::new(11).ok_or("a PID")?;
+    let child = Pid::new(4194303).ok_or("a PID")?;
+    let to = path_of(alloc, "/a/b")?;
+    let op = Op::Move { pid, to };
+    assert!(rt; is_written(alloc, &op, "move 11 /a/b")?);
+    let op = Op::Fork { parent: pid, child };
+    assert!(rt; is_written(alloc, &op, "fork 11 4194303")?);
+    let op = Op::Exit { pid };
+    assert!(rt; is_written(alloc, &op, "exit 11")?);
+    Ok(())
+}
+
+#[test]
+fn directories(rt: HostRuntime) -> Result<(), Fail> {
+    let alloc = rt.alloc();
+    let path = path_of(alloc, "/a")?;
+    assert!(rt; is_written(alloc, &Op::Mkdir { path }, "mkdir /a")?);
+    let path = path_of(alloc, "/")?;
+    assert!(rt; is_written(alloc, &Op::Rmdir { path }, "rmdir /")?);
+    Ok(())
+}
+
+#[test]
+fn controls(rt: HostRuntime) -> Result<(), Fail> {
+    let alloc = rt.alloc();
+    let at = path_of(alloc, "/a")?;
+    let changes = Changes::new(alloc);
+    let op = Op::Control { at, changes };
+    assert!(rt; is_written(alloc, &op, "control /a")?);
+    let at = path_of(alloc, "/a")?;
     let mut changes = Changes::new(alloc);
     changes.push(Change {
         on: true,
@@ -116,61 +178,37 @@ fn what_lines_say(rt: HostRuntime) -> Result<(), Fail> {
         on: false,
         controller: Controller::Cpu,
     })?;
-    assert_eq!(rt;
-        read_op(alloc, b"move 11 /a/b"),
-        Ok(Op::Move {
-            pid,
-            to: Path::parse(alloc, "/a/b")?
-        })
-    );
-    assert_eq!(rt;
-        read_op(alloc, b"control /a +memory -cpu"),
-        Ok(Op::Control {
-            at: Path::parse(alloc, "/a")?,
-            changes
-        })
-    );
-    assert_eq!(rt;
-        read_op(alloc, b"mkdir /a"),
-        Ok(Op::Mkdir {
-            path: Path::parse(alloc, "/a")?
-        })
-    );
-    assert_eq!(rt;
-        read_op(alloc, b"rmdir /a"),
-        Ok(Op::Rmdir {
-            path: Path::parse(alloc, "/a")?
-        })
-    );
-    assert_eq!(rt;
-        read_op(alloc, b"set / pids.max 7"),
-        Ok(Op::Set {
-            at: Path::parse(alloc, "/")?,
-            file: LimitFile::PidsMax,
-            value: Limit::At(7)
-        })
-    );
-    assert_eq!(rt;
-        read_op(alloc, b"set / memory.low max"),
-        Ok(Op::Set {
-            at: Path::parse(alloc, "/")?,
-            file: LimitFile::MemoryLow,
-            value: Limit::Max
-        })
-    );
-    assert_eq!(rt;
-        read_op(alloc, b"fork 11 4194303"),
-        Ok(Op::Fork { parent: pid, child })
-    );
-    assert_eq!(rt; read_op(alloc, b"exit 11"), Ok(Op::Exit { pid }));
-    assert_eq!(rt;
-        read_op(alloc, b"chmod /a cpu.weight 640"),
-        Ok(Op::Chmod {
-            at: Path::parse(alloc, "/a")?,
-            entry: EntryName::File(LimitFile::CpuWeight),
-            mode
-        })
-    );
+    let op = Op::Control { at, changes };
+    assert!(rt; is_written(alloc, &op, "control /a +memory -cpu")?);
+    Ok(())
+}
+
+#[test]
+fn limits(rt: HostRuntime) -> Result<(), Fail> {
+    let alloc = rt.alloc();
+    let (at, file) = (path_of(alloc, "/")?, LimitFile::PidsMax);
+    let value = Limit::At(7);
+    let op = Op::Set { at, file, value };
+    assert!(rt; is_written(alloc, &op, "set / pids.max 7")?);
+    let (at, file) = (path_of(alloc, "/a")?, LimitFile::MemoryLow);
+    let value = Limit::Max;
+    let op = Op::Set { at, file, value };
+    assert!(rt; is_written(alloc, &op, "set /a memory.low max")?);
+    Ok(())
+}
+
+#[test]
+fn modes(rt: HostRuntime) -> Result<(), Fail> {
+    let alloc = rt.alloc();
+    let (at, entry) = (path_of(alloc, "/a")?, EntryName::Dir);
+    let mode = Mode::new(0o007).ok_or("a mode")?;
+    let op = Op::Chmod { at, entry, mode };
+    assert!(rt; is_written(alloc, &op, "chmod /a dir 007")?);
+    let at = path_of(alloc, "/a")?;
+    let entry = EntryName::File(LimitFile::CpuWeight);
+    let mode = Mode::new(0o640).ok_or("a mode")?;
+    let op = Op::Chmod { at, entry, mode };
+    assert!(rt; is_written(alloc, &op, "chmod /a cpu.weight 640")?);
     Ok(())
 }
 
