@@ -18,26 +18,45 @@ fn is_name_byte(byte: u8) -> bool
 }
 
 /// Whether each byte of a text may stand in a name.
-fn has_name_bytes(name: &str) -> bool
+fn has_name_bytes(name: &[u8]) -> bool
     ensures { result ≡ list_all is_name_byte name.now }
 {
-    name.as_bytes().iter().all(|byte| is_name_byte(*byte))
+    name.iter().all(|byte| is_name_byte(*byte))
 }
 
-/// Whether a text is a name that no cgroup has: a directory's own entries and the interface files of the profile.
-fn is_reserved(name: &str) -> bool
+/// The names that no cgroup has: a directory's own entries and the interface files of the profile.
+const RESERVED: [&str; 13] = [
+    ".",
+    "..",
+    "cgroup.controllers",
+    "cgroup.procs",
+    "cgroup.subtree_control",
+    "cgroup.max.descendants",
+    "cgroup.max.depth",
+    "cpu.weight",
+    "memory.min",
+    "memory.low",
+    "memory.high",
+    "memory.max",
+    "pids.max",
+];
+
+fn is_listed(name: &[u8], names: &[&str]) -> bool
+    ensures { result ≡ list_any (λ listed. same_name name.now listed.now) names.now }
+{
+    names.iter().any(|listed| name == listed.as_bytes())
+}
+
+/// Whether a text is a name that no cgroup has.
+fn is_reserved(name: &[u8]) -> bool
     ensures { result ≡ list_any (same_name name.now) reserved_names }
 {
-    match name {
-        "." | ".." | "cgroup.controllers" | "cgroup.procs" | "cgroup.subtree_control" => true,
-        "cgroup.max.descendants" | "cgroup.max.depth" | "cpu.weight" => true,
-        "memory.min" | "memory.low" | "memory.high" | "memory.max" | "pids.max" => true,
-        _ => false,
-    }
+    // each of these names has a dot, and most others have none
+    name.contains(&b'.') && is_listed(name, &RESERVED)
 }
 
 /// Whether a text is a name of a cgroup.
-pub(crate) fn is_name(name: &str) -> bool
+pub(crate) fn is_name(name: &[u8]) -> bool
     ensures { result ≡ is_name name.now }
 {
     let len = name.len();
@@ -48,7 +67,9 @@ pub(crate) fn is_name(name: &str) -> bool
 pub(crate) fn are_names(text: &str) -> bool
     ensures { result ≡ list_all is_name (slice_split (λ b. b == 47) text.now) }
 {
-    text.split('/').all(|name| is_name(name))
+    text.as_bytes()
+        .split(|byte| *byte == b'/')
+        .all(|name| is_name(name))
 }
 
 /// Where the names end in a text that has a slash before each.
@@ -59,7 +80,7 @@ pub(crate) fn ends_of(alloc: Global, names: &str) -> Result<Vec<u16>, AllocError
 {
     let mut ends = Vec::new(alloc);
     let mut end = 0;
-    for name in names.split('/') {
+    for name in names.as_bytes().split(|byte| *byte == b'/') {
         end += name.len() + 1;
         ends.push(end as u16)?;
     }

@@ -44,7 +44,7 @@ impl Path {
     {
         let parent = self.front(len);
         let end = parent.len() + 1 + name.len();
-        if end > LONGEST_TEXT || !is_name(name) {
+        if end > LONGEST_TEXT || !is_name(name.as_bytes()) {
             return Err(PathFault::BadPath);
         }
         let text = format!(in alloc; "{parent}/{name}")?;

@@ -1,7 +1,7 @@
 use Rattle.std.proofs.Common.{◌≡◌, ◌≤◌, ◌+◌, ◌++◌, ◌∷◌, [], length, take, ap, sym, ◌∙◌, ℕ, List, arith, inl, inr, subst}
 use Rattle.std.specs.String.{string_bytes}
 use Rattle.std.proofs.lemmas.List.{length-take-le}
-use Rattle.cg_tree.specs.Paths.{IsPath}
+use Rattle.cg_tree.specs.Paths.{IsPath, is_name}
 use Rattle.cg_tree.specs.PathText.{names_text}
 use Rattle.cg_tree.proofs.PathEnds.{kept_ends, kept_length}
 use Rattle.cg_tree.proofs.PathNames.{IsPath-take, IsKept-at, names_of-at, take-ends_from, ends_push, names_text-push, IsPath-push, not_path-push}
@@ -12,7 +12,7 @@ pub returns-then-end-gt-LONGEST_TEXT-clause-bad : goal.returns-then-end-gt-LONGE
 returns-then-end-gt-LONGEST_TEXT-clause-bad c =
     let n = ap length c.front-parent.ensures.text in
     λ e.
-    not_path-push (take c.args.len c.args.self.now) c.args.name.now (elim c.then-end-gt-LONGEST_TEXT.branch [ then-end-gt-LONGEST_TEXT-via-then-end-gt-LONGEST_TEXT w ↦ inl (omega (arith, n, w.if-end-gt-LONGEST_TEXT.true)) | then-end-gt-LONGEST_TEXT-via-else-end-gt-LONGEST_TEXT+then-not-is_name w ↦ inr (sym w.is_name.ensures ∙ w.if-not-is_name.true) ])
+    not_path-push (take c.args.len c.args.self.now) c.args.name.now (elim c.then-end-gt-LONGEST_TEXT.branch [ then-end-gt-LONGEST_TEXT-via-then-end-gt-LONGEST_TEXT w ↦ inl (omega (arith, n, w.if-end-gt-LONGEST_TEXT.true)) | then-end-gt-LONGEST_TEXT-via-else-end-gt-LONGEST_TEXT+then-not-is_name w ↦ inr (ap is_name (sym w.as_bytes.ensures.value) ∙ sym w.is_name.ensures ∙ w.if-not-is_name.true) ])
 
 pub slice_bounds-from_slice-end : goal.slice_bounds-from_slice-end
 slice_bounds-from_slice-end c =
@@ -24,7 +24,7 @@ good : (c : goal.In_ok-push) → IsPath (take c.args.len c.args.self.now ++ c.ar
 good c =
     let path = c.args.self.now in
     let n = ap length c.front-parent.ensures.text in
-    IsPath-push (take c.args.len path) c.args.name.now (IsPath-take path c.args.len c.front-parent.ensures.path) (sym c.is_name.ensures ∙ c.if-not-is_name.false) (omega arith)
+    IsPath-push (take c.args.len path) c.args.name.now (IsPath-take path c.args.len c.front-parent.ensures.path) (ap is_name (sym c.as_bytes.ensures.value) ∙ sym c.is_name.ensures ∙ c.if-not-is_name.false) (omega arith)
 
 text : (c : goal.In_ok-push) → string_bytes c.in_ok-text.text ≡ names_text (take c.args.len c.args.self.now ++ c.args.name.now ∷ [])
 text c =
