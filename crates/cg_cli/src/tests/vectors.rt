@@ -2,6 +2,7 @@
 mod cut;
 mod files;
 mod formats;
+mod migrations;
 mod order;
 mod processes;
 mod rows;

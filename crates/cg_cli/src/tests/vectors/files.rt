@@ -24,14 +24,14 @@ fn values_of_a_weight(rt: HostRuntime) -> Result<(), Fail> {
         ("10001", BAD_VALUE),
         ("0", BAD_VALUE),
         ("-1", BAD_VALUE),
-        ("\"max\"", BAD_VALUE),
-        ("\"Max\"", BAD_VALUE),
+        ("'max'", BAD_VALUE),
+        ("'Max'", BAD_VALUE),
         ("9223372036854775808", "fault: tree not-toml"),
         ("1.0", SHAPE),
         ("true", SHAPE),
     ] {
         let value = format!(in rt.alloc(); "value = {value}")?;
-        let keys = one_file(rt.alloc(), "\"cpu.weight\"", value.as_str())?;
+        let keys = one_file(rt.alloc(), "'cpu.weight'", value.as_str())?;
         let parts = Parts {
             keys: keys.as_str(),
             ..BASE
@@ -46,15 +46,15 @@ fn values_of_a_limit(rt: HostRuntime) -> Result<(), Fail> {
     for (value, line) in [
         ("9223372036854775807", READ),
         ("0", READ),
-        ("\"max\"", READ),
+        ("'max'", READ),
         ("-1", BAD_VALUE),
-        ("\"Max\"", BAD_VALUE),
-        ("\"0\"", BAD_VALUE),
-        ("\"\"", BAD_VALUE),
+        ("'Max'", BAD_VALUE),
+        ("'0'", BAD_VALUE),
+        ("''", BAD_VALUE),
         ("[]", SHAPE),
     ] {
         let value = format!(in rt.alloc(); "value = {value}")?;
-        let keys = one_file(rt.alloc(), "\"cgroup.max.depth\"", value.as_str())?;
+        let keys = one_file(rt.alloc(), "'cgroup.max.depth'", value.as_str())?;
         let parts = Parts {
             keys: keys.as_str(),
             ..BASE
@@ -64,35 +64,38 @@ fn values_of_a_limit(rt: HostRuntime) -> Result<(), Fail> {
     Ok(())
 }
 
+/// A file and its name, what a text says of it, and its value.
+const VALUES: [(LimitFile, &str, &str, Limit); 5] = [
+    (
+        LimitFile::CpuWeight,
+        "'cpu.weight'",
+        "value = 10000",
+        Limit::At(10000),
+    ),
+    (LimitFile::CpuWeight, "'cpu.weight'", "", Limit::At(100)),
+    (
+        LimitFile::MaxDepth,
+        "'cgroup.max.depth'",
+        "value = 0",
+        Limit::At(0),
+    ),
+    (
+        LimitFile::MaxDescendants,
+        "'cgroup.max.descendants'",
+        "value = 'max'",
+        Limit::Max,
+    ),
+    (
+        LimitFile::MaxDescendants,
+        "'cgroup.max.descendants'",
+        "value = 9223372036854775807",
+        Limit::At(9223372036854775807),
+    ),
+];
+
 #[test]
 fn a_value_is_kept(rt: HostRuntime) -> Result<(), Fail> {
-    for (name, file, value, wanted) in [
-        (
-            "\"cpu.weight\"",
-            LimitFile::CpuWeight,
-            "value = 10000",
-            Limit::At(10000),
-        ),
-        ("\"cpu.weight\"", LimitFile::CpuWeight, "", Limit::At(100)),
-        (
-            "\"cgroup.max.depth\"",
-            LimitFile::MaxDepth,
-            "value = 0",
-            Limit::At(0),
-        ),
-        (
-            "\"cgroup.max.descendants\"",
-            LimitFile::MaxDescendants,
-            "value = \"max\"",
-            Limit::Max,
-        ),
-        (
-            "\"cgroup.max.descendants\"",
-            LimitFile::MaxDescendants,
-            "value = 9223372036854775807",
-            Limit::At(9223372036854775807),
-        ),
-    ] {
+    for (file, name, value, wanted) in VALUES {
         let keys = one_file(rt.alloc(), name, value)?;
         let text = text_of(
             rt.alloc(),
@@ -111,20 +114,20 @@ fn a_value_is_kept(rt: HostRuntime) -> Result<(), Fail> {
 fn files_that_may_be_named(rt: HostRuntime) -> Result<(), Fail> {
     for (name, keys, line) in [
         ("cpu.weight", "value = 1", SHAPE),
-        ("\"cgroup.procs\"", "value = 1", SHAPE),
-        ("\"cgroup.subtree_control\"", "value = 1", SHAPE),
-        ("\"cgroup.procs\"", "uid = 1, mode = 0o600", READ),
-        ("\"cgroup.controllers\"", "", SHAPE),
+        ("'cgroup.procs'", "value = 1", SHAPE),
+        ("'cgroup.subtree_control'", "value = 1", SHAPE),
+        ("'cgroup.procs'", "uid = 1, mode = 0o600", READ),
+        ("'cgroup.controllers'", "", SHAPE),
         ("dir", "", SHAPE),
-        ("\"memory.max\"", "", "fault: tree no-such-file cgroup 2"),
+        ("'memory.max'", "", "fault: tree no-such-file cgroup 2"),
         (
-            "\"pids.max\"",
+            "'pids.max'",
             "uid = 1000",
             "fault: tree no-such-file cgroup 2",
         ),
-        ("\"cpu.weight\"", "", READ),
-        ("\"cpu.weight\"", "uid = 1, mode = 0o600, value = 7", READ),
-        ("\"cpu.weight\"", "owner = 1", SHAPE),
+        ("'cpu.weight'", "", READ),
+        ("'cpu.weight'", "uid = 1, mode = 0o600, value = 7", READ),
+        ("'cpu.weight'", "owner = 1", SHAPE),
     ] {
         let keys = one_file(rt.alloc(), name, keys)?;
         let parts = Parts {
@@ -133,7 +136,7 @@ fn files_that_may_be_named(rt: HostRuntime) -> Result<(), Fail> {
         };
         expect(&rt, rt.alloc(), parts, line)?;
     }
-    let root = one_file(rt.alloc(), "\"cpu.weight\"", "")?;
+    let root = one_file(rt.alloc(), "'cpu.weight'", "")?;
     let parts = Parts {
         root: root.as_str(),
         ..BASE
@@ -154,7 +157,7 @@ fn owners_and_modes(rt: HostRuntime) -> Result<(), Fail> {
         ("mode = 0o020", BAD_ENTRY),
         ("mode = -1", BAD_ENTRY),
         ("mode = 0o777", BAD_ENTRY),
-        ("mode = \"0o755\"", SHAPE),
+        ("mode = '0o755'", SHAPE),
         ("uid = 0.0", SHAPE),
         ("gid = 0", SHAPE),
     ] {
@@ -164,7 +167,7 @@ fn owners_and_modes(rt: HostRuntime) -> Result<(), Fail> {
             ..BASE
         };
         expect(&rt, rt.alloc(), parts, line)?;
-        let file = one_file(rt.alloc(), "\"cpu.weight\"", entry)?;
+        let file = one_file(rt.alloc(), "'cpu.weight'", entry)?;
         let parts = Parts {
             keys: file.as_str(),
             ..BASE

@@ -34,82 +34,51 @@ fn groups_of_the_delegation_example(rt: HostRuntime) -> Result<(), Fail> {
     Ok(())
 }
 
+const SHAPE: &str = "fault: tree shape cgroup 2";
+
+const BAD_ENTRY: &str = "fault: tree bad-entry cgroup 2";
+
+const NO_PROCESS: &str = "fault: tree shape process 1";
+
+/// Keys of a cgroup, what is said of them in format 1, and what in format 2.
+const KEYS: [(&str, &str, &str); 16] = [
+    ("dir = { gid = 0 }", SHAPE, READ),
+    ("dir = { gid = 4294967295 }", SHAPE, READ),
+    ("dir = { gid = 4294967296 }", SHAPE, BAD_ENTRY),
+    ("dir = { gid = -1 }", SHAPE, BAD_ENTRY),
+    ("dir = { gid = '0' }", SHAPE, SHAPE),
+    ("files = { 'cgroup.procs' = { gid = 5 } }", SHAPE, READ),
+    (
+        "files = { 'cgroup.subtree_control' = { gid = 5 } }",
+        SHAPE,
+        READ,
+    ),
+    ("files = { 'cpu.weight' = { gid = 5 } }", SHAPE, READ),
+    ("files = { 'cpu.weight' = { gid = -1 } }", SHAPE, BAD_ENTRY),
+    ("dir = { mode = 0o020 }", BAD_ENTRY, READ),
+    ("dir = { mode = 0o777 }", BAD_ENTRY, READ),
+    ("dir = { mode = 0o1000 }", BAD_ENTRY, BAD_ENTRY),
+    (
+        "files = { 'cgroup.subtree_control' = { mode = 0o664 } }",
+        BAD_ENTRY,
+        READ,
+    ),
+    (
+        "files = { 'cgroup.max.depth' = { mode = 0o664 } }",
+        BAD_ENTRY,
+        READ,
+    ),
+    ("dir = { mode = 0o757 }", READ, READ),
+    (
+        "[[process]]\npid = 7\nuid = 0\ngid = 0\nat = '/a'",
+        NO_PROCESS,
+        NO_PROCESS,
+    ),
+];
+
 #[test]
 fn keys_of_both_formats(rt: HostRuntime) -> Result<(), Fail> {
-    for (keys, first, second) in [
-        ("dir = { gid = 0 }", "fault: tree shape cgroup 2", READ),
-        (
-            "dir = { gid = 4294967295 }",
-            "fault: tree shape cgroup 2",
-            READ,
-        ),
-        (
-            "dir = { gid = 4294967296 }",
-            "fault: tree shape cgroup 2",
-            "fault: tree bad-entry cgroup 2",
-        ),
-        (
-            "dir = { gid = -1 }",
-            "fault: tree shape cgroup 2",
-            "fault: tree bad-entry cgroup 2",
-        ),
-        (
-            "dir = { gid = \"0\" }",
-            "fault: tree shape cgroup 2",
-            "fault: tree shape cgroup 2",
-        ),
-        (
-            "files = { \"cgroup.procs\" = { gid = 5 } }",
-            "fault: tree shape cgroup 2",
-            READ,
-        ),
-        (
-            "files = { \"cgroup.subtree_control\" = { gid = 5 } }",
-            "fault: tree shape cgroup 2",
-            READ,
-        ),
-        (
-            "files = { \"cpu.weight\" = { gid = 5 } }",
-            "fault: tree shape cgroup 2",
-            READ,
-        ),
-        (
-            "files = { \"cpu.weight\" = { gid = -1 } }",
-            "fault: tree shape cgroup 2",
-            "fault: tree bad-entry cgroup 2",
-        ),
-        (
-            "dir = { mode = 0o020 }",
-            "fault: tree bad-entry cgroup 2",
-            READ,
-        ),
-        (
-            "dir = { mode = 0o777 }",
-            "fault: tree bad-entry cgroup 2",
-            READ,
-        ),
-        (
-            "dir = { mode = 0o1000 }",
-            "fault: tree bad-entry cgroup 2",
-            "fault: tree bad-entry cgroup 2",
-        ),
-        (
-            "files = { \"cgroup.subtree_control\" = { mode = 0o664 } }",
-            "fault: tree bad-entry cgroup 2",
-            READ,
-        ),
-        (
-            "files = { \"cgroup.max.depth\" = { mode = 0o664 } }",
-            "fault: tree bad-entry cgroup 2",
-            READ,
-        ),
-        ("dir = { mode = 0o757 }", READ, READ),
-        (
-            "[[process]]\npid = 7\nuid = 0\ngid = 0\nat = \"/a\"",
-            "fault: tree shape process 1",
-            "fault: tree shape process 1",
-        ),
-    ] {
+    for (keys, first, second) in KEYS {
         expect(&rt, rt.alloc(), Parts { keys, ..BASE }, first)?;
         let parts = Parts {
             top: FORMAT_2,
@@ -124,7 +93,7 @@ fn keys_of_both_formats(rt: HostRuntime) -> Result<(), Fail> {
 #[test]
 fn a_group_is_kept(rt: HostRuntime) -> Result<(), Fail> {
     let keys =
-        "dir = { gid = 4294967295, mode = 0o775 }\nfiles = { \"cgroup.procs\" = { uid = 3, gid = 5, mode = 0o020 } }";
+        "dir = { gid = 4294967295, mode = 0o775 }\nfiles = { 'cgroup.procs' = { uid = 3, gid = 5, mode = 0o020 } }";
     let text = text_of(
         rt.alloc(),
         Parts {

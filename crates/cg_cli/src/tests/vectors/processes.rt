@@ -10,46 +10,37 @@ fn process(alloc: Global, pid: &str, uid: &str, at: &str) -> Result<String, Allo
     format!(in alloc; "[[process]]\npid = {pid}\nuid = {uid}\nat = {at}\n")
 }
 
+const BAD_PID: &str = "fault: tree bad-pid process 1";
+
+const BAD_ENTRY: &str = "fault: tree bad-entry process 1";
+
+const NO_PLACE: &str = "fault: tree no-such-place process 1";
+
+const SHAPE: &str = "fault: tree shape process 1";
+
+/// `pid`, `uid` and `at` of one process, and what is said.
+const ALONE: [(&str, &str, &str, &str); 16] = [
+    ("4194303", "4294967295", "'/a'", READ),
+    ("1", "0", "'/'", READ),
+    ("0", "4294967295", "'/a'", BAD_PID),
+    ("4194304", "4294967295", "'/a'", BAD_PID),
+    ("-1", "4294967295", "'/a'", BAD_PID),
+    ("4294967297", "0", "'/a'", BAD_PID),
+    ("7", "4294967296", "'/a'", BAD_ENTRY),
+    ("7", "-1", "'/a'", BAD_ENTRY),
+    ("7", "0", "'/zz'", NO_PLACE),
+    ("7", "0", "'zz'", NO_PLACE),
+    ("7", "0", "''", NO_PLACE),
+    ("7", "0", "'/a/cgroup.procs'", NO_PLACE),
+    ("'7'", "0", "'/a'", SHAPE),
+    ("7", "0.0", "'/a'", SHAPE),
+    ("7", "0", "0", SHAPE),
+    ("7", "0", "'/a'\ngid = 0", SHAPE),
+];
+
 #[test]
 fn processes_alone(rt: HostRuntime) -> Result<(), Fail> {
-    for (pid, uid, at, line) in [
-        ("4194303", "4294967295", "\"/a\"", READ),
-        ("1", "0", "\"/\"", READ),
-        ("0", "4294967295", "\"/a\"", "fault: tree bad-pid process 1"),
-        (
-            "4194304",
-            "4294967295",
-            "\"/a\"",
-            "fault: tree bad-pid process 1",
-        ),
-        (
-            "-1",
-            "4294967295",
-            "\"/a\"",
-            "fault: tree bad-pid process 1",
-        ),
-        ("4294967297", "0", "\"/a\"", "fault: tree bad-pid process 1"),
-        (
-            "7",
-            "4294967296",
-            "\"/a\"",
-            "fault: tree bad-entry process 1",
-        ),
-        ("7", "-1", "\"/a\"", "fault: tree bad-entry process 1"),
-        ("7", "0", "\"/zz\"", "fault: tree no-such-place process 1"),
-        ("7", "0", "\"zz\"", "fault: tree no-such-place process 1"),
-        ("7", "0", "\"\"", "fault: tree no-such-place process 1"),
-        (
-            "7",
-            "0",
-            "\"/a/cgroup.procs\"",
-            "fault: tree no-such-place process 1",
-        ),
-        ("\"7\"", "0", "\"/a\"", "fault: tree shape process 1"),
-        ("7", "0.0", "\"/a\"", "fault: tree shape process 1"),
-        ("7", "0", "0", "fault: tree shape process 1"),
-        ("7", "0", "\"/a\"\ngid = 0", "fault: tree shape process 1"),
-    ] {
+    for (pid, uid, at, line) in ALONE {
         let rest = process(rt.alloc(), pid, uid, at)?;
         let parts = Parts {
             rest: rest.as_str(),
@@ -64,8 +55,8 @@ fn processes_alone(rt: HostRuntime) -> Result<(), Fail> {
 fn keys_that_are_missing(rt: HostRuntime) -> Result<(), Fail> {
     for rest in [
         "[[process]]\npid = 4194303\nuid = 4294967295",
-        "[[process]]\npid = 4194303\nat = \"/a\"",
-        "[[process]]\nuid = 4294967295\nat = \"/a\"",
+        "[[process]]\npid = 4194303\nat = '/a'",
+        "[[process]]\nuid = 4294967295\nat = '/a'",
         "[[process]]",
     ] {
         expect(
@@ -80,7 +71,7 @@ fn keys_that_are_missing(rt: HostRuntime) -> Result<(), Fail> {
 
 #[test]
 fn a_process_twice(rt: HostRuntime) -> Result<(), Fail> {
-    let one = process(rt.alloc(), "4194303", "4294967295", "\"/a\"")?;
+    let one = process(rt.alloc(), "4194303", "4294967295", "'/a'")?;
     let rest = format!(in rt.alloc(); "{one}{one}")?;
     let parts = Parts {
         rest: rest.as_str(),
@@ -92,7 +83,7 @@ fn a_process_twice(rt: HostRuntime) -> Result<(), Fail> {
         parts,
         "fault: tree duplicate-pid process 2",
     )?;
-    let other = process(rt.alloc(), "4194302", "4294967295", "\"/a\"")?;
+    let other = process(rt.alloc(), "4194302", "4294967295", "'/a'")?;
     let rest = format!(in rt.alloc(); "{one}{other}")?;
     expect(
         &rt,
@@ -108,12 +99,12 @@ fn a_process_twice(rt: HostRuntime) -> Result<(), Fail> {
 #[test]
 fn a_process_where_a_controller_is_enabled(rt: HostRuntime) -> Result<(), Fail> {
     for (at, line) in [
-        ("\"/a\"", "fault: tree internal-process process 1"),
-        ("\"/\"", READ),
+        ("'/a'", "fault: tree internal-process process 1"),
+        ("'/'", READ),
     ] {
         let rest = process(rt.alloc(), "4194303", "4294967295", at)?;
         let parts = Parts {
-            keys: "enabled = [\"cpu\"]",
+            keys: "enabled = ['cpu']",
             rest: rest.as_str(),
             ..BASE
         };
@@ -125,7 +116,7 @@ fn a_process_where_a_controller_is_enabled(rt: HostRuntime) -> Result<(), Fail> 
 #[test]
 fn a_process_is_kept(rt: HostRuntime) -> Result<(), Fail> {
     let alloc = rt.alloc();
-    let rest = process(alloc, "4194303", "4294967295", "\"/a\"")?;
+    let rest = process(alloc, "4194303", "4294967295", "'/a'")?;
     let text = text_of(
         alloc,
         Parts {
@@ -147,9 +138,9 @@ fn a_process_is_kept(rt: HostRuntime) -> Result<(), Fail> {
 
 #[test]
 fn a_process_is_moved(rt: HostRuntime) -> Result<(), Fail> {
-    let rest = process(rt.alloc(), "4194303", "4294967295", "\"/a\"")?;
+    let rest = process(rt.alloc(), "4194303", "4294967295", "'/a'")?;
     let parts = Parts {
-        root: "files = { \"cgroup.procs\" = { mode = 0o646 } }",
+        root: "files = { 'cgroup.procs' = { mode = 0o646 } }",
         rest: rest.as_str(),
         ..BASE
     };

@@ -108,18 +108,15 @@ fn the_longest_path(rt: HostRuntime) -> Result<(), Fail> {
 #[test]
 fn rows_that_do_not_go_together(rt: HostRuntime) -> Result<(), Fail> {
     for (rest, line) in [
+        ("[[cgroup]]\npath = '/a'", "fault: tree duplicate cgroup 3"),
+        ("[[cgroup]]\npath = '/'", "fault: tree duplicate cgroup 3"),
         (
-            "[[cgroup]]\npath = \"/a\"",
-            "fault: tree duplicate cgroup 3",
-        ),
-        ("[[cgroup]]\npath = \"/\"", "fault: tree duplicate cgroup 3"),
-        (
-            "[[cgroup]]\npath = \"/b/c\"",
+            "[[cgroup]]\npath = '/b/c'",
             "fault: tree no-parent cgroup 3",
         ),
-        ("[[cgroup]]\npath = \"/aa\"", READ),
+        ("[[cgroup]]\npath = '/aa'", READ),
         (
-            "[[cgroup]]\npath = \"/a/b/c\"\n[[cgroup]]\npath = \"/a/b\"",
+            "[[cgroup]]\npath = '/a/b/c'\n[[cgroup]]\npath = '/a/b'",
             READ,
         ),
     ] {
@@ -131,20 +128,17 @@ fn rows_that_do_not_go_together(rt: HostRuntime) -> Result<(), Fail> {
 #[test]
 fn what_cgroups_enable(rt: HostRuntime) -> Result<(), Fail> {
     for (keys, line) in [
-        ("enabled = [\"cpu\"]", READ),
-        ("enabled = [\"cpu\", \"cpu\"]", READ),
+        ("enabled = ['cpu']", READ),
+        ("enabled = ['cpu', 'cpu']", READ),
         ("enabled = []", READ),
-        ("enabled = [\"io\"]", "fault: tree bad-controller cgroup 2"),
-        ("enabled = [\"Cpu\"]", "fault: tree bad-controller cgroup 2"),
+        ("enabled = ['io']", "fault: tree bad-controller cgroup 2"),
+        ("enabled = ['Cpu']", "fault: tree bad-controller cgroup 2"),
         (
-            "enabled = [\"cpu\", \"\"]",
+            "enabled = ['cpu', '']",
             "fault: tree bad-controller cgroup 2",
         ),
-        ("enabled = [\"memory\"]", "fault: tree top-down cgroup 2"),
-        (
-            "enabled = [\"cpu\", \"pids\"]",
-            "fault: tree top-down cgroup 2",
-        ),
+        ("enabled = ['memory']", "fault: tree top-down cgroup 2"),
+        ("enabled = ['cpu', 'pids']", "fault: tree top-down cgroup 2"),
     ] {
         expect(&rt, rt.alloc(), Parts { keys, ..BASE }, line)?;
     }
@@ -154,11 +148,11 @@ fn what_cgroups_enable(rt: HostRuntime) -> Result<(), Fail> {
 #[test]
 fn what_the_root_has(rt: HostRuntime) -> Result<(), Fail> {
     for (controllers, line) in [
-        ("[\"io\"]", "fault: tree bad-controller top"),
-        ("[\"cpu\", \"io\"]", "fault: tree bad-controller top"),
+        ("['io']", "fault: tree bad-controller top"),
+        ("['cpu', 'io']", "fault: tree bad-controller top"),
         ("[]", "fault: tree top-down cgroup 1"),
-        ("[\"memory\", \"pids\"]", "fault: tree top-down cgroup 1"),
-        ("[\"pids\", \"cpu\", \"memory\", \"cpu\"]", READ),
+        ("['memory', 'pids']", "fault: tree top-down cgroup 1"),
+        ("['pids', 'cpu', 'memory', 'cpu']", READ),
     ] {
         let top = format!(in rt.alloc(); "format = 1\ncontrollers = {controllers}")?;
         let parts = Parts {

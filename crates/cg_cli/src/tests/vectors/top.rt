@@ -1,59 +1,54 @@
 //! The top table, the form of the text, and how much it may hold.
-use super::{Asked, BASE, Parts, READ, TO_A, expect, expect_line, text_of};
+use super::{Asked, BASE, Parts, READ, TO_A, expect, expect_line, repeated, text_of};
 use cg_text::tree::read_tree;
 use cg_tree::hierarchy::Hierarchy;
 use cg_tree::process::Pid;
 use std::alloc::{AllocError, Global};
 use std::test::Fail;
 
+const SHAPE: &str = "fault: tree shape top";
+
+const NO_ROOT: &str = "fault: tree no-root";
+
+/// Texts, and what is said.
+const TEXTS: [(&str, &str); 20] = [
+    ("", SHAPE),
+    ("format = 1", SHAPE),
+    ("controllers = []", SHAPE),
+    ("format = 1.0\ncontrollers = []", SHAPE),
+    ("format = '1'\ncontrollers = []", SHAPE),
+    ("format = 1\ncontrollers = 'cpu'", SHAPE),
+    ("format = 1\ncontrollers = [1]", SHAPE),
+    ("format = 1\ncontrollers = []\ncgroup = 1", SHAPE),
+    ("format = 1\ncontrollers = []\n[cgroup]\npath = '/'", SHAPE),
+    ("format = 1\ncontrollers = []\nprocess = {}", SHAPE),
+    ("format = 3\ncontrollers = []\nx = 1", SHAPE),
+    ("format = 3\ncontrollers = []", "fault: tree format"),
+    ("format = 0\ncontrollers = []", "fault: tree format"),
+    ("format = -1\ncontrollers = []", "fault: tree format"),
+    ("format = 1\ncontrollers = []", NO_ROOT),
+    ("format = 2\ncontrollers = []", NO_ROOT),
+    (
+        "format = 1\ncontrollers = []\ncgroup = []\nprocess = []",
+        NO_ROOT,
+    ),
+    (
+        "format = 1\ncontrollers = []\ncgroup = [{ path = '/a' }, { path = '/' }]",
+        READ,
+    ),
+    (
+        "format = 1\ncontrollers = []\ncgroup = [1]",
+        "fault: tree shape cgroup 1",
+    ),
+    (
+        "format = 1\ncontrollers = []\nprocess = [1]",
+        "fault: tree shape process 1",
+    ),
+];
+
 #[test]
 fn keys_of_the_top_table(rt: HostRuntime) -> Result<(), Fail> {
-    for (text, line) in [
-        ("", "fault: tree shape top"),
-        ("format = 1", "fault: tree shape top"),
-        ("controllers = []", "fault: tree shape top"),
-        ("format = 1.0\ncontrollers = []", "fault: tree shape top"),
-        ("format = \"1\"\ncontrollers = []", "fault: tree shape top"),
-        ("format = 1\ncontrollers = \"cpu\"", "fault: tree shape top"),
-        ("format = 1\ncontrollers = [1]", "fault: tree shape top"),
-        (
-            "format = 1\ncontrollers = []\ncgroup = 1",
-            "fault: tree shape top",
-        ),
-        (
-            "format = 1\ncontrollers = []\n[cgroup]\npath = \"/\"",
-            "fault: tree shape top",
-        ),
-        (
-            "format = 1\ncontrollers = []\nprocess = {}",
-            "fault: tree shape top",
-        ),
-        (
-            "format = 3\ncontrollers = []\nx = 1",
-            "fault: tree shape top",
-        ),
-        ("format = 3\ncontrollers = []", "fault: tree format"),
-        ("format = 0\ncontrollers = []", "fault: tree format"),
-        ("format = -1\ncontrollers = []", "fault: tree format"),
-        ("format = 1\ncontrollers = []", "fault: tree no-root"),
-        ("format = 2\ncontrollers = []", "fault: tree no-root"),
-        (
-            "format = 1\ncontrollers = []\ncgroup = []\nprocess = []",
-            "fault: tree no-root",
-        ),
-        (
-            "format = 1\ncontrollers = []\ncgroup = [{ path = \"/a\" }, { path = \"/\" }]",
-            READ,
-        ),
-        (
-            "format = 1\ncontrollers = []\ncgroup = [1]",
-            "fault: tree shape cgroup 1",
-        ),
-        (
-            "format = 1\ncontrollers = []\nprocess = [1]",
-            "fault: tree shape process 1",
-        ),
-    ] {
+    for (text, line) in TEXTS {
         expect_line(&rt, rt.alloc(), text.as_bytes(), TO_A, line)?;
     }
     Ok(())
@@ -68,23 +63,36 @@ fn bytes_that_are_no_document(rt: HostRuntime) -> Result<(), Fail> {
         b"format = 9223372036854775808".as_slice(),
         b"format = 1\r".as_slice(),
         b"format = 1 controllers = []".as_slice(),
-        b"controllers = [\"\xc3\"]".as_slice(),
+        b"controllers = ['\xc3']".as_slice(),
         b"\0".as_slice(),
     ] {
         expect_line(&rt, rt.alloc(), text, TO_A, "fault: tree not-toml")?;
     }
     let parts = Parts {
-        keys: "path = \"/a\"",
+        keys: "path = '/a'",
         ..BASE
     };
     expect(&rt, rt.alloc(), parts, "fault: tree not-toml")
+}
+
+#[test]
+fn rows_of_nothing(rt: HostRuntime) -> Result<(), Fail> {
+    for (count, line) in [
+        (4096, "fault: tree shape cgroup 1"),
+        (4097, "fault: tree too-many"),
+    ] {
+        let rows = repeated(rt.alloc(), "[[cgroup]]\n", count)?;
+        let text = format!(in rt.alloc(); "format = 1\ncontrollers = []\n{rows}")?;
+        expect_line(&rt, rt.alloc(), text.as_bytes(), TO_A, line)?;
+    }
+    Ok(())
 }
 
 /// The base text, and below it as many rows as make `count` cgroups.
 fn with_cgroups(alloc: Global, count: usize) -> Result<String, AllocError> {
     let mut text = text_of(alloc, BASE)?;
     for number in 2..count {
-        let row = format!(in alloc; "[[cgroup]]\npath = \"/r{number}\"\n")?;
+        let row = format!(in alloc; "[[cgroup]]\npath = '/r{number}'\n")?;
         text.push_str(row.as_str())?;
     }
     Ok(text)
@@ -94,7 +102,7 @@ fn with_cgroups(alloc: Global, count: usize) -> Result<String, AllocError> {
 fn with_processes(alloc: Global, count: usize) -> Result<String, AllocError> {
     let mut text = text_of(alloc, BASE)?;
     for pid in 1..=count {
-        let row = format!(in alloc; "[[process]]\npid = {pid}\nuid = 1000\nat = \"/a\"\n")?;
+        let row = format!(in alloc; "[[process]]\npid = {pid}\nuid = 1000\nat = '/a'\n")?;
         text.push_str(row.as_str())?;
     }
     Ok(text)

@@ -185,7 +185,8 @@ fn the_processes_of_the_delegation_example(rt: HostRuntime) -> Result<(), Fail> 
     ] {
         expect_process(&rt, &tree, pid, uid, place)?;
     }
-    assert_eq!(rt; tree.pids(rt.alloc())?.len(), 2);
+    let pids = [Pid::new(10).ok_or("a PID")?, Pid::new(11).ok_or("a PID")?];
+    assert_eq!(rt; tree.pids(rt.alloc())?.as_slice(), pids.as_slice());
     Ok(())
 }
 
@@ -215,6 +216,7 @@ fn a_delegated_parent(rt: HostRuntime) -> Result<(), Fail> {
         expect_cgroup(&rt, alloc, &tree, path, wanted)?;
     }
     expect_process(&rt, &tree, 20, Some(1000), Some("/p/s"))?;
-    assert_eq!(rt; tree.pids(alloc)?.len(), 1);
+    let pids = [Pid::new(20).ok_or("a PID")?];
+    assert_eq!(rt; tree.pids(alloc)?.as_slice(), pids.as_slice());
     Ok(())
 }
