@@ -38,7 +38,7 @@ pub const TO_A: Asked<'static> = Asked {
     to: "/a",
 };
 
-/// What is said of `TO_A` where `/a` is there, its `cgroup.procs` is as nothing says, and no fault is in the text.
+/// What is said of `TO_A` where a text without a fault has `/a` and leaves its `cgroup.procs` to uid 0.
 pub const READ: &str = "refused no-access /a cgroup.procs";
 
 /// What the calls say of a text: the report where both read it, the line of the fault where both refuse it and nothing
@@ -52,8 +52,8 @@ fn said(alloc: Global, text: &[u8], asked: Asked<'_>) -> Result<Option<Vec<u8>>,
     let status = may_bytes(alloc, text, user, asked.pid, asked.to, &mut out);
     match (read_tree(alloc, text), status) {
         (Ok(_), Ok(status)) => {
-            let is_granted = out.as_slice() == b"granted\n".as_slice();
-            Ok((is_granted == (status == 0)).then_some(out))
+            let is_refused = out.as_slice() != b"granted\n".as_slice();
+            Ok((status == u8::from(is_refused)).then_some(out))
         }
         (Err(fault), Err(said)) if CliFault::from(fault) == said && out.is_empty() => {
             Ok(Some(fault_text(alloc, &said)?))
