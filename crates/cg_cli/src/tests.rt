@@ -3,5 +3,6 @@ mod input;
 mod may;
 mod readers;
 mod trees;
+mod vectors;
 mod writers;
 mod written;
