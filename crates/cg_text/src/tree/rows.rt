@@ -82,11 +82,10 @@ pub fn cgroups_by_path(
 {
     let mut table = BTreeMap::new(alloc);
     for (index, row) in rows.iter().enumerate() {
-        if table.contains_key(&row.path) {
+        let path = row.path.try_clone(alloc)?;
+        if table.insert(path, row.cgroup)?.is_some() {
             return Err(TreeFault::Duplicate(Place::Cgroup(row_number(index))));
         }
-        let path = row.path.try_clone(alloc)?;
-        table.insert(path, row.cgroup)?;
     }
     Ok(table)
 }

@@ -4,7 +4,7 @@ ghost use Rattle.std.specs.Option.{option_copied};
 ghost use Rattle.std.specs.List.{list_all};
 ghost use Rattle.std.specs.FinMap as map;
 ghost use Rattle.cg_tree.specs.Paths.{is_root, parent};
-ghost use Rattle.cg_tree.specs.Files.{stands_under};
+ghost use Rattle.cg_tree.specs.Files.{is_within, stands_under};
 ghost use Rattle.cg_tree.specs.Cgroups.{file_of};
 ghost use Rattle.cg_text.specs.Faults.{Passes};
 ghost use Rattle.cg_text.specs.Tree.{first_row, enabled_by, enabled_over, available_to, files_stand, no_parent, top_down, no_such_file};
@@ -76,6 +76,24 @@ fn files_stand(above: ControllerSet, cgroup: &Cgroup) -> bool
     stand(above, cgroup, &LimitFile::ALL)
 }
 
+/// Whether a row enables only what its parent does, and the root only what there is.
+fn is_top_down(cgroups: &PathTable<Cgroup>, controllers: ControllerSet, row: &NamedRow) -> bool
+    ensures { result ≡ is_within row.now.cgroup.enabled (available_to (map.get cgroups.now) controllers row.now.path) }
+{
+    let enabled = row.cgroup.enabled;
+    // most rows enable nothing, and their parent isn't looked up
+    enabled.is_empty() || enabled.is_within(&from_parent(cgroups, &row.path, controllers))
+}
+
+/// Whether each limit file that a row names stands at its cgroup.
+fn has_its_files(cgroups: &PathTable<Cgroup>, row: &NamedRow) -> bool
+    ensures { result ≡ files_stand (enabled_over (map.get cgroups.now) row.now.path) row.now.cgroup }
+{
+    // the files of every cgroup stand where nothing is enabled, and most rows name no others
+    files_stand(ControllerSet::none(), &row.cgroup)
+        || files_stand(enabled_over(cgroups, &row.path), &row.cgroup)
+}
+
 /// Tests that each row's parent is there.
 pub fn check_parents(cgroups: &PathTable<Cgroup>, rows: &[NamedRow]) -> Result<(), TreeFault>
     requires { length rows.now ≤ 4096 }
@@ -99,8 +117,7 @@ pub fn check_top_down(
     ensures { Passes (λ _. Unit {0}) (first_row (top_down (map.get cgroups.now) controllers) 0 rows.now) result }
 {
     for (index, row) in rows.iter().enumerate() {
-        let available = from_parent(cgroups, &row.path, controllers);
-        if !row.cgroup.enabled.is_within(&available) {
+        if !is_top_down(cgroups, controllers, row) {
             return Err(TreeFault::TopDown(Place::Cgroup(row_number(index))));
         }
     }
@@ -113,7 +130,7 @@ pub fn check_files(cgroups: &PathTable<Cgroup>, rows: &[NamedRow]) -> Result<(),
     ensures { Passes (λ _. Unit {0}) (first_row (no_such_file (map.get cgroups.now)) 0 rows.now) result }
 {
     for (index, row) in rows.iter().enumerate() {
-        if !files_stand(enabled_over(cgroups, &row.path), &row.cgroup) {
+        if !has_its_files(cgroups, row) {
             return Err(TreeFault::NoSuchFile(Place::Cgroup(row_number(index))));
         }
     }

@@ -13,7 +13,7 @@ use Rattle.cg_text.proofs.tree.rows.cgroups_by_path.Goals as goal
 pub loop-index-preserved : goal.loop-index-preserved
 loop-index-preserved c =
     let row = c.index-rows-index.result in
-    let absent : get path_cmp c.loop-index.table row.path ≡ None = none_value _ (sym c.if-contains_key.ensures) in
+    let absent : get path_cmp c.loop-index.table row.path ≡ None = sym (c.in_ok-insert.ensures.old ∙ ap (get path_cmp c.loop-index.table) c.in_ok-path.ensures) ∙ none_value _ (sym c.if-is_some.ensures) in
     let new : duplicate c.args.rows.now c.loop-index.index row ≡ None = ap (λ found. unless (not (is_some found)) (Duplicate (Cgroup (c.loop-index.index + 1)))) (sym (c.loop-index.invariant.2 row.path) ∙ absent) in (
       first_row_next (duplicate c.args.rows.now) c.loop-index.index c.args.rows.now row _ c.loop-index-test.true c.index-rows-index.is new c.loop-index.invariant.0,
       c.in_ok-insert.ensures.ordered,
