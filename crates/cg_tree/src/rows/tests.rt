@@ -1,121 +1,20 @@
-//! Each call of a tree once, on trees worked out by hand.
+//! Each call of a tree, on trees worked out by hand.
 mod fixtures;
+mod readings;
 
-use crate::cgroup::Cgroup;
 use crate::files::{Controller, ControllerSet, EntryName, Limit, LimitFile};
 use crate::hierarchy::Hierarchy;
-use crate::memory::NoMemory;
-use crate::path::Path;
 use crate::process::Pid;
-use crate::rows::Rows;
 use crate::user::{Entry, Mode, User};
-use fixtures::{MEMORY, Owners, delegation, nested, open_delegation, path};
-use std::alloc::Global;
-use std::process::Abort;
+use fixtures::{
+    MEMORY, Owners, add, add_process, delegation, end_process, nested, open_delegation, path,
+    remove, set_enabled, set_limit, set_mode, set_place,
+};
+use readings::{
+    cgroup, check_counts, check_entries, check_gone, check_holds, check_limits, check_lists,
+    check_places, check_uses,
+};
 use std::test::Fail;
-
-/// How many cgroups lie below a cgroup, and how many levels down.
-fn counts<H: Hierarchy>(tree: &H, path: &Path, len: usize) -> Option<(u64, u64)> {
-    if len > path.depth() || tree.get(path, len).is_none() {
-        return None;
-    }
-    Some((tree.count_below(path, len), tree.depth_below(path, len)))
-}
-
-/// Whether a cgroup has a child, and whether it has a process.
-fn holds<H: Hierarchy>(tree: &H, path: &Path, len: usize) -> Option<(bool, bool)> {
-    if len > path.depth() || tree.get(path, len).is_none() {
-        return None;
-    }
-    Some((tree.has_child(path, len), tree.has_live(path, len)))
-}
-
-/// Whether a child of a cgroup enables a controller.
-fn uses<H: Hierarchy>(tree: &H, path: &Path, controller: Controller) -> Option<bool> {
-    if tree.get(path, path.depth()).is_none() {
-        return None;
-    }
-    Some(tree.child_enables(path, path.depth(), controller))
-}
-
-/// A cgroup.
-fn cgroup<H: Hierarchy>(alloc: Global, tree: &H, text: &str) -> Result<Cgroup, Fail> {
-    let path = path(alloc, text)?;
-    Ok(*tree.get(&path, path.depth()).ok_or("no cgroup")?)
-}
-
-/// The texts of all paths, a space before each.
-fn texts<H: Hierarchy>(alloc: Global, tree: &H) -> Result<String, Fail> {
-    let mut text = String::new(alloc);
-    for path in &tree.paths(alloc)? {
-        text.push(' ')?;
-        text.push_str(path.prefix(path.depth()))?;
-    }
-    Ok(text)
-}
-
-/// The numbers of all processes.
-fn numbers<H: Hierarchy>(alloc: Global, tree: &H) -> Result<Vec<u32>, NoMemory> {
-    let pids = tree.pids(alloc)?;
-    Ok(pids.iter().map(|pid| pid.get()).collect(alloc)?)
-}
-
-/// Whether a process is live, and is user 1000's and in a cgroup.
-fn is_at<H: Hierarchy>(tree: &H, pid: Pid, text: &str) -> bool {
-    let Some(place) = tree.place(pid) else {
-        return false;
-    };
-    place.prefix(place.depth()) == text && tree.owner(pid) == Some(1000) && tree.is_used(pid)
-}
-
-/// Compares what a tree counts below the first names of paths.
-fn check_counts<H: Hierarchy>(
-    rt: &impl Abort,
-    alloc: Global,
-    tree: &H,
-    wanted: &[(&str, usize, (u64, u64))],
-) -> Result<(), Fail> {
-    for (text, len, below) in wanted {
-        assert_eq!(rt;
-            counts(tree, &path(alloc, text)?, *len),
-            Some(*below),
-            "{text} {len}"
-        );
-    }
-    Ok(())
-}
-
-/// Compares whether the cgroups of the first names of paths have children and processes.
-fn check_holds<H: Hierarchy>(
-    rt: &impl Abort,
-    alloc: Global,
-    tree: &H,
-    wanted: &[(&str, usize, (bool, bool))],
-) -> Result<(), Fail> {
-    for (text, len, has) in wanted {
-        assert_eq!(rt;
-            holds(tree, &path(alloc, text)?, *len),
-            Some(*has),
-            "{text} {len}"
-        );
-    }
-    Ok(())
-}
-
-/// Compares where processes are.
-fn check_places<H: Hierarchy>(
-    rt: &impl Abort,
-    tree: &H,
-    wanted: &[(u32, &str)],
-) -> Result<(), Fail> {
-    for (number, text) in wanted {
-        assert!(rt;
-            is_at(tree, Pid::new(*number).ok_or("no PID")?, text),
-            "{number}"
-        );
-    }
-    Ok(())
-}
 
 /// The entry of a user without groups, or of uid 0.
 fn entry(uid: u32, mode: u16) -> Option<Entry> {
@@ -124,7 +23,8 @@ fn entry(uid: u32, mode: u16) -> Option<Entry> {
 
 #[test]
 fn counts_what_lies_below(rt: HostRuntime) -> Result<(), Fail> {
-    let tree = delegation(&rt, rt.alloc())?;
+    let a = rt.alloc();
+    let tree = delegation(&rt, a)?;
     let wanted = [
         ("/", 0, (5, 2)),
         ("/c0", 1, (2, 1)),
@@ -134,23 +34,24 @@ fn counts_what_lies_below(rt: HostRuntime) -> Result<(), Fail> {
         ("/c1", 1, (1, 1)),
         ("/c1/c10", 0, (5, 2)),
     ];
-    check_counts(&rt, rt.alloc(), &tree, &wanted)?;
-    let open = open_delegation(&rt, rt.alloc())?;
+    check_counts(&rt, a, &tree, &wanted)?;
+    let open = open_delegation(&rt, a)?;
     let wanted = [
         ("/", 0, (6, 2)),
         ("/c0", 1, (2, 1)),
         ("/c01", 1, (0, 0)),
         ("/c1", 1, (1, 1)),
     ];
-    check_counts(&rt, rt.alloc(), &open, &wanted)?;
-    let nested = nested(&rt, rt.alloc())?;
+    check_counts(&rt, a, &open, &wanted)?;
+    let nested = nested(&rt, a)?;
     let wanted = [("/", 0, (2, 2)), ("/p", 1, (1, 1)), ("/p/s", 2, (0, 0))];
-    check_counts(&rt, rt.alloc(), &nested, &wanted)
+    check_counts(&rt, a, &nested, &wanted)
 }
 
 #[test]
 fn tells_children_and_processes(rt: HostRuntime) -> Result<(), Fail> {
-    let open = open_delegation(&rt, rt.alloc())?;
+    let a = rt.alloc();
+    let open = open_delegation(&rt, a)?;
     let wanted = [
         ("/", 0, (true, false)),
         ("/c0", 1, (true, false)),
@@ -161,76 +62,212 @@ fn tells_children_and_processes(rt: HostRuntime) -> Result<(), Fail> {
         ("/c1", 1, (true, false)),
         ("/c1/c10", 2, (false, true)),
     ];
-    check_holds(&rt, rt.alloc(), &open, &wanted)?;
-    let nested = nested(&rt, rt.alloc())?;
+    check_holds(&rt, a, &open, &wanted)?;
+    let nested = nested(&rt, a)?;
     let wanted = [
         ("/", 0, (true, false)),
         ("/p", 1, (true, false)),
         ("/p/s", 2, (false, true)),
     ];
-    check_holds(&rt, rt.alloc(), &nested, &wanted)
+    check_holds(&rt, a, &nested, &wanted)
 }
 
 #[test]
 fn tells_controllers(rt: HostRuntime) -> Result<(), Fail> {
     let a = rt.alloc();
     let tree = delegation(&rt, a)?;
+    let wanted = [
+        ("/", Controller::Memory, Some(false)),
+        ("/c1", Controller::Cpu, Some(false)),
+        ("/c0/c02", Controller::Memory, None),
+    ];
+    check_uses(&rt, a, &tree, &wanted)?;
     let nested = nested(&rt, a)?;
+    let wanted = [
+        ("/", Controller::Memory, Some(true)),
+        ("/", Controller::Cpu, Some(false)),
+        ("/p", Controller::Memory, Some(false)),
+    ];
+    check_uses(&rt, a, &nested, &wanted)?;
     assert_eq!(rt; nested.controllers(), MEMORY);
     assert!(rt; tree.controllers().contains(Controller::Pids));
-    let wanted = [
-        ("/", Controller::Memory, true),
-        ("/", Controller::Cpu, false),
-        ("/p", Controller::Memory, false),
-    ];
-    for (text, controller, is_used) in wanted {
-        assert_eq!(rt;
-            uses(&nested, &path(a, text)?, controller),
-            Some(is_used),
-            "{text}"
-        );
-    }
-    assert_eq!(rt;
-        uses(&tree, &path(a, "/")?, Controller::Memory),
-        Some(false)
-    );
-    assert_eq!(rt; uses(&tree, &path(a, "/c0/c02")?, Controller::Memory), None);
     Ok(())
 }
 
 #[test]
-fn lists_in_order(rt: HostRuntime) -> Result<(), Fail> {
+fn lists_paths_and_processes(rt: HostRuntime) -> Result<(), Fail> {
     let a = rt.alloc();
-    let tree = delegation(&rt, a)?;
-    assert_eq!(rt;
-        texts(a, &tree)?.as_str(),
-        " / /c0 /c0/c00 /c0/c01 /c1 /c1/c10"
-    );
-    assert_eq!(rt; numbers(a, &tree)?.as_slice(), [10, 11].as_slice());
-    let mut open = open_delegation(&rt, a)?;
-    assert_eq!(rt;
-        texts(a, &open)?.as_str(),
-        " / /c0 /c0/c00 /c0/c01 /c01 /c1 /c1/c10"
-    );
-    assert_eq!(rt; numbers(a, &open)?.as_slice(), [10, 11, 14].as_slice());
-    assert!(rt; fixtures::add(a, &mut open, &path(a, "/c0-x")?, Owners::KEPT)?);
-    assert_eq!(rt;
-        texts(a, &open)?.as_str(),
-        " / /c0 /c0/c00 /c0/c01 /c0-x /c01 /c1 /c1/c10"
-    );
-    Ok(())
+    let paths = " / /c0 /c0/c00 /c0/c01 /c1 /c1/c10";
+    check_lists(&rt, a, &delegation(&rt, a)?, paths, &[10, 11])?;
+    let paths = " / /c0 /c0/c00 /c0/c01 /c01 /c1 /c1/c10";
+    check_lists(&rt, a, &open_delegation(&rt, a)?, paths, &[10, 11, 14])?;
+    check_lists(&rt, a, &nested(&rt, a)?, " / /p /p/s", &[20])
 }
 
 #[test]
 fn finds_processes(rt: HostRuntime) -> Result<(), Fail> {
-    let open = open_delegation(&rt, rt.alloc())?;
-    let wanted = [(10, "/c1/c10"), (11, "/c0/c00"), (14, "/c01")];
+    let a = rt.alloc();
+    let open = open_delegation(&rt, a)?;
+    let wanted = [
+        (10, 1000, "/c1/c10"),
+        (11, 1000, "/c0/c00"),
+        (14, 1000, "/c01"),
+    ];
     check_places(&rt, &open, &wanted)?;
-    let nested = nested(&rt, rt.alloc())?;
-    check_places(&rt, &nested, &[(20, "/p/s")])?;
-    let absent = Pid::new(10).ok_or("no PID")?;
-    assert!(rt; nested.place(absent).is_none());
-    assert_eq!(rt; nested.owner(absent), None);
-    assert!(rt; !nested.is_used(absent));
+    check_gone(&rt, &open, &[(20, false)])?;
+    check_places(&rt, &nested(&rt, a)?, &[(20, 1000, "/p/s")])
+}
+
+#[test]
+fn gets_entries(rt: HostRuntime) -> Result<(), Fail> {
+    let a = rt.alloc();
+    let depth = EntryName::File(LimitFile::MaxDepth);
+    let memory = EntryName::File(LimitFile::MemoryMax);
+    let wanted = [
+        ("/", EntryName::Dir, entry(0, 0o755)),
+        ("/", EntryName::Procs, entry(0, 0o646)),
+        ("/c0", EntryName::Dir, entry(1000, 0o755)),
+        ("/c0", EntryName::SubtreeControl, entry(1000, 0o644)),
+        ("/c0", memory, entry(0, 0o644)),
+        ("/c0/c00", depth, entry(1000, 0o644)),
+        ("/c0/c00", memory, None),
+        ("/c01", EntryName::Procs, entry(1000, 0o644)),
+        ("/c01", EntryName::SubtreeControl, entry(0, 0o644)),
+    ];
+    check_entries(&rt, a, &open_delegation(&rt, a)?, &wanted)?;
+    let wanted = [
+        ("/p", EntryName::Dir, entry(1000, 0o755)),
+        ("/p", EntryName::SubtreeControl, entry(0, 0o644)),
+        ("/p/s", EntryName::Procs, entry(0, 0o644)),
+        ("/p/s", memory, entry(0, 0o644)),
+    ];
+    check_entries(&rt, a, &nested(&rt, a)?, &wanted)
+}
+
+#[test]
+fn gets_limits_and_controllers(rt: HostRuntime) -> Result<(), Fail> {
+    let a = rt.alloc();
+    let tree = delegation(&rt, a)?;
+    let wanted = [
+        ("/", LimitFile::MemoryMax, None),
+        ("/c0", LimitFile::MaxDepth, Some(Limit::At(2))),
+        ("/c0", LimitFile::MaxDescendants, Some(Limit::At(4))),
+        ("/c0", LimitFile::MemoryMin, Some(Limit::At(0))),
+        ("/c0", LimitFile::MemoryMax, Some(Limit::At(1073741824))),
+        ("/c0", LimitFile::PidsMax, None),
+        ("/c1", LimitFile::MemoryMax, Some(Limit::Max)),
+        ("/c0/c00", LimitFile::MaxDepth, Some(Limit::Max)),
+    ];
+    check_limits(&rt, a, &tree, &wanted)?;
+    let p = cgroup(a, &nested(&rt, a)?, "/p")?.ok_or("no /p")?;
+    assert_eq!(rt; p.enabled, MEMORY);
+    let c0 = cgroup(a, &tree, "/c0")?.ok_or("no /c0")?;
+    assert_eq!(rt; c0.enabled, ControllerSet::none());
+    assert_eq!(rt; cgroup(a, &tree, "/c0/c02")?, None);
+    Ok(())
+}
+
+#[test]
+fn sets_limits_and_modes(rt: HostRuntime) -> Result<(), Fail> {
+    let a = rt.alloc();
+    let file = LimitFile::MemoryLow;
+    let mut tree = delegation(&rt, a)?;
+    let c1 = path(a, "/c1")?;
+    assert!(rt; set_limit(&mut tree, &c1, file, Limit::At(7)));
+    let wanted = [
+        ("/c1", file, Some(Limit::At(7))),
+        ("/c1", LimitFile::MemoryHigh, Some(Limit::Max)),
+        ("/c0", file, Some(Limit::At(0))),
+    ];
+    check_limits(&rt, a, &tree, &wanted)?;
+    let mode = Mode::new(0o555).ok_or("over 0o777")?;
+    assert!(rt; set_mode(&mut tree, &c1, EntryName::Dir, mode));
+    let wanted = [
+        ("/c1", EntryName::Dir, entry(1000, 0o555)),
+        ("/c1", EntryName::Procs, entry(1000, 0o644)),
+        ("/c1", EntryName::File(file), entry(0, 0o644)),
+        ("/c1/c10", EntryName::Dir, entry(1000, 0o755)),
+    ];
+    check_entries(&rt, a, &tree, &wanted)
+}
+
+#[test]
+fn enables_and_disables(rt: HostRuntime) -> Result<(), Fail> {
+    let a = rt.alloc();
+    let file = LimitFile::MemoryMax;
+    let memory = Controller::Memory;
+    let maker = User::with_groups(1001, &[7]).ok_or("33 gids or uid 0")?;
+    let mut tree = delegation(&rt, a)?;
+    let c0 = path(a, "/c0")?;
+    assert!(rt; set_enabled(&mut tree, &c0, MEMORY, &maker));
+    check_uses(&rt, a, &tree, &[("/", memory, Some(true))])?;
+    let made = Entry {
+        uid: 1001,
+        gid: 7,
+        mode: 0o644,
+    };
+    let wanted = [
+        ("/c0", EntryName::File(file), entry(0, 0o644)),
+        ("/c0/c00", EntryName::File(file), Some(made)),
+        ("/c0/c01", EntryName::File(file), Some(made)),
+        ("/c1/c10", EntryName::File(file), None),
+    ];
+    check_entries(&rt, a, &tree, &wanted)?;
+    assert!(rt; set_enabled(&mut tree, &c0, ControllerSet::none(), &maker));
+    check_uses(&rt, a, &tree, &[("/", memory, Some(false))])?;
+    check_limits(&rt, a, &tree, &[("/c0/c00", file, None)])
+}
+
+#[test]
+fn adds_and_removes(rt: HostRuntime) -> Result<(), Fail> {
+    let a = rt.alloc();
+    let mut tree = open_delegation(&rt, a)?;
+    assert!(rt; add(a, &mut tree, &path(a, "/c0-x")?, Owners::KEPT)?);
+    let paths = " / /c0 /c0/c00 /c0/c01 /c0-x /c01 /c1 /c1/c10";
+    check_lists(&rt, a, &tree, paths, &[10, 11, 14])?;
+    check_counts(&rt, a, &tree, &[("/", 0, (7, 2)), ("/c0", 1, (2, 1))])?;
+    assert!(rt; remove(&mut tree, &path(a, "/c0/c01")?));
+    let paths = " / /c0 /c0/c00 /c0-x /c01 /c1 /c1/c10";
+    check_lists(&rt, a, &tree, paths, &[10, 11, 14])?;
+    check_counts(&rt, a, &tree, &[("/", 0, (6, 2)), ("/c0", 1, (1, 1))])
+}
+
+#[test]
+fn adds_moves_and_ends_processes(rt: HostRuntime) -> Result<(), Fail> {
+    let a = rt.alloc();
+    let mut tree = delegation(&rt, a)?;
+    let c01 = path(a, "/c0/c01")?;
+    let eleven = Pid::new(11).ok_or("no PID")?;
+    assert!(rt; set_place(a, &mut tree, eleven, &c01)?);
+    let new = Pid::new(12).ok_or("no PID")?;
+    assert!(rt; add_process(a, &mut tree, new, 1001, &c01)?);
+    let wanted = [
+        (10, 1000, "/c1/c10"),
+        (11, 1000, "/c0/c01"),
+        (12, 1001, "/c0/c01"),
+    ];
+    check_places(&rt, &tree, &wanted)?;
+    let wanted = [
+        ("/c0/c00", 2, (false, false)),
+        ("/c0/c01", 2, (false, true)),
+    ];
+    check_holds(&rt, a, &tree, &wanted)?;
+    assert!(rt; end_process(&mut tree, eleven));
+    check_gone(&rt, &tree, &[(11, true), (13, false)])?;
+    check_places(&rt, &tree, &[(12, 1001, "/c0/c01")])
+}
+
+#[test]
+fn copies_stay_as_they_were(rt: HostRuntime) -> Result<(), Fail> {
+    let a = rt.alloc();
+    let mut tree = nested(&rt, a)?;
+    let copy = tree.try_clone(a)?;
+    assert!(rt; end_process(&mut tree, Pid::new(20).ok_or("no PID")?));
+    assert!(rt; remove(&mut tree, &path(a, "/p/s")?));
+    check_lists(&rt, a, &tree, " / /p", &[])?;
+    check_lists(&rt, a, &copy, " / /p /p/s", &[20])?;
+    check_places(&rt, &copy, &[(20, 1000, "/p/s")])?;
+    assert_eq!(rt; cgroup(a, &copy, "/p")?, cgroup(a, &tree, "/p")?);
+    assert_eq!(rt; copy.controllers(), MEMORY);
     Ok(())
 }
