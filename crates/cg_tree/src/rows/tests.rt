@@ -5,15 +5,19 @@ mod readings;
 use crate::files::{Controller, ControllerSet, EntryName, Limit, LimitFile};
 use crate::hierarchy::Hierarchy;
 use crate::process::Pid;
+use crate::tables::path_table::PathTable;
+use crate::tables::pid_table::PidTable;
 use crate::user::{Entry, Mode, User};
 use fixtures::{
-    MEMORY, Owners, add, add_process, delegation, end_process, nested, open_delegation, path,
-    remove, set_enabled, set_limit, set_mode, set_place,
+    MEMORY, Owners, add, add_process, delegation, end_process, nested, nested_of_tables,
+    open_delegation, path, remove, set_enabled, set_limit, set_mode, set_place,
 };
 use readings::{
     cgroup, check_counts, check_entries, check_gone, check_holds, check_limits, check_lists,
     check_places, check_uses,
 };
+use std::alloc::Global;
+use std::collections::BTreeMap;
 use std::test::Fail;
 
 /// The entry of a user without groups, or of uid 0.
@@ -114,7 +118,7 @@ fn finds_processes(rt: HostRuntime) -> Result<(), Fail> {
         (14, 1000, "/c01"),
     ];
     check_places(&rt, &open, &wanted)?;
-    check_gone(&rt, &open, &[(20, false)])?;
+    check_gone(&rt, &open, 20, false)?;
     check_places(&rt, &nested(&rt, a)?, &[(20, 1000, "/p/s")])
 }
 
@@ -253,7 +257,8 @@ fn adds_moves_and_ends_processes(rt: HostRuntime) -> Result<(), Fail> {
     ];
     check_holds(&rt, a, &tree, &wanted)?;
     assert!(rt; end_process(&mut tree, eleven));
-    check_gone(&rt, &tree, &[(11, true), (13, false)])?;
+    check_gone(&rt, &tree, 11, true)?;
+    check_gone(&rt, &tree, 13, false)?;
     check_places(&rt, &tree, &[(12, 1001, "/c0/c01")])
 }
 
@@ -269,5 +274,54 @@ fn copies_stay_as_they_were(rt: HostRuntime) -> Result<(), Fail> {
     check_places(&rt, &copy, &[(20, 1000, "/p/s")])?;
     assert_eq!(rt; cgroup(a, &copy, "/p")?, cgroup(a, &tree, "/p")?);
     assert_eq!(rt; copy.controllers(), MEMORY);
+    Ok(())
+}
+
+#[test]
+fn tables_make_a_tree(rt: HostRuntime) -> Result<(), Fail> {
+    let a = rt.alloc();
+    let tree = nested_of_tables(&rt, a)?;
+    check_lists(&rt, a, &tree, " / /p /p/s", &[20])?;
+    check_counts(&rt, a, &tree, &[("/", 0, (2, 2)), ("/p/s", 1, (1, 1))])?;
+    check_places(&rt, &tree, &[(20, 1000, "/p/s")])?;
+    assert_eq!(rt; tree.controllers(), MEMORY);
+    Ok(())
+}
+
+/// A table of paths, each with its place in the order of paths.
+fn placed_paths(alloc: Global) -> Result<PathTable<usize>, Fail> {
+    let mut paths = BTreeMap::new(alloc);
+    for (text, place) in [("/c01", 3), ("/", 0), ("/c0-x", 2), ("/c0/c00", 1)] {
+        paths.insert(path(alloc, text)?, place)?;
+    }
+    Ok(PathTable::from_map(alloc, paths)?)
+}
+
+/// A table of PIDs, each with its place in their order.
+fn placed_pids(alloc: Global) -> Result<PidTable<usize>, Fail> {
+    let mut pids = BTreeMap::new(alloc);
+    for (number, place) in [(4194303, 2), (1, 0), (14, 1)] {
+        pids.insert(Pid::new(number).ok_or("no PID")?, place)?;
+    }
+    Ok(PidTable::from_map(alloc, pids)?)
+}
+
+#[test]
+fn paths_stand_in_order(rt: HostRuntime) -> Result<(), Fail> {
+    let table = placed_paths(rt.alloc())?;
+    for (index, entry) in table.entries().iter().enumerate() {
+        assert_eq!(rt; entry.1, index);
+    }
+    assert_eq!(rt; table.len(), 4);
+    Ok(())
+}
+
+#[test]
+fn pids_stand_in_order(rt: HostRuntime) -> Result<(), Fail> {
+    let table = placed_pids(rt.alloc())?;
+    for (index, entry) in table.entries().iter().enumerate() {
+        assert_eq!(rt; entry.1, index);
+    }
+    assert_eq!(rt; table.len(), 3);
     Ok(())
 }

@@ -1,8 +1,9 @@
 //! Changes of any tree, each tested for what it requires, and the trees that are built by them.
-ghost use Rattle.std.specs.Prelude.{◌≡◌, true, not, ◌||◌, [], cond, Some, None};
+ghost use Rattle.std.specs.Prelude.{◌≡◌, true, not, ◌||◌, [], cond, Some, None, IfOk};
 ghost use Rattle.cg_tree.specs.Files.{enables, stands_under};
 ghost use Rattle.cg_tree.specs.Cgroups.{file_made_by, entry_made_by, cgroup_made_by};
 ghost use Rattle.cg_tree.specs.States.{child_enables};
+ghost use Rattle.cg_tree.specs.RowsForm.{IsRoot, state_of_root};
 ghost use Rattle.cg_tree.specs.WellFormed.{has_row, available_at};
 
 use crate::cgroup::{Cgroup, LimitEntry};
@@ -12,8 +13,11 @@ use crate::memory::NoMemory;
 use crate::path::{Path, PathFault};
 use crate::process::Pid;
 use crate::rows::Rows;
+use crate::tables::path_table::PathTable;
+use crate::tables::pid_table::PidTable;
 use crate::user::{Entry, Mode, User};
 use std::alloc::Global;
+use std::collections::BTreeMap;
 use std::process::Abort;
 use std::test::Fail;
 
@@ -300,6 +304,19 @@ pub fn root_alone(alloc: Global, controllers: ControllerSet) -> Result<Rows, NoM
     )
 }
 
+/// A tree with a root alone, of finished tables.
+pub fn of_tables(alloc: Global, controllers: ControllerSet, root: Cgroup) -> Result<Rows, NoMemory>
+    requires { IsRoot controllers root }
+    ensures { IfOk result (λ rows. rows ≡ state_of_root controllers root) }
+{
+    let mut cgroups = BTreeMap::new(alloc);
+    cgroups.insert(Path::root(alloc), root)?;
+    let cgroups = PathTable::from_map(alloc, cgroups)?;
+    let live = PidTable::from_map(alloc, BTreeMap::new(alloc))?;
+    let used = PidTable::from_map(alloc, BTreeMap::new(alloc))?;
+    Ok(Rows::from_tables(cgroups, live, used, controllers))
+}
+
 /// Hands `/c0` and `/c1` over, with two levels and four cgroups allowed below `/c0`, and fills them with cgroups of user
 /// 1000 and a process in each. The root enables memory.
 pub fn delegate<H: Hierarchy>(
@@ -378,6 +395,14 @@ pub fn nest<H: Hierarchy>(
 /// A tree in which two levels enable the one controller that there is.
 pub fn nested(rt: &impl Abort, alloc: Global) -> Result<Rows, Fail> {
     let mut tree = root_alone(alloc, MEMORY)?;
+    nest(rt, alloc, &mut tree, &User::new(1000).ok_or("uid 0")?)?;
+    Ok(tree)
+}
+
+/// The same tree, from finished tables.
+pub fn nested_of_tables(rt: &impl Abort, alloc: Global) -> Result<Rows, Fail> {
+    let root = cgroup_of(Owners::KEPT, ControllerSet::none());
+    let mut tree = of_tables(alloc, MEMORY, root)?;
     nest(rt, alloc, &mut tree, &User::new(1000).ok_or("uid 0")?)?;
     Ok(tree)
 }

@@ -43,8 +43,9 @@ pub fn cgroup<H: Hierarchy>(alloc: Global, tree: &H, text: &str) -> Result<Optio
 
 /// The texts of all paths, a space before each.
 fn texts<H: Hierarchy>(alloc: Global, tree: &H) -> Result<String, Fail> {
+    let paths = tree.paths(alloc)?;
     let mut text = String::new(alloc);
-    for path in &tree.paths(alloc)? {
+    for path in &paths {
         text.push(' ')?;
         text.push_str(path.prefix(path.depth()))?;
     }
@@ -57,12 +58,9 @@ fn numbers<H: Hierarchy>(alloc: Global, tree: &H) -> Result<Vec<u32>, NoMemory> 
     Ok(pids.iter().map(|pid| pid.get()).collect(alloc)?)
 }
 
-/// Whether a process is live, is of a uid and in a cgroup, and its PID is used.
-fn is_at<H: Hierarchy>(tree: &H, pid: Pid, uid: u32, text: &str) -> bool {
-    let Some(place) = tree.place(pid) else {
-        return false;
-    };
-    place.prefix(place.depth()) == text && tree.owner(pid) == Some(uid) && tree.is_used(pid)
+/// Whether a path has a text.
+fn is_path(path: &Path, text: &str) -> bool {
+    path.prefix(path.depth()) == text
 }
 
 /// Compares what a tree counts below the first names of paths.
@@ -135,6 +133,22 @@ pub fn check_limits<H: Hierarchy>(
     Ok(())
 }
 
+/// Compares where a process is, and its uid. Its PID is used.
+fn check_place<H: Hierarchy>(
+    rt: &impl Abort,
+    tree: &H,
+    number: u32,
+    uid: u32,
+    text: &str,
+) -> Result<(), Fail> {
+    let pid = Pid::new(number).ok_or("no PID")?;
+    let place = tree.place(pid).ok_or("no process")?;
+    assert!(rt; is_path(place, text), "{number}");
+    assert_eq!(rt; tree.owner(pid), Some(uid), "{number}");
+    assert!(rt; tree.is_used(pid), "{number}");
+    Ok(())
+}
+
 /// Compares where processes are, by number, uid and cgroup.
 pub fn check_places<H: Hierarchy>(
     rt: &impl Abort,
@@ -142,26 +156,22 @@ pub fn check_places<H: Hierarchy>(
     wanted: &[(u32, u32, &str)],
 ) -> Result<(), Fail> {
     for (number, uid, text) in wanted {
-        let pid = Pid::new(*number).ok_or("no PID")?;
-        assert!(rt; is_at(tree, pid, *uid, text), "{number}");
+        check_place(rt, tree, *number, *uid, text)?;
     }
     Ok(())
 }
 
-/// Tests that processes aren't live, by number and whether the PID was used.
+/// Tests that a process isn't live, and compares whether its PID is used.
 pub fn check_gone<H: Hierarchy>(
     rt: &impl Abort,
     tree: &H,
-    wanted: &[(u32, bool)],
+    number: u32,
+    is_used: bool,
 ) -> Result<(), Fail> {
-    for (number, is_used) in wanted {
-        let pid = Pid::new(*number).ok_or("no PID")?;
-        assert!(rt;
-            tree.place(pid).is_none() && tree.owner(pid).is_none(),
-            "{number}"
-        );
-        assert_eq!(rt; tree.is_used(pid), *is_used, "{number}");
-    }
+    let pid = Pid::new(number).ok_or("no PID")?;
+    assert!(rt; tree.place(pid).is_none(), "{number}");
+    assert!(rt; tree.owner(pid).is_none(), "{number}");
+    assert_eq!(rt; tree.is_used(pid), is_used, "{number}");
     Ok(())
 }
 
