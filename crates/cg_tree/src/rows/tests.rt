@@ -13,7 +13,7 @@ use fixtures::{
     open_delegation, path, remove, set_enabled, set_limit, set_mode, set_place,
 };
 use readings::{
-    cgroup, check_counts, check_entries, check_gone, check_holds, check_limits, check_lists,
+    check_counts, check_enabled, check_entries, check_gone, check_holds, check_limits, check_lists,
     check_places, check_uses,
 };
 use std::alloc::Global;
@@ -163,12 +163,13 @@ fn gets_limits_and_controllers(rt: HostRuntime) -> Result<(), Fail> {
         ("/c0/c00", LimitFile::MaxDepth, Some(Limit::Max)),
     ];
     check_limits(&rt, a, &tree, &wanted)?;
-    let p = cgroup(a, &nested(&rt, a)?, "/p")?.ok_or("no /p")?;
-    assert_eq!(rt; p.enabled, MEMORY);
-    let c0 = cgroup(a, &tree, "/c0")?.ok_or("no /c0")?;
-    assert_eq!(rt; c0.enabled, ControllerSet::none());
-    assert_eq!(rt; cgroup(a, &tree, "/c0/c02")?, None);
-    Ok(())
+    let wanted = [
+        ("/", Some(MEMORY)),
+        ("/c0", Some(ControllerSet::none())),
+        ("/c0/c02", None),
+    ];
+    check_enabled(&rt, a, &tree, &wanted)?;
+    check_enabled(&rt, a, &nested(&rt, a)?, &[("/p", Some(MEMORY))])
 }
 
 #[test]
@@ -272,7 +273,7 @@ fn copies_stay_as_they_were(rt: HostRuntime) -> Result<(), Fail> {
     check_lists(&rt, a, &tree, " / /p", &[])?;
     check_lists(&rt, a, &copy, " / /p /p/s", &[20])?;
     check_places(&rt, &copy, &[(20, 1000, "/p/s")])?;
-    assert_eq!(rt; cgroup(a, &copy, "/p")?, cgroup(a, &tree, "/p")?);
+    check_enabled(&rt, a, &copy, &[("/p", Some(MEMORY)), ("/c0", None)])?;
     assert_eq!(rt; copy.controllers(), MEMORY);
     Ok(())
 }

@@ -1,6 +1,6 @@
 //! What any tree answers, compared with what is wanted.
 use crate::cgroup::Cgroup;
-use crate::files::{Controller, EntryName, Limit, LimitFile};
+use crate::files::{Controller, ControllerSet, EntryName, Limit, LimitFile};
 use crate::hierarchy::Hierarchy;
 use crate::memory::NoMemory;
 use crate::path::Path;
@@ -35,10 +35,15 @@ fn uses<H: Hierarchy>(tree: &H, path: &Path, controller: Controller) -> Option<b
     Some(tree.child_enables(path, path.depth(), controller))
 }
 
-/// A cgroup, where it is there.
-pub fn cgroup<H: Hierarchy>(alloc: Global, tree: &H, text: &str) -> Result<Option<Cgroup>, Fail> {
+/// What a cgroup enables.
+fn enabled<H: Hierarchy>(tree: &H, path: &Path) -> Option<ControllerSet> {
+    Some(tree.get(path, path.depth())?.enabled)
+}
+
+/// A cgroup.
+fn cgroup<H: Hierarchy>(alloc: Global, tree: &H, text: &str) -> Result<Cgroup, Fail> {
     let path = path(alloc, text)?;
-    Ok(tree.get(&path, path.depth()).copied())
+    Ok(*tree.get(&path, path.depth()).ok_or("no cgroup")?)
 }
 
 /// The texts of all paths, a space before each.
@@ -105,6 +110,20 @@ pub fn check_uses<H: Hierarchy>(
     Ok(())
 }
 
+/// Compares which controllers cgroups enable; `None` for a cgroup that isn't there.
+pub fn check_enabled<H: Hierarchy>(
+    rt: &impl Abort,
+    alloc: Global,
+    tree: &H,
+    wanted: &[(&str, Option<ControllerSet>)],
+) -> Result<(), Fail> {
+    for (text, controllers) in wanted {
+        let path = path(alloc, text)?;
+        assert_eq!(rt; enabled(tree, &path), *controllers, "{text}");
+    }
+    Ok(())
+}
+
 /// Compares the entries of cgroups.
 pub fn check_entries<H: Hierarchy>(
     rt: &impl Abort,
@@ -113,7 +132,7 @@ pub fn check_entries<H: Hierarchy>(
     wanted: &[(&str, EntryName, Option<Entry>)],
 ) -> Result<(), Fail> {
     for (text, name, entry) in wanted {
-        let cgroup = cgroup(alloc, tree, text)?.ok_or("no cgroup")?;
+        let cgroup = cgroup(alloc, tree, text)?;
         assert_eq!(rt; cgroup.entry(*name), *entry, "{text} {name:?}");
     }
     Ok(())
@@ -127,7 +146,7 @@ pub fn check_limits<H: Hierarchy>(
     wanted: &[(&str, LimitFile, Option<Limit>)],
 ) -> Result<(), Fail> {
     for (text, file, limit) in wanted {
-        let cgroup = cgroup(alloc, tree, text)?.ok_or("no cgroup")?;
+        let cgroup = cgroup(alloc, tree, text)?;
         assert_eq!(rt; cgroup.limit(*file), *limit, "{text} {file:?}");
     }
     Ok(())
