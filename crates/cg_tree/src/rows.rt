@@ -4,6 +4,8 @@ ghost use Rattle.cg_tree.specs.RowsForm.{IsRoot, state_of_root, state_of_tables}
 ghost use Rattle.cg_tree.specs.WellFormed.{IsWellFormed};
 
 mod below;
+#[cfg(test)]
+mod tests;
 
 use crate::cgroup::Cgroup;
 use crate::files::{Controller, ControllerSet, EntryName, Limit, LimitFile};

@@ -1,0 +1,328 @@
+//! Each call of a tree, on trees worked out by hand.
+mod fixtures;
+mod readings;
+
+use crate::files::{Controller, ControllerSet, EntryName, Limit, LimitFile};
+use crate::hierarchy::Hierarchy;
+use crate::process::Pid;
+use crate::tables::path_table::PathTable;
+use crate::tables::pid_table::PidTable;
+use crate::user::{Entry, Mode, User};
+use fixtures::{
+    MEMORY, Owners, add, add_process, delegation, end_process, nested, nested_of_tables,
+    open_delegation, path, remove, set_enabled, set_limit, set_mode, set_place,
+};
+use readings::{
+    check_counts, check_enabled, check_entries, check_gone, check_holds, check_limits, check_lists,
+    check_places, check_uses,
+};
+use std::alloc::Global;
+use std::collections::BTreeMap;
+use std::test::Fail;
+
+/// The entry of a user without groups, or of uid 0.
+fn entry(uid: u32, mode: u16) -> Option<Entry> {
+    Some(Entry { uid, gid: 0, mode })
+}
+
+#[test]
+fn counts_what_lies_below(rt: HostRuntime) -> Result<(), Fail> {
+    let a = rt.alloc();
+    let tree = delegation(&rt, a)?;
+    let wanted = [
+        ("/", 0, (5, 2)),
+        ("/c0", 1, (2, 1)),
+        ("/c0/c00", 1, (2, 1)),
+        ("/c0/c00", 2, (0, 0)),
+        ("/c0/c01", 2, (0, 0)),
+        ("/c1", 1, (1, 1)),
+        ("/c1/c10", 0, (5, 2)),
+    ];
+    check_counts(&rt, a, &tree, &wanted)?;
+    let open = open_delegation(&rt, a)?;
+    let wanted = [
+        ("/", 0, (6, 2)),
+        ("/c0", 1, (2, 1)),
+        ("/c01", 1, (0, 0)),
+        ("/c1", 1, (1, 1)),
+    ];
+    check_counts(&rt, a, &open, &wanted)?;
+    let nested = nested(&rt, a)?;
+    let wanted = [("/", 0, (2, 2)), ("/p", 1, (1, 1)), ("/p/s", 2, (0, 0))];
+    check_counts(&rt, a, &nested, &wanted)
+}
+
+#[test]
+fn tells_children_and_processes(rt: HostRuntime) -> Result<(), Fail> {
+    let a = rt.alloc();
+    let open = open_delegation(&rt, a)?;
+    let wanted = [
+        ("/", 0, (true, false)),
+        ("/c0", 1, (true, false)),
+        ("/c0/c00", 2, (false, true)),
+        ("/c0/c01", 2, (false, false)),
+        ("/c0/c01", 1, (true, false)),
+        ("/c01", 1, (false, true)),
+        ("/c1", 1, (true, false)),
+        ("/c1/c10", 2, (false, true)),
+    ];
+    check_holds(&rt, a, &open, &wanted)?;
+    let nested = nested(&rt, a)?;
+    let wanted = [
+        ("/", 0, (true, false)),
+        ("/p", 1, (true, false)),
+        ("/p/s", 2, (false, true)),
+    ];
+    check_holds(&rt, a, &nested, &wanted)
+}
+
+#[test]
+fn tells_controllers(rt: HostRuntime) -> Result<(), Fail> {
+    let a = rt.alloc();
+    let tree = delegation(&rt, a)?;
+    let wanted = [
+        ("/", Controller::Memory, Some(false)),
+        ("/c1", Controller::Cpu, Some(false)),
+        ("/c0/c02", Controller::Memory, None),
+    ];
+    check_uses(&rt, a, &tree, &wanted)?;
+    let nested = nested(&rt, a)?;
+    let wanted = [
+        ("/", Controller::Memory, Some(true)),
+        ("/", Controller::Cpu, Some(false)),
+        ("/p", Controller::Memory, Some(false)),
+    ];
+    check_uses(&rt, a, &nested, &wanted)?;
+    assert_eq!(rt; nested.controllers(), MEMORY);
+    assert!(rt; tree.controllers().contains(Controller::Pids));
+    Ok(())
+}
+
+#[test]
+fn lists_paths_and_processes(rt: HostRuntime) -> Result<(), Fail> {
+    let a = rt.alloc();
+    let paths = " / /c0 /c0/c00 /c0/c01 /c1 /c1/c10";
+    check_lists(&rt, a, &delegation(&rt, a)?, paths, &[10, 11])?;
+    let paths = " / /c0 /c0/c00 /c0/c01 /c01 /c1 /c1/c10";
+    check_lists(&rt, a, &open_delegation(&rt, a)?, paths, &[10, 11, 14])?;
+    check_lists(&rt, a, &nested(&rt, a)?, " / /p /p/s", &[20])
+}
+
+#[test]
+fn finds_processes(rt: HostRuntime) -> Result<(), Fail> {
+    let a = rt.alloc();
+    let open = open_delegation(&rt, a)?;
+    let wanted = [
+        (10, 1000, "/c1/c10"),
+        (11, 1000, "/c0/c00"),
+        (14, 1000, "/c01"),
+    ];
+    check_places(&rt, &open, &wanted)?;
+    check_gone(&rt, &open, 20, false)?;
+    check_places(&rt, &nested(&rt, a)?, &[(20, 1000, "/p/s")])
+}
+
+#[test]
+fn gets_entries(rt: HostRuntime) -> Result<(), Fail> {
+    let a = rt.alloc();
+    let depth = EntryName::File(LimitFile::MaxDepth);
+    let memory = EntryName::File(LimitFile::MemoryMax);
+    let wanted = [
+        ("/", EntryName::Dir, entry(0, 0o755)),
+        ("/", EntryName::Procs, entry(0, 0o646)),
+        ("/c0", EntryName::Dir, entry(1000, 0o755)),
+        ("/c0", EntryName::SubtreeControl, entry(1000, 0o644)),
+        ("/c0", memory, entry(0, 0o644)),
+        ("/c0/c00", depth, entry(1000, 0o644)),
+        ("/c0/c00", memory, None),
+        ("/c01", EntryName::Procs, entry(1000, 0o644)),
+        ("/c01", EntryName::SubtreeControl, entry(0, 0o644)),
+    ];
+    check_entries(&rt, a, &open_delegation(&rt, a)?, &wanted)?;
+    let wanted = [
+        ("/p", EntryName::Dir, entry(1000, 0o755)),
+        ("/p", EntryName::SubtreeControl, entry(0, 0o644)),
+        ("/p/s", EntryName::Procs, entry(0, 0o644)),
+        ("/p/s", memory, entry(0, 0o644)),
+    ];
+    check_entries(&rt, a, &nested(&rt, a)?, &wanted)
+}
+
+#[test]
+fn gets_limits_and_controllers(rt: HostRuntime) -> Result<(), Fail> {
+    let a = rt.alloc();
+    let tree = delegation(&rt, a)?;
+    let wanted = [
+        ("/", LimitFile::MemoryMax, None),
+        ("/c0", LimitFile::MaxDepth, Some(Limit::At(2))),
+        ("/c0", LimitFile::MaxDescendants, Some(Limit::At(4))),
+        ("/c0", LimitFile::MemoryMin, Some(Limit::At(0))),
+        ("/c0", LimitFile::MemoryMax, Some(Limit::At(1073741824))),
+        ("/c0", LimitFile::PidsMax, None),
+        ("/c1", LimitFile::MemoryMax, Some(Limit::Max)),
+        ("/c0/c00", LimitFile::MaxDepth, Some(Limit::Max)),
+    ];
+    check_limits(&rt, a, &tree, &wanted)?;
+    let wanted = [
+        ("/", Some(MEMORY)),
+        ("/c0", Some(ControllerSet::none())),
+        ("/c0/c02", None),
+    ];
+    check_enabled(&rt, a, &tree, &wanted)?;
+    check_enabled(&rt, a, &nested(&rt, a)?, &[("/p", Some(MEMORY))])
+}
+
+#[test]
+fn sets_limits_and_modes(rt: HostRuntime) -> Result<(), Fail> {
+    let a = rt.alloc();
+    let file = LimitFile::MemoryLow;
+    let mut tree = delegation(&rt, a)?;
+    let c1 = path(a, "/c1")?;
+    assert!(rt; set_limit(&mut tree, &c1, file, Limit::At(7)));
+    let wanted = [
+        ("/c1", file, Some(Limit::At(7))),
+        ("/c1", LimitFile::MemoryHigh, Some(Limit::Max)),
+        ("/c0", file, Some(Limit::At(0))),
+    ];
+    check_limits(&rt, a, &tree, &wanted)?;
+    let mode = Mode::new(0o555).ok_or("over 0o777")?;
+    assert!(rt; set_mode(&mut tree, &c1, EntryName::Dir, mode));
+    let wanted = [
+        ("/c1", EntryName::Dir, entry(1000, 0o555)),
+        ("/c1", EntryName::Procs, entry(1000, 0o644)),
+        ("/c1", EntryName::File(file), entry(0, 0o644)),
+        ("/c1/c10", EntryName::Dir, entry(1000, 0o755)),
+    ];
+    check_entries(&rt, a, &tree, &wanted)
+}
+
+#[test]
+fn enables_and_disables(rt: HostRuntime) -> Result<(), Fail> {
+    let a = rt.alloc();
+    let file = LimitFile::MemoryMax;
+    let memory = Controller::Memory;
+    let maker = User::with_groups(1001, &[7]).ok_or("33 gids or uid 0")?;
+    let mut tree = delegation(&rt, a)?;
+    let c0 = path(a, "/c0")?;
+    assert!(rt; set_enabled(&mut tree, &c0, MEMORY, &maker));
+    check_uses(&rt, a, &tree, &[("/", memory, Some(true))])?;
+    let made = Entry {
+        uid: 1001,
+        gid: 7,
+        mode: 0o644,
+    };
+    let wanted = [
+        ("/c0", EntryName::File(file), entry(0, 0o644)),
+        ("/c0/c00", EntryName::File(file), Some(made)),
+        ("/c0/c01", EntryName::File(file), Some(made)),
+        ("/c1/c10", EntryName::File(file), None),
+    ];
+    check_entries(&rt, a, &tree, &wanted)?;
+    assert!(rt; set_enabled(&mut tree, &c0, ControllerSet::none(), &maker));
+    check_uses(&rt, a, &tree, &[("/", memory, Some(false))])?;
+    check_limits(&rt, a, &tree, &[("/c0/c00", file, None)])
+}
+
+#[test]
+fn adds_and_removes(rt: HostRuntime) -> Result<(), Fail> {
+    let a = rt.alloc();
+    let mut tree = open_delegation(&rt, a)?;
+    assert!(rt; add(a, &mut tree, &path(a, "/c0-x")?, Owners::KEPT)?);
+    let paths = " / /c0 /c0/c00 /c0/c01 /c0-x /c01 /c1 /c1/c10";
+    check_lists(&rt, a, &tree, paths, &[10, 11, 14])?;
+    check_counts(&rt, a, &tree, &[("/", 0, (7, 2)), ("/c0", 1, (2, 1))])?;
+    assert!(rt; remove(&mut tree, &path(a, "/c0/c01")?));
+    let paths = " / /c0 /c0/c00 /c0-x /c01 /c1 /c1/c10";
+    check_lists(&rt, a, &tree, paths, &[10, 11, 14])?;
+    check_counts(&rt, a, &tree, &[("/", 0, (6, 2)), ("/c0", 1, (1, 1))])
+}
+
+#[test]
+fn adds_moves_and_ends_processes(rt: HostRuntime) -> Result<(), Fail> {
+    let a = rt.alloc();
+    let mut tree = delegation(&rt, a)?;
+    let c01 = path(a, "/c0/c01")?;
+    let eleven = Pid::new(11).ok_or("no PID")?;
+    assert!(rt; set_place(a, &mut tree, eleven, &c01)?);
+    let new = Pid::new(12).ok_or("no PID")?;
+    assert!(rt; add_process(a, &mut tree, new, 1001, &c01)?);
+    let wanted = [
+        (10, 1000, "/c1/c10"),
+        (11, 1000, "/c0/c01"),
+        (12, 1001, "/c0/c01"),
+    ];
+    check_places(&rt, &tree, &wanted)?;
+    let wanted = [
+        ("/c0/c00", 2, (false, false)),
+        ("/c0/c01", 2, (false, true)),
+    ];
+    check_holds(&rt, a, &tree, &wanted)?;
+    assert!(rt; end_process(&mut tree, eleven));
+    check_gone(&rt, &tree, 11, true)?;
+    check_gone(&rt, &tree, 13, false)?;
+    check_places(&rt, &tree, &[(12, 1001, "/c0/c01")])
+}
+
+#[test]
+fn copies_stay_as_they_were(rt: HostRuntime) -> Result<(), Fail> {
+    let a = rt.alloc();
+    let mut tree = nested(&rt, a)?;
+    let copy = tree.try_clone(a)?;
+    assert!(rt; end_process(&mut tree, Pid::new(20).ok_or("no PID")?));
+    assert!(rt; remove(&mut tree, &path(a, "/p/s")?));
+    check_lists(&rt, a, &tree, " / /p", &[])?;
+    check_lists(&rt, a, &copy, " / /p /p/s", &[20])?;
+    check_places(&rt, &copy, &[(20, 1000, "/p/s")])?;
+    check_enabled(&rt, a, &copy, &[("/p", Some(MEMORY)), ("/c0", None)])?;
+    assert_eq!(rt; copy.controllers(), MEMORY);
+    Ok(())
+}
+
+#[test]
+fn tables_make_a_tree(rt: HostRuntime) -> Result<(), Fail> {
+    let a = rt.alloc();
+    let tree = nested_of_tables(&rt, a)?;
+    check_lists(&rt, a, &tree, " / /p /p/s", &[20])?;
+    check_counts(&rt, a, &tree, &[("/", 0, (2, 2)), ("/p/s", 1, (1, 1))])?;
+    check_places(&rt, &tree, &[(20, 1000, "/p/s")])?;
+    assert_eq!(rt; tree.controllers(), MEMORY);
+    Ok(())
+}
+
+/// A table of paths, each with its place in the order of paths.
+fn placed_paths(alloc: Global) -> Result<PathTable<usize>, Fail> {
+    let mut paths = BTreeMap::new(alloc);
+    for (text, place) in [("/c01", 3), ("/", 0), ("/c0-x", 2), ("/c0/c00", 1)] {
+        paths.insert(path(alloc, text)?, place)?;
+    }
+    Ok(PathTable::from_map(alloc, paths)?)
+}
+
+/// A table of PIDs, each with its place in their order.
+fn placed_pids(alloc: Global) -> Result<PidTable<usize>, Fail> {
+    let mut pids = BTreeMap::new(alloc);
+    for (number, place) in [(4194303, 2), (1, 0), (14, 1)] {
+        pids.insert(Pid::new(number).ok_or("no PID")?, place)?;
+    }
+    Ok(PidTable::from_map(alloc, pids)?)
+}
+
+#[test]
+fn paths_stand_in_order(rt: HostRuntime) -> Result<(), Fail> {
+    let table = placed_paths(rt.alloc())?;
+    for (index, entry) in table.entries().iter().enumerate() {
+        assert_eq!(rt; entry.1, index);
+    }
+    assert_eq!(rt; table.len(), 4);
+    Ok(())
+}
+
+#[test]
+fn pids_stand_in_order(rt: HostRuntime) -> Result<(), Fail> {
+    let table = placed_pids(rt.alloc())?;
+    for (index, entry) in table.entries().iter().enumerate() {
+        assert_eq!(rt; entry.1, index);
+    }
+    assert_eq!(rt; table.len(), 3);
+    Ok(())
+}
