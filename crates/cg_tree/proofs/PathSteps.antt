@@ -1,12 +1,12 @@
 -- When two kept paths are the same, and where two paths part.
-use Rattle.std.proofs.Common.{◌≡◌, ℕ, ◌+◌, ◌-◌, ◌<◌, ◌≤◌, Bool, true, false, List, [], ◌∷◌, length, get_or, take, refl, ap, sym, ◌∙◌, arith, cond, Ordering, Less, Equal, Greater, ⊎_elim, ◌⊎◌, inl, inr, true≢false}
+use Rattle.std.proofs.Common.{◌≡◌, ℕ, ◌<◌, ◌≤◌, Bool, true, false, List, [], ◌∷◌, length, get_or, take, refl, ap, sym, ◌∙◌, arith, cond, Ordering, Less, Equal, Greater, ⊎_elim, ◌⊎◌, inl, inr, true≢false}
 use Rattle.std.specs.Prelude.{nat_eq}
 use Rattle.std.specs.List.{list_all}
 use Rattle.std.specs.Cmp.Lexicographic.{slice_cmp, pointwise, bytes_decides, texts_ties}
 use Rattle.std.specs.Ordering.{nat_cmp, ordering_then, is_eq}
 use Rattle.std.proofs.lemmas.Bool.Decides.{same_from_decides, Decides-like, nat_tests}
 use Rattle.std.proofs.lemmas.Bool.{cases_lt}
-use Rattle.std.proofs.lemmas.List.{get_or-take, length-take-le, take-take, take_all}
+use Rattle.std.proofs.lemmas.List.{get_or-take, length-take-le, take-take}
 use Rattle.cg_tree.specs.Paths.{Name, Names, names_of, path_cmp, same_path, same_name, is_name, inside, common}
 use Rattle.cg_tree.specs.PathText.{names_text}
 use Rattle.cg_tree.proofs.PathOrder.{same_path_decides}

@@ -2,8 +2,8 @@
 use Rattle.std.proofs.Common.{◌≡◌, ℕ, Bool, true, false, cond, ◌||◌, List, [], ◌∷◌, Option, Some, None, is_some, refl, sym, ap, subst, ◌∙◌}
 use Rattle.std.proofs.lemmas.Bool.{true≢false}
 use Rattle.std.proofs.lemmas.Option.{none-some, same_Some}
-use Rattle.std.specs.Ordering.{nat_cmp, is_eq, eq_by_cmp}
-use Rattle.std.specs.Cmp.{nat_cmp_total, tied_itself, tied_back, Equal-is}
+use Rattle.std.specs.Ordering.{nat_cmp, eq_by_cmp}
+use Rattle.std.specs.Cmp.{nat_cmp_total}
 use Rattle.std.specs.FinMap as map
 use Rattle.std.specs.FinSet as set
 use Rattle.cg_tree.specs.Paths.{Names, path_cmp, parent}
