@@ -82,7 +82,7 @@ fn tells_children_and_processes(rt: HostRuntime) -> Result<(), Fail> {
 }
 
 #[test]
-fn tells_controllers_of_children(rt: HostRuntime) -> Result<(), Fail> {
+fn tells_what_children_enable(rt: HostRuntime) -> Result<(), Fail> {
     let a = rt.alloc();
     let wanted = [
         ("/", Controller::Memory, Some(false)),
@@ -131,20 +131,25 @@ fn lists_paths_and_processes(rt: HostRuntime) -> Result<(), Fail> {
 }
 
 #[test]
-fn finds_processes(rt: HostRuntime) -> Result<(), Fail> {
+fn tells_where_processes_are(rt: HostRuntime) -> Result<(), Fail> {
     let a = rt.alloc();
-    let tree = delegation(&rt, a)?;
-    check_places(&rt, &tree, &[(10, 1000, "/c1/c10"), (11, 1000, "/c0/c00")])?;
-    check_gone(&rt, &tree, 14, false)?;
-    let open = open_delegation(&rt, a)?;
+    let wanted = [(10, 1000, "/c1/c10"), (11, 1000, "/c0/c00")];
+    check_places(&rt, &delegation(&rt, a)?, &wanted)?;
     let wanted = [
         (10, 1000, "/c1/c10"),
         (11, 1000, "/c0/c00"),
         (14, 1000, "/c01"),
     ];
-    check_places(&rt, &open, &wanted)?;
-    check_gone(&rt, &open, 20, false)?;
+    check_places(&rt, &open_delegation(&rt, a)?, &wanted)?;
     check_places(&rt, &nested(&rt, a)?, &[(20, 1000, "/p/s")])
+}
+
+#[test]
+fn tells_that_no_process_is_there(rt: HostRuntime) -> Result<(), Fail> {
+    let a = rt.alloc();
+    check_gone(&rt, &delegation(&rt, a)?, 14, false)?;
+    check_gone(&rt, &open_delegation(&rt, a)?, 20, false)?;
+    check_gone(&rt, &nested(&rt, a)?, 10, false)
 }
 
 #[test]
