@@ -3,18 +3,17 @@ mod fixtures;
 mod readings;
 
 use crate::files::{Controller, ControllerSet, EntryName, Limit, LimitFile};
-use crate::hierarchy::Hierarchy;
 use crate::process::Pid;
 use crate::tables::path_table::PathTable;
 use crate::tables::pid_table::PidTable;
 use crate::user::{Entry, Mode, User};
 use fixtures::{
-    MEMORY, Owners, add, add_process, delegation, end_process, nested, nested_of_tables,
-    open_delegation, path, remove, set_enabled, set_limit, set_mode, set_place,
+    ALL, MEMORY, Owners, add, add_process, copy_of, delegation, end_process, nested,
+    nested_of_tables, open_delegation, path, remove, set_enabled, set_limit, set_mode, set_place,
 };
 use readings::{
-    check_counts, check_enabled, check_entries, check_gone, check_holds, check_limits, check_lists,
-    check_places, check_uses,
+    check_controllers, check_counts, check_enabled, check_entries, check_gone, check_holds,
+    check_limits, check_lists, check_places, check_uses,
 };
 use std::alloc::Global;
 use std::collections::BTreeMap;
@@ -55,6 +54,12 @@ fn counts_what_lies_below(rt: HostRuntime) -> Result<(), Fail> {
 #[test]
 fn tells_children_and_processes(rt: HostRuntime) -> Result<(), Fail> {
     let a = rt.alloc();
+    let wanted = [
+        ("/", 0, (true, false)),
+        ("/c0/c00", 2, (false, true)),
+        ("/c1", 1, (true, false)),
+    ];
+    check_holds(&rt, a, &delegation(&rt, a)?, &wanted)?;
     let open = open_delegation(&rt, a)?;
     let wanted = [
         ("/", 0, (true, false)),
@@ -77,24 +82,41 @@ fn tells_children_and_processes(rt: HostRuntime) -> Result<(), Fail> {
 }
 
 #[test]
-fn tells_controllers(rt: HostRuntime) -> Result<(), Fail> {
+fn tells_what_children_enable(rt: HostRuntime) -> Result<(), Fail> {
     let a = rt.alloc();
-    let tree = delegation(&rt, a)?;
     let wanted = [
         ("/", Controller::Memory, Some(false)),
         ("/c1", Controller::Cpu, Some(false)),
         ("/c0/c02", Controller::Memory, None),
     ];
-    check_uses(&rt, a, &tree, &wanted)?;
-    let nested = nested(&rt, a)?;
+    check_uses(&rt, a, &delegation(&rt, a)?, &wanted)?;
+    let wanted = [("/", Controller::Pids, Some(false))];
+    check_uses(&rt, a, &open_delegation(&rt, a)?, &wanted)?;
     let wanted = [
         ("/", Controller::Memory, Some(true)),
         ("/", Controller::Cpu, Some(false)),
         ("/p", Controller::Memory, Some(false)),
     ];
-    check_uses(&rt, a, &nested, &wanted)?;
-    assert_eq!(rt; nested.controllers(), MEMORY);
-    assert!(rt; tree.controllers().contains(Controller::Pids));
+    check_uses(&rt, a, &nested(&rt, a)?, &wanted)
+}
+
+#[test]
+fn tells_controllers(rt: HostRuntime) -> Result<(), Fail> {
+    let a = rt.alloc();
+    let tree = delegation(&rt, a)?;
+    let wanted = [
+        ("/", Some(MEMORY)),
+        ("/c0", Some(ControllerSet::none())),
+        ("/c0/c02", None),
+    ];
+    check_enabled(&rt, a, &tree, &wanted)?;
+    check_controllers(&rt, &tree, ALL);
+    let open = open_delegation(&rt, a)?;
+    check_enabled(&rt, a, &open, &[("/c01", Some(ControllerSet::none()))])?;
+    check_controllers(&rt, &open, ALL);
+    let nested = nested(&rt, a)?;
+    check_enabled(&rt, a, &nested, &[("/p", Some(MEMORY))])?;
+    check_controllers(&rt, &nested, MEMORY);
     Ok(())
 }
 
@@ -109,17 +131,25 @@ fn lists_paths_and_processes(rt: HostRuntime) -> Result<(), Fail> {
 }
 
 #[test]
-fn finds_processes(rt: HostRuntime) -> Result<(), Fail> {
+fn tells_where_processes_are(rt: HostRuntime) -> Result<(), Fail> {
     let a = rt.alloc();
-    let open = open_delegation(&rt, a)?;
+    let wanted = [(10, 1000, "/c1/c10"), (11, 1000, "/c0/c00")];
+    check_places(&rt, &delegation(&rt, a)?, &wanted)?;
     let wanted = [
         (10, 1000, "/c1/c10"),
         (11, 1000, "/c0/c00"),
         (14, 1000, "/c01"),
     ];
-    check_places(&rt, &open, &wanted)?;
-    check_gone(&rt, &open, 20, false)?;
+    check_places(&rt, &open_delegation(&rt, a)?, &wanted)?;
     check_places(&rt, &nested(&rt, a)?, &[(20, 1000, "/p/s")])
+}
+
+#[test]
+fn tells_that_no_process_is_there(rt: HostRuntime) -> Result<(), Fail> {
+    let a = rt.alloc();
+    check_gone(&rt, &delegation(&rt, a)?, 14, false)?;
+    check_gone(&rt, &open_delegation(&rt, a)?, 20, false)?;
+    check_gone(&rt, &nested(&rt, a)?, 10, false)
 }
 
 #[test]
@@ -127,6 +157,8 @@ fn gets_entries(rt: HostRuntime) -> Result<(), Fail> {
     let a = rt.alloc();
     let depth = EntryName::File(LimitFile::MaxDepth);
     let memory = EntryName::File(LimitFile::MemoryMax);
+    let wanted = [("/", EntryName::Procs, entry(0, 0o644))];
+    check_entries(&rt, a, &delegation(&rt, a)?, &wanted)?;
     let wanted = [
         ("/", EntryName::Dir, entry(0, 0o755)),
         ("/", EntryName::Procs, entry(0, 0o646)),
@@ -149,9 +181,8 @@ fn gets_entries(rt: HostRuntime) -> Result<(), Fail> {
 }
 
 #[test]
-fn gets_limits_and_controllers(rt: HostRuntime) -> Result<(), Fail> {
+fn gets_limits(rt: HostRuntime) -> Result<(), Fail> {
     let a = rt.alloc();
-    let tree = delegation(&rt, a)?;
     let wanted = [
         ("/", LimitFile::MemoryMax, None),
         ("/c0", LimitFile::MaxDepth, Some(Limit::At(2))),
@@ -162,14 +193,14 @@ fn gets_limits_and_controllers(rt: HostRuntime) -> Result<(), Fail> {
         ("/c1", LimitFile::MemoryMax, Some(Limit::Max)),
         ("/c0/c00", LimitFile::MaxDepth, Some(Limit::Max)),
     ];
-    check_limits(&rt, a, &tree, &wanted)?;
+    check_limits(&rt, a, &delegation(&rt, a)?, &wanted)?;
+    let wanted = [("/c01", LimitFile::MemoryMax, Some(Limit::Max))];
+    check_limits(&rt, a, &open_delegation(&rt, a)?, &wanted)?;
     let wanted = [
-        ("/", Some(MEMORY)),
-        ("/c0", Some(ControllerSet::none())),
-        ("/c0/c02", None),
+        ("/p", LimitFile::CpuWeight, None),
+        ("/p/s", LimitFile::MemoryLow, Some(Limit::At(0))),
     ];
-    check_enabled(&rt, a, &tree, &wanted)?;
-    check_enabled(&rt, a, &nested(&rt, a)?, &[("/p", Some(MEMORY))])
+    check_limits(&rt, a, &nested(&rt, a)?, &wanted)
 }
 
 #[test]
@@ -264,18 +295,36 @@ fn adds_moves_and_ends_processes(rt: HostRuntime) -> Result<(), Fail> {
 }
 
 #[test]
+fn copies_are_equal(rt: HostRuntime) -> Result<(), Fail> {
+    let a = rt.alloc();
+    let tree = copy_of(a, &delegation(&rt, a)?)?;
+    check_lists(
+        &rt,
+        a,
+        &tree,
+        " / /c0 /c0/c00 /c0/c01 /c1 /c1/c10",
+        &[10, 11],
+    )?;
+    let wanted = [("/c0", LimitFile::MaxDescendants, Some(Limit::At(4)))];
+    check_limits(&rt, a, &tree, &wanted)?;
+    check_controllers(&rt, &tree, ALL);
+    let open = copy_of(a, &open_delegation(&rt, a)?)?;
+    let wanted = [("/", EntryName::Procs, entry(0, 0o646))];
+    check_entries(&rt, a, &open, &wanted)?;
+    check_places(&rt, &open, &[(14, 1000, "/c01")])
+}
+
+#[test]
 fn copies_stay_as_they_were(rt: HostRuntime) -> Result<(), Fail> {
     let a = rt.alloc();
     let mut tree = nested(&rt, a)?;
-    let copy = tree.try_clone(a)?;
+    let copy = copy_of(a, &tree)?;
     assert!(rt; end_process(&mut tree, Pid::new(20).ok_or("no PID")?));
     assert!(rt; remove(&mut tree, &path(a, "/p/s")?));
     check_lists(&rt, a, &tree, " / /p", &[])?;
     check_lists(&rt, a, &copy, " / /p /p/s", &[20])?;
     check_places(&rt, &copy, &[(20, 1000, "/p/s")])?;
-    check_enabled(&rt, a, &copy, &[("/p", Some(MEMORY)), ("/c0", None)])?;
-    assert_eq!(rt; copy.controllers(), MEMORY);
-    Ok(())
+    check_enabled(&rt, a, &copy, &[("/p", Some(MEMORY)), ("/c0", None)])
 }
 
 #[test]
@@ -285,7 +334,7 @@ fn tables_make_a_tree(rt: HostRuntime) -> Result<(), Fail> {
     check_lists(&rt, a, &tree, " / /p /p/s", &[20])?;
     check_counts(&rt, a, &tree, &[("/", 0, (2, 2)), ("/p/s", 1, (1, 1))])?;
     check_places(&rt, &tree, &[(20, 1000, "/p/s")])?;
-    assert_eq!(rt; tree.controllers(), MEMORY);
+    check_controllers(&rt, &tree, MEMORY);
     Ok(())
 }
 

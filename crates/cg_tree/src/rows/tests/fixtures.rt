@@ -263,6 +263,11 @@ pub fn set_place<H: Hierarchy>(
     Ok(true)
 }
 
+/// An equal tree.
+pub fn copy_of<H: Hierarchy>(alloc: Global, tree: &H) -> Result<H, NoMemory> {
+    tree.try_clone(alloc)
+}
+
 /// Adds cgroups in turn, to the first that can't be added.
 fn add_all<H: Hierarchy>(
     alloc: Global,
@@ -287,6 +292,13 @@ fn populate<H: Hierarchy>(
     let pid = Pid::new(number).ok_or("no PID")?;
     Ok(add_process(alloc, tree, pid, 1000, &path(alloc, text)?)?)
 }
+
+/// All controllers.
+pub const ALL: ControllerSet = ControllerSet {
+    cpu: true,
+    memory: true,
+    pids: true,
+};
 
 /// Memory alone.
 pub const MEMORY: ControllerSet = ControllerSet {
@@ -350,12 +362,7 @@ pub fn delegate<H: Hierarchy>(
 
 /// The delegation example.
 pub fn delegation(rt: &impl Abort, alloc: Global) -> Result<Rows, Fail> {
-    let all = ControllerSet {
-        cpu: true,
-        memory: true,
-        pids: true,
-    };
-    let mut tree = root_alone(alloc, all)?;
+    let mut tree = root_alone(alloc, ALL)?;
     delegate(rt, alloc, &mut tree, &User::new(1000).ok_or("uid 0")?)?;
     Ok(tree)
 }

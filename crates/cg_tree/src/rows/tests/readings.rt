@@ -110,6 +110,11 @@ pub fn check_uses<H: Hierarchy>(
     Ok(())
 }
 
+/// Compares the controllers that the root has.
+pub fn check_controllers<H: Hierarchy>(rt: &impl Abort, tree: &H, wanted: ControllerSet) {
+    assert_eq!(rt; tree.controllers(), wanted);
+}
+
 /// Compares which controllers cgroups enable; `None` for a cgroup that isn't there.
 pub fn check_enabled<H: Hierarchy>(
     rt: &impl Abort,
