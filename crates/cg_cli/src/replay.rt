@@ -1,0 +1,3 @@
+//! Operation lines that are replayed: each is answered by its outcome before the next is read.
+mod line;
+mod run;
