@@ -1,1 +1,3 @@
 mod ReplayLines
+mod ReplayReports
+mod ReplayRuns

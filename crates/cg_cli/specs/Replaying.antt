@@ -82,11 +82,11 @@ Fed before after piece old new (Err Read) = ⊥
 Fed before after piece old new (Err fault) = ((rest : List ℕ) → before (piece ++ rest) ≡ fault_report fault) × Keeps old new
 
 -- the same of a piece that a reader showed, of which it gave the bytes that were taken; none at its end
-abbrev pub Read_on : Reporting → Reporting → Option (List ℕ) → Option (List ℕ) → Option (List ℕ) → Option (List ℕ) → Result ℕ CliFault → Type 0
-Read_on before after had left old new (Ok n) =
+abbrev pub ReadOn : Reporting → Reporting → Option (List ℕ) → Option (List ℕ) → Option (List ℕ) → Option (List ℕ) → Result ℕ CliFault → Type 0
+ReadOn before after had left old new (Ok n) =
     (bytes : List ℕ) × (length bytes ≡ n) × Consumes had left bytes × Leads before after bytes old new × (n ≡ 0 → IsAtEnd left)
-Read_on before after had left old new (Err Read) = Keeps had left × Keeps old new
-Read_on before after had left old new (Err fault) =
+ReadOn before after had left old new (Err Read) = Keeps had left × Keeps old new
+ReadOn before after had left old new (Err fault) =
     (piece : List ℕ) × IfSome had (λ xs. StartsWith xs piece) × Fed before after piece old new (Err fault)
 
 -- What answering a line led to: its operation was made and its outcome written, or it has a fault.
