@@ -1,3 +1,4 @@
 mod ReplayLines
 mod ReplayReports
 mod ReplayRuns
+mod ReplayEnds
