@@ -2,3 +2,4 @@ mod ReplayLines
 mod ReplayReports
 mod ReplayRuns
 mod ReplayEnds
+mod ReplayCalls
