@@ -3,3 +3,4 @@ mod ReplayReports
 mod ReplayRuns
 mod ReplayEnds
 mod ReplayCalls
+mod ReplayReads

@@ -1,5 +1,5 @@
 -- What a replay has written by the time that it ends, and on its way. Own.
-use Rattle.std.specs.Prelude.{◌≡◌, ℕ, ◌+◌, ◌*◌, ◌<◌, ◌≤◌, Bool, true, false, List, [], ◌++◌, length, take, Option, Some, None, Result, Ok, Err, IfSome}
+use Rattle.std.specs.Prelude.{◌≡◌, ℕ, ◌+◌, ◌*◌, ◌<◌, ◌≤◌, Bool, true, false, List, [], ◌++◌, length, take, Option, Some, None, Result, Ok, Err, IfSome, OnSome}
 use Rattle.std.specs.List.{All}
 use Rattle.std.specs.Io.{StartsWith}
 use Rattle.std.specs.Io.KnownBytes.{Appends, Keeps, Consumes, IsAtEnd}
@@ -84,7 +84,7 @@ Fed before after piece old new (Err fault) = ((rest : List ℕ) → before (piec
 -- the same of a piece that a reader showed, of which it gave the bytes that were taken; none at its end
 abbrev pub ReadOn : Reporting → Reporting → Option (List ℕ) → Option (List ℕ) → Option (List ℕ) → Option (List ℕ) → Result ℕ CliFault → Type 0
 ReadOn before after had left old new (Ok n) =
-    (bytes : List ℕ) × (length bytes ≡ n) × Consumes had left bytes × Leads before after bytes old new × (n ≡ 0 → IsAtEnd left)
+    (bytes : List ℕ) × (length bytes ≡ n) × Consumes had left bytes × Leads before after bytes old new × (n ≡ 0 → OnSome had (IsAtEnd left))
 ReadOn before after had left old new (Err Read) = Keeps had left × Keeps old new
 ReadOn before after had left old new (Err fault) =
     (piece : List ℕ) × IfSome had (λ xs. StartsWith xs piece) × Fed before after piece old new (Err fault)

@@ -1,8 +1,8 @@
 //! Operation lines that are replayed: each is answered by its outcome before the next is read.
-ghost use Rattle.std.specs.Prelude.{◌≡◌, [], IfErr, Err};
+ghost use Rattle.std.specs.Prelude.{◌≡◌, ◌+◌, ◌≤◌, ◌⊎◌, [], OnOk, IfOk, IfErr, Err};
 ghost use Rattle.cg_cli.specs.Arguments.{user_read};
 ghost use Rattle.cg_cli.specs.Replays.{replay_report};
-ghost use Rattle.cg_cli.specs.Replaying.{coming, IsWaiting, Replays, ReplaysFrom, ReadOn};
+ghost use Rattle.cg_cli.specs.Replaying.{coming, most_taken, IsWaiting, Replays, ReplaysFrom, ReadOn};
 
 use crate::arguments::{UserIds, read_user};
 use crate::fault::CliFault;
@@ -110,9 +110,12 @@ fn read_on<H: Hierarchy, R: BufRead, W: Write>(
     out: &mut W,
 ) -> Result<usize, CliFault>
     requires { IsWaiting run.old.done run.old.line.items }
-    ensures { ReadOn (coming (H.state run.old.tree) run.old.user run.old.done run.old.line.items)
+    ensures read { ReadOn (coming (H.state run.old.tree) run.old.user run.old.done run.old.line.items)
         (coming (H.state run.new.tree) run.new.user run.new.done run.new.line.items)
         (R.remaining ops.old) (R.remaining ops.new) (W.contents out.old) (W.contents out.new) result }
+    ensures waiting { OnOk result (IsWaiting run.new.done run.new.line.items) }
+    ensures taken { IfOk result (λ taken. most_taken run.old.done run.old.line.items + taken
+        ≤ most_taken run.new.done run.new.line.items) }
 {
     let piece = match ops.fill_buf() {
         Ok(piece) => piece,
@@ -127,7 +130,9 @@ fn read_on<H: Hierarchy, R: BufRead, W: Write>(
 }
 
 /// Why nothing was read.
-fn read_fault(error: &io::Error) -> CliFault {
+fn read_fault(error: &io::Error) -> CliFault
+    ensures { (result ≡ CliFault.Read) ⊎ (result ≡ CliFault.NoMemory) }
+{
     if error.kind() == ErrorKind::OutOfMemory {
         CliFault::NoMemory
     } else {
