@@ -40,7 +40,7 @@ pub quiet : (st : State) (user : Identity) (done : ℕ) (line : List ℕ) → Is
 quiet st user done line waiting = ap (lines_report st user done) (append-nil line) ∙ report_of_end st user done line waiting.one_line
 
 -- all was written, and the ending is the report's
-whole_text : (before after : Reporting) (given : List ℕ) (old new : Option (List ℕ)) (ending : Result ℕ CliFault) → Leads before after given old new → after [] ≡ end_report ending
+pub whole_text : (before after : Reporting) (given : List ℕ) (old new : Option (List ℕ)) (ending : Result ℕ CliFault) → Leads before after given old new → after [] ≡ end_report ending
     → ((before given).ending ≡ ending) × Appends old new (before given).text
 whole_text before after given old new ending way none =
     let e : before given ≡ with_front way.written (end_report ending) = ap before (sym (append-nil given)) ∙ way.whole [] ∙ ap (with_front way.written) none in (

@@ -94,7 +94,7 @@ fn replay_reader<H: Hierarchy + Drop, R: BufRead, W: Write>(
     ensures { ReplaysFrom (coming (H.state run.tree) run.user run.done run.line.items)
         (R.remaining ops.old) (R.remaining ops.new) (W.contents out.old) (W.contents out.new) result }
 {
-    for _ask in 0..MOST_ASKS {
+    for _asked in 0..MOST_ASKS {
         if read_on(alloc, &mut run, ops, out)? == 0 {
             return run.end();
         }
