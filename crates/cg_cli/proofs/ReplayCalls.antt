@@ -1,18 +1,21 @@
 -- A replay from its arguments on.
-use Rattle.std.proofs.Common.{◌≡◌, ◌≢◌, ℕ, List, [], ◌++◌, Option, Some, None, Result, Ok, Err, refl, ap, sym, ◌∙◌, subst}
+use Rattle.std.proofs.Common.{◌≡◌, ◌≢◌, ℕ, nat_eq, Bool, true, false, cond, List, [], ◌++◌, Option, Some, None, Result, Ok, Err, refl, ap, sym, ◌∙◌, subst}
 use Rattle.std.specs.Io.KnownBytes.{Appends}
 use Rattle.std.proofs.KnownBytes.{Appends-nil}
 use Rattle.cg_tree.specs.Identity.{Identity}
 use Rattle.cg_tree.specs.States.{State}
+use Rattle.cg_tree.specs.Users.{user_of}
 use Rattle.cg_text.specs.TreeTexts.{tree_of}
 use Rattle.cg_text.specs.declared.tree.fault.TreeFault.{TreeFault}
 use Rattle.cg_text.specs.declared.tree.fault.TreeFault.TheVariants.{NoMemory as TreeNoMemory}
 use Rattle.cg_cli.specs.Faults.{lifted}
-use Rattle.cg_cli.specs.Arguments.{user_read}
+use Rattle.cg_cli.specs.Arguments.{or_fault, user_read}
 use Rattle.cg_cli.specs.Reports.{Report, fault_report, report_on}
 use Rattle.cg_cli.specs.Replays.{lines_report, replay_report, replayed}
-use Rattle.cg_cli.specs.Replaying.{Reporting, HasFront, Replays, coming}
+use Rattle.cg_cli.specs.Replaying.{Reporting, AreOf, HasFront, Replays, ReplaysFrom, coming}
 use Rattle.cg_cli.specs.declared.fault.CliFault.{CliFault}
+use Rattle.cg_cli.specs.declared.fault.CliFault.TheVariants.{Uid, Gids}
+use Rattle.cg_cli.proofs.ReplayReads.{from_replays}
 
 -- the report, by what the user and the tree's text are
 abbrev report_by : Result Identity CliFault → Result State TreeFault → Reporting
@@ -57,3 +60,31 @@ pub begun_is : (text : List ℕ) (uid : ℕ) (gids : List ℕ) (user : Identity)
 begun_is text uid gids user st e f tree who done line a b c d =
     ap (λ s. coming s who done line) a ∙ ap (λ u. coming st u done line) b ∙ ap (λ n. coming st user n line) c ∙ ap (coming st user 0) d
     ∙ sym (report_begun text uid gids user st e f)
+
+-- a fault of the user
+user_fault_by : (text : List ℕ) (uid : ℕ) (gids ops : List ℕ) (known : Option (List ℕ)) (fault : CliFault) (root : Bool) (user : Option Identity)
+    → user_read uid gids ≡ cond root (Err Uid) (or_fault user Gids) → cond root (Err Uid) (or_fault user Gids) ≡ Err fault → Replays (replay_report text uid gids) ops known known (Err fault)
+user_fault_by text uid gids ops known fault true user e h =
+    let same : replay_report text uid gids ops ≡ fault_report Uid = ap (λ u. report_by u (tree_of text) ops) e in
+    let is : Uid ≡ fault = cc in
+    subst (λ f. Replays (replay_report text uid gids) ops known known (Err f)) is
+    (ap (λ (r : Report). r.ending) same, subst (Appends known known) (sym (ap (λ (r : Report). r.text) same)) (Appends-nil known))
+user_fault_by text uid gids ops known fault false None e h =
+    let same : replay_report text uid gids ops ≡ fault_report Gids = ap (λ u. report_by u (tree_of text) ops) e in
+    let is : Gids ≡ fault = cc in
+    subst (λ f. Replays (replay_report text uid gids) ops known known (Err f)) is
+    (ap (λ (r : Report). r.ending) same, subst (Appends known known) (sym (ap (λ (r : Report). r.text) same)) (Appends-nil known))
+user_fault_by text uid gids ops known fault false (Some user) e h = let never : ⊥ = cc in absurd never
+
+pub user_fault : (text : List ℕ) (uid : ℕ) (gids ops : List ℕ) (known : Option (List ℕ)) (fault : CliFault) → user_read uid gids ≡ Err fault → Replays (replay_report text uid gids) ops known known (Err fault)
+user_fault text uid gids ops known fault h = user_fault_by text uid gids ops known fault (nat_eq uid 0) (user_of uid gids) refl h
+
+-- a reader that wasn't asked
+some_bytes : (known : Option (List ℕ)) → (ops : List ℕ) × AreOf known ops
+some_bytes None = ([], tt)
+some_bytes (Some xs) = (xs, refl)
+
+pub not_asked : (report : Reporting) (given old new : Option (List ℕ)) (ended : Result ℕ CliFault) → ((ops : List ℕ) → Replays report ops old new ended) → ReplaysFrom report given given old new ended
+not_asked report given old new ended replays =
+    let some = some_bytes given in
+    from_replays report given given old new some.0 ended some.1 (replays some.0)
