@@ -94,7 +94,6 @@ begun_goes_on done (b ∷ bs) waiting =
 module _ (report there : Reporting) (done : ℕ) (line : List ℕ) (waiting : IsWaiting done line) (none : there [] ≡ end_report (end_read done line))
     (before had : Option (List ℕ)) (given : List ℕ) (gave : Consumes before had given)
     (old mid : Option (List ℕ)) (way : Leads report there given old mid) where
-
   -- at a fault
   pub from_fault : (after : Reporting) (left new : Option (List ℕ)) (fault : CliFault) → ReadOn there after had left mid new (Err fault) → ReplaysFrom report before left old new (Err fault)
   from_fault after left new Read read =

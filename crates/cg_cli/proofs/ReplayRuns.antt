@@ -89,7 +89,7 @@ module _ (st : State) (user : Identity) (done : ℕ) (line piece : List ℕ) (en
       λ rest.
       let said = outcome_text answered.0 (outcome_of st user answered.0) in
       let e = further none within newline rest
-          ∙ ap (λ r. report_on r (λ op. with_front (outcome_text op (outcome_of st user op)) (lines_report (after st user op) user (done + 1) (drop (end + 1) piece ++ rest)))) answered.1 in
+      ∙ ap (λ r. report_on r (λ op. with_front (outcome_text op (outcome_of st user op)) (lines_report (after st user op) user (done + 1) (drop (end + 1) piece ++ rest)))) answered.1 in
       subst (AppendsPart old new) (sym (ap (λ (r : Report). r.text) e))
       (part_of_front old new said (lines_report (after st user answered.0) user (done + 1) (drop (end + 1) piece ++ rest)).text answered.2)
   fed_fault none within newline now old new then NoMemory answered = answered

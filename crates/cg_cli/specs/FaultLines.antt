@@ -1,6 +1,7 @@
 -- The line of a fault: its words, and where in the tree's text or the operation lines it is. Own.
 use Rattle.std.specs.Prelude.{ℕ, List, [], ◌∷◌, ◌++◌, codes, Option, Some, None}
 use Rattle.std.specs.Fmt.{decimal}
+use Rattle.cg_text.specs.Outcomes.{spaced}
 use Rattle.cg_text.specs.declared.tree.fault.Place.{Place}
 use Rattle.cg_text.specs.declared.tree.fault.Place.TheVariants.{Top, Cgroup, Process}
 use Rattle.cg_text.specs.declared.tree.fault.TreeFault.{TreeFault}
@@ -52,7 +53,7 @@ line_word lines.Cut = codes "cut"
 line_word lines.NoMemory = codes "memory"
 
 abbrev pub operation_fault_line : ℕ → List ℕ → List ℕ
-operation_fault_line number word = plain_line (codes "line " ++ decimal number ++ codes " " ++ word)
+operation_fault_line number word = codes "fault: line " ++ spaced (decimal number) word ++ codes "\n"
 
 abbrev pub fault_line : CliFault → List ℕ
 fault_line Uid = plain_line (codes "uid")

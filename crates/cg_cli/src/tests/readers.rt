@@ -43,8 +43,8 @@ impl Read for FailsAfter {
 pub struct Pieces<'a> {
     pub rest: &'a [u8],
     pub size: usize,
-    pub asked: u32,
-    pub fails_at: u32,
+    pub asked: u64,
+    pub fails_at: u64,
 }
 
 impl<'a> Pieces<'a> {

@@ -13,6 +13,7 @@ use std::io::{BufRead, Write};
 use std::test::Fail;
 
 const OPS: &[u8] = b"mkdir /c0/c00/x\nmkdir /c0/c00/x/y\n";
+
 const REPORT: &[u8] = b"ok\nrefused depth-limit /c0\n";
 
 fn replay<W: Write>(alloc: Global, ops: &[u8], out: &mut W) -> Result<u8, CliFault> {
@@ -121,7 +122,10 @@ fn a_line_of_8192_bytes_is_answered_and_a_longer_one_is_not(rt: HostRuntime) -> 
         let mut pieces = Pieces::new(ops.as_slice(), size);
         let ending = replay_reader(rt.alloc(), &mut pieces, &mut out);
         assert_eq!(rt; ending, line_fault(2, LineFault::TooLong));
-        assert_eq!(rt; out.as_slice(), b"refused no-access / cgroup.subtree_control\n".as_slice());
+        assert_eq!(rt;
+            out.as_slice(),
+            b"refused no-access / cgroup.subtree_control\n".as_slice()
+        );
     }
     Ok(())
 }
@@ -159,47 +163,61 @@ fn an_endless_reader_is_left(rt: HostRuntime) -> Result<(), Fail> {
     Ok(())
 }
 
-#[test]
-fn a_failed_read_leaves_the_lines_before_it(rt: HostRuntime) -> Result<(), Fail> {
-    let first_end = 16;
-    for asked in 1..=51 {
-        let mut ops = Pieces::new(OPS, 1);
-        ops.fails_at = asked;
-        let mut out = Vec::new(rt.alloc());
-        let ending = replay_reader(rt.alloc(), &mut ops, &mut out);
-        let given = OPS.len() - ops.rest.len();
-        let lines = if given == OPS.len() {
-            REPORT
-        } else if given >= first_end {
-            b"ok\n".as_slice()
-        } else {
-            b"".as_slice()
-        };
-        assert_eq!(rt; out.as_slice(), lines);
-        let is_failed = asked as usize <= OPS.len() + 1;
-        assert_eq!(rt; ending, if is_failed { Err(CliFault::Read) } else { Ok(0) });
-        assert_eq!(rt; ops.asked as usize, (asked as usize).min(OPS.len() + 1));
+/// How many newlines are in a text.
+fn newlines(text: &[u8]) -> usize {
+    text.iter().filter(|byte| **byte == b'\n').count()
+}
+
+/// The first lines of a text.
+fn first_lines(text: &[u8], count: usize) -> &[u8] {
+    let mut left = count;
+    for (i, byte) in text.iter().enumerate() {
+        if left == 0 {
+            return &text[..i];
+        }
+        if *byte == b'\n' {
+            left -= 1;
+        }
     }
-    Ok(())
+    text
 }
 
 #[test]
-fn a_failed_write_leaves_a_part_of_the_report(rt: HostRuntime) -> Result<(), Fail> {
-    for room in 0..REPORT.len() {
-        let mut out = FailsOnce::new(rt.alloc(), room);
-        assert_eq!(rt; replay(rt.alloc(), OPS, &mut out), Err(CliFault::Write));
-        assert_eq!(rt; out.taken.as_slice(), &REPORT[..room]);
+fn a_failed_read_leaves_the_lines_before_it(rt: HostRuntime) {
+    for (ops, report) in REPLAYS {
+        for given in 0..=ops.len() {
+            let mut pieces = Pieces::new(ops, 1);
+            pieces.fails_at = given as u64 + 1;
+            let mut out = Vec::new(rt.alloc());
+            let ending = replay_reader(rt.alloc(), &mut pieces, &mut out);
+            assert_eq!(rt; ending, Err(CliFault::Read));
+            assert_eq!(rt; pieces.asked, pieces.fails_at);
+            assert_eq!(rt;
+                out.as_slice(),
+                first_lines(report, newlines(&ops[..given]))
+            );
+        }
     }
-    let mut out = TakesNone { asked: 0 };
-    assert_eq!(rt; replay(rt.alloc(), OPS, &mut out), Err(CliFault::Write));
-    assert_eq!(rt; out.asked, 1);
+}
+
+#[test]
+fn a_failed_write_leaves_a_part_of_the_report(rt: HostRuntime) {
+    for (ops, report) in REPLAYS {
+        for room in 0..report.len() {
+            let mut out = FailsOnce::new(rt.alloc(), room);
+            assert_eq!(rt; replay(rt.alloc(), ops, &mut out), Err(CliFault::Write));
+            assert_eq!(rt; out.taken.as_slice(), &report[..room]);
+        }
+        let mut out = TakesNone { asked: 0 };
+        assert_eq!(rt; replay(rt.alloc(), ops, &mut out), Err(CliFault::Write));
+        assert_eq!(rt; out.asked, 1);
+        let mut out = ByteByByte {
+            taken: Vec::new(rt.alloc()),
+        };
+        assert_eq!(rt; replay(rt.alloc(), ops, &mut out), Ok(0));
+        assert_eq!(rt; out.taken.as_slice(), report);
+    }
     let mut out = TakesNone { asked: 0 };
     assert_eq!(rt; replay(rt.alloc(), b"", &mut out), Ok(0));
     assert_eq!(rt; out.asked, 0);
-    let mut out = ByteByByte {
-        taken: Vec::new(rt.alloc()),
-    };
-    assert_eq!(rt; replay(rt.alloc(), OPS, &mut out), Ok(0));
-    assert_eq!(rt; out.taken.as_slice(), REPORT);
-    Ok(())
 }

@@ -1,8 +1,8 @@
-use Rattle.std.proofs.Common.{◌≡◌, length, Err, subst, arith}
+use Rattle.std.proofs.Common.{◌≡◌, length, subst, arith}
 use Rattle.std.proofs.lemmas.Bool.Decides.{nat_tests}
 use Rattle.std.proofs.lemmas.Result.{err_from_is_err_and}
 use Rattle.std.specs.Io.BufRead.{FillKeeps}
-use Rattle.cg_cli.specs.Replaying.{coming, ReadOn}
+use Rattle.cg_cli.specs.Replaying.{coming}
 use Rattle.cg_cli.proofs.ReplayReads.{read_failed, read_end, read_fault, read_some}
 use Rattle.cg_cli.proofs.replay.read_on.Goals as goal
 

@@ -1,4 +1,4 @@
-use Rattle.std.proofs.Common.{[], ◌++◌, Ok, Err, subst, arith}
+use Rattle.std.proofs.Common.{[], ◌++◌, Ok, subst, arith}
 use Rattle.std.proofs.lemmas.Result.{err_from_is_err_and}
 use Rattle.std.proofs.KnownBytes.{Consumes-nil, Consumes-trans}
 use Rattle.cg_cli.specs.Replaying.{coming, ReadOn}

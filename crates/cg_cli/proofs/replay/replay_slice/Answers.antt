@@ -1,9 +1,9 @@
-use Rattle.std.proofs.Common.{◌≡◌, ◌-◌, ◌≤◌, ℕ, List, [], ◌++◌, take, drop, length, Result, Ok, Err, refl, ap, sym, subst, ◌∙◌, append_assoc, append-nil, take-append-drop, take_all, length-drop, rules, arith}
+use Rattle.std.proofs.Common.{◌≡◌, ◌-◌, ◌≤◌, ℕ, List, [], ◌++◌, take, drop, length, Err, refl, ap, sym, subst, ◌∙◌, append_assoc, append-nil, take-append-drop, take_all, length-drop, arith}
 use Rattle.std.proofs.lemmas.Bool.Decides.{nat_tests}
 use Rattle.std.proofs.lemmas.Result.{err_from_is_err_and}
 use Rattle.std.proofs.lemmas.List.{nil_from_length}
 use Rattle.cg_cli.specs.Replays.{end_read}
-use Rattle.cg_cli.specs.Replaying.{coming, Leads, Replays}
+use Rattle.cg_cli.specs.Replaying.{coming, Replays}
 use Rattle.cg_cli.proofs.ReplayEnds.{leads_nowhere, leads_on, quiet, replays_end, replays_fault}
 use Rattle.cg_cli.proofs.replay.replay_slice.Goals as goal
 
@@ -43,6 +43,12 @@ rest_is ops given rest n split =
 
 pub loop-rest-preserved : goal.loop-rest-preserved
 loop-rest-preserved g c =
+    let begun = c.args.run in
+    let before = coming (g.H.Hierarchy.state begun.tree) begun.user begun.done begun.line.items in
+    let run = c.loop-rest.run in
+    let there = coming (g.H.Hierarchy.state run.tree) run.user run.done run.line.items in
+    let on = c.feed.new.self in
+    let after = coming (g.H.Hierarchy.state on.tree) on.user on.done on.line.items in
     let told = c.loop-rest.invariant in
     let rest = c.loop-rest.rest.now in
     let n = c.in_ok-taken.taken in
@@ -51,7 +57,9 @@ loop-rest-preserved g c =
       waiting = c.in_ok-taken.ensures.waiting;
       given = told.given ++ take n rest;
       split = rest_is c.args.ops.now told.given rest n told.split;
-      way = leads_on _ _ _ _ _ _ _ _ told.way fed.1;
+      way =
+          leads_on before there after told.given (take n rest) (g.W.Write.contents c.args.out.now) (g.W.Write.contents c.loop-rest.out)
+          (g.W.Write.contents c.feed.new.out) told.way fed.1;
     }
 
 pub returns : goal.returns

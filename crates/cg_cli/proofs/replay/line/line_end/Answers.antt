@@ -1,4 +1,4 @@
-use Rattle.std.proofs.Common.{◌≡◌, false, nat_eq, get_or, rules, arith}
+use Rattle.std.proofs.Common.{◌≡◌, false, rules, arith}
 use Rattle.std.proofs.lemmas.Bool.Decides.{nat_tests}
 use Rattle.std.proofs.lemmas.List.Elements.{All-more}
 use Rattle.cg_cli.specs.Replays.{is_newline}

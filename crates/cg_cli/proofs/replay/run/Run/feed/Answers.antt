@@ -1,10 +1,10 @@
-use Rattle.std.proofs.Common.{◌≡◌, ◌+◌, ◌<◌, ◌≤◌, false, List, ℕ, [], ◌++◌, take, length, get_or, All, Result, Ok, Err, refl, ap, sym, subst, ◌∙◌, rules, arith, length-append, length-take-le}
+use Rattle.std.proofs.Common.{◌≡◌, ◌+◌, ◌<◌, false, List, ℕ, ◌++◌, take, length, Ok, Err, sym, subst, arith, length-append, length-take-le}
 use Rattle.std.proofs.lemmas.Grind.{common_steps}
 use Rattle.std.proofs.lemmas.Result.{err_from_is_err_and}
 use Rattle.std.proofs.lemmas.List.Elements.{All-append}
 use Rattle.std.proofs.KnownBytes.{Keeps-refl}
 use Rattle.cg_cli.specs.Replays.{is_newline, operation_read}
-use Rattle.cg_cli.specs.Replaying.{coming, Leads, Fed, Answered, IsWaiting}
+use Rattle.cg_cli.specs.Replaying.{coming, Leads, Answered}
 use Rattle.cg_cli.proofs.ReplayRuns.{fed_answer, fed_fault, fed_long, fed_many}
 use Rattle.cg_cli.proofs.replay.run.Run.feed.Goals as goal
 
