@@ -12,9 +12,17 @@ use std::alloc::{AllocError, Global};
 use std::io::{BufRead, Write};
 use std::test::Fail;
 
-const OPS: &[u8] = b"mkdir /c0/c00/x\nmkdir /c0/c00/x/y\n";
-
-const REPORT: &[u8] = b"ok\nrefused depth-limit /c0\n";
+/// Operations of user 1000, and their report.
+const REPLAYS: [(&[u8], &[u8]); 2] = [
+    (
+        b"mkdir /c0/c00/x\nmkdir /c0/c00/x/y\n",
+        b"ok\nrefused depth-limit /c0\n",
+    ),
+    (
+        b"control /c0 +memory\nset /c0/c00 memory.max 4096\ncontrol /c0 -memory +memory\ncontrol /c0/c01 +memory\ncontrol /c0 -memory\ncontrol /c0/c00 +memory\n",
+        b"ok\nok\nok\nok\nrefused child-uses memory\nrefused internal-process /c0/c00\n",
+    ),
+];
 
 fn replay<W: Write>(alloc: Global, ops: &[u8], out: &mut W) -> Result<u8, CliFault> {
     let user = UserIds {
