@@ -1,14 +1,14 @@
 -- A replay that ends: what it answers and has written by then is the report's.
-use Rattle.std.proofs.Common.{◌≡◌, ℕ, zero, suc, ◌+◌, ◌*◌, ◌<◌, ◌≤◌, Bool, true, false, nat_lt, cond, List, [], ◌∷◌, ◌++◌, All, length, take, Option, Some, None, Result, Ok, Err, IfSome, refl, ap, sym, ◌∙◌, subst, append_assoc, append-nil, length-append, take-append-drop, arith}
+use Rattle.std.proofs.Common.{◌≡◌, ℕ, ◌+◌, ◌<◌, true, nat_lt, cond, List, [], ◌∷◌, ◌++◌, length, take, Option, Result, Ok, Err, refl, ap, sym, ◌∙◌, subst, append_assoc, append-nil, length-append, arith}
 use Rattle.std.proofs.Math.Seq.{take-append-add}
 use Rattle.std.proofs.lemmas.Bool.Decides.{nat_tests}
-use Rattle.std.specs.Io.KnownBytes.{Appends, Keeps}
+use Rattle.std.specs.Io.KnownBytes.{Appends}
 use Rattle.std.proofs.KnownBytes.{Appends-nil, Appends-trans, Appends-kept}
 use Rattle.cg_tree.specs.Identity.{Identity}
 use Rattle.cg_tree.specs.States.{State}
 use Rattle.cg_text.specs.declared.lines.fault.LineFault.TheVariants.{TooLong, Cut}
 use Rattle.cg_cli.specs.Written.{AppendsPart}
-use Rattle.cg_cli.specs.Reports.{Report, fault_report}
+use Rattle.cg_cli.specs.Reports.{Report}
 use Rattle.cg_cli.specs.Replays.{end_read, end_report, with_front, lines_report}
 use Rattle.cg_cli.specs.Replaying.{Reporting, Replays, coming, IsWaiting, Leads, Fed}
 use Rattle.cg_cli.specs.declared.fault.CliFault.{CliFault}

@@ -1,16 +1,15 @@
 -- A replay over a reader: what it gave, and what is left.
-use Rattle.std.proofs.Common.{◌≡◌, ℕ, ◌+◌, ◌<◌, ◌≤◌, true, false, nat_lt, List, [], ◌∷◌, ◌++◌, length, take, drop, Option, Some, None, Result, Ok, Err, IfSome, OnSome, ◌⊎◌, inl, inr, refl, ap, sym, ◌∙◌, subst, append-nil, length-take-le, arith}
+use Rattle.std.proofs.Common.{◌≡◌, ℕ, ◌<◌, ◌≤◌, true, false, nat_lt, List, [], ◌∷◌, ◌++◌, length, take, drop, Option, Some, None, Result, Ok, Err, IfSome, OnSome, ◌⊎◌, inl, inr, refl, ap, sym, ◌∙◌, subst, append-nil, length-take-le, arith}
 use Rattle.std.proofs.lemmas.Bool.Decides.{nat_tests}
 use Rattle.std.specs.Io.{StartsWith}
 use Rattle.std.specs.Io.KnownBytes.{Keeps, Consumes, IsAtEnd}
 use Rattle.std.specs.Io.BufRead.{DropsConsumable}
 use Rattle.std.proofs.BufReadLemmas.{Consumes_shown}
 use Rattle.std.proofs.KnownBytes.{Keeps-refl, Consumes-nil, Consumes-kept, Consumes-trans, Appends-kept, starts_with_rest}
-use Rattle.cg_cli.specs.Reports.{Report}
 use Rattle.cg_cli.specs.Replays.{end_read, end_report}
 use Rattle.cg_cli.specs.Replaying.{Reporting, AreOf, Replays, ReplaysFrom, goes_on, IsWaiting, Leads, Fed, ReadOn}
 use Rattle.cg_cli.specs.declared.fault.CliFault.{CliFault}
-use Rattle.cg_cli.specs.declared.fault.CliFault.TheVariants.{Write, Read, NoMemory}
+use Rattle.cg_cli.specs.declared.fault.CliFault.TheVariants.{Read, NoMemory}
 use Rattle.cg_cli.proofs.ReplayEnds.{leads_nowhere, leads_on, whole_text, replays_end, replays_fault}
 
 no_piece : (had : Option (List ℕ)) → IfSome had (λ xs. StartsWith xs [])

@@ -1,5 +1,5 @@
 -- What the report on operation lines says first.
-use Rattle.std.proofs.Common.{◌≡◌, ℕ, zero, suc, ◌+◌, ◌<◌, ◌≤◌, Bool, true, false, nat_lt, cond, List, [], ◌∷◌, ◌++◌, All, length, Result, Ok, Err, refl, ap, sym, ◌∙◌, subst, length-append, arith}
+use Rattle.std.proofs.Common.{◌≡◌, ℕ, ◌+◌, ◌<◌, ◌≤◌, Bool, true, false, nat_lt, cond, List, [], ◌∷◌, ◌++◌, All, length, refl, ap, sym, ◌∙◌, length-append, arith}
 use Rattle.std.proofs.lemmas.Bool.Decides.{nat_tests}
 use Rattle.std.proofs.lemmas.List.Elements.{All-head, All-tail}
 use Rattle.std.proofs.lemmas.List.Splits.{slice_split_none, slice_split_at}
@@ -9,9 +9,8 @@ use Rattle.cg_tree.specs.States.{State}
 use Rattle.cg_ops.specs.Steps.{after}
 use Rattle.cg_text.specs.Outcomes.{outcome_text}
 use Rattle.cg_text.specs.declared.lines.fault.LineFault.TheVariants.{TooLong}
-use Rattle.cg_cli.specs.Reports.{Report, fault_report, report_on}
+use Rattle.cg_cli.specs.Reports.{fault_report, report_on}
 use Rattle.cg_cli.specs.Replays.{is_newline, outcome_of, operation_read, end_read, end_report, with_front, replayed, lines_report}
-use Rattle.cg_cli.specs.declared.fault.CliFault.{CliFault}
 use Rattle.cg_cli.specs.declared.fault.CliFault.TheVariants.{Line, TooManySteps}
 
 -- the pieces are one and maybe more

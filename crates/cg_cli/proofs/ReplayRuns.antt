@@ -1,20 +1,17 @@
 -- A replay on its way: what bytes led to, and what is said of the rest.
-use Rattle.std.proofs.Common.{◌≡◌, ◌≢◌, ℕ, zero, suc, ◌+◌, ◌*◌, ◌<◌, ◌≤◌, Bool, true, false, nat_lt, cond, List, [], ◌∷◌, ◌++◌, All, length, take, drop, get_or, Option, Some, None, Result, Ok, Err, refl, ap, sym, ◌∙◌, subst, append_assoc, append-nil, length-append, take-append-drop, take_all, arith}
-use Rattle.std.proofs.lemmas.Bool.Decides.{nat_tests}
+use Rattle.std.proofs.Common.{◌≡◌, ℕ, ◌+◌, ◌<◌, ◌≤◌, false, List, [], ◌∷◌, ◌++◌, All, length, take, drop, get_or, Option, Ok, Err, ap, sym, ◌∙◌, subst, append_assoc, length-append, take-append-drop, arith}
 use Rattle.std.proofs.lemmas.List.{take_more, take-append-le}
-use Rattle.std.proofs.lemmas.List.Elements.{All-append, All-nil}
-use Rattle.std.specs.Io.KnownBytes.{Appends, Keeps}
-use Rattle.std.proofs.KnownBytes.{Appends-nil, Appends-trans, Keeps-refl}
+use Rattle.std.specs.Io.KnownBytes.{Appends}
+use Rattle.std.proofs.KnownBytes.{Appends-nil}
 use Rattle.cg_tree.specs.Identity.{Identity}
 use Rattle.cg_tree.specs.States.{State}
 use Rattle.cg_ops.specs.Steps.{after}
-use Rattle.cg_ops.specs.declared.operation.Op.{Op}
 use Rattle.cg_text.specs.Outcomes.{outcome_text}
 use Rattle.cg_text.specs.declared.lines.fault.LineFault.TheVariants.{TooLong}
 use Rattle.cg_cli.specs.Written.{AppendsPart}
 use Rattle.cg_cli.specs.Reports.{Report, fault_report, report_on}
-use Rattle.cg_cli.specs.Replays.{is_newline, outcome_of, operation_read, end_read, end_report, with_front, lines_report}
-use Rattle.cg_cli.specs.Replaying.{Reporting, coming, most_taken, IsWaiting, Leads, Fed, Answered}
+use Rattle.cg_cli.specs.Replays.{is_newline, outcome_of, operation_read, with_front, lines_report}
+use Rattle.cg_cli.specs.Replaying.{Reporting, coming, Leads, Fed, Answered}
 use Rattle.cg_cli.specs.declared.fault.CliFault.{CliFault}
 use Rattle.cg_cli.specs.declared.fault.CliFault.TheVariants.{Line, TooManySteps, Write, Read, NoMemory}
 use Rattle.cg_cli.proofs.ReplayReports.{report_of_line, report_of_long, report_of_many}

@@ -1,5 +1,5 @@
 -- The line of a fault: its words, and where in the tree's text or the operation lines it is. Own.
-use Rattle.std.specs.Prelude.{ℕ, List, [], ◌∷◌, ◌++◌, codes, Option, Some, None}
+use Rattle.std.specs.Prelude.{ℕ, List, [], ◌++◌, codes, Option, Some, None}
 use Rattle.std.specs.Fmt.{decimal}
 use Rattle.cg_text.specs.Outcomes.{spaced}
 use Rattle.cg_text.specs.declared.tree.fault.Place.{Place}

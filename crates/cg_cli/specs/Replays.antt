@@ -1,5 +1,5 @@
 -- The report on operation lines, each answered before the next is read. Own.
-use Rattle.std.specs.Prelude.{◌≡◌, ℕ, ◌+◌, Bool, true, false, List, [], ◌∷◌, ◌++◌, length, nat_lt, ◌==◌, cond, Option, Some, None, Result, Ok, Err}
+use Rattle.std.specs.Prelude.{ℕ, ◌+◌, Bool, List, [], ◌∷◌, ◌++◌, length, nat_lt, ◌==◌, cond, Option, Some, None, Result, Ok, Err}
 use Rattle.std.specs.List.{slice_split}
 use Rattle.cg_tree.specs.Identity.{Identity}
 use Rattle.cg_tree.specs.States.{State}
@@ -15,7 +15,7 @@ use Rattle.cg_text.specs.Outcomes.{outcome_text}
 use Rattle.cg_text.specs.declared.lines.fault.LineFault.TheVariants.{TooLong, BadWord, Cut}
 use Rattle.cg_cli.specs.Arguments.{or_fault, user_read}
 use Rattle.cg_cli.specs.May.{tree_read}
-use Rattle.cg_cli.specs.Reports.{Report, fault_report, report_on}
+use Rattle.cg_cli.specs.Reports.{Report, report_on}
 use Rattle.cg_cli.specs.declared.fault.CliFault.{CliFault}
 use Rattle.cg_cli.specs.declared.fault.CliFault.TheVariants.{Line, TooManySteps}
 
