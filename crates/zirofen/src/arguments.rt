@@ -8,7 +8,7 @@ pub fn command<'a>(alloc: Global) -> Result<Command<'a>, AllocError> {
     Command::new(alloc, "zirofen")
         .about("Checks what a user may do in a tree of cgroups")
         .subcommand_required(true)
-        .subcommand(may_command(alloc)?)
+        .subcommand(may_command(alloc)?)?
         .subcommand(replay_command(alloc)?)
 }
 

@@ -9,11 +9,10 @@ use cg_cli::replay::replay_from;
 use cg_cli::write::write_whole;
 use clap::ArgMatches;
 use std::alloc::Global;
-use std::env;
 use std::fs::File;
-use std::io;
 use std::io::{BufReader, BufWriter, ErrorKind, Read, Write};
 use std::rt::{Env, Files};
+use std::{env, io};
 
 /// Runs the command that the program's arguments name, and gives its status.
 ///
