@@ -1,12 +1,15 @@
--- The line of a fault: its words, and where in the tree's text it is. Own.
-use Rattle.std.specs.Prelude.{ℕ, List, [], ◌∷◌, ◌++◌, codes, Option, Some, None}
+-- The line of a fault: its words, and where in the tree's text or the operation lines it is. Own.
+use Rattle.std.specs.Prelude.{ℕ, List, [], ◌++◌, codes, Option, Some, None}
 use Rattle.std.specs.Fmt.{decimal}
+use Rattle.cg_text.specs.Outcomes.{spaced}
 use Rattle.cg_text.specs.declared.tree.fault.Place.{Place}
 use Rattle.cg_text.specs.declared.tree.fault.Place.TheVariants.{Top, Cgroup, Process}
 use Rattle.cg_text.specs.declared.tree.fault.TreeFault.{TreeFault}
 use Rattle.cg_text.specs.declared.tree.fault.TreeFault.TheVariants as tree
+use Rattle.cg_text.specs.declared.lines.fault.LineFault.{LineFault}
+use Rattle.cg_text.specs.declared.lines.fault.LineFault.TheVariants as lines
 use Rattle.cg_cli.specs.declared.fault.CliFault.{CliFault}
-use Rattle.cg_cli.specs.declared.fault.CliFault.TheVariants.{Uid, Gids, Pid, BadPath, Tree, Read, Write, NoMemory}
+use Rattle.cg_cli.specs.declared.fault.CliFault.TheVariants.{Uid, Gids, Pid, BadPath, Tree, Line, TooManySteps, Read, Write, NoMemory}
 
 -- the words of a tree's fault, and its place
 abbrev pub tree_fault_parts : TreeFault → List ℕ × Option Place
@@ -30,22 +33,36 @@ tree_fault_parts (tree.NoSuchPlace place) = (codes "tree no-such-place", Some pl
 tree_fault_parts (tree.InternalProcess place) = (codes "tree internal-process", Some place)
 tree_fault_parts tree.NoMemory = (codes "memory", None)
 
--- the words of a fault, and its place
-abbrev pub fault_parts : CliFault → List ℕ × Option Place
-fault_parts Uid = (codes "uid", None)
-fault_parts Gids = (codes "gid", None)
-fault_parts Pid = (codes "pid", None)
-fault_parts BadPath = (codes "path", None)
-fault_parts (Tree fault) = tree_fault_parts fault
-fault_parts Read = (codes "read", None)
-fault_parts Write = (codes "write", None)
-fault_parts NoMemory = (codes "memory", None)
-
 abbrev pub place_text : Option Place → List ℕ
 place_text None = []
 place_text (Some Top) = codes " top"
 place_text (Some (Cgroup row)) = codes " cgroup " ++ decimal row
 place_text (Some (Process row)) = codes " process " ++ decimal row
 
+-- the line of words that say all
+abbrev pub plain_line : List ℕ → List ℕ
+plain_line words = codes "fault: " ++ words ++ codes "\n"
+
+abbrev pub tree_fault_line : TreeFault → List ℕ
+tree_fault_line fault = plain_line ((tree_fault_parts fault).0 ++ place_text (tree_fault_parts fault).1)
+
+abbrev pub line_word : LineFault → List ℕ
+line_word lines.TooLong = codes "too-long"
+line_word lines.BadWord = codes "bad-word"
+line_word lines.Cut = codes "cut"
+line_word lines.NoMemory = codes "memory"
+
+abbrev pub operation_fault_line : ℕ → List ℕ → List ℕ
+operation_fault_line number word = codes "fault: line " ++ spaced (decimal number) word ++ codes "\n"
+
 abbrev pub fault_line : CliFault → List ℕ
-fault_line fault = codes "fault: " ++ (fault_parts fault).0 ++ place_text (fault_parts fault).1 ++ codes "\n"
+fault_line Uid = plain_line (codes "uid")
+fault_line Gids = plain_line (codes "gid")
+fault_line Pid = plain_line (codes "pid")
+fault_line BadPath = plain_line (codes "path")
+fault_line (Tree fault) = tree_fault_line fault
+fault_line (Line number fault) = operation_fault_line number (line_word fault)
+fault_line TooManySteps = plain_line (codes "too-many-steps")
+fault_line Read = plain_line (codes "read")
+fault_line Write = plain_line (codes "write")
+fault_line NoMemory = plain_line (codes "memory")

@@ -4,3 +4,5 @@ pub mod FaultLines
 pub mod Arguments
 pub mod Reports
 pub mod May
+pub mod Replays
+pub mod Replaying

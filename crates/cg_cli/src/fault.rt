@@ -1,10 +1,11 @@
 //! Why a call of this crate gives no status, and the line that says so.
-ghost use Rattle.std.specs.Prelude.{◌≡◌, IfOk};
-ghost use Rattle.cg_cli.specs.FaultLines.{fault_line, fault_parts, tree_fault_parts};
-ghost use Rattle.cg_cli.specs.Faults.{lifted, lifted_path};
+ghost use Rattle.std.specs.Prelude.{◌≡◌, IfOk, string_bytes};
+ghost use Rattle.cg_cli.specs.FaultLines.{fault_line, plain_line, tree_fault_line, tree_fault_parts, operation_fault_line, line_word};
+ghost use Rattle.cg_cli.specs.Faults.{lifted, lifted_path, lifted_line};
 ghost use Rattle.cg_cli.specs.declared.fault.CliFault.TheVariants.{Write as WriteFault, NoMemory as MemoryFault};
 
 use crate::write::WriteFailed;
+use cg_text::lines::LineFault;
 use cg_text::tree::{Place, TreeFault};
 use cg_tree::memory::NoMemory;
 use cg_tree::path::PathFault;
@@ -24,6 +25,10 @@ pub enum CliFault {
     BadPath,
     #[error("the tree's text has a fault: {0:?}")]
     Tree(TreeFault),
+    #[error("operation line {number} has a fault: {fault:?}")]
+    Line { number: u32, fault: LineFault },
+    #[error("there are more than 65536 operations")]
+    TooManySteps,
     #[error("the input can't be read")]
     Read,
     #[error("the report can't be written")]
@@ -86,37 +91,82 @@ impl From<TreeFault> for CliFault {
     }
 }
 
+impl CliFault {
+    /// What a fault of the operation line of that number is to a call.
+    pub(crate) fn of_line(number: u32, fault: LineFault) -> CliFault
+        ensures { result ≡ lifted_line number fault }
+    {
+        match fault {
+            LineFault::NoMemory => CliFault::NoMemory,
+            fault => CliFault::Line { number, fault },
+        }
+    }
+}
+
 /// The line that says which fault it is, with its newline.
 pub fn fault_text(alloc: Global, fault: &CliFault) -> Result<Vec<u8>, NoMemory>
     ensures { IfOk result (λ text. text.items ≡ fault_line fault.now) }
 {
-    let (words, place) = fault_parts(fault);
-    let line = match place {
-        None => format!(in alloc; "fault: {words}\n")?,
-        Some(Place::Top) => format!(in alloc; "fault: {words} top\n")?,
-        Some(Place::Cgroup(row)) => format!(in alloc; "fault: {words} cgroup {row}\n")?,
-        Some(Place::Process(row)) => format!(in alloc; "fault: {words} process {row}\n")?,
-    };
-    Ok(line.into_bytes())
+    Ok(fault_line(alloc, fault)?.into_bytes())
 }
 
-/// The words of a fault, and where it is.
-fn fault_parts(fault: &CliFault) -> (&'static str, Option<Place>)
-    ensures words { result.0.now ≡ (fault_parts fault.now).0 }
-    ensures place { result.1 ≡ (fault_parts fault.now).1 }
+fn fault_line(alloc: Global, fault: &CliFault) -> Result<String, AllocError>
+    ensures { IfOk result (λ line. string_bytes line ≡ fault_line fault.now) }
 {
     match fault {
-        CliFault::Uid => ("uid", None),
-        CliFault::Gids => ("gid", None),
-        CliFault::Pid => ("pid", None),
-        CliFault::BadPath => ("path", None),
-        CliFault::Tree(inner) => tree_fault_parts(*inner),
-        CliFault::Read => ("read", None),
-        CliFault::Write => ("write", None),
-        CliFault::NoMemory => ("memory", None),
+        CliFault::Uid => plain_line(alloc, "uid"),
+        CliFault::Gids => plain_line(alloc, "gid"),
+        CliFault::Pid => plain_line(alloc, "pid"),
+        CliFault::BadPath => plain_line(alloc, "path"),
+        CliFault::Tree(inner) => tree_fault_line(alloc, *inner),
+        CliFault::Line { number, fault } => {
+            operation_fault_line(alloc, *number, line_word(*fault))
+        }
+        CliFault::TooManySteps => plain_line(alloc, "too-many-steps"),
+        CliFault::Read => plain_line(alloc, "read"),
+        CliFault::Write => plain_line(alloc, "write"),
+        CliFault::NoMemory => plain_line(alloc, "memory"),
     }
 }
 
+/// The line of a fault that has no place.
+fn plain_line(alloc: Global, words: &str) -> Result<String, AllocError>
+    ensures { IfOk result (λ line. string_bytes line ≡ plain_line words.now) }
+{
+    format!(in alloc; "fault: {words}\n")
+}
+
+/// The line of a fault of an operation line.
+fn operation_fault_line(alloc: Global, number: u32, word: &str) -> Result<String, AllocError>
+    ensures { IfOk result (λ line. string_bytes line ≡ operation_fault_line number word.now) }
+{
+    format!(in alloc; "fault: line {number} {word}\n")
+}
+
+fn line_word(fault: LineFault) -> &'static str
+    ensures { result.now ≡ line_word fault }
+{
+    match fault {
+        LineFault::TooLong => "too-long",
+        LineFault::BadWord => "bad-word",
+        LineFault::Cut => "cut",
+        LineFault::NoMemory => "memory",
+    }
+}
+
+fn tree_fault_line(alloc: Global, fault: TreeFault) -> Result<String, AllocError>
+    ensures { IfOk result (λ line. string_bytes line ≡ tree_fault_line fault) }
+{
+    let (words, place) = tree_fault_parts(fault);
+    match place {
+        None => plain_line(alloc, words),
+        Some(Place::Top) => format!(in alloc; "fault: {words} top\n"),
+        Some(Place::Cgroup(row)) => format!(in alloc; "fault: {words} cgroup {row}\n"),
+        Some(Place::Process(row)) => format!(in alloc; "fault: {words} process {row}\n"),
+    }
+}
+
+/// The words of a fault of the tree's text, and where it is.
 fn tree_fault_parts(fault: TreeFault) -> (&'static str, Option<Place>)
     ensures words { result.0.now ≡ (tree_fault_parts fault).0 }
     ensures place { result.1 ≡ (tree_fault_parts fault).1 }

@@ -5,6 +5,7 @@ pub mod arguments;
 pub mod fault;
 pub mod input;
 pub mod may;
+pub mod replay;
 #[cfg(test)]
 mod tests;
 pub mod write;

@@ -2,6 +2,8 @@
 mod input;
 mod may;
 mod readers;
+mod replay;
+mod replay_ends;
 mod trees;
 mod vectors;
 mod writers;

@@ -8,7 +8,8 @@ pub fn command<'a>(alloc: Global) -> Result<Command<'a>, AllocError> {
     Command::new(alloc, "zirofen")
         .about("Checks what a user may do in a tree of cgroups")
         .subcommand_required(true)
-        .subcommand(may_command(alloc)?)
+        .subcommand(may_command(alloc)?)?
+        .subcommand(replay_command(alloc)?)
 }
 
 fn may_command<'a>(alloc: Global) -> Result<Command<'a>, AllocError> {
@@ -31,6 +32,21 @@ fn may_command<'a>(alloc: Global) -> Result<Command<'a>, AllocError> {
                 .value_name("PATH")
                 .required(true)
                 .help("The cgroup that it is to be moved to"),
+        )
+}
+
+fn replay_command<'a>(alloc: Global) -> Result<Command<'a>, AllocError> {
+    Command::new(alloc, "replay")
+        .about("Says of each of a user's operations whether it is carried out")
+        .arg(tree_argument(alloc))?
+        .arg(uid_argument(alloc))?
+        .arg(gid_argument(alloc))?
+        .arg(
+            Arg::new(alloc, "ops")
+                .long("ops")
+                .value_name("FILE")
+                .required(true)
+                .help("The operations, one a line"),
         )
 }
 
@@ -78,6 +94,27 @@ impl<'a> May<'a> {
             gids: numbers(alloc, matches, "gid")?,
             pid: number(matches, "pid")?,
             to: matches.get_str("to").ok_or(Fault::Usage)?,
+        })
+    }
+}
+
+/// Operations that a user makes one after another.
+#[derive(Drop)]
+pub struct Replay<'a> {
+    pub tree: Option<&'a str>,
+    pub uid: u32,
+    pub gids: Vec<u32>,
+    pub ops: &'a str,
+}
+
+impl<'a> Replay<'a> {
+    /// What was given to the command.
+    pub fn from_matches(alloc: Global, matches: &ArgMatches<'a>) -> Result<Replay<'a>, Fault> {
+        Ok(Replay {
+            tree: matches.get_str("tree"),
+            uid: number(matches, "uid")?,
+            gids: numbers(alloc, matches, "gid")?,
+            ops: matches.get_str("ops").ok_or(Fault::Usage)?,
         })
     }
 }

@@ -1,17 +1,18 @@
 //! The run of a command: its arguments, its tree, and the call that answers.
-use crate::arguments::{self, May};
+use crate::arguments::{self, May, Replay};
 use crate::fault::Fault;
 use cg_cli::arguments::UserIds;
 use cg_cli::fault::CliFault;
 use cg_cli::input::read_input;
 use cg_cli::may::may_bytes;
+use cg_cli::replay::replay_from;
 use cg_cli::write::write_whole;
 use clap::ArgMatches;
 use std::alloc::Global;
-use std::env;
 use std::fs::File;
-use std::io::{ErrorKind, Read, Write};
+use std::io::{BufReader, BufWriter, ErrorKind, Read, Write};
 use std::rt::{Env, Files};
+use std::{env, io};
 
 /// Runs the command that the program's arguments name, and gives its status.
 ///
@@ -46,6 +47,9 @@ fn command<R: AllocGlobal + Files, I: Read + Drop, W: Write>(
 ) -> Result<u8, Fault> {
     match matches.subcommand() {
         Some(("may", given)) => may(rt, &May::from_matches(rt.alloc(), given)?, input, out),
+        Some(("replay", given)) => {
+            replay(rt, &Replay::from_matches(rt.alloc(), given)?, input, out)
+        }
         _ => Err(Fault::Usage),
     }
 }
@@ -71,6 +75,41 @@ fn may<R: AllocGlobal + Files, I: Read + Drop, W: Write>(
     )?)
 }
 
+fn replay<R: AllocGlobal + Files, I: Read + Drop, W: Write>(
+    rt: &R,
+    request: &Replay<'_>,
+    input: I,
+    out: &mut W,
+) -> Result<u8, Fault> {
+    let alloc = rt.alloc();
+    let tree = tree_text(rt, request.tree, input)?;
+    let opened = File::open(rt, request.ops).map_err(read_fault)?;
+    let mut ops = BufReader::new(alloc, opened).map_err(read_fault)?;
+    let mut report = BufWriter::new(alloc, out).map_err(read_fault)?;
+    let user = UserIds {
+        uid: request.uid,
+        gids: request.gids.as_slice(),
+    };
+    let ended = replay_from(alloc, tree.as_slice(), user, &mut ops, &mut report);
+    Ok(flushed(ended, report)?)
+}
+
+/// How a call ended whose report is held in a buffer: its own fault comes before the flush's. Where a write has failed
+/// already, nothing more is written.
+fn flushed<W: Write + Drop>(
+    ended: Result<u8, CliFault>,
+    mut report: BufWriter<W>,
+) -> Result<u8, CliFault> {
+    let flushed = match ended {
+        Err(CliFault::Write) => Ok(()),
+        _ => report.flush(),
+    };
+    let _ = report.into_parts();
+    let status = ended?;
+    flushed.map_err(|_| CliFault::Write)?;
+    Ok(status)
+}
+
 /// The text of the tree: of the file where one is named, and else of the input.
 fn tree_text<R: AllocGlobal + Files, I: Read + Drop>(
     rt: &R,
@@ -79,10 +118,15 @@ fn tree_text<R: AllocGlobal + Files, I: Read + Drop>(
 ) -> Result<Vec<u8>, CliFault> {
     match file {
         None => read_input(rt.alloc(), input),
-        Some(name) => match File::open(rt, name) {
-            Ok(opened) => read_input(rt.alloc(), opened),
-            Err(error) if error.kind() == ErrorKind::OutOfMemory => Err(CliFault::NoMemory),
-            Err(_) => Err(CliFault::Read),
-        },
+        Some(name) => read_input(rt.alloc(), File::open(rt, name).map_err(read_fault)?),
+    }
+}
+
+/// Why a file can't be opened or read.
+fn read_fault(error: io::Error) -> CliFault {
+    if error.kind() == ErrorKind::OutOfMemory {
+        CliFault::NoMemory
+    } else {
+        CliFault::Read
     }
 }

@@ -1,8 +1,8 @@
-//! Readers that fail and never end.
+//! Readers that fail, dawdle and never end.
 ghost use Rattle.std.specs.Prelude.{◌≡◌, None};
 
 use std::io;
-use std::io::{ErrorKind, Read};
+use std::io::{BufRead, ErrorKind, Read};
 
 /// Gives a byte for ever.
 #[derive(Drop)]
@@ -35,5 +35,87 @@ impl Read for FailsAfter {
                 Ok(1)
             }
         }
+    }
+}
+
+/// Shows a text in pieces of a size, counts how often it was asked, and fails at one ask.
+#[derive(Drop)]
+pub struct Pieces<'a> {
+    pub rest: &'a [u8],
+    pub size: usize,
+    pub asked: u64,
+    pub fails_at: u64,
+}
+
+impl<'a> Pieces<'a> {
+    /// Never fails.
+    pub fn new(text: &'a [u8], size: usize) -> Pieces<'a> {
+        Pieces {
+            rest: text,
+            size,
+            asked: 0,
+            fails_at: 0,
+        }
+    }
+}
+
+impl Read for Pieces<'_> {
+    fn read(&mut self, buf: &mut [u8]) -> io::Result<usize> {
+        let count = self.size.min(self.rest.len()).min(buf.len());
+        buf[..count].copy_from_slice(&self.rest[..count]);
+        self.consume(count);
+        Ok(count)
+    }
+}
+
+impl BufRead for Pieces<'_> {
+    fn fill_buf(&mut self) -> io::Result<&[u8]> {
+        self.asked = self.asked.saturating_add(1);
+        if self.asked == self.fails_at {
+            return Err(io::Error::from(ErrorKind::Interrupted));
+        }
+        Ok(&self.rest[..self.size.min(self.rest.len())])
+    }
+
+    fn consume(&mut self, amount: usize) {
+        self.rest = &self.rest[amount.min(self.rest.len())..];
+    }
+}
+
+/// Shows a text again and again, a byte at a time, and counts how often it was asked.
+#[derive(Drop)]
+pub struct Again<'a> {
+    text: &'a [u8],
+    rest: &'a [u8],
+    pub asked: u32,
+}
+
+impl<'a> Again<'a> {
+    pub fn new(text: &'a [u8]) -> Again<'a> {
+        Again {
+            text,
+            rest: text,
+            asked: 0,
+        }
+    }
+}
+
+impl Read for Again<'_> {
+    fn read(&mut self, _buf: &mut [u8]) -> io::Result<usize> {
+        Err(io::Error::from(ErrorKind::Unsupported))
+    }
+}
+
+impl BufRead for Again<'_> {
+    fn fill_buf(&mut self) -> io::Result<&[u8]> {
+        self.asked = self.asked.saturating_add(1);
+        if self.rest.is_empty() {
+            self.rest = self.text;
+        }
+        Ok(&self.rest[..self.rest.len().min(1)])
+    }
+
+    fn consume(&mut self, amount: usize) {
+        self.rest = &self.rest[amount.min(self.rest.len())..];
     }
 }

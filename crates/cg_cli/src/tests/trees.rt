@@ -64,6 +64,14 @@ uid = 1000
 at = \"/c0/c00\"
 ";
 
+/// The same with process 13 at `/c0` itself.
+pub const DELEGATION_AND_PROCESS: &str = "
+[[process]]
+pid = 13
+uid = 1000
+at = \"/c0\"
+";
+
 /// `/p` is delegated to user 1000 and enables memory; process 20 is below it.
 pub const PARENT_DELEGATED: &[u8] = b"
 format = 1

@@ -1,0 +1,6 @@
+mod ReplayLines
+mod ReplayReports
+mod ReplayRuns
+mod ReplayEnds
+mod ReplayCalls
+mod ReplayReads

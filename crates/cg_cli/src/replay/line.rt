@@ -1,0 +1,55 @@
+//! One operation line: where it ends, and its answer.
+ghost use Rattle.std.specs.Prelude.{◌≡◌, ◌<◌, ◌≤◌, false, length, take, slice_index};
+ghost use Rattle.std.specs.List.{All};
+ghost use Rattle.cg_cli.specs.Replays.{is_newline, operation_read, most_operations};
+ghost use Rattle.cg_cli.specs.Replaying.{Answered};
+
+use crate::fault::CliFault;
+use crate::write::write_whole;
+use cg_ops::apply;
+use cg_text::lines::read_op;
+use cg_text::outcome::outcome_text;
+use cg_tree::hierarchy::Hierarchy;
+use cg_tree::user::User;
+use std::alloc::Global;
+use std::io::Write;
+
+/// How many operations a replay has at most.
+pub const MOST_OPERATIONS: u32 = 65_536;
+
+/// Where the first newline is, or how many bytes there are.
+pub fn line_end(bytes: &[u8]) -> usize
+    ensures bound { result ≤ length bytes.now }
+    ensures before { All (λ b. is_newline b ≡ false) (take result bytes.now) }
+    ensures newline { result < length bytes.now → slice_index bytes.now result ≡ 10 }
+{
+    for (i, byte) in bytes.iter().enumerate() {
+        if *byte == b'\n' {
+            return i;
+        }
+    }
+    bytes.len()
+}
+
+/// Carries out the operation of a line behind `done` others, which is without its newline, and writes the outcome.
+pub fn answer<H: Hierarchy, W: Write>(
+    alloc: Global,
+    tree: &mut H,
+    user: &User,
+    done: u32,
+    line: &[u8],
+    out: &mut W,
+) -> Result<(), CliFault>
+    requires { done < most_operations }
+    ensures { Answered (operation_read done line.now) (H.state tree.old) (H.state tree.new) user.now
+        (W.contents out.old) (W.contents out.new) result }
+{
+    let op = match read_op(alloc, line) {
+        Ok(op) => op,
+        Err(fault) => return Err(CliFault::of_line(done + 1, fault)),
+    };
+    let outcome = apply(alloc, tree, user, &op)?;
+    let text = outcome_text(alloc, &op, &outcome)?;
+    write_whole(out, text.as_slice())?;
+    Ok(())
+}
