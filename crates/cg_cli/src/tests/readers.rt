@@ -82,6 +82,34 @@ impl BufRead for Pieces<'_> {
     }
 }
 
+/// Shows a text in pieces of uneven sizes, 1 to 23 bytes, by a seed.
+#[derive(Drop)]
+pub struct Uneven<'a> {
+    pub rest: &'a [u8],
+    pub seed: u32,
+}
+
+impl Read for Uneven<'_> {
+    fn read(&mut self, _buf: &mut [u8]) -> io::Result<usize> {
+        Err(io::Error::from(ErrorKind::Unsupported))
+    }
+}
+
+impl BufRead for Uneven<'_> {
+    fn fill_buf(&mut self) -> io::Result<&[u8]> {
+        self.seed = self
+            .seed
+            .wrapping_mul(1_664_525)
+            .wrapping_add(1_013_904_223);
+        let size = 1 + (self.seed >> 24) as usize % 23;
+        Ok(&self.rest[..size.min(self.rest.len())])
+    }
+
+    fn consume(&mut self, amount: usize) {
+        self.rest = &self.rest[amount.min(self.rest.len())..];
+    }
+}
+
 /// Shows a text again and again, a byte at a time, and counts how often it was asked.
 #[derive(Drop)]
 pub struct Again<'a> {

@@ -1,5 +1,5 @@
 //! `replay_bytes` and `replay_from` on rows worked out by hand.
-use super::readers::Pieces;
+use super::readers::{Pieces, Uneven};
 use super::trees::{DELEGATION, DELEGATION_AND_PROCESS};
 use crate::arguments::UserIds;
 use crate::fault::CliFault;
@@ -118,7 +118,7 @@ const ROW_OF_PROCESS: Row = Row {
     ending: Ok(0),
 };
 
-/// A row over bytes, and in pieces of each of some sizes.
+/// A row over bytes, in pieces of each of some sizes, and in pieces of uneven sizes.
 fn assert_row(rt: &impl Abort, alloc: Global, tree: &[u8], row: &Row) {
     let user = UserIds {
         uid: row.uid,
@@ -132,6 +132,13 @@ fn assert_row(rt: &impl Abort, alloc: Global, tree: &[u8], row: &Row) {
     for size in [1, 2, 7, 8, 13, 8192] {
         let mut out = Vec::new(alloc);
         let mut pieces = Pieces::new(ops, size);
+        let ending = replay_from(alloc, tree, user, &mut pieces, &mut out);
+        assert_eq!(rt; ending, row.ending);
+        assert_eq!(rt; out.as_slice(), row.report.as_bytes());
+    }
+    for seed in 1..20 {
+        let mut out = Vec::new(alloc);
+        let mut pieces = Uneven { rest: ops, seed };
         let ending = replay_from(alloc, tree, user, &mut pieces, &mut out);
         assert_eq!(rt; ending, row.ending);
         assert_eq!(rt; out.as_slice(), row.report.as_bytes());
