@@ -14,10 +14,8 @@ use Rattle.cg_ops.specs.declared.outcome.Outcome.{Outcome}
 use Rattle.cg_ops.specs.declared.outcome.Outcome.TheVariants.{Done, Refused}
 use Rattle.cg_text.specs.OperationLines.{spelling, IsHeld}
 use Rattle.cg_text.specs.LineReading.{operation_at}
-use Rattle.cg_text.specs.Outcomes.{CanShow}
 use Rattle.cg_text.specs.declared.lines.fault.LineFault.TheVariants.{TooLong, BadWord}
-use Rattle.cg_text.proofs.LineLaws.{line_again, line_takes}
-use Rattle.cg_text.proofs.OutcomeLaws.{bars_shown}
+use Rattle.cg_text.proofs.LineLaws.{line_again, nothing_read}
 use Rattle.cg_cli.specs.Replays.{outcome_by, outcome_of, operation_read}
 use Rattle.cg_cli.specs.declared.fault.CliFault.TheVariants.{Line}
 
@@ -30,15 +28,11 @@ operation_read_ok done line op few short spelled held =
     let e : operation_at line ≡ Some op = ap operation_at spelled ∙ line_again op held in
     rw (a, b, e) refl
 
-no_operation : (line : List ℕ) (read : Option Op) → operation_at line ≡ read → ((op : Op) → IsHeld op → line ≢ spelling op) → read ≡ None
-no_operation line None e h = refl
-no_operation line (Some op) e h = let takes = line_takes line op e in absurd (h op takes.0 takes.1)
-
 pub operation_read_bad : (done : ℕ) (line : List ℕ) → done < 65536 → length line ≤ 8192 → ((op : Op) → IsHeld op → line ≢ spelling op) → operation_read done line ≡ Err (Line (done + 1) BadWord)
 operation_read_bad done line few short none =
     let a : nat_lt done 65536 ≡ true = grind (arith, nat_tests) in
     let b : nat_lt 8192 (length line) ≡ false = grind (arith, nat_tests) in
-    let e : operation_at line ≡ None = no_operation line (operation_at line) refl none in
+    let e : operation_at line ≡ None = nothing_read line none in
     rw (a, b, e) refl
 
 pub operation_read_long : (done : ℕ) (line : List ℕ) → done < 65536 → 8192 < length line → operation_read done line ≡ Err (Line (done + 1) TooLong)
@@ -52,10 +46,6 @@ operation_read_long done line few long =
 pub outcome_is : (st : State) (user : Identity) (op : Op) (outcome : Outcome) → RefusedBy outcome (first (bars st user op)) → outcome ≡ outcome_of st user op
 outcome_is st user op Done none = ap outcome_by (sym none)
 outcome_is st user op (Refused bar) barred = ap outcome_by (sym barred)
-
-pub outcome_shown : (st : State) (user : Identity) (op : Op) (outcome : Outcome) → RefusedBy outcome (first (bars st user op)) → CanShow op outcome
-outcome_shown st user op Done none = tt
-outcome_shown st user op (Refused bar) barred = bars_shown st user op bar barred
 
 -- the state behind an operation, by what bars it
 abbrev after_by : State → Identity → Op → List Refusal → State

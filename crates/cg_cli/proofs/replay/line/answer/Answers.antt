@@ -14,7 +14,8 @@ use Rattle.cg_cli.specs.Faults.{lifted_line}
 use Rattle.cg_cli.specs.Replays.{operation_read, outcome_of}
 use Rattle.cg_cli.specs.Replaying.{Answered}
 use Rattle.cg_cli.specs.Written.{AppendsPart}
-use Rattle.cg_cli.proofs.ReplayLines.{operation_read_ok, operation_read_bad, operation_read_long, outcome_is, outcome_shown, state_is}
+use Rattle.cg_cli.proofs.ReplayLines.{operation_read_ok, operation_read_bad, operation_read_long, outcome_is, state_is}
+use Rattle.cg_text.proofs.OutcomeLaws.{outcome_shown}
 use Rattle.cg_cli.proofs.replay.line.answer.Goals as goal
 
 told_apart : ◌≡◌ {A = Result Op LineFault} (Err BadWord) (Err TooLong) → ⊥
