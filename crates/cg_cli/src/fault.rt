@@ -1,5 +1,5 @@
 //! Why a call of this crate gives no status, and the line that says so.
-ghost use Rattle.std.specs.Prelude.{◌≡◌, IfOk, string_bytes};
+ghost use Rattle.std.specs.Prelude.{◌≡◌, ◌⊎◌, IfOk, string_bytes};
 ghost use Rattle.cg_cli.specs.FaultLines.{fault_line, plain_line, tree_fault_line, tree_fault_parts, operation_fault_line, line_word};
 ghost use Rattle.cg_cli.specs.Faults.{lifted, lifted_path, lifted_line};
 ghost use Rattle.cg_cli.specs.declared.fault.CliFault.TheVariants.{Write as WriteFault, NoMemory as MemoryFault};
@@ -10,6 +10,8 @@ use cg_text::tree::{Place, TreeFault};
 use cg_tree::memory::NoMemory;
 use cg_tree::path::PathFault;
 use std::alloc::{AllocError, AllocFailed, Global};
+use std::io;
+use std::io::ErrorKind;
 use thiserror::Error;
 
 /// Why a call gives no status. Want of memory in whatever part is `NoMemory`, and stands in no other fault.
@@ -99,6 +101,17 @@ impl CliFault {
         match fault {
             LineFault::NoMemory => CliFault::NoMemory,
             fault => CliFault::Line { number, fault },
+        }
+    }
+
+    /// Why a file can't be opened or read.
+    pub fn of_read(error: &io::Error) -> CliFault
+        ensures { (result ≡ CliFault.Read) ⊎ (result ≡ CliFault.NoMemory) }
+    {
+        if error.kind() == ErrorKind::OutOfMemory {
+            CliFault::NoMemory
+        } else {
+            CliFault::Read
         }
     }
 }

@@ -3,7 +3,7 @@ ghost use Rattle.std.specs.Prelude.{◌≡◌, ◌⊎◌, IfOk, IfErr, IfSome, t
 
 use crate::fault::CliFault;
 use std::alloc::Global;
-use std::io::{ErrorKind, Read};
+use std::io::Read;
 
 /// How much of an input is read: one byte more than a tree's text may have.
 pub const MOST_BYTES: u64 = 16_777_217;
@@ -19,7 +19,6 @@ pub fn read_input<R: Read + Drop>(alloc: Global, reader: R) -> Result<Vec<u8>, C
     let mut text = Vec::new(alloc);
     match reader.take(MOST_BYTES).read_to_end(&mut text) {
         Ok(_) => Ok(text),
-        Err(error) if error.kind() == ErrorKind::OutOfMemory => Err(CliFault::NoMemory),
-        Err(_) => Err(CliFault::Read),
+        Err(error) => Err(CliFault::of_read(&error)),
     }
 }

@@ -1,5 +1,5 @@
 //! Operation lines that are replayed: each is answered by its outcome before the next is read.
-ghost use Rattle.std.specs.Prelude.{◌≡◌, ◌+◌, ◌≤◌, ◌⊎◌, [], OnOk, IfOk, IfErr, Err};
+ghost use Rattle.std.specs.Prelude.{◌≡◌, ◌+◌, ◌≤◌, [], OnOk, IfOk, IfErr, Err};
 ghost use Rattle.cg_cli.specs.Arguments.{user_read};
 ghost use Rattle.cg_cli.specs.Replays.{replay_report};
 ghost use Rattle.cg_cli.specs.Replaying.{coming, most_taken, IsWaiting, Replays, ReplaysFrom, ReadOn};
@@ -10,8 +10,7 @@ use cg_text::tree::read_tree;
 use cg_tree::hierarchy::Hierarchy;
 use run::Run;
 use std::alloc::Global;
-use std::io;
-use std::io::{BufRead, ErrorKind, Write};
+use std::io::{BufRead, Write};
 
 mod line;
 mod run;
@@ -119,7 +118,7 @@ fn read_on<H: Hierarchy, R: BufRead, W: Write>(
 {
     let piece = match ops.fill_buf() {
         Ok(piece) => piece,
-        Err(error) => return Err(read_fault(&error)),
+        Err(error) => return Err(CliFault::of_read(&error)),
     };
     if piece.is_empty() {
         return Ok(0);
@@ -127,15 +126,4 @@ fn read_on<H: Hierarchy, R: BufRead, W: Write>(
     let taken = run.feed(alloc, piece, out)?;
     ops.consume(taken);
     Ok(taken)
-}
-
-/// Why nothing was read.
-fn read_fault(error: &io::Error) -> CliFault
-    ensures { (result ≡ CliFault.Read) ⊎ (result ≡ CliFault.NoMemory) }
-{
-    if error.kind() == ErrorKind::OutOfMemory {
-        CliFault::NoMemory
-    } else {
-        CliFault::Read
-    }
 }

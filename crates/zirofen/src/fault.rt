@@ -1,4 +1,8 @@
 //! Why the program ends without a command's status.
+ghost use Rattle.std.specs.Prelude.{◌≡◌};
+ghost use Rattle.zirofen.specs.declared.fault.Fault.TheVariants.{Cli};
+ghost use Rattle.cg_cli.specs.declared.fault.CliFault.TheVariants.{NoMemory as MemoryFault};
+
 use cg_cli::fault::{CliFault, fault_text};
 use cg_cli::write::write_whole;
 use clap::error::ErrorKind;
@@ -42,12 +46,16 @@ impl Fault {
 }
 
 impl From<CliFault> for Fault {
+    ghost from_gives = { λ inner fault. fault ≡ Cli inner };
+
     fn from(fault: CliFault) -> Fault {
         Fault::Cli(fault)
     }
 }
 
 impl From<AllocError> for Fault {
+    ghost from_gives = { λ _ fault. fault ≡ Cli MemoryFault };
+
     fn from(_failed: AllocError) -> Fault {
         Fault::Cli(CliFault::NoMemory)
     }

@@ -9,10 +9,10 @@ use cg_cli::replay::replay_from;
 use cg_cli::write::write_whole;
 use clap::ArgMatches;
 use std::alloc::Global;
+use std::env;
 use std::fs::File;
-use std::io::{BufReader, BufWriter, ErrorKind, Read, Write};
+use std::io::{BufReader, BufWriter, Read, Write};
 use std::rt::{Env, Files};
-use std::{env, io};
 
 /// Runs the command that the program's arguments name, and gives its status.
 ///
@@ -83,9 +83,9 @@ fn replay<R: AllocGlobal + Files, I: Read + Drop, W: Write>(
 ) -> Result<u8, Fault> {
     let alloc = rt.alloc();
     let tree = tree_text(rt, request.tree, input)?;
-    let opened = File::open(rt, request.ops).map_err(read_fault)?;
-    let mut ops = BufReader::new(alloc, opened).map_err(read_fault)?;
-    let mut report = BufWriter::new(alloc, out).map_err(read_fault)?;
+    let opened = File::open(rt, request.ops).map_err(|error| CliFault::of_read(&error))?;
+    let mut ops = BufReader::new(alloc, opened).map_err(|error| CliFault::of_read(&error))?;
+    let mut report = BufWriter::new(alloc, out).map_err(|error| CliFault::of_read(&error))?;
     let user = UserIds {
         uid: request.uid,
         gids: request.gids.as_slice(),
@@ -118,15 +118,9 @@ fn tree_text<R: AllocGlobal + Files, I: Read + Drop>(
 ) -> Result<Vec<u8>, CliFault> {
     match file {
         None => read_input(rt.alloc(), input),
-        Some(name) => read_input(rt.alloc(), File::open(rt, name).map_err(read_fault)?),
-    }
-}
-
-/// Why a file can't be opened or read.
-fn read_fault(error: io::Error) -> CliFault {
-    if error.kind() == ErrorKind::OutOfMemory {
-        CliFault::NoMemory
-    } else {
-        CliFault::Read
+        Some(name) => read_input(
+            rt.alloc(),
+            File::open(rt, name).map_err(|error| CliFault::of_read(&error))?,
+        ),
     }
 }

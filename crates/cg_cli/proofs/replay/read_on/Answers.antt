@@ -10,8 +10,8 @@ pub returns-in-Err-clause-read : goal.returns-in-Err-clause-read
 returns-in-Err-clause-read g c =
     let run = c.args.run.now in
     let before = coming (g.H.Hierarchy.state run.tree) run.user run.done run.line.items in
-    read_failed before before (g.R.Read.remaining c.args.ops.now) (g.R.Read.remaining c.fill_buf.follows.lender-at-none) (g.W.Write.contents c.args.out.now) c.read_fault.result
-    c.read_fault.ensures c.fill_buf.follows.holds-at-none.0
+    read_failed before before (g.R.Read.remaining c.args.ops.now) (g.R.Read.remaining c.fill_buf.follows.lender-at-none) (g.W.Write.contents c.args.out.now) c.of_read.result
+    c.of_read.ensures c.fill_buf.follows.holds-at-none.0
 
 pub returns-then-is_empty-clause-read : goal.returns-then-is_empty-clause-read
 returns-then-is_empty-clause-read g c =
