@@ -1,6 +1,7 @@
 //! `replay_bytes` and `replay_from` on rows worked out by hand.
 use super::readers::{Pieces, Uneven};
 use super::trees::{DELEGATION, DELEGATION_AND_PROCESS};
+use super::vectors::delegation_with;
 use crate::arguments::UserIds;
 use crate::fault::CliFault;
 use crate::replay::{replay_bytes, replay_from};
@@ -145,6 +146,26 @@ fn assert_row(rt: &impl Abort, alloc: Global, tree: &[u8], row: &Row) {
     }
 }
 
+/// A move from beside `/c0` into it, where all others write the root's `cgroup.procs`.
+const ROW_OF_ENTERING: Row = Row {
+    uid: 1000,
+    ops: "move 14 /c0\n",
+    report: "ok\n",
+    ending: Ok(0),
+};
+
+/// The delegation example where all others write the root's `cgroup.procs`, with `/c01` and process 14 in it.
+fn open_delegation(alloc: Global) -> Result<String, Fail> {
+    let root = "enabled = [\"memory\"]";
+    let open = "enabled = [\"memory\"]\nfiles = { \"cgroup.procs\" = { mode = 0o646 } }";
+    let mut tree = delegation_with(alloc, &[(root, open)])?;
+    tree.push_str(
+        "[[cgroup]]\npath = \"/c01\"\ndir = { uid = 1000 }\nfiles = { \"cgroup.procs\" = { uid = 1000 } }\n",
+    )?;
+    tree.push_str("[[process]]\npid = 14\nuid = 1000\nat = \"/c01\"\n")?;
+    Ok(tree)
+}
+
 fn delegation_and_process(alloc: Global) -> Result<Vec<u8>, AllocError> {
     let mut tree = DELEGATION.to_vec(alloc)?;
     tree.extend_from_slice(DELEGATION_AND_PROCESS.as_bytes())?;
@@ -161,5 +182,7 @@ fn operations_are_answered_in_turn(rt: HostRuntime) -> Result<(), Fail> {
     }
     let tree = delegation_and_process(rt.alloc())?;
     assert_row(&rt, rt.alloc(), tree.as_slice(), &ROW_OF_PROCESS);
+    let tree = open_delegation(rt.alloc())?;
+    assert_row(&rt, rt.alloc(), tree.as_bytes(), &ROW_OF_ENTERING);
     Ok(())
 }
