@@ -2,7 +2,6 @@
 use Rattle.std.proofs.Common.{◌≡◌, ℕ, ◌+◌, ◌<◌, ◌≤◌, false, List, [], ◌∷◌, ◌++◌, All, length, take, drop, get_or, Option, Ok, Err, ap, sym, ◌∙◌, subst, append_assoc, length-append, take-append-drop, arith}
 use Rattle.std.proofs.lemmas.List.{take_more, take-append-le}
 use Rattle.std.specs.Io.KnownBytes.{Appends}
-use Rattle.std.proofs.KnownBytes.{Appends-nil}
 use Rattle.cg_tree.specs.Identity.{Identity}
 use Rattle.cg_tree.specs.States.{State}
 use Rattle.cg_ops.specs.Steps.{after}
@@ -97,14 +96,6 @@ module _ (st : State) (user : Identity) (done : ℕ) (line piece : List ℕ) (en
   pub fed_long : All (λ b. is_newline b ≡ false) whole → 8192 < length whole → done < 65536 → (rest : List ℕ)
       → coming st user done line (piece ++ rest) ≡ fault_report (Line (done + 1) TooLong)
   fed_long none long few rest = ap (lines_report st user done) (line_goes_on line piece rest end) ∙ report_of_long st user done whole (drop end piece ++ rest) none long few
-
--- bytes of a line that goes on
-pub fed_part : (st : State) (user : Identity) (done : ℕ) (line part : List ℕ) (known : Option (List ℕ)) → Leads (coming st user done line) (coming st user done (line ++ part)) part known known
-fed_part st user done line part known = record {
-  written = [];
-  appended = Appends-nil known;
-  whole = λ rest. ap (lines_report st user done) (sym (append_assoc line part rest));
-}
 
 -- a line too many
 pub fed_many : (st : State) (user : Identity) (done : ℕ) (line piece : List ℕ) → 65536 ≤ done → 0 < length piece → (rest : List ℕ)

@@ -1,7 +1,6 @@
 -- Tables that are made from maps, and a table in which each row's cgroup is fitted.
 use Rattle.std.proofs.Common.{◌≡◌, ℕ, ◌+◌, ◌<◌, suc, zero, add-zero, zero-add, Bool, true, false, not, cond, List, [], ◌∷◌, ◌++◌, length, take, drop, get_or, refl, subst, sym, ◌∙◌, Option, Some, None, is_some, option_map, ap, T, arith}
 use Rattle.std.proofs.lemmas.List.{drop_more, map-append, take-append-drop}
-use Rattle.std.proofs.Math.Seq.{take-length}
 use Rattle.std.specs.Map.{lookup, keys_of}
 use Rattle.std.specs.BTreeMap.{is_at}
 use Rattle.std.specs.List.Sorted.{IsStrictlySortedBy}
@@ -117,10 +116,3 @@ module _ (rows : List NamedRow) (once : first_row (duplicate rows) 0 rows ≡ No
         | false ↦ λ tied. refl
       ] refl
       ∙ sym (ap (λ found. cond (is_some found) (option_map (fit_at rows path) (cgroup_at rows path)) (cgroup_at rows path)) more)
-
-module _ (rows : List NamedRow) where
-  -- all rows are fitted
-  pub fit_end : (path : Names) → partly rows (length rows) path ≡ option_map (fit_at rows path) (cgroup_at rows path)
-  fit_end path =
-      ap (λ some. cond (is_some (cgroup_at some path)) (option_map (fit_at rows path) (cgroup_at rows path)) (cgroup_at rows path)) (take-length rows)
-      ∙ elim (cgroup_at rows path) as (λ o. cond (is_some o) (option_map (fit_at rows path) o) o ≡ option_map (fit_at rows path) o) [ None ↦ refl | Some cgroup ↦ refl ]
