@@ -1,6 +1,7 @@
 pub mod FaultLaws
 pub mod DocumentLaws
 pub mod TreeLaws
+pub mod Levels
 pub mod FoundLaws
 pub mod FormedTree
 pub mod SoundRows

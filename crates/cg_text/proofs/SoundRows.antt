@@ -22,7 +22,7 @@ use Rattle.cg_tree.specs.declared.files.EntryName.TheVariants.{Dir, Procs, Subtr
 use Rattle.cg_tree.specs.declared.cgroup.LimitEntry.{LimitEntry}
 use Rattle.cg_text.specs.Records.{CgroupRow, ProcessRow}
 use Rattle.cg_text.specs.Document.{is_two}
-use Rattle.cg_text.specs.Tree.{or_else, first_row, number_or, passing, mode_read, id_read, entry_read, accepted, value_read, superuser, file_mode, directory_mode, entry_written, file_written, core_file, cgroup_written, named, cgroup_at, no_root, no_parent, top_down, no_such_file, duplicate, tree_fault, live_process, is_place, holds_processes, bad_pid, bad_uid, duplicate_pid, no_such_place, internal_process, Earlier, process_at, process_row_fault, process_fault, available_to, state_with}
+use Rattle.cg_text.specs.Tree.{or_else, first_row, number_or, passing, mode_read, id_read, entry_read, accepted, value_read, superuser, file_mode, directory_mode, entry_written, file_written, core_file, cgroup_written, named, cgroup_at, no_root, no_parent, top_down, duplicate, rows_fault, tree_fault, live_process, is_place, holds_processes, bad_pid, bad_uid, duplicate_pid, no_such_place, internal_process, Earlier, process_at, process_row_fault, process_fault, available_to, state_with}
 use Rattle.cg_text.specs.declared.tree.records.Format.{Format}
 use Rattle.cg_text.specs.declared.tree.records.EntryRecord.{EntryRecord}
 use Rattle.cg_text.specs.declared.tree.records.ValueRecord.{ValueRecord}
@@ -170,11 +170,11 @@ module _ (rows : List NamedRow) (controllers : ControllerSet) where
   pub formed-tree : (processes : List ProcessRow) → AllByRecursion (λ row. IsInRange row.cgroup) rows → tree_fault rows (cgroup_at rows) controllers processes ≡ None
       → IsWellFormed (state_with rows (cgroup_at rows) controllers processes)
   formed-tree processes fine none =
-      let after_duplicates = (or_else_none (first_row (duplicate rows) 0 rows) _ none).1 in
+      let parts = or_else_none (rows_fault rows (cgroup_at rows) controllers) _ none in
+      let after_duplicates = (or_else_none (first_row (duplicate rows) 0 rows) _ parts.0).1 in
       let after_root = or_else_none (no_root (cgroup_at rows)) _ after_duplicates in
       let after_parents = or_else_none (first_row (no_parent (cgroup_at rows)) 0 rows) _ after_root.1 in
       let after_top_down = or_else_none (first_row (top_down (cgroup_at rows) controllers) 0 rows) _ after_parents.1 in
-      let last = or_else_none (first_row (no_such_file (cgroup_at rows)) 0 rows) _ after_top_down.1 in
       formed-state rows controllers processes (unless_none (is_some (cgroup_at rows [])) _ after_root.0)
       (sound_rows rows fine (first_row_none (no_parent (cgroup_at rows)) 0 rows after_parents.0) (first_row_none (top_down (cgroup_at rows) controllers) 0 rows after_top_down.0))
-      (placed_rows processes processes (first_row_none (process_fault (cgroup_at rows) processes) 0 processes last.1))
+      (placed_rows processes processes (first_row_none (process_fault (cgroup_at rows) processes) 0 processes parts.1))

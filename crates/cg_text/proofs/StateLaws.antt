@@ -21,7 +21,7 @@ use Rattle.cg_tree.specs.declared.cgroup.Cgroup.{Cgroup}
 use Rattle.cg_text.specs.Records.{CgroupRow, ProcessRow, TreeRecords}
 use Rattle.cg_text.specs.HasState.{IsWritten, IsListed, ArePidsOnce, IsTreeOf}
 use Rattle.cg_text.specs.Tree as tree
-use Rattle.cg_text.specs.Tree.{or_else, unless, first_row, row_fault, bad_path, bad_controller, bad_entry, bad_value, entries_pass, values_pass, controllers_read, superuser, named, cgroup_at, LookUp, Earlier, enabled_by, enabled_over, available_to, duplicate, no_root, no_parent, top_down, files_stand, no_such_file, pid_read, id_read, live_process, live_processes, is_place, holds_processes, bad_pid, bad_uid, duplicate_pid, no_such_place, internal_process, process_row_fault, process_fault, tree_fault, named_rows, controllers_of, first_fault, state_with, state_of, state_or, tree_of_records}
+use Rattle.cg_text.specs.Tree.{or_else, unless, first_row, row_fault, bad_path, bad_controller, bad_entry, bad_value, entries_pass, values_pass, controllers_read, superuser, named, cgroup_at, LookUp, Earlier, enabled_by, enabled_over, available_to, duplicate, no_root, no_parent, top_down, files_stand, no_such_file, pid_read, id_read, live_process, live_processes, is_place, holds_processes, bad_pid, bad_uid, duplicate_pid, no_such_place, internal_process, process_row_fault, process_fault, tree_fault, rows_fault, named_rows, controllers_of, first_fault, state_with, state_of, state_or, tree_of_records}
 use Rattle.cg_text.specs.declared.tree.fault.TreeFault.{TreeFault}
 use Rattle.cg_text.specs.declared.tree.fault.TreeFault.TheVariants.{BadController, BadPath, BadEntry, BadValue, Duplicate, NoRoot, NoParent, TopDown, NoSuchFile, BadPid, DuplicatePid, NoSuchPlace, InternalProcess}
 use Rattle.cg_text.specs.declared.tree.fault.Place.TheVariants.{Top, Cgroup as AtCgroup, Process as AtProcess}
@@ -73,19 +73,21 @@ module _ (rows : List NamedRow) (controllers : ControllerSet) (processes : List 
   abbrev by_path : LookUp
   by_path = cgroup_at rows
 
-  parts_once : (first_row (duplicate rows) 0 rows ≡ None) × (or_else (no_root by_path) (or_else (first_row (no_parent by_path) 0 rows) (or_else (first_row (top_down by_path controllers) 0 rows) (or_else (first_row (no_such_file by_path) 0 rows) (first_row (process_fault by_path processes) 0 processes)))) ≡ None)
-  parts_once = or_else_none (first_row (duplicate rows) 0 rows) _ none
+  parts_rows : (rows_fault rows by_path controllers ≡ None) × (first_row (process_fault by_path processes) 0 processes ≡ None)
+  parts_rows = or_else_none (rows_fault rows by_path controllers) _ none
 
-  parts_last : (first_row (no_such_file by_path) 0 rows ≡ None) × (first_row (process_fault by_path processes) 0 processes ≡ None)
-  parts_last =
+  parts_once : (first_row (duplicate rows) 0 rows ≡ None) × (or_else (no_root by_path) (or_else (first_row (no_parent by_path) 0 rows) (or_else (first_row (top_down by_path controllers) 0 rows) (first_row (no_such_file by_path) 0 rows))) ≡ None)
+  parts_once = or_else_none (first_row (duplicate rows) 0 rows) _ parts_rows.0
+
+  files_last : first_row (no_such_file by_path) 0 rows ≡ None
+  files_last =
       let past_root = or_else_none (no_root by_path) _ parts_once.1 in
       let past_parents = or_else_none (first_row (no_parent by_path) 0 rows) _ past_root.1 in
-      let past_top_down = or_else_none (first_row (top_down by_path controllers) 0 rows) _ past_parents.1 in
-      or_else_none (first_row (no_such_file by_path) 0 rows) _ past_top_down.1
+      (or_else_none (first_row (top_down by_path controllers) 0 rows) _ past_parents.1).1
 
   pids_once : ArePidsOnce processes
   pids_once i row inside is =
-      let at : process_fault by_path processes (0 + i) (get_or processes i row) ≡ None = first_row_at (process_fault by_path processes) 0 processes parts_last.1 i row inside in
+      let at : process_fault by_path processes (0 + i) (get_or processes i row) ≡ None = first_row_at (process_fault by_path processes) 0 processes parts_rows.1 i row inside in
       let here : process_fault by_path processes i row ≡ None = ap (process_fault by_path processes i) is ∙ ap (λ n. process_fault by_path processes n (get_or processes i row)) (sym (zero-add i)) ∙ at in
       process_new by_path (tree.process_at (take i processes)) i row here
 
@@ -103,7 +105,8 @@ has_state records none =
     let past_top = or_else_none (unless (is_some (controllers_read records.controllers)) (BadController Top)) _ none in
     let past_rows = or_else_none (first_row (row_fault records.format) 0 records.cgroups) _ past_top.1 in
     let read = some_value (controllers_read records.controllers) (unless_none (is_some (controllers_read records.controllers)) _ past_top.0) in
-    let last = parts_last rows (controllers_of records) records.processes past_rows.1 in
+    let parts = parts_rows rows (controllers_of records) records.processes past_rows.1 in
+    let files = files_last rows (controllers_of records) records.processes past_rows.1 in
     record {
       controllers = read.1 ∙ sym (ap (λ o. Some (unwrap_or o no_controllers)) read.1);
       written = each (written_row records.format) records.cgroups (first_row_none (row_fault records.format) 0 records.cgroups past_rows.0);
@@ -113,9 +116,9 @@ has_state records none =
           ∙ ap (λ above. option_map (with_files_of above superuser) (cgroup_at rows path)) (above_is rows (controllers_of records) records.processes past_rows.1 path);
       files = each (λ row (is : (k : ℕ) × (no_such_file (cgroup_at rows) k row ≡ None)).
           ap (λ above. files_stand above row.cgroup) (sym (above_is rows (controllers_of records) records.processes past_rows.1 row.path))
-          ∙ unless_none (files_stand (enabled_over (cgroup_at rows) row.path) row.cgroup) _ is.1) rows (first_row_none (no_such_file (cgroup_at rows)) 0 rows last.0);
+          ∙ unless_none (files_stand (enabled_over (cgroup_at rows) row.path) row.cgroup) _ is.1) rows (first_row_none (no_such_file (cgroup_at rows)) 0 rows files);
       listed = each (λ row (is : (k : ℕ) × (process_fault (cgroup_at rows) records.processes k row ≡ None)). listed_row (cgroup_at rows) (tree.process_at (take is.0 records.processes)) is.0 row is.1)
-          records.processes (first_row_none (process_fault (cgroup_at rows) records.processes) 0 records.processes last.1);
+          records.processes (first_row_none (process_fault (cgroup_at rows) records.processes) 0 records.processes parts.1);
       pids = pids_once rows (controllers_of records) records.processes past_rows.1;
       live = process_at-state rows (controllers_of records) records.processes;
       used = is_used-state rows (controllers_of records) records.processes;
@@ -249,8 +252,9 @@ module _ (records : TreeRecords) (st : State) (is : IsTreeOf records st) where
       ∙ or_else_past (first_row (row_fault records.format) 0 records.cgroups) _
       (row_passes (row_fault records.format) 0 records.cgroups (λ k row inside at. row_is_good records.format (0 + k) row (one_of (IsWritten records.format) records.cgroups is.written k row inside at)))
       ∙ ap (λ set. tree_fault rows look set records.processes) controllers_is
-      ∙ or_else_past (first_row (duplicate rows) 0 rows) _ once ∙ or_else_past (no_root look) _ rooted ∙ or_else_past (first_row (no_parent look) 0 rows) _ parents_there
-      ∙ or_else_past (first_row (top_down look st.controllers) 0 rows) _ all_within ∙ or_else_past (first_row (no_such_file look) 0 rows) _ all_stand ∙ processes_good
+      ∙ or_else_past (rows_fault rows look st.controllers) _
+      (or_else_past (first_row (duplicate rows) 0 rows) _ once ∙ or_else_past (no_root look) _ rooted ∙ or_else_past (first_row (no_parent look) 0 rows) _ parents_there
+      ∙ or_else_past (first_row (top_down look st.controllers) 0 rows) _ all_within ∙ all_stand) ∙ processes_good
 
   same_state : state_with rows look st.controllers records.processes ≡ st
   same_state =

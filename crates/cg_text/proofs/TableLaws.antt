@@ -1,28 +1,28 @@
 -- Tables that are made from maps, and a table in which each row's cgroup is fitted.
-use Rattle.std.proofs.Common.{◌≡◌, ℕ, ◌+◌, ◌<◌, suc, zero, add-zero, zero-add, Bool, true, false, not, cond, List, [], ◌∷◌, ◌++◌, length, take, drop, get_or, refl, subst, sym, ◌∙◌, Option, Some, None, is_some, option_map, ap, T, arith}
+use Rattle.std.proofs.Common.{◌≡◌, ℕ, ◌+◌, ◌<◌, suc, zero, add-zero, zero-add, true, false, not, cond, List, [], ◌∷◌, ◌++◌, length, take, drop, get_or, map as map_list, refl, subst, sym, ◌∙◌, Option, Some, None, is_some, option_map, ap, T, arith}
 use Rattle.std.proofs.lemmas.List.{drop_more, map-append, take-append-drop}
-use Rattle.std.specs.Map.{lookup, keys_of}
+use Rattle.std.specs.Map.{lookup, keys_of, update_all}
+use Rattle.std.specs.List.{zip}
 use Rattle.std.specs.BTreeMap.{is_at}
 use Rattle.std.specs.List.Sorted.{IsStrictlySortedBy}
 use Rattle.std.specs.declared.cmp.Ordering.{Ordering}
 use Rattle.std.specs.Ordering.{is_eq, eq_by_cmp}
-use Rattle.std.specs.Cmp.{eq_by_cmp_equiv, Equal-is}
+use Rattle.std.specs.Cmp.{eq_by_cmp_equiv}
 use Rattle.std.specs.FinMap as map
-use Rattle.cg_tree.specs.Paths.{Names, path_cmp, is_root, parent}
-use Rattle.cg_tree.specs.Files.{no_controllers}
+use Rattle.cg_tree.specs.Paths.{Names, path_cmp}
 use Rattle.cg_tree.specs.Cgroups.{with_files_of}
 use Rattle.cg_tree.proofs.Changed.{sorted_map}
-use Rattle.cg_tree.proofs.Options.{none_value, is_some-mapped}
-use Rattle.cg_tree.proofs.PathOrder.{path_cmp_total, path_cmp-IsAntisymmetric}
+use Rattle.cg_tree.proofs.Options.{none_value}
+use Rattle.cg_tree.proofs.PathOrder.{path_cmp_total}
 use Rattle.cg_tree.specs.declared.files.ControllerSet.{ControllerSet}
 use Rattle.cg_tree.specs.declared.cgroup.Cgroup.{Cgroup as CgroupValue}
-use Rattle.cg_text.specs.Tree.{first_row, duplicate, pairs_of, cgroup_at, LookUp, enabled_over, superuser}
+use Rattle.cg_text.specs.Tree.{first_row, duplicate, pairs_of, cgroup_at, enabled_over, fitted, superuser}
 use Rattle.cg_text.specs.declared.tree.fault.Place.TheVariants.{Cgroup}
 use Rattle.cg_text.specs.declared.tree.fault.TreeFault.{TreeFault}
 use Rattle.cg_text.specs.declared.tree.fault.TreeFault.TheVariants.{Duplicate}
 use Rattle.cg_text.specs.declared.tree.named.NamedRow.{NamedRow}
-use Rattle.cg_text.proofs.TreeLaws.{or_else_none, unless_none, not_so}
-use Rattle.cg_text.proofs.FoundLaws.{find-more}
+use Rattle.cg_text.proofs.TreeLaws.{or_else_none, unless_none, not_so, fitted_at}
+use Rattle.cg_text.proofs.FoundLaws.{gathered}
 
 module _ {K X : Type 0} (R : K → K → Ordering) where
   find_lookup : (es : List (K × X)) (q : K) → map.find R q es ≡ lookup (is_at (R q)) es
@@ -50,35 +50,6 @@ find_past R (e ∷ es) fs q none =
       | false ↦ λ h. find_past R es fs q h
     ] none
 
-abbrev enabled_in : Option CgroupValue → ControllerSet
-enabled_in None = no_controllers
-enabled_in (Some cgroup) = cgroup.enabled
-
-module _ (rows : List NamedRow) where
-  -- the cgroup at a path with all files that stand at it
-  abbrev pub fit_at : Names → CgroupValue → CgroupValue
-  fit_at path = with_files_of (enabled_over (cgroup_at rows) path) superuser
-
-  -- the look-ups of a table in which the cgroups of the first rows are fitted
-  abbrev pub partly : ℕ → LookUp
-  partly i path = cond (is_some (cgroup_at (take i rows) path)) (option_map (fit_at path) (cgroup_at rows path)) (cgroup_at rows path)
-
-  enabled_fitted : (b : Bool) (path : Names) (found : Option CgroupValue) → enabled_in (cond b (option_map (fit_at path) found) found) ≡ enabled_in found
-  enabled_fitted true path None = refl
-  enabled_fitted true path (Some cgroup) = refl
-  enabled_fitted false path found = refl
-
-  pub is_some-partly : (i : ℕ) (path : Names) → is_some (partly i path) ≡ is_some (cgroup_at rows path)
-  is_some-partly i path =
-      elim (is_some (cgroup_at (take i rows) path)) as (λ b. is_some (cond b (option_map (fit_at path) (cgroup_at rows path)) (cgroup_at rows path)) ≡ is_some (cgroup_at rows path)) [
-        | true ↦ is_some-mapped (fit_at path) (cgroup_at rows path)
-        | false ↦ refl
-      ]
-
-  pub enabled_over-partly : (i : ℕ) (path : Names) → enabled_over (partly i) path ≡ enabled_over (cgroup_at rows) path
-  enabled_over-partly i path =
-      ap (cond (is_root path) no_controllers) (enabled_fitted (is_some (cgroup_at (take i rows) (parent path))) (parent path) (cgroup_at rows (parent path)))
-
 module _ (rows : List NamedRow) (once : first_row (duplicate rows) 0 rows ≡ None) where
   -- no earlier row has a row's path
   pub row_new : (i : ℕ) (row : NamedRow) → i < length rows → row ≡ get_or rows i row → cgroup_at (take i rows) row.path ≡ None
@@ -98,21 +69,22 @@ module _ (rows : List NamedRow) (once : first_row (duplicate rows) 0 rows ≡ No
       pair : NamedRow → Names × CgroupValue
       pair row = (row.path, row.cgroup)
 
-  -- one row more is fitted
-  pub fit_next : (before after : LookUp) (value : CgroupValue) (i : ℕ) (row : NamedRow) → i < length rows → row ≡ get_or rows i row
-      → ((path : Names) → before path ≡ partly rows i path) → value ≡ with_files_of (enabled_over before row.path) superuser row.cgroup
-      → ((path : Names) → after path ≡ cond (eq_by_cmp path_cmp path row.path) (Some value) (before path))
-      → (path : Names) → after path ≡ partly rows (i + 1) path
-  fit_next before after value i row inside is kept fits updated path =
-      let above : enabled_over before row.path ≡ enabled_over (cgroup_at rows) row.path = ap (λ (found : LookUp). enabled_over found row.path) (λ j p. kept p j) ∙ enabled_over-partly rows i row.path in
-      let more = find-more path_cmp_total (λ (row : NamedRow). (row.path, row.cgroup)) rows i row inside is (row_new i row inside is) path in
-      updated path ∙ ap (cond (eq_by_cmp path_cmp path row.path) (Some value)) (kept path)
-      ∙ elim (eq_by_cmp path_cmp path row.path) as (λ b. eq_by_cmp path_cmp path row.path ≡ b → cond b (Some value) (partly rows i path)
-      ≡ cond (is_some (cond b (Some row.cgroup) (cgroup_at (take i rows) path))) (option_map (fit_at rows path) (cgroup_at rows path)) (cgroup_at rows path)) [
-        | true ↦ λ tied.
-            let same : path ≡ row.path = path_cmp-IsAntisymmetric path row.path ((Equal-is _).0 tied) in
-            ap Some (fits ∙ ap (λ set. with_files_of set superuser row.cgroup) above)
-            ∙ sym (ap (λ p. option_map (fit_at rows p) (cgroup_at rows p)) same ∙ ap (option_map (fit_at rows row.path)) (row_found i row inside is))
-        | false ↦ λ tied. refl
-      ] refl
-      ∙ sym (ap (λ found. cond (is_some found) (option_map (fit_at rows path) (cgroup_at rows path)) (cgroup_at rows path)) more)
+-- ---- a map of the rows, each with what is enabled above it
+
+zip_mapped : {A B C : Type 0} (f : A × B → C) (g : A → B) (items : List A) → map_list f (zip items (map_list g items)) ≡ map_list (λ x. f (x, g x)) items
+zip_mapped f g [] = refl
+zip_mapped f g (x ∷ items) = ap (λ rest. f (x, g x) ∷ rest) (zip_mapped f g items)
+
+-- a row's path, and its cgroup with the files that stand under these controllers
+abbrev pub fitted_under : NamedRow × ControllerSet → Names × CgroupValue
+fitted_under p = (p.0.path, with_files_of p.1 superuser p.0.cgroup)
+
+pub fitted_found : (rows : List NamedRow) (above : List ControllerSet) → first_row (duplicate rows) 0 rows ≡ None → above ≡ map_list (λ row. enabled_over (cgroup_at rows) row.path) rows
+    → (path : Names) → update_all (eq_by_cmp path_cmp) (λ _. None) (map_list fitted_under (zip rows above)) path ≡ option_map (with_files_of (enabled_over (cgroup_at rows) path) superuser) (cgroup_at rows path)
+fitted_found rows above once is path =
+    let pair : NamedRow → Names × CgroupValue = λ row. (row.path, fitted (cgroup_at rows) row) in
+    ap (λ (sets : List ControllerSet). update_all (eq_by_cmp path_cmp) (λ _. None) (map_list fitted_under (zip rows sets)) path) is
+    ∙ ap (λ (es : List (Names × CgroupValue)). update_all (eq_by_cmp path_cmp) (λ _. None) es path) (zip_mapped fitted_under (λ row. enabled_over (cgroup_at rows) row.path) rows)
+    ∙ gathered path_cmp_total pair rows (λ i row inside at.
+    fitted_at rows (take i rows) row.path ∙ ap (option_map (with_files_of (enabled_over (cgroup_at rows) row.path) superuser)) (row_new rows once i row inside at)) path
+    ∙ fitted_at rows rows path

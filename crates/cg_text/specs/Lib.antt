@@ -4,6 +4,7 @@ pub mod Records
 pub mod Document
 pub mod TopView
 pub mod Tree
+pub mod Levels
 pub mod TreeTexts
 pub mod Tables
 pub mod Outcomes

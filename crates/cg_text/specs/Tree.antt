@@ -298,14 +298,18 @@ abbrev pub controllers_of : TreeRecords → ControllerSet
 controllers_of records = unwrap_or (controllers_read records.controllers) no_controllers
 
 -- The faults of rows that all can be read, in their order.
-abbrev pub tree_fault : List NamedRow → LookUp → ControllerSet → List ProcessRow → Option TreeFault
-tree_fault rows found controllers processes =
+abbrev pub rows_fault : List NamedRow → LookUp → ControllerSet → Option TreeFault
+rows_fault rows found controllers =
     or_else (first_row (duplicate rows) 0 rows)
     (or_else (no_root found)
     (or_else (first_row (no_parent found) 0 rows)
     (or_else (first_row (top_down found controllers) 0 rows)
-    (or_else (first_row (no_such_file found) 0 rows)
-    (first_row (process_fault found processes) 0 processes)))))
+    (first_row (no_such_file found) 0 rows))))
+
+-- and then those of the processes
+abbrev pub tree_fault : List NamedRow → LookUp → ControllerSet → List ProcessRow → Option TreeFault
+tree_fault rows found controllers processes =
+    or_else (rows_fault rows found controllers) (first_row (process_fault found processes) 0 processes)
 
 -- The first fault of the records.
 unfoldable pub first_fault : TreeRecords → Option TreeFault

@@ -7,6 +7,7 @@ ghost use Rattle.cg_text.specs.declared.tree.fault.TreeFault.TheVariants.{NotTom
 
 mod document;
 mod fault;
+mod index;
 pub mod laws;
 mod named;
 mod processes;

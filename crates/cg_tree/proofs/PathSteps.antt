@@ -72,6 +72,10 @@ shared_within p q len l =
     let bounds = common_bounds p (take len q) in
     (bounds.0, omega (arith, bounds.1, length-take-le len q l))
 
+-- what is said of the first m names of p is said of the first m of its first names
+pub shared_front : (p q : Names) (own m : ℕ) → m ≤ own → (t : Bool) → t ≡ same_path (take m p) (take m q) → t ≡ same_path (take m (take own p)) (take m q)
+shared_front p q own m h t d = d ∙ ap (λ (x : Names). same_path x (take m q)) (sym (take-take m own p h))
+
 -- ---- the order of paths from where they part
 
 then_first : (r s : Ordering) → is_eq r ≡ false → ordering_then r s ≡ r

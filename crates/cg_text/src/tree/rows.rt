@@ -1,19 +1,16 @@
 //! The cgroups of a tree text: each row alone.
 ghost use Rattle.std.specs.Prelude.{◌≡◌, ◌≤◌, ◌<◌, length, map, Some, is_some};
-ghost use Rattle.cg_tree.specs.Paths.{Names, path_at, path_cmp};
-ghost use Rattle.std.specs.BTreeMap.{get, IsOrdered};
+ghost use Rattle.cg_tree.specs.Paths.{path_at};
 ghost use Rattle.cg_text.specs.Faults.{Passes};
-ghost use Rattle.cg_text.specs.Tree.{unless, first_row, row_fault, named, cgroup_at, duplicate};
+ghost use Rattle.cg_text.specs.Tree.{unless, first_row, row_fault, named};
 
 use crate::tree::document::row_number;
 use crate::tree::fault::{Place, TreeFault};
 use crate::tree::named::NamedRow;
 use crate::tree::records::{CgroupRecord, Format};
 use crate::tree::written::{cgroup_written, controllers_read, entries_pass, values_pass};
-use cg_tree::cgroup::Cgroup;
 use cg_tree::path::{Path, PathFault};
 use std::alloc::Global;
-use std::collections::BTreeMap;
 
 /// The path of a text, or `fault` where it is none.
 pub fn path_of(alloc: Global, text: &str, fault: TreeFault) -> Result<Path, TreeFault>
@@ -69,23 +66,4 @@ pub fn named_rows(
         found.push(row)?;
     }
     Ok(found)
-}
-
-/// The cgroups by their paths, or the first row whose path an earlier row has.
-pub fn cgroups_by_path(
-    alloc: Global,
-    rows: &[NamedRow],
-) -> Result<BTreeMap<Path, Cgroup>, TreeFault>
-    requires { length rows.now ≤ 4096 }
-    ensures { Passes (λ table. IsOrdered path_cmp table × ((path : Names) → get path_cmp table path ≡ cgroup_at rows.now path))
-        (first_row (duplicate rows.now) 0 rows.now) result }
-{
-    let mut table = BTreeMap::new(alloc);
-    for (index, row) in rows.iter().enumerate() {
-        let path = row.path.try_clone(alloc)?;
-        if table.insert(path, row.cgroup)?.is_some() {
-            return Err(TreeFault::Duplicate(Place::Cgroup(row_number(index))));
-        }
-    }
-    Ok(table)
 }

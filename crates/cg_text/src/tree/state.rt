@@ -1,12 +1,13 @@
 //! From plain records to a tree.
-ghost use Rattle.std.specs.Prelude.{◌≡◌, ◌≤◌, ℕ, true, None, length, option_map, IfOk, is_some};
+ghost use Rattle.std.specs.Prelude.{◌≡◌, ◌≤◌, ℕ, None, length, map as map_list, option_map, IfOk};
 ghost use Rattle.std.specs.Ordering.{nat_cmp};
-ghost use Rattle.std.specs.BTreeMap.{get, IsOrdered};
+ghost use Rattle.std.specs.BTreeMap.{get, IsFromIterResult, IsOrdered};
+ghost use Rattle.std.specs.List.{zip};
 ghost use Rattle.std.specs.FinMap as map;
 ghost use Rattle.cg_tree.specs.Paths.{Names, path_cmp};
 ghost use Rattle.cg_tree.specs.Cgroups.{refitted, with_files_of};
 ghost use Rattle.cg_text.specs.Faults.{Passes, Reads};
-ghost use Rattle.cg_text.specs.Tree.{superuser, first_row, duplicate, cgroup_at, enabled_over, no_root, tree_fault, tree_of_records};
+ghost use Rattle.cg_text.specs.Tree.{superuser, first_row, duplicate, cgroup_at, enabled_over, tree_fault, tree_of_records};
 ghost use Rattle.cg_text.specs.Document.{HasFewRows};
 ghost use Rattle.cg_text.specs.Tables.{AreTablesOf};
 
@@ -14,8 +15,8 @@ use crate::tree::fault::{Place, TreeFault};
 use crate::tree::named::NamedRow;
 use crate::tree::processes::processes_by_pid;
 use crate::tree::records::{ProcessRecord, Records};
-use crate::tree::rows::{cgroups_by_path, named_rows};
-use crate::tree::together::{check_files, check_parents, check_top_down, enabled_over};
+use crate::tree::rows::named_rows;
+use crate::tree::together::checked_rows;
 use crate::tree::written::controllers_read;
 use cg_tree::cgroup::{Cgroup, LimitEntry};
 use cg_tree::files::{ControllerSet, LimitFile};
@@ -61,10 +62,39 @@ fn fitted(above: ControllerSet, cgroup: Cgroup) -> Cgroup
     }
 }
 
-fn path_table(alloc: Global, cgroups: BTreeMap<Path, Cgroup>) -> Result<PathTable<Cgroup>, NoMemory>
-    requires { IsOrdered path_cmp cgroups }
-    ensures { IfOk result (λ table. (path : Names) → map.get table path ≡ get path_cmp cgroups path) }
+/// The rows' cgroups by their paths, each with all files that stand under what is enabled above it.
+fn cgroups_by_path(
+    alloc: Global,
+    rows: Vec<NamedRow>,
+    above: Vec<ControllerSet>,
+) -> Result<BTreeMap<Path, Cgroup>, NoMemory>
+    ensures { IfOk result (IsFromIterResult path_cmp
+        (map_list (λ p. (p.0.path, with_files_of p.1 superuser p.0.cgroup)) (zip rows.items above.items))) }
 {
+    Ok(
+        rows.into_iter()
+            .zip(above)
+            .map(
+                |(row, above): (NamedRow, ControllerSet)| -> (Path, Cgroup)
+                    ensures { result ≡ (row.path, with_files_of above superuser row.cgroup) }
+                { (row.path, fitted(above, row.cgroup)) },
+            )
+            .collect(alloc)?,
+    )
+}
+
+/// The table of the rows' cgroups, each with all files that stand under what is enabled above it.
+fn path_table(
+    alloc: Global,
+    rows: Vec<NamedRow>,
+    above: Vec<ControllerSet>,
+) -> Result<PathTable<Cgroup>, NoMemory>
+    requires once { first_row (duplicate rows.items) 0 rows.items ≡ None }
+    requires above { above.items ≡ map_list (λ row. enabled_over (cgroup_at rows.items) row.path) rows.items }
+    ensures { IfOk result (λ table. (path : Names) → map.get table path
+        ≡ option_map (with_files_of (enabled_over (cgroup_at rows.items) path) superuser) (cgroup_at rows.items path)) }
+{
+    let cgroups = cgroups_by_path(alloc, rows, above)?;
     PathTable::from_map(alloc, cgroups)
 }
 
@@ -89,30 +119,6 @@ fn used_pids(alloc: Global, live: &PidTable<Process>) -> Result<PidTable<()>, No
     PidTable::from_map(alloc, used)
 }
 
-/// Brings each cgroup the files that stand at it.
-fn fit(cgroups: &mut PathTable<Cgroup>, rows: &[NamedRow])
-    requires here { (path : Names) → map.get cgroups.old path ≡ cgroup_at rows.now path }
-    requires once { first_row (duplicate rows.now) 0 rows.now ≡ None }
-    ensures { (path : Names) → map.get cgroups.new path
-        ≡ option_map (with_files_of (enabled_over (cgroup_at rows.now) path) superuser) (cgroup_at rows.now path) }
-{
-    for row in rows {
-        let above = enabled_over(cgroups, &row.path);
-        cgroups.set(&row.path, fitted(above, row.cgroup));
-    }
-}
-
-/// Tests that the root is there.
-fn check_root(alloc: Global, cgroups: &PathTable<Cgroup>) -> Result<(), TreeFault>
-    ensures { Passes (λ _. Unit {0}) (no_root (map.get cgroups.now)) result }
-{
-    let root = Path::root(alloc);
-    if cgroups.get(&root, 0).is_none() {
-        return Err(TreeFault::NoRoot);
-    }
-    Ok(())
-}
-
 /// The tables of a tree.
 #[derive(Drop)]
 struct Tables {
@@ -124,25 +130,20 @@ struct Tables {
 /// The tables of a tree's rows, or the first fault of these together.
 fn tables_of(
     alloc: Global,
-    rows: &[NamedRow],
+    rows: Vec<NamedRow>,
     controllers: ControllerSet,
     processes: &[ProcessRecord],
 ) -> Result<Tables, TreeFault>
-    requires few_rows { length rows.now ≤ 4096 }
+    requires few_rows { length rows.items ≤ 4096 }
     requires few_processes { length processes.now ≤ 4096 }
-    ensures { Passes (AreTablesOf rows.now processes.now)
-        (tree_fault rows.now (cgroup_at rows.now) controllers processes.now) result }
+    ensures { Passes (AreTablesOf rows.items processes.now)
+        (tree_fault rows.items (cgroup_at rows.items) controllers processes.now) result }
 {
-    let by_path = cgroups_by_path(alloc, rows)?;
-    let mut cgroups = path_table(alloc, by_path)?;
-    check_root(alloc, &cgroups)?;
-    check_parents(&cgroups, rows)?;
-    check_top_down(&cgroups, controllers, rows)?;
-    check_files(&cgroups, rows)?;
+    let above = checked_rows(alloc, &rows, controllers)?;
+    let cgroups = path_table(alloc, rows, above)?;
     let by_pid = processes_by_pid(alloc, &cgroups, processes)?;
     let live = pid_table(alloc, by_pid)?;
     let used = used_pids(alloc, &live)?;
-    fit(&mut cgroups, rows);
     Ok(Tables {
         cgroups,
         live,
@@ -160,7 +161,7 @@ pub fn tree_of_records(alloc: Global, records: &Records) -> Result<Rows, TreeFau
         Place::Top,
     ))?;
     let rows = named_rows(alloc, records.format, &records.cgroups)?;
-    let tables = tables_of(alloc, &rows, controllers, &records.processes)?;
+    let tables = tables_of(alloc, rows, controllers, &records.processes)?;
     let Tables {
         cgroups,
         live,

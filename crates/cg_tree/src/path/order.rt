@@ -15,15 +15,16 @@ impl Path {
         self.front(len) == other.front(len)
     }
 
-    /// How many first names this path has in common with the path of the first `len` names of `other`.
+    /// How many first names the path of the first `own` names has in common with that of the first `len` names of `other`.
     ///
     /// It compares texts and no names, and halves the places that are left each time: a deep path costs little more than
     /// a shallow one.
-    fn shared_len(&self, other: &Path, len: usize) -> usize
-        requires { len ≤ length other.now }
-        ensures { result ≡ length (common self.now (take len other.now)) }
+    fn shared_len(&self, own: usize, other: &Path, len: usize) -> usize
+        requires own { own ≤ length self.now }
+        requires others { len ≤ length other.now }
+        ensures { result ≡ length (common (take own self.now) (take len other.now)) }
     {
-        let mut high = self.depth().min(len);
+        let mut high = own.min(len);
         if self.shares(other, high) {
             return high;
         }
@@ -39,17 +40,25 @@ impl Path {
         low
     }
 
+    /// The order of the path of the first `own` names and that of the first `len` names of `other`.
+    pub fn cmp_prefixes(&self, own: usize, other: &Path, len: usize) -> Ordering
+        requires own { own ≤ length self.now }
+        requires others { len ≤ length other.now }
+        ensures { result ≡ path_cmp (take own self.now) (take len other.now) }
+    {
+        let shared = self.shared_len(own, other, len);
+        if shared == own || shared == len {
+            return own.cmp(&len);
+        }
+        self.name(shared).cmp(other.name(shared))
+    }
+
     /// The order of this path and that of the first `len` names of `other`.
     pub fn cmp_prefix(&self, other: &Path, len: usize) -> Ordering
         requires { len ≤ length other.now }
         ensures { result ≡ path_cmp self.now (take len other.now) }
     {
-        let depth = self.depth();
-        let shared = self.shared_len(other, len);
-        if shared == depth || shared == len {
-            return depth.cmp(&len);
-        }
-        self.name(shared).cmp(other.name(shared))
+        self.cmp_prefixes(self.depth(), other, len)
     }
 
     /// Whether `other` is inside the path of the first `len` names: that path itself or below it.
@@ -74,7 +83,7 @@ impl Path {
     pub fn common_len(&self, other: &Path) -> usize
         ensures { result ≡ length (common self.now other.now) }
     {
-        self.shared_len(other, other.depth())
+        self.shared_len(self.depth(), other, other.depth())
     }
 }
 

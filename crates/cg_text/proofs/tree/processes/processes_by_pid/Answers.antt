@@ -13,20 +13,20 @@ use Rattle.cg_text.proofs.tree.processes.processes_by_pid.Goals as goal
 pub returns-in_err-pid : goal.returns-in_err-pid
 returns-in_err-pid c =
     let p = err_from_is_err_and c.from_residual.result c.from_residual.ensures.1 in
-    let same = earlier_same (map.get c.args.cgroups.now) (get nat_cmp c.loop-index.live) (process_at (take c.loop-index.index c.args.rows.now)) c.loop-index.invariant.2 c.loop-index.index c.index-rows-index.result in
+    let same = earlier_same (map.get c.args.cgroups.now) (get nat_cmp c.loop-number.live) (process_at (take c.loop-number.number c.args.rows.now)) c.loop-number.invariant.2 c.loop-number.number c.index-rows-number.result in
     rw (p.1, p.2) (λ other.
-    first_row_stops (process_fault (map.get c.args.cgroups.now) c.args.rows.now) c.loop-index.index c.args.rows.now c.index-rows-index.result _ c.in_err-pid.field-0.0
-    c.loop-index-test.true c.index-rows-index.is (sym same ∙ c.in_err-pid.ensures other) c.loop-index.invariant.0)
+    first_row_stops (process_fault (map.get c.args.cgroups.now) c.args.rows.now) c.loop-number.number c.args.rows.now c.index-rows-number.result _ c.in_err-pid.field-0.0
+    c.loop-number-test.true c.index-rows-number.is (sym same ∙ c.in_err-pid.ensures other) c.loop-number.invariant.0)
 
-pub loop-index-preserved : goal.loop-index-preserved
-loop-index-preserved c =
-    let row = c.index-rows-index.result in
-    let same = earlier_same (map.get c.args.cgroups.now) (get nat_cmp c.loop-index.live) (process_at (take c.loop-index.index c.args.rows.now)) c.loop-index.invariant.2 c.loop-index.index row in
-    let new = process_new (map.get c.args.cgroups.now) (get nat_cmp c.loop-index.live) c.loop-index.index row c.in_ok-pid.ensures.0 in (
-      first_row_next (process_fault (map.get c.args.cgroups.now) c.args.rows.now) c.loop-index.index c.args.rows.now row _ c.loop-index-test.true c.index-rows-index.is
-          (sym same ∙ c.in_ok-pid.ensures.0) c.loop-index.invariant.0,
+pub loop-number-preserved : goal.loop-number-preserved
+loop-number-preserved c =
+    let row = c.index-rows-number.result in
+    let same = earlier_same (map.get c.args.cgroups.now) (get nat_cmp c.loop-number.live) (process_at (take c.loop-number.number c.args.rows.now)) c.loop-number.invariant.2 c.loop-number.number row in
+    let new = process_new (map.get c.args.cgroups.now) (get nat_cmp c.loop-number.live) c.loop-number.number row c.in_ok-pid.ensures.0 in (
+      first_row_next (process_fault (map.get c.args.cgroups.now) c.args.rows.now) c.loop-number.number c.args.rows.now row _ c.loop-number-test.true c.index-rows-number.is
+          (sym same ∙ c.in_ok-pid.ensures.0) c.loop-number.invariant.0,
       c.in_ok-insert.ensures.ordered,
-      filled nat_cmp_total live_process c.args.rows.now c.loop-index.index row (get nat_cmp c.loop-index.live) (get nat_cmp c.insert.new.self)
-          c.loop-index-test.true c.index-rows-index.is new c.loop-index.invariant.2
-          (λ q. c.in_ok-insert.ensures.updates.0 q ∙ ap (λ (e : ℕ × Process). cond (is_eq (nat_cmp e.0 q)) (Some e.1) (get nat_cmp c.loop-index.live q)) c.in_ok-pid.ensures.1),
+      filled nat_cmp_total live_process c.args.rows.now c.loop-number.number row (get nat_cmp c.loop-number.live) (get nat_cmp c.insert.new.self)
+          c.loop-number-test.true c.index-rows-number.is new c.loop-number.invariant.2
+          (λ q. c.in_ok-insert.ensures.updates.0 q ∙ ap (λ (e : ℕ × Process). cond (is_eq (nat_cmp e.0 q)) (Some e.1) (get nat_cmp c.loop-number.live q)) c.in_ok-pid.ensures.1),
     )

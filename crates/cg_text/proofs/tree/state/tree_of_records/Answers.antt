@@ -17,13 +17,13 @@ returns-in_err-tables c =
     let read = ap (λ items. controllers_read (map (λ t. t.now) items)) (sym c.deref.ensures.value) ∙ sym c.controllers_read.ensures ∙ c.in_ok-controllers.ensures.ok_part in
     let pass = rw c.deref-2.ensures.value at c.in_ok-rows.ensures in
     rw (← c.records.view_is, p.1, p.2) (λ other.
-    let stops = rw (c.deref-3.ensures.value, c.deref-4.ensures.value) at (c.in_err-tables.ensures other) in
+    let stops = rw c.deref-3.ensures.value at (c.in_err-tables.ensures other) in
     refused _ _ (from_tables _ c.in_ok-controllers.controllers read c.in_ok-rows.rows.items pass.0 pass.1 ∙ stops))
 
 pub from_tables-requires : goal.from_tables-requires
 from_tables-requires c =
     let pass = rw c.deref-2.ensures.value at c.in_ok-rows.ensures in
-    let says = rw (c.deref-3.ensures.value, c.deref-4.ensures.value) at c.in_ok-tables.ensures in
+    let says = rw c.deref-3.ensures.value at c.in_ok-tables.ensures in
     formed_tables c.in_ok-rows.rows.items c.in_ok-controllers.controllers _ c.in_ok-tables.tables says.1
     (fine_rows c.records.inside.format _ c.in_ok-rows.rows.items pass.1) says.0
 
@@ -31,5 +31,5 @@ pub returns : goal.returns
 returns c =
     let read = ap (λ items. controllers_read (map (λ t. t.now) items)) (sym c.deref.ensures.value) ∙ sym c.controllers_read.ensures ∙ c.in_ok-controllers.ensures.ok_part in
     let pass = rw c.deref-2.ensures.value at c.in_ok-rows.ensures in
-    let says = rw (c.deref-3.ensures.value, c.deref-4.ensures.value) at c.in_ok-tables.ensures in
+    let says = rw c.deref-3.ensures.value at c.in_ok-tables.ensures in
     rw (← c.records.view_is, c.from_tables.ensures) (tree_said _ c.in_ok-controllers.controllers read c.in_ok-rows.rows.items pass.0 pass.1 c.in_ok-tables.tables says.0 says.1)
