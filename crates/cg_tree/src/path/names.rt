@@ -78,8 +78,8 @@ pub(crate) fn ends_of(alloc: Global, names: &str) -> Result<Vec<u16>, AllocError
     ensures { IfOk result
         (λ ends. ends.items ≡ ends_from 0 (slice_split (λ b. b == 47) names.now)) }
 {
-    let slashes = names.as_bytes().iter().filter(|byte| **byte == b'/').count();
-    let mut ends = Vec::with_capacity(alloc, slashes + 1)?;
+    // a name has a byte at least, and a slash after it
+    let mut ends = Vec::with_capacity(alloc, names.len() / 2 + 1)?;
     let mut end = 0;
     for name in names.as_bytes().split(|byte| *byte == b'/') {
         end += name.len() + 1;
