@@ -19,7 +19,7 @@ use Rattle.cg_tree.specs.declared.cgroup.LimitEntry.{LimitEntry}
 use Rattle.cg_tree.specs.declared.cgroup.Cgroup.{Cgroup}
 use Rattle.cg_tree.specs.declared.process.Process.{Process}
 use Rattle.cg_text.specs.Records.{ProcessRow}
-use Rattle.cg_text.specs.Tree.{superuser, pairs_of, cgroup_at, enabled_by, enabled_over, available_to, live_process, live_processes, holds_processes, state_with}
+use Rattle.cg_text.specs.Tree.{superuser, pairs_of, cgroup_at, enabled_in, enabled_by, enabled_over, available_to, live_process, live_processes, holds_processes, state_with}
 use Rattle.cg_text.specs.declared.tree.named.NamedRow.{NamedRow}
 use Rattle.cg_text.proofs.TreeLaws.{find_each, row_at-state, enabled_at-state, process_at-state, is_used-state}
 
@@ -166,7 +166,7 @@ module _ (rows : List NamedRow) (controllers : ControllerSet) (processes : List 
   may_hold-placed : (place : Names) → IsPlaced rows place → may_hold st place ≡ true
   may_hold-placed place at =
       let found = some_of (cgroup_at rows place) at.there in
-      let enabled : enabled_by (cgroup_at rows) place ≡ found.0.enabled = ap (λ (o : Option Cgroup). elim o [ None ↦ no_controllers | Some cgroup ↦ cgroup.enabled ]) found.1 in
+      let enabled : enabled_by (cgroup_at rows) place ≡ found.0.enabled = ap enabled_in found.1 in
       ap (λ (o : Option Cgroup). elim o [ None ↦ false | Some row ↦ is_root place || enables_nothing row.enabled ]) (row_at-state rows controllers processes place ∙ ap (option_map (with_files_of (enabled_over (cgroup_at rows) place) superuser)) found.1)
       ∙ ap (λ set. is_root place || enables_nothing set) (sym enabled) ∙ at.holds
 

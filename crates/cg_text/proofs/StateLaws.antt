@@ -17,17 +17,16 @@ use Rattle.cg_tree.proofs.Options.{some_value, is_some-mapped}
 use Rattle.cg_tree.proofs.FormedParts.{may_hold-row}
 use Rattle.cg_tree.proofs.PathOrder.{path_cmp_total, path_cmp-IsAntisymmetric}
 use Rattle.cg_tree.specs.declared.files.ControllerSet.{ControllerSet}
-use Rattle.cg_tree.specs.declared.cgroup.Cgroup.{Cgroup}
 use Rattle.cg_text.specs.Records.{CgroupRow, ProcessRow, TreeRecords}
 use Rattle.cg_text.specs.HasState.{IsWritten, IsListed, ArePidsOnce, IsTreeOf}
 use Rattle.cg_text.specs.Tree as tree
-use Rattle.cg_text.specs.Tree.{or_else, unless, first_row, row_fault, bad_path, bad_controller, bad_entry, bad_value, entries_pass, values_pass, controllers_read, superuser, named, cgroup_at, LookUp, Earlier, enabled_by, enabled_over, available_to, duplicate, no_root, no_parent, top_down, files_stand, no_such_file, pid_read, id_read, live_process, live_processes, is_place, holds_processes, bad_pid, bad_uid, duplicate_pid, no_such_place, internal_process, process_row_fault, process_fault, tree_fault, rows_fault, named_rows, controllers_of, first_fault, state_with, state_of, state_or, tree_of_records}
+use Rattle.cg_text.specs.Tree.{or_else, unless, first_row, row_fault, bad_path, bad_controller, bad_entry, bad_value, entries_pass, values_pass, controllers_read, superuser, cgroup_at, LookUp, Earlier, enabled_in, enabled_by, enabled_over, available_to, duplicate, no_root, no_parent, top_down, files_stand, no_such_file, pid_read, id_read, live_process, live_processes, is_place, holds_processes, bad_pid, bad_uid, duplicate_pid, no_such_place, internal_process, process_row_fault, process_fault, tree_fault, rows_fault, named_rows, controllers_of, first_fault, state_with, state_of, state_or, tree_of_records}
 use Rattle.cg_text.specs.declared.tree.fault.TreeFault.{TreeFault}
 use Rattle.cg_text.specs.declared.tree.fault.TreeFault.TheVariants.{BadController, BadPath, BadEntry, BadValue, Duplicate, NoRoot, NoParent, TopDown, NoSuchFile, BadPid, DuplicatePid, NoSuchPlace, InternalProcess}
 use Rattle.cg_text.specs.declared.tree.fault.Place.TheVariants.{Top, Cgroup as AtCgroup, Process as AtProcess}
 use Rattle.cg_text.specs.declared.tree.records.Format.{Format}
 use Rattle.cg_text.specs.declared.tree.named.NamedRow.{NamedRow}
-use Rattle.cg_text.proofs.TreeLaws.{or_else_none, or_else_past, unless_none, first_row_none, process_new, row_at-state, enabled_at-state, process_at-state, is_used-state}
+use Rattle.cg_text.proofs.TreeLaws.{or_else_none, or_else_past, unless_none, first_row_none, enabled_fitted, process_new, row_at-state, enabled_at-state, process_at-state, is_used-state}
 use Rattle.cg_text.proofs.TableLaws.{first_row_at, find_past, row_new, row_found}
 use Rattle.cg_text.proofs.SoundRows.{formed-tree, in_range-named}
 
@@ -190,12 +189,7 @@ module _ (records : TreeRecords) (st : State) (is : IsTreeOf records st) where
   has_is path = sym (ap is_some (is.rows path) ∙ is_some-mapped (with_files_of (enabled_above st path) superuser) (look path))
 
   enabled_is : (path : Names) → enabled_by look path ≡ enabled_at st path
-  enabled_is path =
-      elim (look path) as (λ o. elim o [ None ↦ no_controllers | Some cgroup ↦ cgroup.enabled ] ≡ elim (option_map (with_files_of (enabled_above st path) superuser) o) [ None ↦ no_controllers | Some row ↦ row.enabled ]) [
-        | None ↦ refl
-        | Some cgroup ↦ refl
-      ]
-      ∙ sym (ap (λ (o : Option Cgroup). elim o [ None ↦ no_controllers | Some row ↦ row.enabled ]) (is.rows path))
+  enabled_is path = sym (ap enabled_in (is.rows path) ∙ enabled_fitted (enabled_above st path) (look path))
 
   over_is : (path : Names) → enabled_over look path ≡ enabled_above st path
   over_is path = ap (cond (is_root path) no_controllers) (enabled_is (parent path))
@@ -233,7 +227,7 @@ module _ (records : TreeRecords) (st : State) (is : IsTreeOf records st) where
         let listed : IsListed row = one_of IsListed records.processes is.listed k row inside at in
         let place : Names = (live_process row).1.place in
         let there = may_hold-row st place held in
-        let enabled : enabled_by look place ≡ there.0.enabled = enabled_is place ∙ ap (λ (o : Option Cgroup). elim o [ None ↦ no_controllers | Some row ↦ row.enabled ]) there.1 in
+        let enabled : enabled_by look place ≡ there.0.enabled = enabled_is place ∙ ap enabled_in there.1 in
         process_passes look (tree.process_at (take k records.processes)) k row listed.pid listed.uid (is.pids k row inside at)
         (place_so look (path_at row.at) listed.place (has_is place ∙ ap is_some there.1))
         (ap (λ set. is_root place || enables_nothing set) enabled ∙ there.2)

@@ -16,7 +16,7 @@ use Rattle.cg_tree.proofs.Options.{none_value}
 use Rattle.cg_tree.proofs.PathOrder.{path_cmp_total}
 use Rattle.cg_tree.specs.declared.files.ControllerSet.{ControllerSet}
 use Rattle.cg_tree.specs.declared.cgroup.Cgroup.{Cgroup as CgroupValue}
-use Rattle.cg_text.specs.Tree.{first_row, duplicate, pairs_of, cgroup_at, enabled_over, fitted, superuser}
+use Rattle.cg_text.specs.Tree.{first_row, duplicate, pairs_of, cgroup_at, enabled_over, fitted, fitted_under, superuser}
 use Rattle.cg_text.specs.declared.tree.fault.Place.TheVariants.{Cgroup}
 use Rattle.cg_text.specs.declared.tree.fault.TreeFault.{TreeFault}
 use Rattle.cg_text.specs.declared.tree.fault.TreeFault.TheVariants.{Duplicate}
@@ -74,10 +74,6 @@ module _ (rows : List NamedRow) (once : first_row (duplicate rows) 0 rows ≡ No
 zip_mapped : {A B C : Type 0} (f : A × B → C) (g : A → B) (items : List A) → map_list f (zip items (map_list g items)) ≡ map_list (λ x. f (x, g x)) items
 zip_mapped f g [] = refl
 zip_mapped f g (x ∷ items) = ap (λ rest. f (x, g x) ∷ rest) (zip_mapped f g items)
-
--- a row's path, and its cgroup with the files that stand under these controllers
-abbrev pub fitted_under : NamedRow × ControllerSet → Names × CgroupValue
-fitted_under p = (p.0.path, with_files_of p.1 superuser p.0.cgroup)
 
 pub fitted_found : (rows : List NamedRow) (above : List ControllerSet) → first_row (duplicate rows) 0 rows ≡ None → above ≡ map_list (λ row. enabled_over (cgroup_at rows) row.path) rows
     → (path : Names) → update_all (eq_by_cmp path_cmp) (λ _. None) (map_list fitted_under (zip rows above)) path ≡ option_map (with_files_of (enabled_over (cgroup_at rows) path) superuser) (cgroup_at rows path)

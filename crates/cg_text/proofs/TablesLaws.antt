@@ -1,5 +1,5 @@
 -- The tables of a tree text's rows say its state, which is well-formed.
-use Rattle.std.proofs.Common.{◌≡◌, List, map as map_list, sym, ap, subst, ◌∙◌, Option, Some, None, is_some, option_map, unwrap_or, Ok, Err}
+use Rattle.std.proofs.Common.{◌≡◌, List, [], map as map_list, sym, ap, subst, ◌∙◌, Option, Some, None, is_some, option_map, unwrap_or, Ok, Err}
 use Rattle.std.specs.List.{AllByRecursion}
 use Rattle.std.specs.Cmp.{nat_cmp_total}
 use Rattle.std.specs.FinMap as map
@@ -11,20 +11,19 @@ use Rattle.cg_tree.specs.Files.{no_controllers}
 use Rattle.cg_tree.specs.RowsForm.{state_of_tables}
 use Rattle.cg_tree.specs.WellFormed.{IsWellFormed}
 use Rattle.cg_tree.specs.Cgroups.{with_files_of}
-use Rattle.cg_tree.specs.declared.cgroup.Cgroup.{Cgroup}
 use Rattle.cg_tree.proofs.Options.{is_some-mapped}
 use Rattle.cg_tree.proofs.PathOrder.{path_cmp_total, path_cmp-IsAntisymmetric}
 use Rattle.cg_tree.specs.declared.files.ControllerSet.{ControllerSet}
 use Rattle.cg_text.specs.Records.{CgroupRow, ProcessRow, TreeRecords}
 use Rattle.cg_text.specs.Tables.{AreTablesOf}
-use Rattle.cg_text.specs.Tree.{or_else, unless, first_row, row_fault, tree_fault, controllers_read, named, named_rows, controllers_of, cgroup_at, first_fault, state_with, state_of, state_or, tree_of_records, LookUp, rows_fault, process_fault, enabled_over, superuser}
+use Rattle.cg_text.specs.Tree.{or_else, unless, first_row, row_fault, tree_fault, controllers_read, named, named_rows, controllers_of, cgroup_at, first_fault, state_with, state_of, state_or, tree_of_records, LookUp, duplicate, no_root, no_parent, top_down, no_such_file, rows_fault, process_fault, enabled_in, enabled_over, superuser}
 use Rattle.cg_text.specs.declared.tree.fault.Place.TheVariants.{Top}
 use Rattle.cg_text.specs.declared.tree.fault.TreeFault.{TreeFault}
-use Rattle.cg_text.specs.declared.tree.fault.TreeFault.TheVariants.{BadController}
+use Rattle.cg_text.specs.declared.tree.fault.TreeFault.TheVariants.{BadController, NoRoot}
 use Rattle.cg_text.specs.declared.tree.records.Format.{Format}
 use Rattle.cg_text.specs.declared.tree.named.NamedRow.{NamedRow}
 use Rattle.cg_text.specs.declared.tree.state.Tables.{Tables}
-use Rattle.cg_text.proofs.TreeLaws.{processes_alike, enabled_fitted, or_else_some, or_else_past, row_at-state, process_at-state, is_used-state}
+use Rattle.cg_text.proofs.TreeLaws.{processes_alike, enabled_fitted, parents_stop, top_down_stops, from_files, or_else_some, or_else_past, row_at-state, process_at-state, is_used-state}
 use Rattle.cg_text.proofs.FormedTree.{IsInRange}
 use Rattle.cg_text.proofs.SoundRows.{formed-tree, in_range-named}
 
@@ -78,9 +77,23 @@ pub refused : (records : TreeRecords) (fault : TreeFault) → first_fault record
 refused records fault is = ap (λ found. state_or found (state_of records)) is
 
 -- what is said of an index's look-ups is said of the rows'
-pub through : (rows : List NamedRow) (found : LookUp) (controllers : ControllerSet) → ((path : Names) → found path ≡ cgroup_at rows path)
+through : (rows : List NamedRow) (found : LookUp) (controllers : ControllerSet) → ((path : Names) → found path ≡ cgroup_at rows path)
     → {fault : Option TreeFault} → rows_fault rows found controllers ≡ fault → rows_fault rows (cgroup_at rows) controllers ≡ fault
 through rows found controllers same is = ap (λ (look : LookUp). rows_fault rows look controllers) (λ j path. sym (same path) j) ∙ is
+
+module _ (rows : List NamedRow) (found : LookUp) (controllers : ControllerSet) (same : (path : Names) → found path ≡ cgroup_at rows path) (once : first_row (duplicate rows) 0 rows ≡ None) (there : no_root (cgroup_at rows) ≡ None) where
+  root_there : no_root found ≡ None
+  root_there = ap (λ o. unless (is_some o) NoRoot) (same []) ∙ there
+
+  pub found_parents_stop : (fault : TreeFault) → first_row (no_parent found) 0 rows ≡ Some fault → rows_fault rows (cgroup_at rows) controllers ≡ Some fault
+  found_parents_stop fault some = through rows found controllers same (parents_stop rows found controllers once root_there fault some)
+
+  module _ (parents : first_row (no_parent found) 0 rows ≡ None) where
+    pub found_top_down_stops : (fault : TreeFault) → first_row (top_down found controllers) 0 rows ≡ Some fault → rows_fault rows (cgroup_at rows) controllers ≡ Some fault
+    found_top_down_stops fault some = through rows found controllers same (top_down_stops rows found controllers once root_there parents fault some)
+
+    pub found_from_files : first_row (top_down found controllers) 0 rows ≡ None → rows_fault rows (cgroup_at rows) controllers ≡ first_row (no_such_file found) 0 rows
+    found_from_files within = through rows found controllers same (from_files rows found controllers once root_there parents within)
 
 -- the processes' faults are the same among the fitted cgroups
 pub among_fitted : (rows : List NamedRow) (found : LookUp) → ((path : Names) → found path ≡ option_map (with_files_of (enabled_over (cgroup_at rows) path) superuser) (cgroup_at rows path))
@@ -88,5 +101,5 @@ pub among_fitted : (rows : List NamedRow) (found : LookUp) → ((path : Names) �
 among_fitted rows found fitted processes =
     processes_alike found (cgroup_at rows)
     (λ path. ap is_some (fitted path) ∙ is_some-mapped (with_files_of (enabled_over (cgroup_at rows) path) superuser) (cgroup_at rows path))
-    (λ path. ap (λ (o : Option Cgroup). elim o [ None ↦ no_controllers | Some row ↦ row.enabled ]) (fitted path) ∙ enabled_fitted (enabled_over (cgroup_at rows) path) (cgroup_at rows path))
+    (λ path. ap enabled_in (fitted path) ∙ enabled_fitted (enabled_over (cgroup_at rows) path) (cgroup_at rows path))
     processes

@@ -7,7 +7,7 @@ use Rattle.std.specs.declared.cmp.Ordering.TheVariants.{Less, Equal, Greater}
 use Rattle.std.specs.Cmp.{nat_cmp_total}
 use Rattle.std.specs.FinMap.Entries.{is_some-find}
 use Rattle.std.specs.FinSet.{contains-from_list}
-use Rattle.cg_tree.specs.Files.{no_controllers, enables_nothing}
+use Rattle.cg_tree.specs.Files.{enables_nothing}
 use Rattle.std.specs.declared.cmp.Ordering.{Ordering}
 use Rattle.std.specs.FinMap as map
 use Rattle.std.specs.FinMap.{IsAntisymmetric, get-from_entries}
@@ -20,7 +20,7 @@ use Rattle.cg_tree.proofs.PathOrder.{path_cmp_total, path_cmp-IsAntisymmetric}
 use Rattle.cg_tree.specs.declared.files.ControllerSet.{ControllerSet}
 use Rattle.cg_tree.specs.declared.cgroup.Cgroup.{Cgroup}
 use Rattle.cg_text.specs.Records.{ProcessRow}
-use Rattle.cg_text.specs.Tree.{or_else, unless, first_row, pairs_of, cgroup_at, enabled_by, enabled_over, fitted, superuser, live_process, live_processes, LookUp, Earlier, pid_read, id_read, bad_pid, bad_uid, duplicate_pid, no_such_place, internal_process, process_row_fault, duplicate, no_root, no_parent, top_down, no_such_file, process_fault, rows_fault, state_with}
+use Rattle.cg_text.specs.Tree.{or_else, unless, first_row, pairs_of, cgroup_at, enabled_in, enabled_by, enabled_over, fitted, superuser, live_process, live_processes, LookUp, Earlier, pid_read, id_read, bad_pid, bad_uid, duplicate_pid, no_such_place, internal_process, process_row_fault, duplicate, no_root, no_parent, top_down, no_such_file, process_fault, rows_fault, state_with}
 use Rattle.cg_text.specs.Tree as tree
 use Rattle.cg_text.specs.declared.tree.fault.TreeFault.{TreeFault}
 use Rattle.cg_text.specs.declared.tree.fault.TreeFault.TheVariants.{BadPid, BadEntry, DuplicatePid, NoSuchPlace, InternalProcess}
@@ -93,9 +93,6 @@ module _ {K X : Type 0} {R : K → K → Ordering} (same : IsAntisymmetric R) wh
 -- ---- the state
 
 -- what a cgroup enables isn't changed by its files
-abbrev enabled_in : Option Cgroup → ControllerSet
-enabled_in found = elim found [ None ↦ no_controllers | Some cgroup ↦ cgroup.enabled ]
-
 pub enabled_fitted : (above : ControllerSet) (found : Option Cgroup) → enabled_in (option_map (with_files_of above superuser) found) ≡ enabled_in found
 enabled_fitted above None = refl
 enabled_fitted above (Some cgroup) = refl
@@ -135,7 +132,7 @@ module _ (rows : List NamedRow) (controllers : ControllerSet) (processes : List 
 
   pub enabled_at-state : (path : Names) → enabled_at (state_with rows (cgroup_at rows) controllers processes) path ≡ enabled_by (cgroup_at rows) path
   enabled_at-state path =
-      ap (λ (found : Option Cgroup). elim found [ None ↦ no_controllers | Some row ↦ row.enabled ]) (row_at-state path)
+      ap enabled_in (row_at-state path)
       ∙ enabled_fitted (enabled_over (cgroup_at rows) path) (cgroup_at rows path)
 
   pub process_at-state : (pid : ℕ) → process_at (state_with rows (cgroup_at rows) controllers processes) pid ≡ map.find nat_cmp pid (live_processes processes)

@@ -205,8 +205,12 @@ cgroup_at rows path = map.find path_cmp path (pairs_of rows)
 abbrev pub LookUp : Type 0
 LookUp = Names → Option Cgroup
 
+-- what a cgroup enables, where there is one
+abbrev pub enabled_in : Option Cgroup → ControllerSet
+enabled_in found = elim found [ None ↦ no_controllers | Some cgroup ↦ cgroup.enabled ]
+
 abbrev pub enabled_by : LookUp → Names → ControllerSet
-enabled_by found path = elim (found path) [ None ↦ no_controllers | Some cgroup ↦ cgroup.enabled ]
+enabled_by found path = enabled_in (found path)
 
 -- what the parent enables; the root has none
 abbrev pub enabled_over : LookUp → Names → ControllerSet
@@ -238,6 +242,10 @@ no_such_file found i row = unless (files_stand (enabled_over found row.path) row
 -- the cgroup with all files that stand at it: those that its row doesn't name are of uid 0 and have their defaults
 abbrev pub fitted : LookUp → NamedRow → Cgroup
 fitted found row = with_files_of (enabled_over found row.path) superuser row.cgroup
+
+-- a row's path, and its cgroup with all files that stand under these controllers
+abbrev pub fitted_under : NamedRow × ControllerSet → Names × Cgroup
+fitted_under p = (p.0.path, with_files_of p.1 superuser p.0.cgroup)
 
 -- ---- processes
 

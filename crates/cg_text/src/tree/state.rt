@@ -7,7 +7,7 @@ ghost use Rattle.std.specs.FinMap as map;
 ghost use Rattle.cg_tree.specs.Paths.{Names, path_cmp};
 ghost use Rattle.cg_tree.specs.Cgroups.{refitted, with_files_of};
 ghost use Rattle.cg_text.specs.Faults.{Passes, Reads};
-ghost use Rattle.cg_text.specs.Tree.{superuser, first_row, duplicate, cgroup_at, enabled_over, tree_fault, tree_of_records};
+ghost use Rattle.cg_text.specs.Tree.{superuser, first_row, duplicate, cgroup_at, enabled_over, fitted_under, tree_fault, tree_of_records};
 ghost use Rattle.cg_text.specs.Document.{HasFewRows};
 ghost use Rattle.cg_text.specs.Tables.{AreTablesOf};
 
@@ -69,14 +69,14 @@ fn cgroups_by_path(
     above: Vec<ControllerSet>,
 ) -> Result<BTreeMap<Path, Cgroup>, NoMemory>
     ensures { IfOk result (IsFromIterResult path_cmp
-        (map_list (λ p. (p.0.path, with_files_of p.1 superuser p.0.cgroup)) (zip rows.items above.items))) }
+        (map_list fitted_under (zip rows.items above.items))) }
 {
     Ok(
         rows.into_iter()
             .zip(above)
             .map(
                 |(row, above): (NamedRow, ControllerSet)| -> (Path, Cgroup)
-                    ensures { result ≡ (row.path, with_files_of above superuser row.cgroup) }
+                    ensures { result ≡ fitted_under (row, above) }
                 { (row.path, fitted(above, row.cgroup)) },
             )
             .collect(alloc)?,

@@ -112,32 +112,57 @@ fn names_and_prefixes(rt: HostRuntime) -> Result<(), Fail> {
     assert_eq!(rt; long.prefix(0), "/");
     assert_eq!(rt; long.prefix(2), "/c0/c01");
     assert_eq!(rt; long.parent_len(), 2);
+    Ok(())
+}
+
+#[test]
+fn copies_and_paths_of_first_names(rt: HostRuntime) -> Result<(), Fail> {
+    let long = path(rt.alloc(), "/c0/c01/b")?;
+    assert_eq!(rt; long.depth(), 3);
+    assert!(rt; long.try_clone(rt.alloc())? == long);
     let parent = long.try_prefix(rt.alloc(), 2)?;
     assert_eq!(rt; parent.prefix(parent.depth()), "/c0/c01");
-    assert!(rt; long.try_clone(rt.alloc())? == long);
     assert!(rt; parent != long);
+    Ok(())
+}
+
+#[test]
+fn the_root(rt: HostRuntime) -> Result<(), Fail> {
     let root = path(rt.alloc(), "/")?;
     assert_eq!(rt; root.depth(), 0);
     assert!(rt; Path::root(rt.alloc()) == root);
-    assert!(rt; long.try_prefix(rt.alloc(), 0)? == root);
+    assert!(rt; path(rt.alloc(), "/c0/c01")?.try_prefix(rt.alloc(), 0)? == root);
     Ok(())
 }
 
 #[test]
 fn children(rt: HostRuntime) -> Result<(), Fail> {
     let parent = path(rt.alloc(), "/c0/c01")?;
-    assert_eq!(rt; child(rt.alloc(), &parent, 2, "b")?.as_str(), "/c0/c01/b");
-    assert_eq!(rt;
-        child(rt.alloc(), &parent, 1, "probe0")?.as_str(),
-        "/c0/probe0"
-    );
-    assert_eq!(rt; child(rt.alloc(), &parent, 0, "a")?.as_str(), "/a");
+    let wanted = [
+        (2, "b", "/c0/c01/b"),
+        (1, "probe0", "/c0/probe0"),
+        (0, "a", "/a"),
+    ];
+    for (len, name, text) in wanted {
+        assert_eq!(rt; child(rt.alloc(), &parent, len, name)?.as_str(), text);
+    }
+    Ok(())
+}
+
+#[test]
+fn no_children(rt: HostRuntime) -> Result<(), Fail> {
+    let parent = path(rt.alloc(), "/c0/c01")?;
     for name in ["", ".", "a/b", "memory.max", "a b"] {
         assert_eq!(rt;
             child(rt.alloc(), &parent, 2, name).err(),
             Some(PathFault::BadPath)
         );
     }
+    Ok(())
+}
+
+#[test]
+fn children_with_the_longest_text(rt: HostRuntime) -> Result<(), Fail> {
     let deep = path(rt.alloc(), chain(rt.alloc(), 2046, 1)?.as_str())?;
     assert!(rt; child(rt.alloc(), &deep, 2046, "ab").is_ok());
     assert_eq!(rt;
@@ -149,24 +174,51 @@ fn children(rt: HostRuntime) -> Result<(), Fail> {
 }
 
 #[test]
-fn order_and_inside(rt: HostRuntime) -> Result<(), Fail> {
+fn inside(rt: HostRuntime) -> Result<(), Fail> {
     let short = path(rt.alloc(), "/c0")?;
     let other = path(rt.alloc(), "/c01")?;
     let child = path(rt.alloc(), "/c0/c01")?;
-    let dash = path(rt.alloc(), "/c0-x")?;
     assert!(rt; short.is_prefix_of(&child));
     assert!(rt; short.is_prefix_of(&short));
     assert!(rt; !short.is_prefix_of(&other));
     assert!(rt; !child.is_prefix_of(&short));
-    assert_eq!(rt; child.depth(), 2);
     assert!(rt; child.holds(1, &short));
-    assert!(rt; !child.holds(2, &short));
     assert!(rt; child.holds(0, &other));
-    assert_eq!(rt; child.common_len(&short), 1);
-    assert_eq!(rt; child.common_len(&other), 0);
-    assert_eq!(rt; short.cmp(&child), Ordering::Less);
-    assert_eq!(rt; child.cmp(&dash), Ordering::Less);
+    Ok(())
+}
+
+#[test]
+fn common_names(rt: HostRuntime) -> Result<(), Fail> {
+    let child = path(rt.alloc(), "/c0/c01")?;
+    assert_eq!(rt; child.common_len(&path(rt.alloc(), "/c0")?), 1);
+    assert_eq!(rt; child.common_len(&path(rt.alloc(), "/c01")?), 0);
+    assert_eq!(rt; child.common_len(&path(rt.alloc(), "/c0/c01/b")?), 2);
+    Ok(())
+}
+
+#[test]
+fn order(rt: HostRuntime) -> Result<(), Fail> {
+    let wanted = [
+        ("/c0", "/c0/c01"),
+        ("/c0/c01", "/c0-x"),
+        ("/c0", "/c01"),
+        ("/", "/c0"),
+    ];
+    for (less, greater) in wanted {
+        let less = path(rt.alloc(), less)?;
+        let greater = path(rt.alloc(), greater)?;
+        assert_eq!(rt; less.cmp(&greater), Ordering::Less);
+        assert_eq!(rt; greater.partial_cmp(&less), Some(Ordering::Greater));
+    }
+    Ok(())
+}
+
+#[test]
+fn order_of_first_names(rt: HostRuntime) -> Result<(), Fail> {
+    let short = path(rt.alloc(), "/c0")?;
+    let child = path(rt.alloc(), "/c0/c01")?;
+    assert_eq!(rt; child.depth(), 2);
     assert_eq!(rt; short.cmp_prefix(&child, 1), Ordering::Equal);
-    assert_eq!(rt; short.partial_cmp(&other), Some(Ordering::Less));
+    assert_eq!(rt; child.cmp_prefixes(2, &child, 1), Ordering::Greater);
     Ok(())
 }

@@ -3,13 +3,15 @@ mod fixtures;
 mod readings;
 
 use crate::files::{Controller, ControllerSet, EntryName, Limit, LimitFile};
+use crate::hierarchy::Hierarchy;
 use crate::process::Pid;
+use crate::rows::Rows;
 use crate::tables::path_table::PathTable;
 use crate::tables::pid_table::PidTable;
 use crate::user::{Entry, Mode, User};
 use fixtures::{
-    ALL, MEMORY, Owners, add, add_process, copy_of, delegation, end_process, nested,
-    nested_of_tables, open_delegation, path, remove, set_enabled, set_limit, set_mode, set_place,
+    ALL, MEMORY, Owners, add, copy_of, delegation, end, nested, nested_of_tables, open_delegation,
+    path, populate, remove, set_enabled, set_limit, set_mode, transfer,
 };
 use readings::{
     check_controllers, check_counts, check_enabled, check_entries, check_gone, check_holds,
@@ -17,6 +19,7 @@ use readings::{
 };
 use std::alloc::Global;
 use std::collections::BTreeMap;
+use std::process::Abort;
 use std::test::Fail;
 
 /// The entry of a user without groups, or of uid 0.
@@ -24,10 +27,29 @@ fn entry(uid: u32, mode: u16) -> Option<Entry> {
     Some(Entry { uid, gid: 0, mode })
 }
 
+/// The entry of a file that user 1001 of group 7 made.
+fn made_entry() -> Option<Entry> {
+    Some(Entry {
+        uid: 1001,
+        gid: 7,
+        mode: 0o644,
+    })
+}
+
+/// Enables these, by user 1001 of group 7. False where the cgroup isn't there or may not enable these alone.
+fn enable<H: Hierarchy>(
+    alloc: Global,
+    tree: &mut H,
+    text: &str,
+    enabled: ControllerSet,
+) -> Result<bool, Fail> {
+    let user = User::with_groups(1001, &[7]).ok_or("33 gids or uid 0")?;
+    Ok(set_enabled(tree, &path(alloc, text)?, enabled, &user))
+}
+
 #[test]
 fn counts_what_lies_below(rt: HostRuntime) -> Result<(), Fail> {
     let a = rt.alloc();
-    let tree = delegation(&rt, a)?;
     let wanted = [
         ("/", 0, (5, 2)),
         ("/c0", 1, (2, 1)),
@@ -37,18 +59,16 @@ fn counts_what_lies_below(rt: HostRuntime) -> Result<(), Fail> {
         ("/c1", 1, (1, 1)),
         ("/c1/c10", 0, (5, 2)),
     ];
-    check_counts(&rt, a, &tree, &wanted)?;
-    let open = open_delegation(&rt, a)?;
+    check_counts(&rt, a, &delegation(&rt, a)?, &wanted)?;
     let wanted = [
         ("/", 0, (6, 2)),
         ("/c0", 1, (2, 1)),
         ("/c01", 1, (0, 0)),
         ("/c1", 1, (1, 1)),
     ];
-    check_counts(&rt, a, &open, &wanted)?;
-    let nested = nested(&rt, a)?;
+    check_counts(&rt, a, &open_delegation(&rt, a)?, &wanted)?;
     let wanted = [("/", 0, (2, 2)), ("/p", 1, (1, 1)), ("/p/s", 2, (0, 0))];
-    check_counts(&rt, a, &nested, &wanted)
+    check_counts(&rt, a, &nested(&rt, a)?, &wanted)
 }
 
 #[test]
@@ -60,7 +80,6 @@ fn tells_children_and_processes(rt: HostRuntime) -> Result<(), Fail> {
         ("/c1", 1, (true, false)),
     ];
     check_holds(&rt, a, &delegation(&rt, a)?, &wanted)?;
-    let open = open_delegation(&rt, a)?;
     let wanted = [
         ("/", 0, (true, false)),
         ("/c0", 1, (true, false)),
@@ -71,14 +90,13 @@ fn tells_children_and_processes(rt: HostRuntime) -> Result<(), Fail> {
         ("/c1", 1, (true, false)),
         ("/c1/c10", 2, (false, true)),
     ];
-    check_holds(&rt, a, &open, &wanted)?;
-    let nested = nested(&rt, a)?;
+    check_holds(&rt, a, &open_delegation(&rt, a)?, &wanted)?;
     let wanted = [
         ("/", 0, (true, false)),
         ("/p", 1, (true, false)),
         ("/p/s", 2, (false, true)),
     ];
-    check_holds(&rt, a, &nested, &wanted)
+    check_holds(&rt, a, &nested(&rt, a)?, &wanted)
 }
 
 #[test]
@@ -101,22 +119,25 @@ fn tells_what_children_enable(rt: HostRuntime) -> Result<(), Fail> {
 }
 
 #[test]
-fn tells_controllers(rt: HostRuntime) -> Result<(), Fail> {
+fn tells_what_is_enabled(rt: HostRuntime) -> Result<(), Fail> {
     let a = rt.alloc();
-    let tree = delegation(&rt, a)?;
     let wanted = [
         ("/", Some(MEMORY)),
         ("/c0", Some(ControllerSet::none())),
         ("/c0/c02", None),
     ];
-    check_enabled(&rt, a, &tree, &wanted)?;
-    check_controllers(&rt, &tree, ALL);
-    let open = open_delegation(&rt, a)?;
-    check_enabled(&rt, a, &open, &[("/c01", Some(ControllerSet::none()))])?;
-    check_controllers(&rt, &open, ALL);
-    let nested = nested(&rt, a)?;
-    check_enabled(&rt, a, &nested, &[("/p", Some(MEMORY))])?;
-    check_controllers(&rt, &nested, MEMORY);
+    check_enabled(&rt, a, &delegation(&rt, a)?, &wanted)?;
+    let wanted = [("/c01", Some(ControllerSet::none()))];
+    check_enabled(&rt, a, &open_delegation(&rt, a)?, &wanted)?;
+    check_enabled(&rt, a, &nested(&rt, a)?, &[("/p", Some(MEMORY))])
+}
+
+#[test]
+fn tells_the_roots_controllers(rt: HostRuntime) -> Result<(), Fail> {
+    let a = rt.alloc();
+    check_controllers(&rt, &delegation(&rt, a)?, ALL);
+    check_controllers(&rt, &open_delegation(&rt, a)?, ALL);
+    check_controllers(&rt, &nested(&rt, a)?, MEMORY);
     Ok(())
 }
 
@@ -204,124 +225,149 @@ fn gets_limits(rt: HostRuntime) -> Result<(), Fail> {
 }
 
 #[test]
-fn sets_limits_and_modes(rt: HostRuntime) -> Result<(), Fail> {
+fn sets_limits(rt: HostRuntime) -> Result<(), Fail> {
     let a = rt.alloc();
     let file = LimitFile::MemoryLow;
     let mut tree = delegation(&rt, a)?;
-    let c1 = path(a, "/c1")?;
-    assert!(rt; set_limit(&mut tree, &c1, file, Limit::At(7)));
+    assert!(rt; set_limit(&mut tree, &path(a, "/c1")?, file, Limit::At(7)));
     let wanted = [
         ("/c1", file, Some(Limit::At(7))),
         ("/c1", LimitFile::MemoryHigh, Some(Limit::Max)),
         ("/c0", file, Some(Limit::At(0))),
     ];
     check_limits(&rt, a, &tree, &wanted)?;
+    check_entries(
+        &rt,
+        a,
+        &tree,
+        &[("/c1", EntryName::File(file), entry(0, 0o644))],
+    )
+}
+
+#[test]
+fn sets_modes(rt: HostRuntime) -> Result<(), Fail> {
+    let a = rt.alloc();
     let mode = Mode::new(0o555).ok_or("over 0o777")?;
-    assert!(rt; set_mode(&mut tree, &c1, EntryName::Dir, mode));
+    let mut tree = delegation(&rt, a)?;
+    assert!(rt; set_mode(&mut tree, &path(a, "/c1")?, EntryName::Dir, mode));
     let wanted = [
         ("/c1", EntryName::Dir, entry(1000, 0o555)),
         ("/c1", EntryName::Procs, entry(1000, 0o644)),
-        ("/c1", EntryName::File(file), entry(0, 0o644)),
         ("/c1/c10", EntryName::Dir, entry(1000, 0o755)),
     ];
     check_entries(&rt, a, &tree, &wanted)
 }
 
 #[test]
-fn enables_and_disables(rt: HostRuntime) -> Result<(), Fail> {
+fn enables(rt: HostRuntime) -> Result<(), Fail> {
     let a = rt.alloc();
-    let file = LimitFile::MemoryMax;
-    let memory = Controller::Memory;
-    let maker = User::with_groups(1001, &[7]).ok_or("33 gids or uid 0")?;
+    let file = EntryName::File(LimitFile::MemoryMax);
     let mut tree = delegation(&rt, a)?;
-    let c0 = path(a, "/c0")?;
-    assert!(rt; set_enabled(&mut tree, &c0, MEMORY, &maker));
-    check_uses(&rt, a, &tree, &[("/", memory, Some(true))])?;
-    let made = Entry {
-        uid: 1001,
-        gid: 7,
-        mode: 0o644,
-    };
+    assert!(rt; enable(a, &mut tree, "/c0", MEMORY)?);
+    check_uses(&rt, a, &tree, &[("/", Controller::Memory, Some(true))])?;
     let wanted = [
-        ("/c0", EntryName::File(file), entry(0, 0o644)),
-        ("/c0/c00", EntryName::File(file), Some(made)),
-        ("/c0/c01", EntryName::File(file), Some(made)),
-        ("/c1/c10", EntryName::File(file), None),
+        ("/c0", file, entry(0, 0o644)),
+        ("/c0/c00", file, made_entry()),
+        ("/c0/c01", file, made_entry()),
+        ("/c1/c10", file, None),
     ];
-    check_entries(&rt, a, &tree, &wanted)?;
-    assert!(rt; set_enabled(&mut tree, &c0, ControllerSet::none(), &maker));
-    check_uses(&rt, a, &tree, &[("/", memory, Some(false))])?;
-    check_limits(&rt, a, &tree, &[("/c0/c00", file, None)])
+    check_entries(&rt, a, &tree, &wanted)
 }
 
 #[test]
-fn adds_and_removes(rt: HostRuntime) -> Result<(), Fail> {
+fn disables(rt: HostRuntime) -> Result<(), Fail> {
+    let a = rt.alloc();
+    let mut tree = delegation(&rt, a)?;
+    assert!(rt; enable(a, &mut tree, "/c0", MEMORY)?);
+    assert!(rt; enable(a, &mut tree, "/c0", ControllerSet::none())?);
+    check_uses(&rt, a, &tree, &[("/", Controller::Memory, Some(false))])?;
+    check_limits(&rt, a, &tree, &[("/c0/c00", LimitFile::MemoryMax, None)])
+}
+
+#[test]
+fn adds(rt: HostRuntime) -> Result<(), Fail> {
     let a = rt.alloc();
     let mut tree = open_delegation(&rt, a)?;
     assert!(rt; add(a, &mut tree, &path(a, "/c0-x")?, Owners::KEPT)?);
     let paths = " / /c0 /c0/c00 /c0/c01 /c0-x /c01 /c1 /c1/c10";
     check_lists(&rt, a, &tree, paths, &[10, 11, 14])?;
-    check_counts(&rt, a, &tree, &[("/", 0, (7, 2)), ("/c0", 1, (2, 1))])?;
-    assert!(rt; remove(&mut tree, &path(a, "/c0/c01")?));
-    let paths = " / /c0 /c0/c00 /c0-x /c01 /c1 /c1/c10";
-    check_lists(&rt, a, &tree, paths, &[10, 11, 14])?;
-    check_counts(&rt, a, &tree, &[("/", 0, (6, 2)), ("/c0", 1, (1, 1))])
+    check_counts(&rt, a, &tree, &[("/", 0, (7, 2)), ("/c0", 1, (2, 1))])
 }
 
 #[test]
-fn adds_moves_and_ends_processes(rt: HostRuntime) -> Result<(), Fail> {
+fn removes(rt: HostRuntime) -> Result<(), Fail> {
+    let a = rt.alloc();
+    let mut tree = open_delegation(&rt, a)?;
+    assert!(rt; remove(&mut tree, &path(a, "/c0/c01")?));
+    let paths = " / /c0 /c0/c00 /c01 /c1 /c1/c10";
+    check_lists(&rt, a, &tree, paths, &[10, 11, 14])?;
+    check_counts(&rt, a, &tree, &[("/", 0, (5, 2)), ("/c0", 1, (1, 1))])
+}
+
+#[test]
+fn moves_processes(rt: HostRuntime) -> Result<(), Fail> {
     let a = rt.alloc();
     let mut tree = delegation(&rt, a)?;
-    let c01 = path(a, "/c0/c01")?;
-    let eleven = Pid::new(11).ok_or("no PID")?;
-    assert!(rt; set_place(a, &mut tree, eleven, &c01)?);
-    let new = Pid::new(12).ok_or("no PID")?;
-    assert!(rt; add_process(a, &mut tree, new, 1001, &c01)?);
-    let wanted = [
-        (10, 1000, "/c1/c10"),
-        (11, 1000, "/c0/c01"),
-        (12, 1001, "/c0/c01"),
-    ];
-    check_places(&rt, &tree, &wanted)?;
+    assert!(rt; transfer(a, &mut tree, 11, "/c0/c01")?);
+    check_places(&rt, &tree, &[(10, 1000, "/c1/c10"), (11, 1000, "/c0/c01")])?;
     let wanted = [
         ("/c0/c00", 2, (false, false)),
         ("/c0/c01", 2, (false, true)),
     ];
-    check_holds(&rt, a, &tree, &wanted)?;
-    assert!(rt; end_process(&mut tree, eleven));
+    check_holds(&rt, a, &tree, &wanted)
+}
+
+#[test]
+fn adds_processes(rt: HostRuntime) -> Result<(), Fail> {
+    let a = rt.alloc();
+    let mut tree = delegation(&rt, a)?;
+    assert!(rt; populate(a, &mut tree, 12, 1001, "/c0/c01")?);
+    check_places(&rt, &tree, &[(11, 1000, "/c0/c00"), (12, 1001, "/c0/c01")])?;
+    check_holds(&rt, a, &tree, &[("/c0/c01", 2, (false, true))])
+}
+
+#[test]
+fn ends_processes(rt: HostRuntime) -> Result<(), Fail> {
+    let mut tree = delegation(&rt, rt.alloc())?;
+    assert!(rt; end(&mut tree, 11)?);
     check_gone(&rt, &tree, 11, true)?;
     check_gone(&rt, &tree, 13, false)?;
-    check_places(&rt, &tree, &[(12, 1001, "/c0/c01")])
+    check_places(&rt, &tree, &[(10, 1000, "/c1/c10")])
 }
 
 #[test]
 fn copies_are_equal(rt: HostRuntime) -> Result<(), Fail> {
     let a = rt.alloc();
     let tree = copy_of(a, &delegation(&rt, a)?)?;
-    check_lists(
-        &rt,
-        a,
-        &tree,
-        " / /c0 /c0/c00 /c0/c01 /c1 /c1/c10",
-        &[10, 11],
-    )?;
-    let wanted = [("/c0", LimitFile::MaxDescendants, Some(Limit::At(4)))];
-    check_limits(&rt, a, &tree, &wanted)?;
+    let paths = " / /c0 /c0/c00 /c0/c01 /c1 /c1/c10";
+    check_lists(&rt, a, &tree, paths, &[10, 11])?;
     check_controllers(&rt, &tree, ALL);
-    let open = copy_of(a, &open_delegation(&rt, a)?)?;
-    let wanted = [("/", EntryName::Procs, entry(0, 0o646))];
-    check_entries(&rt, a, &open, &wanted)?;
-    check_places(&rt, &open, &[(14, 1000, "/c01")])
+    let wanted = [("/c0", LimitFile::MaxDescendants, Some(Limit::At(4)))];
+    check_limits(&rt, a, &tree, &wanted)
+}
+
+#[test]
+fn copies_of_an_open_tree_are_equal(rt: HostRuntime) -> Result<(), Fail> {
+    let a = rt.alloc();
+    let tree = copy_of(a, &open_delegation(&rt, a)?)?;
+    check_entries(&rt, a, &tree, &[("/", EntryName::Procs, entry(0, 0o646))])?;
+    check_places(&rt, &tree, &[(14, 1000, "/c01")])
+}
+
+/// A copy of the nested tree, whose process ended and whose `/p/s` was removed since.
+fn copy_from_before(rt: &impl Abort, alloc: Global) -> Result<Rows, Fail> {
+    let mut tree = nested(rt, alloc)?;
+    let copy = copy_of(alloc, &tree)?;
+    assert!(rt; end(&mut tree, 20)?);
+    assert!(rt; remove(&mut tree, &path(alloc, "/p/s")?));
+    check_lists(rt, alloc, &tree, " / /p", &[])?;
+    Ok(copy)
 }
 
 #[test]
 fn copies_stay_as_they_were(rt: HostRuntime) -> Result<(), Fail> {
     let a = rt.alloc();
-    let mut tree = nested(&rt, a)?;
-    let copy = copy_of(a, &tree)?;
-    assert!(rt; end_process(&mut tree, Pid::new(20).ok_or("no PID")?));
-    assert!(rt; remove(&mut tree, &path(a, "/p/s")?));
-    check_lists(&rt, a, &tree, " / /p", &[])?;
+    let copy = copy_from_before(&rt, a)?;
     check_lists(&rt, a, &copy, " / /p /p/s", &[20])?;
     check_places(&rt, &copy, &[(20, 1000, "/p/s")])?;
     check_enabled(&rt, a, &copy, &[("/p", Some(MEMORY)), ("/c0", None)])

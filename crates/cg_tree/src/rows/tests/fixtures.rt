@@ -220,7 +220,7 @@ pub fn remove<H: Hierarchy>(tree: &mut H, path: &Path) -> bool {
 }
 
 /// Adds a process. False where its PID was used, or the cgroup isn't there or enables something.
-pub fn add_process<H: Hierarchy>(
+fn add_process<H: Hierarchy>(
     alloc: Global,
     tree: &mut H,
     pid: Pid,
@@ -238,7 +238,7 @@ pub fn add_process<H: Hierarchy>(
 }
 
 /// Ends a process. False where it isn't live.
-pub fn end_process<H: Hierarchy>(tree: &mut H, pid: Pid) -> bool {
+fn end_process<H: Hierarchy>(tree: &mut H, pid: Pid) -> bool {
     if tree.owner(pid).is_none() {
         return false;
     }
@@ -247,7 +247,7 @@ pub fn end_process<H: Hierarchy>(tree: &mut H, pid: Pid) -> bool {
 }
 
 /// Moves a process. False where it isn't live, or the cgroup isn't there or enables something.
-pub fn set_place<H: Hierarchy>(
+fn set_place<H: Hierarchy>(
     alloc: Global,
     tree: &mut H,
     pid: Pid,
@@ -282,15 +282,32 @@ fn add_all<H: Hierarchy>(
     Ok(true)
 }
 
-/// Adds a process of user 1000.
-fn populate<H: Hierarchy>(
+/// Adds a process by its number and its cgroup's text.
+pub fn populate<H: Hierarchy>(
+    alloc: Global,
+    tree: &mut H,
+    number: u32,
+    uid: u32,
+    text: &str,
+) -> Result<bool, Fail> {
+    let pid = Pid::new(number).ok_or("no PID")?;
+    Ok(add_process(alloc, tree, pid, uid, &path(alloc, text)?)?)
+}
+
+/// Moves a process by its number and its new cgroup's text.
+pub fn transfer<H: Hierarchy>(
     alloc: Global,
     tree: &mut H,
     number: u32,
     text: &str,
 ) -> Result<bool, Fail> {
     let pid = Pid::new(number).ok_or("no PID")?;
-    Ok(add_process(alloc, tree, pid, 1000, &path(alloc, text)?)?)
+    Ok(set_place(alloc, tree, pid, &path(alloc, text)?)?)
+}
+
+/// Ends a process by its number.
+pub fn end<H: Hierarchy>(tree: &mut H, number: u32) -> Result<bool, Fail> {
+    Ok(end_process(tree, Pid::new(number).ok_or("no PID")?))
 }
 
 /// All controllers.
@@ -355,8 +372,8 @@ pub fn delegate<H: Hierarchy>(
     for (file, amount) in limits {
         assert!(rt; set_limit(tree, &c0, file, Limit::At(amount)));
     }
-    assert!(rt; populate(alloc, tree, 10, "/c1/c10")?);
-    assert!(rt; populate(alloc, tree, 11, "/c0/c00")?);
+    assert!(rt; populate(alloc, tree, 10, 1000, "/c1/c10")?);
+    assert!(rt; populate(alloc, tree, 11, 1000, "/c0/c00")?);
     Ok(())
 }
 
@@ -372,7 +389,7 @@ pub fn open_root<H: Hierarchy>(rt: &impl Abort, alloc: Global, tree: &mut H) -> 
     let open = Mode::new(0o646).ok_or("over 0o777")?;
     assert!(rt; set_mode(tree, &Path::root(alloc), EntryName::Procs, open));
     assert!(rt; add(alloc, tree, &path(alloc, "/c01")?, Owners::PROCESSES)?);
-    assert!(rt; populate(alloc, tree, 14, "/c01")?);
+    assert!(rt; populate(alloc, tree, 14, 1000, "/c01")?);
     Ok(())
 }
 
@@ -395,7 +412,7 @@ pub fn nest<H: Hierarchy>(
     assert!(rt; add(alloc, tree, &p, Owners::PROCESSES)?);
     assert!(rt; set_enabled(tree, &p, MEMORY, maker));
     assert!(rt; add(alloc, tree, &path(alloc, "/p/s")?, Owners::KEPT)?);
-    assert!(rt; populate(alloc, tree, 20, "/p/s")?);
+    assert!(rt; populate(alloc, tree, 20, 1000, "/p/s")?);
     Ok(())
 }
 
