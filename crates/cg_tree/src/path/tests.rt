@@ -182,7 +182,9 @@ fn inside(rt: HostRuntime) -> Result<(), Fail> {
     assert!(rt; short.is_prefix_of(&short));
     assert!(rt; !short.is_prefix_of(&other));
     assert!(rt; !child.is_prefix_of(&short));
+    assert_eq!(rt; child.depth(), 2);
     assert!(rt; child.holds(1, &short));
+    assert!(rt; !child.holds(2, &short));
     assert!(rt; child.holds(0, &other));
     Ok(())
 }
@@ -208,6 +210,7 @@ fn order(rt: HostRuntime) -> Result<(), Fail> {
         let less = path(rt.alloc(), less)?;
         let greater = path(rt.alloc(), greater)?;
         assert_eq!(rt; less.cmp(&greater), Ordering::Less);
+        assert_eq!(rt; less.partial_cmp(&greater), Some(Ordering::Less));
         assert_eq!(rt; greater.partial_cmp(&less), Some(Ordering::Greater));
     }
     Ok(())

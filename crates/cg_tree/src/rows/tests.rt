@@ -253,6 +253,11 @@ fn sets_modes(rt: HostRuntime) -> Result<(), Fail> {
     let wanted = [
         ("/c1", EntryName::Dir, entry(1000, 0o555)),
         ("/c1", EntryName::Procs, entry(1000, 0o644)),
+        (
+            "/c1",
+            EntryName::File(LimitFile::MemoryLow),
+            entry(0, 0o644),
+        ),
         ("/c1/c10", EntryName::Dir, entry(1000, 0o755)),
     ];
     check_entries(&rt, a, &tree, &wanted)
@@ -322,17 +327,24 @@ fn adds_processes(rt: HostRuntime) -> Result<(), Fail> {
     let a = rt.alloc();
     let mut tree = delegation(&rt, a)?;
     assert!(rt; populate(a, &mut tree, 12, 1001, "/c0/c01")?);
-    check_places(&rt, &tree, &[(11, 1000, "/c0/c00"), (12, 1001, "/c0/c01")])?;
+    let wanted = [
+        (10, 1000, "/c1/c10"),
+        (11, 1000, "/c0/c00"),
+        (12, 1001, "/c0/c01"),
+    ];
+    check_places(&rt, &tree, &wanted)?;
     check_holds(&rt, a, &tree, &[("/c0/c01", 2, (false, true))])
 }
 
 #[test]
 fn ends_processes(rt: HostRuntime) -> Result<(), Fail> {
-    let mut tree = delegation(&rt, rt.alloc())?;
+    let a = rt.alloc();
+    let mut tree = delegation(&rt, a)?;
+    assert!(rt; populate(a, &mut tree, 12, 1001, "/c0/c01")?);
     assert!(rt; end(&mut tree, 11)?);
     check_gone(&rt, &tree, 11, true)?;
     check_gone(&rt, &tree, 13, false)?;
-    check_places(&rt, &tree, &[(10, 1000, "/c1/c10")])
+    check_places(&rt, &tree, &[(10, 1000, "/c1/c10"), (12, 1001, "/c0/c01")])
 }
 
 #[test]
