@@ -2,6 +2,8 @@ pub mod PathOrder
 pub mod PathParents
 pub mod PathEnds
 pub mod PathNames
+mod Slashes
+mod Words
 pub mod PathSteps
 pub mod Options
 pub mod PathAt

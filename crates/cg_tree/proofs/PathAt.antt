@@ -15,7 +15,7 @@ onto_first-text : (b : ℕ) (parts : Names) (text : List ℕ) → names_text par
 onto_first-text b [] text h = cc
 onto_first-text b (part ∷ parts) text h = ap (λ (x : List ℕ). 47 ∷ b ∷ drop 1 x) h
 
-pub split-text : (text : List ℕ) → names_text (slice_split (λ b. b == 47) text) ≡ 47 ∷ text
+split-text : (text : List ℕ) → names_text (slice_split (λ b. b == 47) text) ≡ 47 ∷ text
 split-text [] = refl
 split-text (b ∷ text) =
     ⊎_elim

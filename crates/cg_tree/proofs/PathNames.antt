@@ -1,16 +1,16 @@
 -- The names of a path's text are the path's.
-use Rattle.std.proofs.Common.{◌≡◌, ℕ, zero, suc, get_or, length-append, ◌+◌, ◌<◌, ◌≤◌, true, false, List, [], ◌∷◌, ◌++◌, length, take, drop, refl, ap, sym, ◌∙◌, subst, arith, zero-add, ◌⊎◌, ⊎_elim}
+use Rattle.std.proofs.Common.{◌≡◌, ℕ, zero, suc, length-append, ◌+◌, ◌<◌, ◌≤◌, true, false, List, [], ◌∷◌, ◌++◌, length, take, drop, refl, ap, sym, ◌∙◌, subst, arith, zero-add, ◌⊎◌, ⊎_elim}
 use Rattle.std.specs.Prelude.{not, ◌&&◌, nat_le, nat_eq, ◌==◌}
 use Rattle.std.specs.List.{list_all, slice_split, All}
 use Rattle.std.proofs.lemmas.Bool.{and_parts, and_from, not-true, le-leb, false_from_ne_true, both_ways}
-use Rattle.std.proofs.lemmas.List.{append-nil, take-append-drop, take_more, get_or_default}
+use Rattle.std.proofs.lemmas.List.{append-nil, take-append-drop}
 use Rattle.std.proofs.lemmas.List.Folds.{list_all-append}
 use Rattle.std.proofs.lemmas.List.Concat.{flat_map-append}
 use Rattle.std.proofs.lemmas.List.Elements.{All-nil, All-cons}
 use Rattle.std.proofs.lemmas.List.Splits.{slice_split_none, slice_split_at}
 use Rattle.cg_tree.specs.Paths.{Name, Names, names_of, path_text, is_name, is_name_byte, is_path, IsPath}
 use Rattle.cg_tree.specs.PathText.{names_text, ends_from, IsKept}
-use Rattle.cg_tree.proofs.PathEnds.{length_more, is_name-bytes, path_names, path_bytes, end_le}
+use Rattle.cg_tree.proofs.PathEnds.{is_name-bytes, path_names, path_bytes, end_le}
 
 no_slash : (name : Name) → list_all is_name_byte name ≡ true → All (λ (b : ℕ). (b == 47) ≡ false) name
 no_slash [] h = All-nil (λ (b : ℕ). (b == 47) ≡ false)
@@ -70,25 +70,6 @@ ends_from-push start [] name = ap (λ (x : ℕ). x ∷ []) (omega (arith, length
 ends_from-push start (first ∷ path) name =
     let e : start + (length first + 1) + length (names_text (path ++ name ∷ [])) ≡ start + length (names_text (first ∷ (path ++ name ∷ []))) = omega (arith, length-append first (names_text (path ++ name ∷ []))) in
     ap (λ (x : List ℕ). (start + (length first + 1)) ∷ x) (ends_from-push (start + (length first + 1)) path name ∙ ap (λ (x : ℕ). ends_from (start + (length first + 1)) path ++ x ∷ []) e)
-
--- one name more, which a walk has read
-abbrev pub Reads : Names → ℕ → Name → Type 0
-Reads path i name = (i < length path) × (name ≡ get_or path i name)
-
-pub end_more : (path : Names) (i n : ℕ) (name : Name) → n ≡ i + 1 → Reads path i name → length (names_text (take i path)) + (length name + 1) ≡ length (names_text (take n path))
-end_more path i n name m h =
-    let e : name ≡ get_or path i [] = h.1 ∙ get_or_default path i name [] h.0 in
-    rw m (omega (arith, length_more path i h.0, ap length e))
-
-pub ends_more : (path : Names) (i n : ℕ) (name : Name) → n ≡ i + 1 → Reads path i name → ends_from 0 (take i path) ++ (length (names_text (take i path)) + (length name + 1)) ∷ [] ≡ ends_from 0 (take n path)
-ends_more path i n name m h =
-    ap (λ (x : ℕ). ends_from 0 (take i path) ++ x ∷ []) (end_more path i (i + 1) name refl h ∙ ap (λ (x : Names). length (names_text x)) (take_more path i [] h.0) ∙ sym (zero-add (length (names_text (take i path ++ get_or path i [] ∷ [])))))
-    ∙ sym (ends_from-push 0 (take i path) (get_or path i []))
-    ∙ ap (ends_from 0) (sym (take_more path i [] h.0) ∙ ap (λ (x : ℕ). take x path) (sym m))
-
--- the names of a text end within it
-pub end_within : (path : Names) (i k : ℕ) (name : Name) → Reads path i name → length (names_text path) ≤ k → length (names_text (take i path)) + (length name + 1) ≤ k
-end_within path i k name h l = omega (arith, end_more path i (i + 1) name refl h, end_le path (i + 1))
 
 -- ---- a path with one name behind it
 

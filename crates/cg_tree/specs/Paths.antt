@@ -63,11 +63,17 @@ names_of text = drop 1 (slice_split (λ b. b == 47) text)
 abbrev pub is_name_byte : ℕ → Bool
 is_name_byte b = (nat_le 33 b && nat_le b 126) && not (nat_eq b 47)
 
--- A name: 1 to 255 such bytes, neither a dot nor two dots, and not the name of an interface file of the profile. Own.
+-- A word: 1 to 255 such bytes. Own.
+abbrev pub is_word : Name → Bool
+is_word name = (nat_lt 0 (length name) && nat_le (length name) 255) && list_all is_name_byte name
+
+-- Reserved: a dot, two dots, and the names of the interface files of the profile. Own.
+abbrev pub is_reserved : Name → Bool
+is_reserved name = list_any (same_name name) reserved_names
+
+-- A name: a word that isn't reserved. Own.
 abbrev pub is_name : Name → Bool
-is_name name =
-    ((nat_lt 0 (length name) && nat_le (length name) 255) && list_all is_name_byte name)
-    && not (list_any (same_name name) reserved_names)
+is_name name = is_word name && not (is_reserved name)
 
 -- A path: names whose text has at most 4095 bytes. Own.
 abbrev pub is_path : Names → Bool

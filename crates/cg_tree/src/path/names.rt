@@ -1,8 +1,7 @@
 //! Which texts are names of cgroups, and where the names of a text end.
-ghost use Rattle.std.specs.Prelude.{◌≡◌, ◌<◌, ◌+◌, ◌==◌, length, IfOk};
+ghost use Rattle.std.specs.Prelude.{◌≡◌, ◌<◌, ◌&&◌, ◌==◌, nat_lt, nat_le, length, IfOk};
 ghost use Rattle.std.specs.List.{list_all, list_any, slice_split};
-ghost use Rattle.cg_tree.specs.Paths.{is_name, is_name_byte, same_name};
-ghost use Rattle.cg_tree.specs.Texts.{reserved_names};
+ghost use Rattle.cg_tree.specs.Paths.{is_name, is_name_byte, is_reserved, is_word, same_name};
 ghost use Rattle.cg_tree.specs.PathText.{ends_from};
 
 use std::alloc::{AllocError, Global};
@@ -15,6 +14,13 @@ fn is_name_byte(byte: u8) -> bool
     ensures { result ≡ is_name_byte byte }
 {
     byte.is_ascii_graphic() && byte != b'/'
+}
+
+/// Whether a name may have so many bytes.
+fn is_word_length(len: usize) -> bool
+    ensures { result ≡ (nat_lt 0 len && nat_le len 255) }
+{
+    0 < len && len <= LONGEST_NAME
 }
 
 /// Whether each byte of a text may stand in a name.
@@ -49,7 +55,7 @@ fn is_listed(name: &[u8], names: &[&str]) -> bool
 
 /// Whether a text is a name that no cgroup has.
 fn is_reserved(name: &[u8]) -> bool
-    ensures { result ≡ list_any (same_name name.now) reserved_names }
+    ensures { result ≡ is_reserved name.now }
 {
     // each of these names has a dot, and most others have none
     name.contains(&b'.') && is_listed(name, &RESERVED)
@@ -59,17 +65,42 @@ fn is_reserved(name: &[u8]) -> bool
 pub(crate) fn is_name(name: &[u8]) -> bool
     ensures { result ≡ is_name name.now }
 {
-    let len = name.len();
-    0 < len && len <= LONGEST_NAME && has_name_bytes(name) && !is_reserved(name)
+    is_word_length(name.len()) && has_name_bytes(name) && !is_reserved(name)
+}
+
+/// Whether what stands between the slashes of a text are words.
+fn are_words(text: &[u8]) -> bool
+    ensures { result ≡ list_all is_word (slice_split (λ b. b == 47) text.now) }
+{
+    let mut len = 0;
+    for byte in text {
+        if is_name_byte(*byte) {
+            len += 1;
+        } else if *byte == b'/' && is_word_length(len) {
+            len = 0;
+        } else {
+            return false;
+        }
+    }
+    is_word_length(len)
+}
+
+/// Whether a reserved name stands between the slashes of a text.
+fn has_reserved(text: &[u8]) -> bool
+    ensures { result ≡ list_any is_reserved (slice_split (λ b. b == 47) text.now) }
+{
+    text.contains(&b'.')
+        && text
+            .split(|byte| *byte == b'/')
+            .any(|name| is_reserved(name))
 }
 
 /// Whether a text consists of names with slashes between them.
 pub(crate) fn are_names(text: &str) -> bool
     ensures { result ≡ list_all is_name (slice_split (λ b. b == 47) text.now) }
 {
-    text.as_bytes()
-        .split(|byte| *byte == b'/')
-        .all(|name| is_name(name))
+    let bytes = text.as_bytes();
+    are_words(bytes) && !has_reserved(bytes)
 }
 
 /// Where the names end in a text that has a slash before each.
@@ -80,10 +111,11 @@ pub(crate) fn ends_of(alloc: Global, names: &str) -> Result<Vec<u16>, AllocError
 {
     // a name has a byte at least, and a slash after it
     let mut ends = Vec::with_capacity(alloc, names.len() / 2 + 1)?;
-    let mut end = 0;
-    for name in names.as_bytes().split(|byte| *byte == b'/') {
-        end += name.len() + 1;
-        ends.push(end as u16)?;
+    for (at, byte) in names.as_bytes().iter().enumerate() {
+        if *byte == b'/' {
+            ends.push(at as u16 + 1)?;
+        }
     }
+    ends.push(names.len() as u16 + 1)?;
     Ok(ends)
 }

@@ -1,9 +1,21 @@
-use Rattle.std.proofs.Common.{◌==◌, rules, tests}
-use Rattle.std.proofs.lemmas.Iterator.Search.{all_from_yields_List}
-use Rattle.std.proofs.lemmas.Iterator.Splits.{YieldsList-from_slice_split}
-use Rattle.cg_tree.specs.Paths.{is_name}
+use Rattle.std.proofs.Common.{◌==◌, Bool, sym, ap, ◌∙◌}
+use Rattle.std.specs.Prelude.{not, ◌&&◌}
+use Rattle.std.specs.List.{list_any, slice_split}
+use Rattle.cg_tree.specs.Paths.{is_reserved}
+use Rattle.cg_tree.proofs.Words.{names_are}
 use Rattle.cg_tree.proofs.path.names.are_names.Goals as goal
 
-pub returns : goal.returns
-returns c =
-    all_from_yields_List is_name _ _ _ c.all.ensures.ran (YieldsList-from_slice_split _ (λ b. b == 47) c.args.text.now (cc) c.split.ensures.done c.split.ensures.closure (λ x b q k. search (rules, tests))) (λ x b q k. search (rules, tests))
+pub returns-then-are_words : goal.returns-then-are_words
+returns-then-are_words c =
+    let value = c.as_bytes-bytes.ensures.value in
+    let words = rw value at (sym c.if-are_words.true ∙ c.are_words.ensures) in
+    let reserved = rw value at c.has_reserved.ensures in
+    let parts = slice_split (λ b. b == 47) c.args.text.now in
+    ap not reserved ∙ ap (λ (all : Bool). all && not (list_any is_reserved parts)) words ∙ sym (names_are parts)
+
+pub returns-else-are_words : goal.returns-else-are_words
+returns-else-are_words c =
+    let value = c.as_bytes-bytes.ensures.value in
+    let words = rw value at (sym c.if-are_words.false ∙ c.are_words.ensures) in
+    let parts = slice_split (λ b. b == 47) c.args.text.now in
+    c.if-are_words.false ∙ ap (λ (all : Bool). all && not (list_any is_reserved parts)) words ∙ sym (names_are parts)

@@ -1,49 +1,27 @@
-use Rattle.std.proofs.Common.{◌≡◌, ℕ, ◌+◌, ◌==◌, List, [], ◌∷◌, ◌++◌, length, take, ap, ◌∙◌, arith, rules, tests}
-use Rattle.std.specs.List.{slice_split}
-use Rattle.std.proofs.lemmas.List.{length_push, take_all}
-use Rattle.std.proofs.lemmas.Iterator.Consumers.{YieldsList-turn, YieldsList-end}
-use Rattle.std.proofs.lemmas.Iterator.Splits.{YieldsList-from_slice_split}
-use Rattle.cg_tree.specs.PathText.{names_text, ends_from}
-use Rattle.cg_tree.proofs.PathNames.{Reads, end_more, ends_more, end_within}
-use Rattle.cg_tree.proofs.PathAt.{split-text}
+use Rattle.std.proofs.Common.{◌∷◌, [], ◌++◌, ◌+◌, ℕ, List, length, ap, sym, ◌∙◌}
+use Rattle.std.proofs.lemmas.List.{take_all}
+use Rattle.cg_tree.proofs.Slashes.{slashes, slash_read, other_read, ends_at_slashes}
 use Rattle.cg_tree.proofs.path.names.ends_of.Goals as goal
+use Rattle.cg_tree.proofs.path.names.ends_of.Goals.{then-byte-eq47+in_ok-push, else-byte-eq47}
 
-pub overflow_add-end-in-loop-name : goal.overflow_add-end-in-loop-name
-overflow_add-end-in-loop-name c =
-    let parts = slice_split (λ (b : ℕ). b == 47) c.args.names.now in
-    let into = c.into_iter-name-iterator.ensures.into_iter_gives in
-    let reads : Reads parts (length c.loop-name.yielded) c.in-Some.name.now =
-    YieldsList-turn (YieldsList-from_slice_split _ (λ b. b == 47) c.args.names.now (cc) (cc) (cc) (λ x b q k. search (rules, tests))) c.loop-name.yielded _ c.loop-name.yielded_by _ _ c.in-Some.name c.in-Some.is c.next.ensures.steps in
-    let within = end_within parts (length c.loop-name.yielded) (length c.args.names.now + 1) c.in-Some.name.now reads (omega (arith, ap length (split-text c.args.names.now))) in
-    let at = c.loop-name.invariant.2 in
-    grind arith
-
-pub overflow_cast-end : goal.overflow_cast-end
-overflow_cast-end c =
-    let parts = slice_split (λ (b : ℕ). b == 47) c.args.names.now in
-    let into = c.into_iter-name-iterator.ensures.into_iter_gives in
-    let reads : Reads parts (length c.loop-name.yielded) c.in-Some.name.now =
-    YieldsList-turn (YieldsList-from_slice_split _ (λ b. b == 47) c.args.names.now (cc) (cc) (cc) (λ x b q k. search (rules, tests))) c.loop-name.yielded _ c.loop-name.yielded_by _ _ c.in-Some.name c.in-Some.is c.next.ensures.steps in
-    let within = end_within parts (length c.loop-name.yielded) (length c.args.names.now + 1) c.in-Some.name.now reads (omega (arith, ap length (split-text c.args.names.now))) in
-    let at = c.loop-name.invariant.2 in
-    grind arith
-
-pub loop-name-preserved : goal.loop-name-preserved
-loop-name-preserved c =
-    let parts = slice_split (λ (b : ℕ). b == 47) c.args.names.now in
-    let into = c.into_iter-name-iterator.ensures.into_iter_gives in
-    let reads : Reads parts (length c.loop-name.yielded) c.in-Some.name.now =
-    YieldsList-turn (YieldsList-from_slice_split _ (λ b. b == 47) c.args.names.now (cc) (cc) (cc) (λ x b q k. search (rules, tests))) c.loop-name.yielded _ c.loop-name.yielded_by _ _ c.in-Some.name c.in-Some.is c.next.ensures.steps in
-    let n = length_push c.loop-name.yielded c.in-Some.name in
-    let at = c.loop-name.invariant.2 in
-    let more = end_more parts (length c.loop-name.yielded) _ c.in-Some.name.now n reads in
-    let ends = ends_more parts (length c.loop-name.yielded) _ c.in-Some.name.now n reads in
-    (search rules, search rules, ap (λ (x : ℕ). x + (length c.in-Some.name.now + 1)) at ∙ more, c.in_ok-push.ensures.items ∙ ap (λ (x : ℕ). c.loop-name.ends.items ++ (x + (length c.in-Some.name.now + 1)) ∷ []) at ∙ ap (λ (x : List ℕ). x ++ (length (names_text (take (length c.loop-name.yielded) parts)) + (length c.in-Some.name.now + 1)) ∷ []) c.loop-name.invariant.3 ∙ ends)
+pub loop-at-preserved : goal.loop-at-preserved
+loop-at-preserved c =
+    let value = c.as_bytes-byte-items.ensures.value in
+    let inside = rw value at c.loop-at-test.true in
+    elim c.if-byte-eq47.branch [
+      | then-byte-eq47+in_ok-push w ↦
+          let is = rw value at w.if-byte-eq47.true in
+          ap (λ ends. ends.items) w.ends-is ∙ w.in_ok-push.ensures.items ∙ ap (λ (ends : List ℕ). ends ++ (c.loop-at.at + 1) ∷ []) c.loop-at.invariant
+          ∙ sym (slash_read c.loop-at.at c.args.names.now inside is)
+      | else-byte-eq47 w ↦
+          let differs = rw value at w.if-byte-eq47.false in
+          ap (λ ends. ends.items) w.ends-is ∙ c.loop-at.invariant ∙ sym (other_read c.loop-at.at c.args.names.now inside differs)
+    ]
 
 pub returns : goal.returns
 returns c =
-    let parts = slice_split (λ (b : ℕ). b == 47) c.args.names.now in
-    let into = c.into_iter-name-iterator.ensures.into_iter_gives in
-    let all = YieldsList-end (YieldsList-from_slice_split _ (λ b. b == 47) c.args.names.now (cc) (cc) (cc) (λ x b q k. search (rules, tests))) c.loop-name.yielded _ c.loop-name.yielded_by _ _ c.in-None.is c.next.ensures.steps in
-    let n : length c.loop-name.yielded ≡ length parts = all.1 in
-    c.loop-name.invariant.3 ∙ ap (ends_from 0) (take_all (length c.loop-name.yielded) parts (omega arith))
+    let value = c.as_bytes-byte-items.ensures.value in
+    let read = rw value at c.loop-at-test.false in
+    c.in_ok-push-2.ensures.items
+    ∙ ap (λ (ends : List ℕ). ends ++ (length c.args.names.now + 1) ∷ []) (c.loop-at.invariant ∙ ap (slashes 0) (take_all c.loop-at.at c.args.names.now read))
+    ∙ ends_at_slashes c.args.names.now
