@@ -1,15 +1,14 @@
 -- The text of a path, the places where its names end in it, and what lies between them.
 use Rattle.std.proofs.Common.{◌≡◌, ℕ, zero, suc, ◌+◌, ◌-◌, ◌<◌, ◌≤◌, true, List, [], ◌∷◌, ◌++◌, length, get_or, take, drop, refl, ap, sym, ◌∙◌, subst, arith, length-append, append_assoc}
 use Rattle.std.specs.Prelude.{not, ◌&&◌, nat_lt, nat_le, nat_eq}
-use Rattle.std.specs.List.{list_all, list_any}
+use Rattle.std.specs.List.{list_all}
 use Rattle.std.specs.Str.{IsAscii, IsCharBoundary}
 use Rattle.std.proofs.lemmas.Bool.{and_parts, leb-true}
 use Rattle.std.proofs.lemmas.List.{take_at, drop_at, take-append-drop, drop-drop, take_more, append-nil, length-take-le}
 use Rattle.std.proofs.lemmas.List.Concat.{flat_map-append}
 use Rattle.std.proofs.lemmas.Str.{IsAscii-append, IsCharBoundary-from_ascii}
 use Rattle.std.proofs.lemmas.Str.Ascii.{IsAscii-nil, IsAscii-cons}
-use Rattle.cg_tree.specs.Paths.{Name, Names, path_text, is_name, is_name_byte, IsPath, same_name, names_of}
-use Rattle.cg_tree.specs.Texts.{reserved_names}
+use Rattle.cg_tree.specs.Paths.{Name, Names, path_text, is_name, is_name_byte, is_reserved, is_word, IsPath, names_of}
 use Rattle.cg_tree.specs.PathText.{names_text, ends_from, IsKept}
 
 pub length-ends_from : (start : ℕ) (path : Names) → length (ends_from start path) ≡ length path
@@ -99,7 +98,7 @@ IsAscii-name (b ∷ name) h =
 
 pub is_name-bytes : (name : Name) → is_name name ≡ true → list_all is_name_byte name ≡ true
 is_name-bytes name h =
-    (and_parts (nat_lt 0 (length name) && nat_le (length name) 255) (list_all is_name_byte name) (and_parts ((nat_lt 0 (length name) && nat_le (length name) 255) && list_all is_name_byte name) (not (list_any (same_name name) reserved_names)) h).0).1
+    (and_parts (nat_lt 0 (length name) && nat_le (length name) 255) (list_all is_name_byte name) (and_parts (is_word name) (not (is_reserved name)) h).0).1
 
 pub IsAscii-names_text : (path : Names) → list_all is_name path ≡ true → IsAscii (names_text path)
 IsAscii-names_text [] h = IsAscii-nil

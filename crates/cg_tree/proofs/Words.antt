@@ -9,15 +9,19 @@ use Rattle.std.proofs.lemmas.List.Splits.{slice_split-cons_no, slice_split-cons_
 use Rattle.cg_tree.specs.Paths.{Name, Names, same_name, is_name, is_name_byte, is_reserved, is_word}
 use Rattle.cg_tree.specs.Texts.{reserved_names}
 
+-- whether a word may have so many bytes
+abbrev pub has_length : ℕ → Bool
+has_length len = nat_lt 0 len && nat_le len 255
+
 -- whether words follow, where `len` bytes of the first one were read
 abbrev pub words_from : ℕ → List ℕ → Bool
-words_from len [] = nat_lt 0 len && nat_le len 255
-words_from len (b ∷ text) = cond (is_name_byte b) (words_from (len + 1) text) (((b == 47) && (nat_lt 0 len && nat_le len 255)) && words_from 0 text)
+words_from len [] = has_length len
+words_from len (b ∷ text) = cond (is_name_byte b) (words_from (len + 1) text) (((b == 47) && has_length len) && words_from 0 text)
 
 -- the same, of the names
 abbrev words_on : ℕ → Names → Bool
 words_on len [] = true
-words_on len (name ∷ names) = ((nat_lt 0 (len + length name) && nat_le (len + length name) 255) && list_all is_name_byte name) && list_all is_word names
+words_on len (name ∷ names) = (has_length (len + length name) && list_all is_name_byte name) && list_all is_word names
 
 byte_first : (fits byte bytes rest : Bool) → ((fits && (byte && bytes)) && rest) ≡ (byte && ((fits && bytes) && rest))
 byte_first true true bytes rest = refl
@@ -29,13 +33,13 @@ words_onto : (len b : ℕ) (names : Names) → 0 < length names → words_on len
 words_onto len b [] some = absurd (omega arith)
 words_onto len b (name ∷ names) some =
     let same : len + suc (length name) ≡ (len + 1) + length name = omega arith in
-    ap (λ (n : ℕ). ((nat_lt 0 n && nat_le n 255) && (is_name_byte b && list_all is_name_byte name)) && list_all is_word names) same
-    ∙ byte_first (nat_lt 0 ((len + 1) + length name) && nat_le ((len + 1) + length name) 255) (is_name_byte b) (list_all is_name_byte name) (list_all is_word names)
+    ap (λ (n : ℕ). (has_length n && (is_name_byte b && list_all is_name_byte name)) && list_all is_word names) same
+    ∙ byte_first (has_length ((len + 1) + length name)) (is_name_byte b) (list_all is_name_byte name) (list_all is_word names)
 
 words_on_none : (names : Names) → words_on 0 names ≡ list_all is_word names
 words_on_none [] = refl
 words_on_none (name ∷ names) =
-    ap (λ (n : ℕ). ((nat_lt 0 n && nat_le n 255) && list_all is_name_byte name) && list_all is_word names) (zero-add (length name))
+    ap (λ (n : ℕ). (has_length n && list_all is_name_byte name) && list_all is_word names) (zero-add (length name))
 
 and_true : (b : Bool) → (b && true) ≡ b
 and_true true = refl
@@ -48,35 +52,34 @@ either false slash here next none = ap (λ b. b && next) (sym none)
 words_are : (len : ℕ) (text : List ℕ) → words_on len (slice_split (λ b. b == 47) text) ≡ words_from len text
 words_are len [] =
     let same : len + 0 ≡ len = omega arith in
-    and_true ((nat_lt 0 (len + 0) && nat_le (len + 0) 255) && true) ∙ and_true (nat_lt 0 (len + 0) && nat_le (len + 0) 255)
-    ∙ ap (λ (n : ℕ). nat_lt 0 n && nat_le n 255) same
+    and_true (has_length (len + 0) && true) ∙ and_true (has_length (len + 0))
+    ∙ ap has_length same
 words_are len (b ∷ text) =
     let parts : Names = slice_split (λ b. b == 47) text in
-    let fits : Bool = nat_lt 0 len && nat_le len 255 in
     let same : len + 0 ≡ len = omega arith in
     ⊎_elim
     (λ is.
     ap (words_on len) (slice_split-cons_yes (λ b. b == 47) b text is)
-    ∙ ap (λ (n : ℕ). ((nat_lt 0 n && nat_le n 255) && true) && list_all is_word parts) same
-    ∙ ap (λ all. all && list_all is_word parts) (and_true fits)
-    ∙ ap (λ all. fits && all) (sym (words_on_none parts) ∙ words_are 0 text)
+    ∙ ap (λ (n : ℕ). (has_length n && true) && list_all is_word parts) same
+    ∙ ap (λ all. all && list_all is_word parts) (and_true (has_length len))
+    ∙ ap (λ all. has_length len && all) (sym (words_on_none parts) ∙ words_are 0 text)
     ∙ ap (λ (slash : ℕ). words_from len (slash ∷ text)) (sym (eqb-true b 47 is)))
     (λ other.
     ap (words_on len) (slice_split-cons_no (λ b. b == 47) b text other)
     ∙ words_onto len b parts (omega (arith, length-slice_split (λ b. b == 47) text))
     ∙ ap (λ all. is_name_byte b && all) (words_are (len + 1) text)
-    ∙ either (is_name_byte b) ((b == 47) && fits) (words_from (len + 1) text) (words_from 0 text) (ap (λ slash. slash && fits) other))
+    ∙ either (is_name_byte b) ((b == 47) && has_length len) (words_from (len + 1) text) (words_from 0 text) (ap (λ slash. slash && has_length len) other))
     (cases_Bool (b == 47))
 
 pub words_of : (text : List ℕ) → list_all is_word (slice_split (λ b. b == 47) text) ≡ words_from 0 text
 words_of text = sym (words_on_none (slice_split (λ b. b == 47) text)) ∙ words_are 0 text
 
 -- a byte that is in no name, and either is no slash or ends no word
-pub words_stop : (len i : ℕ) (text : List ℕ) → i < length text → words_from 0 text ≡ words_from len (drop i text) → is_name_byte (get_or text i 0) ≡ false → ((get_or text i 0 == 47) && (nat_lt 0 len && nat_le len 255)) ≡ false → list_all is_word (slice_split (λ b. b == 47) text) ≡ false
+pub words_stop : (len i : ℕ) (text : List ℕ) → i < length text → words_from 0 text ≡ words_from len (drop i text) → is_name_byte (get_or text i 0) ≡ false → ((get_or text i 0 == 47) && has_length len) ≡ false → list_all is_word (slice_split (λ b. b == 47) text) ≡ false
 words_stop len i text inside read byte ends =
     let rest = drop (i + 1) text in
     words_of text ∙ read ∙ at_drop_more (words_from len) text i 0 inside
-    ∙ ap (λ more. cond more (words_from (len + 1) rest) (((get_or text i 0 == 47) && (nat_lt 0 len && nat_le len 255)) && words_from 0 rest)) byte
+    ∙ ap (λ more. cond more (words_from (len + 1) rest) (((get_or text i 0 == 47) && has_length len) && words_from 0 rest)) byte
     ∙ ap (λ more. more && words_from 0 rest) ends
 
 -- ---- a text without a dot

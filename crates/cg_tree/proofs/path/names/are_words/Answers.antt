@@ -1,8 +1,7 @@
 use Rattle.std.proofs.Common.{◌≡◌, ◌==◌, ◌&&◌, false, get_or, sym, ◌∙◌}
-use Rattle.std.specs.Prelude.{nat_lt, nat_le}
 use Rattle.std.proofs.lemmas.Bool.{ne_eqb, and_left, and_right}
 use Rattle.std.proofs.lemmas.List.{at_drop_all}
-use Rattle.cg_tree.proofs.Words.{words_from, words_of, words_stop}
+use Rattle.cg_tree.proofs.Words.{has_length, words_from, words_of, words_stop}
 use Rattle.cg_tree.proofs.path.names.are_words.Goals as goal
 use Rattle.cg_tree.proofs.path.names.are_words.Goals.{else-byte-eq47-via-then-byte-eq47+else-is_word_length, else-byte-eq47-via-else-byte-eq47}
 
@@ -12,9 +11,9 @@ returns-else-byte-eq47 c =
     let at = c.loop-byte.byte-index in
     let text = c.args.text.now in
     let byte = sym c.is_name_byte.ensures ∙ c.if-is_name_byte.false in
-    let ends : ((get_or text at 0 == 47) && (nat_lt 0 len && nat_le len 255)) ≡ false = elim c.else-byte-eq47.branch [
-      | else-byte-eq47-via-then-byte-eq47+else-is_word_length w ↦ and_right (get_or text at 0 == 47) (nat_lt 0 len && nat_le len 255) (sym w.is_word_length.ensures ∙ w.if-is_word_length.false)
-      | else-byte-eq47-via-else-byte-eq47 w ↦ and_left (get_or text at 0 == 47) (nat_lt 0 len && nat_le len 255) (ne_eqb (get_or text at 0) 47 w.if-byte-eq47.false)
+    let ends : ((get_or text at 0 == 47) && has_length len) ≡ false = elim c.else-byte-eq47.branch [
+      | else-byte-eq47-via-then-byte-eq47+else-is_word_length w ↦ and_right (get_or text at 0 == 47) (has_length len) (sym w.is_word_length.ensures ∙ w.if-is_word_length.false)
+      | else-byte-eq47-via-else-byte-eq47 w ↦ and_left (get_or text at 0 == 47) (has_length len) (ne_eqb (get_or text at 0) 47 w.if-byte-eq47.false)
     ] in
     sym (words_stop len at text c.loop-byte-test.true c.loop-byte.invariant.1 byte ends)
 
