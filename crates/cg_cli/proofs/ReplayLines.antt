@@ -1,7 +1,7 @@
 -- What is read of a line, and what follows it.
 use Rattle.std.proofs.Common.{◌≡◌, ◌≢◌, ℕ, ◌+◌, ◌<◌, ◌≤◌, true, false, nat_lt, List, [], ◌∷◌, length, Some, None, Ok, Err, refl, ap, sym, ◌∙◌, arith}
 use Rattle.std.proofs.lemmas.Bool.Decides.{nat_tests}
-use Rattle.cg_tree.specs.Identity.{Identity}
+use Rattle.cg_cgroup.specs.Identity.{Identity}
 use Rattle.cg_tree.specs.States.{State}
 use Rattle.cg_ops.specs.Clauses.{first}
 use Rattle.cg_ops.specs.Bars.{bars}
@@ -12,10 +12,10 @@ use Rattle.cg_ops.specs.declared.operation.Op.{Op}
 use Rattle.cg_ops.specs.declared.outcome.Refusal.{Refusal}
 use Rattle.cg_ops.specs.declared.outcome.Outcome.{Outcome}
 use Rattle.cg_ops.specs.declared.outcome.Outcome.TheVariants.{Done, Refused}
-use Rattle.cg_text.specs.OperationLines.{spelling, IsHeld}
-use Rattle.cg_text.specs.LineReading.{operation_at}
-use Rattle.cg_text.specs.declared.lines.fault.LineFault.TheVariants.{TooLong, BadWord}
-use Rattle.cg_text.proofs.LineLaws.{line_again, nothing_read}
+use Rattle.cg_lines.specs.OperationLines.{spelling, IsHeld}
+use Rattle.cg_lines.specs.LineReading.{operation_at}
+use Rattle.cg_lines.specs.declared.lines.fault.LineFault.TheVariants.{TooLong, BadWord}
+use Rattle.cg_lines.proofs.LineLaws.{line_again, nothing_read}
 use Rattle.cg_cli.specs.Replays.{outcome_by, outcome_of, operation_read}
 use Rattle.cg_cli.specs.declared.fault.CliFault.TheVariants.{Line}
 

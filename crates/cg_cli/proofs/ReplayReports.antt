@@ -4,11 +4,11 @@ use Rattle.std.proofs.lemmas.Bool.Decides.{nat_tests}
 use Rattle.std.proofs.lemmas.List.Elements.{All-head, All-tail}
 use Rattle.std.proofs.lemmas.List.Splits.{slice_split_none, slice_split_at}
 use Rattle.std.specs.List.{slice_split, onto_first}
-use Rattle.cg_tree.specs.Identity.{Identity}
+use Rattle.cg_cgroup.specs.Identity.{Identity}
 use Rattle.cg_tree.specs.States.{State}
 use Rattle.cg_ops.specs.Steps.{after}
-use Rattle.cg_text.specs.Outcomes.{outcome_text}
-use Rattle.cg_text.specs.declared.lines.fault.LineFault.TheVariants.{TooLong}
+use Rattle.cg_lines.specs.Outcomes.{outcome_text}
+use Rattle.cg_lines.specs.declared.lines.fault.LineFault.TheVariants.{TooLong}
 use Rattle.cg_cli.specs.Reports.{fault_report, report_on}
 use Rattle.cg_cli.specs.Replays.{is_newline, outcome_of, operation_read, end_read, end_report, with_front, replayed, lines_report}
 use Rattle.cg_cli.specs.declared.fault.CliFault.TheVariants.{Line, TooManySteps}

@@ -2,11 +2,11 @@
 use Rattle.std.proofs.Common.{◌≡◌, ℕ, ◌+◌, ◌<◌, ◌≤◌, false, List, [], ◌∷◌, ◌++◌, All, length, take, drop, get_or, Option, Ok, Err, ap, sym, ◌∙◌, subst, append_assoc, length-append, take-append-drop, arith}
 use Rattle.std.proofs.lemmas.List.{take_more, take-append-le}
 use Rattle.std.specs.Io.KnownBytes.{Appends}
-use Rattle.cg_tree.specs.Identity.{Identity}
+use Rattle.cg_cgroup.specs.Identity.{Identity}
 use Rattle.cg_tree.specs.States.{State}
 use Rattle.cg_ops.specs.Steps.{after}
-use Rattle.cg_text.specs.Outcomes.{outcome_text}
-use Rattle.cg_text.specs.declared.lines.fault.LineFault.TheVariants.{TooLong}
+use Rattle.cg_lines.specs.Outcomes.{outcome_text}
+use Rattle.cg_lines.specs.declared.lines.fault.LineFault.TheVariants.{TooLong}
 use Rattle.cg_cli.specs.Written.{AppendsPart}
 use Rattle.cg_cli.specs.Reports.{Report, fault_report, report_on}
 use Rattle.cg_cli.specs.Replays.{is_newline, outcome_of, operation_read, with_front, lines_report}

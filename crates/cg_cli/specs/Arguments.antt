@@ -1,9 +1,9 @@
 -- The arguments of a call, as what they name, or as the fault that they are. Own.
 use Rattle.std.specs.Prelude.{ℕ, nat_eq, cond, List, Option, Some, None, Result, Ok, Err}
-use Rattle.cg_tree.specs.Identity.{Identity}
-use Rattle.cg_tree.specs.Users.{user_of}
-use Rattle.cg_tree.specs.Numbers.{pid_of}
-use Rattle.cg_tree.specs.Paths.{Names, path_at}
+use Rattle.cg_cgroup.specs.Identity.{Identity}
+use Rattle.cg_cgroup.specs.Users.{user_of}
+use Rattle.cg_cgroup.specs.Numbers.{pid_of}
+use Rattle.cg_cgroup.specs.Paths.{Names, path_at}
 use Rattle.cg_cli.specs.declared.fault.CliFault.{CliFault}
 use Rattle.cg_cli.specs.declared.fault.CliFault.TheVariants.{Uid, Gids, Pid, BadPath}
 

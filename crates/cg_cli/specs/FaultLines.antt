@@ -1,13 +1,13 @@
 -- The line of a fault: its words, and where in the tree's text or the operation lines it is. Own.
 use Rattle.std.specs.Prelude.{ℕ, List, [], ◌++◌, codes, Option, Some, None}
 use Rattle.std.specs.Fmt.{decimal}
-use Rattle.cg_text.specs.Outcomes.{spaced}
+use Rattle.cg_lines.specs.Outcomes.{spaced}
 use Rattle.cg_text.specs.declared.tree.fault.Place.{Place}
 use Rattle.cg_text.specs.declared.tree.fault.Place.TheVariants.{Top, Cgroup, Process}
 use Rattle.cg_text.specs.declared.tree.fault.TreeFault.{TreeFault}
 use Rattle.cg_text.specs.declared.tree.fault.TreeFault.TheVariants as tree
-use Rattle.cg_text.specs.declared.lines.fault.LineFault.{LineFault}
-use Rattle.cg_text.specs.declared.lines.fault.LineFault.TheVariants as lines
+use Rattle.cg_lines.specs.declared.lines.fault.LineFault.{LineFault}
+use Rattle.cg_lines.specs.declared.lines.fault.LineFault.TheVariants as lines
 use Rattle.cg_cli.specs.declared.fault.CliFault.{CliFault}
 use Rattle.cg_cli.specs.declared.fault.CliFault.TheVariants.{Uid, Gids, Pid, BadPath, Tree, Line, TooManySteps, Read, Write, NoMemory}
 

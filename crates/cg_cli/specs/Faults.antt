@@ -1,11 +1,11 @@
 -- A fault of a part, as a fault of a call: want of memory stays want of memory. Own.
 use Rattle.std.specs.Prelude.{ℕ}
-use Rattle.cg_tree.specs.declared.path.PathFault.{PathFault}
-use Rattle.cg_tree.specs.declared.path.PathFault.TheVariants.{BadPath as NoPath, NoMemory as PathNoMemory}
+use Rattle.cg_cgroup.specs.declared.path.PathFault.{PathFault}
+use Rattle.cg_cgroup.specs.declared.path.PathFault.TheVariants.{BadPath as NoPath, NoMemory as PathNoMemory}
 use Rattle.cg_text.specs.declared.tree.fault.TreeFault.{TreeFault}
 use Rattle.cg_text.specs.declared.tree.fault.TreeFault.TheVariants.{NoMemory as TreeNoMemory}
-use Rattle.cg_text.specs.declared.lines.fault.LineFault.{LineFault}
-use Rattle.cg_text.specs.declared.lines.fault.LineFault.TheVariants.{NoMemory as LineNoMemory}
+use Rattle.cg_lines.specs.declared.lines.fault.LineFault.{LineFault}
+use Rattle.cg_lines.specs.declared.lines.fault.LineFault.TheVariants.{NoMemory as LineNoMemory}
 use Rattle.cg_cli.specs.declared.fault.CliFault.{CliFault}
 use Rattle.cg_cli.specs.declared.fault.CliFault.TheVariants.{BadPath, Tree, Line, NoMemory}
 

@@ -3,12 +3,12 @@ use Rattle.std.specs.Prelude.{◌≡◌, ℕ, ◌+◌, ◌*◌, ◌≤◌, Bool,
 use Rattle.std.specs.List.{All}
 use Rattle.std.specs.Io.{StartsWith}
 use Rattle.std.specs.Io.KnownBytes.{Appends, Keeps, Consumes, IsAtEnd}
-use Rattle.cg_tree.specs.Identity.{Identity}
+use Rattle.cg_cgroup.specs.Identity.{Identity}
 use Rattle.cg_tree.specs.States.{State}
 use Rattle.cg_ops.specs.Steps.{after}
 use Rattle.cg_ops.specs.declared.operation.Op.{Op}
-use Rattle.cg_text.specs.Outcomes.{outcome_text}
-use Rattle.cg_text.specs.declared.lines.fault.LineFault.TheVariants.{Cut}
+use Rattle.cg_lines.specs.Outcomes.{outcome_text}
+use Rattle.cg_lines.specs.declared.lines.fault.LineFault.TheVariants.{Cut}
 use Rattle.cg_cli.specs.Written.{AppendsPart}
 use Rattle.cg_cli.specs.Reports.{Report, fault_report}
 use Rattle.cg_cli.specs.Replays.{most_operations, longest_line, is_newline, outcome_of, with_front, lines_report}

@@ -1,7 +1,7 @@
 -- The report on operation lines, each answered before the next is read. Own.
 use Rattle.std.specs.Prelude.{ℕ, ◌+◌, Bool, List, [], ◌∷◌, ◌++◌, length, nat_lt, ◌==◌, cond, Option, Some, None, Result, Ok, Err}
 use Rattle.std.specs.List.{slice_split}
-use Rattle.cg_tree.specs.Identity.{Identity}
+use Rattle.cg_cgroup.specs.Identity.{Identity}
 use Rattle.cg_tree.specs.States.{State}
 use Rattle.cg_ops.specs.Clauses.{first}
 use Rattle.cg_ops.specs.Bars.{bars}
@@ -10,9 +10,9 @@ use Rattle.cg_ops.specs.declared.operation.Op.{Op}
 use Rattle.cg_ops.specs.declared.outcome.Refusal.{Refusal}
 use Rattle.cg_ops.specs.declared.outcome.Outcome.{Outcome}
 use Rattle.cg_ops.specs.declared.outcome.Outcome.TheVariants.{Done, Refused}
-use Rattle.cg_text.specs.LineReading.{operation_at}
-use Rattle.cg_text.specs.Outcomes.{outcome_text}
-use Rattle.cg_text.specs.declared.lines.fault.LineFault.TheVariants.{TooLong, BadWord, Cut}
+use Rattle.cg_lines.specs.LineReading.{operation_at}
+use Rattle.cg_lines.specs.Outcomes.{outcome_text}
+use Rattle.cg_lines.specs.declared.lines.fault.LineFault.TheVariants.{TooLong, BadWord, Cut}
 use Rattle.cg_cli.specs.Arguments.{or_fault, user_read}
 use Rattle.cg_cli.specs.May.{tree_read}
 use Rattle.cg_cli.specs.Reports.{Report, report_on}

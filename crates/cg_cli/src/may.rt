@@ -11,11 +11,11 @@ use crate::write::write_whole;
 use cg_ops::operation::Op;
 use cg_ops::outcome::Outcome;
 use cg_ops::refusal;
-use cg_text::outcome::outcome_text;
+use cg_lines::outcome::outcome_text;
 use cg_text::tree::read_tree;
 use cg_tree::hierarchy::Hierarchy;
-use cg_tree::memory::NoMemory;
-use cg_tree::user::User;
+use cg_cgroup::memory::NoMemory;
+use cg_cgroup::user::User;
 use std::alloc::Global;
 use std::io::Write;
 

@@ -1,16 +1,16 @@
 -- What holds where nothing bars an operation: what the tree asks for before it makes the change.
 use Rattle.std.proofs.Common.{◌≡◌, ℕ, ◌+◌, Bool, true, false, not, ◌||◌, cond, [], length, option_and_then, take, Option, Some, None, is_some, refl, sym, ap, ◌∙◌, subst, true≢false}
-use Rattle.cg_tree.specs.Paths.{Names, is_root, parent}
-use Rattle.cg_tree.specs.Identity.{Identity}
-use Rattle.cg_tree.specs.Files.{enables_nothing, accepts}
-use Rattle.cg_tree.specs.Cgroups.{file_of, cgroup_made_by}
+use Rattle.cg_cgroup.specs.Paths.{Names, is_root, parent}
+use Rattle.cg_cgroup.specs.Identity.{Identity}
+use Rattle.cg_cgroup.specs.Files.{enables_nothing, accepts}
+use Rattle.cg_cgroup.specs.Cgroups.{file_of, cgroup_made_by}
 use Rattle.cg_tree.specs.States.{State, row_at, has_child, has_live, is_used, with_row}
 use Rattle.cg_tree.specs.WellFormed.{IsWellFormed, has_row, enabled_at, may_hold}
 use Rattle.cg_tree.proofs.FormedParts.{enabled_at-row}
 use Rattle.cg_tree.proofs.FormedLaws.{formed-with_made_row}
-use Rattle.cg_tree.specs.declared.files.Limit.{Limit}
-use Rattle.cg_tree.specs.declared.files.LimitFile.{LimitFile}
-use Rattle.cg_tree.specs.declared.cgroup.Cgroup.{Cgroup}
+use Rattle.cg_cgroup.specs.declared.files.Limit.{Limit}
+use Rattle.cg_cgroup.specs.declared.files.LimitFile.{LimitFile}
+use Rattle.cg_cgroup.specs.declared.cgroup.Cgroup.{Cgroup}
 use Rattle.cg_ops.specs.Clauses.{unless, absent, present}
 use Rattle.cg_ops.specs.Bars.{row_above, move_bars, mkdir_bars, rmdir_bars, set_bars, fork_bars}
 use Rattle.cg_ops.specs.declared.outcome.Refusal.{Refusal}

@@ -1,18 +1,18 @@
 -- Where nothing bars a write of changes, the cgroup may enable what they leave.
 use Rattle.std.proofs.lemmas.Bool.{false_from_ne_true}
 use Rattle.std.proofs.Common.{◌≡◌, Bool, true, false, not, ◌&&◌, ◌||◌, List, [], Option, Some, None, unwrap_or, refl, sym, ap, ◌∙◌, subst, true≢false}
-use Rattle.cg_tree.specs.Paths.{Names, is_root, parent}
-use Rattle.cg_tree.specs.Identity.{Identity}
-use Rattle.cg_tree.specs.Files.{enables, enables_nothing, is_within}
+use Rattle.cg_cgroup.specs.Paths.{Names, is_root, parent}
+use Rattle.cg_cgroup.specs.Identity.{Identity}
+use Rattle.cg_cgroup.specs.Files.{enables, enables_nothing, is_within}
 use Rattle.cg_tree.specs.States.{State, row_at, has_live, child_enables}
 use Rattle.cg_tree.specs.WellFormed.{IsWellFormed, MayEnable, enabled_at, available_at, may_hold}
-use Rattle.cg_tree.specs.declared.files.Controller.{Controller}
-use Rattle.cg_tree.specs.declared.files.Controller.TheVariants.{Cpu, Memory, Pids}
-use Rattle.cg_tree.specs.declared.files.ControllerSet.{ControllerSet}
-use Rattle.cg_tree.specs.declared.cgroup.Cgroup.{Cgroup}
-use Rattle.cg_tree.proofs.PathOrder.{same_path-is}
-use Rattle.cg_tree.proofs.PathParents.{parent-is_child, is_root-is_child}
-use Rattle.cg_tree.proofs.ControllerLaws.{enables_nothing-enables, enables_nothing-none, is_within-enables, is_within-each}
+use Rattle.cg_cgroup.specs.declared.files.Controller.{Controller}
+use Rattle.cg_cgroup.specs.declared.files.Controller.TheVariants.{Cpu, Memory, Pids}
+use Rattle.cg_cgroup.specs.declared.files.ControllerSet.{ControllerSet}
+use Rattle.cg_cgroup.specs.declared.cgroup.Cgroup.{Cgroup}
+use Rattle.cg_cgroup.proofs.PathOrder.{same_path-is}
+use Rattle.cg_cgroup.proofs.PathParents.{parent-is_child, is_root-is_child}
+use Rattle.cg_cgroup.proofs.ControllerLaws.{enables_nothing-enables, enables_nothing-none, is_within-enables, is_within-each}
 use Rattle.cg_tree.proofs.StateTests.{child_enables-row, has_live-process}
 use Rattle.cg_tree.proofs.FormedParts.{may_hold-row, enabled_at-row}
 use Rattle.cg_ops.specs.Changes.{effective, enabled_after}

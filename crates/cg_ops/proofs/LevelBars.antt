@@ -1,6 +1,6 @@
 -- The limits above a new cgroup, one level after another.
 use Rattle.std.proofs.Common.{◌≡◌, ℕ, zero, suc, ◌-◌, ◌<◌, Some, None, sym, arith}
-use Rattle.cg_tree.specs.Paths.{Names}
+use Rattle.cg_cgroup.specs.Paths.{Names}
 use Rattle.cg_tree.specs.States.{State}
 use Rattle.cg_ops.specs.Clauses.{first}
 use Rattle.cg_ops.specs.Bars.{level_bars, limit_bars}

@@ -1,7 +1,7 @@
 -- Prefixes of paths as the code has them: so many first names.
 use Rattle.std.proofs.Common.{◌≡◌, ℕ, ◌+◌, ◌-◌, ◌<◌, ◌≤◌, true, false, [], ◌∷◌, length, take, refl, sym, ap, arith, take_all}
-use Rattle.cg_tree.specs.Paths.{Names, is_root, parent, common}
-use Rattle.cg_tree.proofs.PathLaws.{common-take, common-inside_second, inside-length}
+use Rattle.cg_cgroup.specs.Paths.{Names, is_root, parent, common}
+use Rattle.cg_cgroup.proofs.PathLaws.{common-take, common-inside_second, inside-length}
 
 -- the common ancestor, as first names of the second path
 pub take_common : (p q : Names) → take (length (common p q)) q ≡ common p q

@@ -1,18 +1,18 @@
 -- What a step leaves as it was.
 use Rattle.std.proofs.Common.{◌≡◌, ℕ, Bool, true, false, ◌&&◌, ◌||◌, cond, nat_eq, refl, sym, ap, ◌∙◌, true≢false, [], Option, Some, None, is_some, option_map, option_and_then}
-use Rattle.cg_tree.specs.Paths.{Names, same_path, is_child, parent}
-use Rattle.cg_tree.specs.Identity.{Identity}
-use Rattle.cg_tree.specs.Files.{controller_of, stands_under, same_file, same_entry}
-use Rattle.cg_tree.specs.Cgroups.{file_of, cgroup_made_by}
+use Rattle.cg_cgroup.specs.Paths.{Names, same_path, is_child, parent}
+use Rattle.cg_cgroup.specs.Identity.{Identity}
+use Rattle.cg_cgroup.specs.Files.{controller_of, stands_under, same_file, same_entry}
+use Rattle.cg_cgroup.specs.Cgroups.{file_of, cgroup_made_by}
 use Rattle.cg_tree.specs.States.{State, row_at, process_at, is_used, file_at, entry_at, value_at, with_enabled, with_process}
 use Rattle.cg_tree.specs.WellFormed.{has_row, enabled_at}
-use Rattle.cg_tree.specs.declared.files.ControllerSet.{ControllerSet}
-use Rattle.cg_tree.specs.declared.files.LimitFile.{LimitFile}
-use Rattle.cg_tree.specs.declared.files.LimitFile.TheVariants.{MaxDescendants, MaxDepth, CpuWeight, MemoryMin, MemoryLow, MemoryHigh, MemoryMax, PidsMax}
-use Rattle.cg_tree.specs.declared.files.EntryName.{EntryName}
-use Rattle.cg_tree.specs.declared.files.EntryName.TheVariants.{Dir, Procs, SubtreeControl, File}
-use Rattle.cg_tree.specs.declared.cgroup.Cgroup.{Cgroup}
-use Rattle.cg_tree.specs.declared.process.Process.{Process}
+use Rattle.cg_cgroup.specs.declared.files.ControllerSet.{ControllerSet}
+use Rattle.cg_cgroup.specs.declared.files.LimitFile.{LimitFile}
+use Rattle.cg_cgroup.specs.declared.files.LimitFile.TheVariants.{MaxDescendants, MaxDepth, CpuWeight, MemoryMin, MemoryLow, MemoryHigh, MemoryMax, PidsMax}
+use Rattle.cg_cgroup.specs.declared.files.EntryName.{EntryName}
+use Rattle.cg_cgroup.specs.declared.files.EntryName.TheVariants.{Dir, Procs, SubtreeControl, File}
+use Rattle.cg_cgroup.specs.declared.cgroup.Cgroup.{Cgroup}
+use Rattle.cg_cgroup.specs.declared.process.Process.{Process}
 use Rattle.cg_tree.proofs.StateLaws.{row_at-with_row, row_at-without_row, row_at-with_value, row_at-with_mode, process_at-with_place-other, process_at-with_process-other, process_at-without_process-other, is_used-with_process}
 use Rattle.cg_tree.proofs.StateEntries.{entry_at-with_value, value_at-with_value, enabled_at-with_value, entry_at-with_mode, value_at-with_mode, enabled_at-with_mode, entry_at-with_row, value_at-with_row, enabled_at-with_row, entry_at-without_row, value_at-without_row, enabled_at-without_row, entry_at-file, value_at-file, entry_at-with_enabled-dir, entry_at-with_enabled-procs, entry_at-with_enabled-subtree_control, file_at-with_enabled-other, file_at-with_enabled-same}
 use Rattle.cg_tree.proofs.FormedEnabled.{has_row-with_enabled, enabled_at-with_enabled-other}

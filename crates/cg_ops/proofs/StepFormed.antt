@@ -1,11 +1,11 @@
 -- A step keeps a tree well-formed, and a barred one leaves it as it is.
 use Rattle.std.proofs.Common.{◌≡◌, ℕ, true, List, [], ◌∷◌, Option, Some, None, refl, sym, ap, subst}
-use Rattle.cg_tree.specs.Paths.{Names}
-use Rattle.cg_tree.specs.Identity.{Identity}
+use Rattle.cg_cgroup.specs.Paths.{Names}
+use Rattle.cg_cgroup.specs.Identity.{Identity}
 use Rattle.cg_tree.specs.States.{State, row_at, process_at, with_process}
 use Rattle.cg_tree.specs.WellFormed.{IsWellFormed, MayEnable, enabled_at, has_row}
-use Rattle.cg_tree.specs.declared.process.Process.{Process}
-use Rattle.cg_tree.proofs.Options.{some_value}
+use Rattle.cg_cgroup.specs.declared.process.Process.{Process}
+use Rattle.cg_cgroup.proofs.Options.{some_value}
 use Rattle.cg_tree.proofs.FormedParts.{enabled_at-row}
 use Rattle.cg_tree.proofs.FormedLaws.{formed-with_made_row, formed-without_row, formed-with_enabled, formed-with_value, formed-with_mode, formed-with_place, formed-with_process, formed-without_process}
 use Rattle.cg_ops.specs.Changes.{enabled_after}

@@ -1,19 +1,19 @@
 -- What bars an operation of a user: the clauses that it fails, each as its refusal, in order. The orders are own.
 use Rattle.std.specs.Prelude.{ℕ, zero, suc, ◌-◌, Bool, true, false, ◌&&◌, ◌||◌, not, nat_eq, nat_lt, List, [], ◌∷◌, ◌++◌, length, take, flat_map, Option, Some, None, cond}
-use Rattle.cg_tree.specs.Paths.{Names, common, is_root, parent}
-use Rattle.cg_tree.specs.Identity.{Identity}
-use Rattle.cg_tree.specs.Users.{writes, owns}
-use Rattle.cg_tree.specs.Files.{all_controllers, enables, enables_nothing, is_within, accepts}
-use Rattle.cg_tree.specs.Cgroups.{file_of}
+use Rattle.cg_cgroup.specs.Paths.{Names, common, is_root, parent}
+use Rattle.cg_cgroup.specs.Identity.{Identity}
+use Rattle.cg_cgroup.specs.Users.{writes, owns}
+use Rattle.cg_cgroup.specs.Files.{all_controllers, enables, enables_nothing, is_within, accepts}
+use Rattle.cg_cgroup.specs.Cgroups.{file_of}
 use Rattle.cg_tree.specs.States.{State, row_at, place_at, owner_at, file_at, entry_at, is_used, has_child, has_live, child_enables, count_below}
 use Rattle.cg_tree.specs.WellFormed.{available_at}
-use Rattle.cg_tree.specs.declared.files.Controller.{Controller}
-use Rattle.cg_tree.specs.declared.files.LimitFile.{LimitFile}
-use Rattle.cg_tree.specs.declared.files.Limit.{Limit}
-use Rattle.cg_tree.specs.declared.files.Limit.TheVariants.{Max, At}
-use Rattle.cg_tree.specs.declared.files.EntryName.{EntryName}
-use Rattle.cg_tree.specs.declared.files.EntryName.TheVariants.{Dir, Procs, SubtreeControl, File}
-use Rattle.cg_tree.specs.declared.cgroup.Cgroup.{Cgroup}
+use Rattle.cg_cgroup.specs.declared.files.Controller.{Controller}
+use Rattle.cg_cgroup.specs.declared.files.LimitFile.{LimitFile}
+use Rattle.cg_cgroup.specs.declared.files.Limit.{Limit}
+use Rattle.cg_cgroup.specs.declared.files.Limit.TheVariants.{Max, At}
+use Rattle.cg_cgroup.specs.declared.files.EntryName.{EntryName}
+use Rattle.cg_cgroup.specs.declared.files.EntryName.TheVariants.{Dir, Procs, SubtreeControl, File}
+use Rattle.cg_cgroup.specs.declared.cgroup.Cgroup.{Cgroup}
 use Rattle.cg_ops.specs.Clauses.{unless, absent, present}
 use Rattle.cg_ops.specs.Changes.{effective, enabled_after}
 use Rattle.cg_ops.specs.declared.changes.Change.{Change}

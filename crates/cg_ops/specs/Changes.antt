@@ -1,10 +1,10 @@
 -- The changes of one write to a cgroup.subtree_control.
 use Rattle.std.specs.Prelude.{Bool, List, reverse, find, Option, unwrap_or}
 use Rattle.std.specs.Option.{option_map}
-use Rattle.cg_tree.specs.Files.{same_controller}
-use Rattle.cg_tree.specs.declared.files.Controller.{Controller}
-use Rattle.cg_tree.specs.declared.files.Controller.TheVariants.{Cpu, Memory, Pids}
-use Rattle.cg_tree.specs.declared.files.ControllerSet.{ControllerSet}
+use Rattle.cg_cgroup.specs.Files.{same_controller}
+use Rattle.cg_cgroup.specs.declared.files.Controller.{Controller}
+use Rattle.cg_cgroup.specs.declared.files.Controller.TheVariants.{Cpu, Memory, Pids}
+use Rattle.cg_cgroup.specs.declared.files.ControllerSet.{ControllerSet}
 use Rattle.cg_ops.specs.declared.changes.Change.{Change}
 
 -- Enabling and Disabling: of several changes on one controller the last is effective.

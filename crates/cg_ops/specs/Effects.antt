@@ -1,10 +1,10 @@
 -- What an operation may change, whoever carries it out: all else stays as it was.
 use Rattle.std.specs.Prelude.{ℕ, Bool, false, ◌&&◌, nat_eq, is_some}
-use Rattle.cg_tree.specs.Paths.{Names, same_path, is_child}
-use Rattle.cg_tree.specs.Files.{controller_of, same_file, same_entry}
-use Rattle.cg_tree.specs.declared.files.LimitFile.{LimitFile}
-use Rattle.cg_tree.specs.declared.files.EntryName.{EntryName}
-use Rattle.cg_tree.specs.declared.files.EntryName.TheVariants.{File}
+use Rattle.cg_cgroup.specs.Paths.{Names, same_path, is_child}
+use Rattle.cg_cgroup.specs.Files.{controller_of, same_file, same_entry}
+use Rattle.cg_cgroup.specs.declared.files.LimitFile.{LimitFile}
+use Rattle.cg_cgroup.specs.declared.files.EntryName.{EntryName}
+use Rattle.cg_cgroup.specs.declared.files.EntryName.TheVariants.{File}
 use Rattle.cg_ops.specs.declared.operation.Op.{Op}
 use Rattle.cg_ops.specs.declared.operation.Op.TheVariants.{Move, Control, Mkdir, Rmdir, Set, Fork, Exit, Chmod}
 

@@ -1,8 +1,8 @@
 -- What an operation that nothing bars leaves.
 use Rattle.std.specs.Prelude.{ℕ, Some, None}
-use Rattle.cg_tree.specs.Paths.{parent}
-use Rattle.cg_tree.specs.Identity.{Identity}
-use Rattle.cg_tree.specs.Cgroups.{cgroup_made_by}
+use Rattle.cg_cgroup.specs.Paths.{parent}
+use Rattle.cg_cgroup.specs.Identity.{Identity}
+use Rattle.cg_cgroup.specs.Cgroups.{cgroup_made_by}
 use Rattle.cg_tree.specs.States.{State, process_at, with_row, without_row, with_value, with_mode, with_enabled, with_place, with_process, without_process}
 use Rattle.cg_tree.specs.WellFormed.{enabled_at}
 use Rattle.cg_ops.specs.Changes.{enabled_after}

@@ -1,6 +1,6 @@
 -- A step is what follows an operation, barred or not; a run is a step for each pair of a user and an operation.
 use Rattle.std.specs.Prelude.{◌≤◌, List, [], ◌∷◌}
-use Rattle.cg_tree.specs.Identity.{Identity}
+use Rattle.cg_cgroup.specs.Identity.{Identity}
 use Rattle.cg_tree.specs.States.{State}
 use Rattle.cg_ops.specs.Bars.{bars}
 use Rattle.cg_ops.specs.Next.{next}

@@ -2,8 +2,8 @@
 ghost use Rattle.std.specs.Prelude.{◌≡◌, ◌++◌, [], ◌∷◌, OnOk, OnErr};
 ghost use Rattle.cg_ops.specs.Changes.{effective, enabled_after};
 
-use cg_tree::files::{Controller, ControllerSet};
-use cg_tree::memory::NoMemory;
+use cg_cgroup::files::{Controller, ControllerSet};
+use cg_cgroup::memory::NoMemory;
 use std::alloc::Global;
 use std::marker::Model;
 

@@ -1,11 +1,11 @@
 //! Laws of a step, over the definitions alone. The contract of each function is the law; none does anything.
 ghost use Rattle.std.specs.Prelude.{◌≡◌, ℕ, true, false, List, [], ◌∷◌};
-ghost use Rattle.cg_tree.specs.Paths.{Names};
-ghost use Rattle.cg_tree.specs.Identity.{Identity};
+ghost use Rattle.cg_cgroup.specs.Paths.{Names};
+ghost use Rattle.cg_cgroup.specs.Identity.{Identity};
 ghost use Rattle.cg_tree.specs.States.{State, process_at, is_used, entry_at, value_at};
 ghost use Rattle.cg_tree.specs.WellFormed.{IsWellFormed, has_row, enabled_at};
-ghost use Rattle.cg_tree.specs.declared.files.LimitFile.{LimitFile};
-ghost use Rattle.cg_tree.specs.declared.files.EntryName.{EntryName};
+ghost use Rattle.cg_cgroup.specs.declared.files.LimitFile.{LimitFile};
+ghost use Rattle.cg_cgroup.specs.declared.files.EntryName.{EntryName};
 ghost use Rattle.cg_ops.specs.Bars.{bars};
 ghost use Rattle.cg_ops.specs.Next.{next};
 ghost use Rattle.cg_ops.specs.Steps.{after, after_all, Deed, HasMode, HaveModes};

@@ -20,8 +20,8 @@ mod procs_rule;
 mod subtree_control;
 
 use cg_tree::hierarchy::Hierarchy;
-use cg_tree::memory::NoMemory;
-use cg_tree::user::User;
+use cg_cgroup::memory::NoMemory;
+use cg_cgroup::user::User;
 use operation::Op;
 use outcome::{Outcome, Refusal};
 use std::alloc::Global;

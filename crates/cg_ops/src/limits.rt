@@ -4,10 +4,10 @@ ghost use Rattle.cg_ops.specs.Clauses.{first};
 ghost use Rattle.cg_ops.specs.Bars.{set_bars};
 
 use crate::outcome::Refusal;
-use cg_tree::files::{EntryName, Limit, LimitFile};
+use cg_cgroup::files::{EntryName, Limit, LimitFile};
 use cg_tree::hierarchy::Hierarchy;
-use cg_tree::path::Path;
-use cg_tree::user::User;
+use cg_cgroup::path::Path;
+use cg_cgroup::user::User;
 
 /// The first refusal that a write of a value meets.
 pub fn refusal<H: Hierarchy>(

@@ -6,12 +6,12 @@ ghost use Rattle.cg_ops.specs.Next.{next};
 
 use crate::operation::Op;
 use crate::outcome::Refusal;
-use cg_tree::cgroup::Cgroup;
-use cg_tree::files::{EntryName, Limit};
+use cg_cgroup::cgroup::Cgroup;
+use cg_cgroup::files::{EntryName, Limit};
 use cg_tree::hierarchy::Hierarchy;
-use cg_tree::memory::NoMemory;
-use cg_tree::path::Path;
-use cg_tree::user::User;
+use cg_cgroup::memory::NoMemory;
+use cg_cgroup::path::Path;
+use cg_cgroup::user::User;
 use std::alloc::Global;
 
 /// The first refusal that making a cgroup meets.

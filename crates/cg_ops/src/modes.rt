@@ -4,10 +4,10 @@ ghost use Rattle.cg_ops.specs.Clauses.{first};
 ghost use Rattle.cg_ops.specs.Bars.{chmod_bars};
 
 use crate::outcome::Refusal;
-use cg_tree::files::EntryName;
+use cg_cgroup::files::EntryName;
 use cg_tree::hierarchy::Hierarchy;
-use cg_tree::path::Path;
-use cg_tree::user::User;
+use cg_cgroup::path::Path;
+use cg_cgroup::user::User;
 
 /// The first refusal that a change of an entry's mode meets.
 pub fn refusal<H: Hierarchy>(tree: &H, user: &User, at: &Path, name: EntryName) -> Option<Refusal>

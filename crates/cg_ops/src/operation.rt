@@ -1,9 +1,9 @@
 //! What a user does to a tree.
 use crate::changes::Changes;
-use cg_tree::files::{EntryName, Limit, LimitFile};
-use cg_tree::path::Path;
-use cg_tree::process::Pid;
-use cg_tree::user::Mode;
+use cg_cgroup::files::{EntryName, Limit, LimitFile};
+use cg_cgroup::path::Path;
+use cg_cgroup::process::Pid;
+use cg_cgroup::user::Mode;
 
 /// An operation. Paths are cgroups, and PIDs processes.
 #[derive(Debug, PartialEq, Drop)]

@@ -1,6 +1,6 @@
 //! How an operation ends, and why it may not be carried out.
-use cg_tree::files::{Controller, EntryName, LimitFile};
-use cg_tree::process::Pid;
+use cg_cgroup::files::{Controller, EntryName, LimitFile};
+use cg_cgroup::process::Pid;
 
 /// Why an operation isn't carried out. A `len` names the cgroup of that many first names of the operation's own path.
 #[derive(Clone, Copy, Debug, PartialEq, Eq)]

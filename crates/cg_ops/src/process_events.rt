@@ -6,9 +6,9 @@ ghost use Rattle.cg_ops.specs.Next.{with_fork};
 
 use crate::outcome::Refusal;
 use cg_tree::hierarchy::Hierarchy;
-use cg_tree::memory::NoMemory;
-use cg_tree::process::Pid;
-use cg_tree::user::User;
+use cg_cgroup::memory::NoMemory;
+use cg_cgroup::process::Pid;
+use cg_cgroup::user::User;
 use std::alloc::Global;
 
 /// The first refusal that a fork meets.

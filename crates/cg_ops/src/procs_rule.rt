@@ -2,16 +2,16 @@
 ghost use Rattle.std.specs.Prelude.{◌≡◌, ◌||◌};
 ghost use Rattle.cg_ops.specs.Clauses.{first};
 ghost use Rattle.cg_ops.specs.Bars.{passes, move_bars};
-ghost use Rattle.cg_tree.specs.Paths.{is_root};
-ghost use Rattle.cg_tree.specs.Files.{enables_nothing};
+ghost use Rattle.cg_cgroup.specs.Paths.{is_root};
+ghost use Rattle.cg_cgroup.specs.Files.{enables_nothing};
 
 use crate::outcome::Refusal;
-use cg_tree::cgroup::Cgroup;
-use cg_tree::files::EntryName;
+use cg_cgroup::cgroup::Cgroup;
+use cg_cgroup::files::EntryName;
 use cg_tree::hierarchy::Hierarchy;
-use cg_tree::path::Path;
-use cg_tree::process::Pid;
-use cg_tree::user::User;
+use cg_cgroup::path::Path;
+use cg_cgroup::process::Pid;
+use cg_cgroup::user::User;
 
 /// The first refusal that a move meets.
 pub fn refusal<H: Hierarchy>(tree: &H, user: &User, pid: Pid, to: &Path) -> Option<Refusal>

@@ -10,11 +10,11 @@ ghost use Rattle.cg_ops.specs.Next.{next};
 use crate::changes::Changes;
 use crate::operation::Op;
 use crate::outcome::Refusal;
-use cg_tree::cgroup::Cgroup;
-use cg_tree::files::{Controller, ControllerSet, EntryName};
+use cg_cgroup::cgroup::Cgroup;
+use cg_cgroup::files::{Controller, ControllerSet, EntryName};
 use cg_tree::hierarchy::Hierarchy;
-use cg_tree::path::Path;
-use cg_tree::user::User;
+use cg_cgroup::path::Path;
+use cg_cgroup::user::User;
 
 /// The first refusal that a write of changes meets.
 pub fn refusal<H: Hierarchy>(tree: &H, user: &User, at: &Path, changes: &Changes) -> Option<Refusal>

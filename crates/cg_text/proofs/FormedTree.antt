@@ -2,22 +2,22 @@
 use Rattle.std.proofs.Common.{◌≡◌, ℕ, ◌≤◌, Bool, true, false, cond, ◌||◌, List, [], ◌∷◌, refl, sym, ap, subst, ◌∙◌, true≢false, Option, Some, None, is_some, option_map, unwrap_or, arith}
 use Rattle.std.specs.List.{AllByRecursion}
 use Rattle.std.specs.FinMap.{nat_cmp-IsAntisymmetric}
-use Rattle.cg_tree.specs.Paths.{Names, is_root, parent}
-use Rattle.cg_tree.specs.Files.{no_controllers, accepts, stands_under, enables_nothing, is_within}
-use Rattle.cg_tree.specs.Cgroups.{file_of, entry_in, file_made_by, with_files_of}
+use Rattle.cg_cgroup.specs.Paths.{Names, is_root, parent}
+use Rattle.cg_cgroup.specs.Files.{no_controllers, accepts, stands_under, enables_nothing, is_within}
+use Rattle.cg_cgroup.specs.Cgroups.{file_of, entry_in, file_made_by, with_files_of}
 use Rattle.cg_tree.specs.States.{State, row_at, process_at}
 use Rattle.cg_tree.specs.WellFormed.{has_row, enabled_above, available_at, may_hold, IsFormedRow, IsWellFormed}
-use Rattle.cg_tree.proofs.PathOrder.{path_cmp-IsAntisymmetric}
-use Rattle.cg_tree.proofs.PathParents.{parent-root}
-use Rattle.cg_tree.proofs.CgroupLaws.{accepts-default_value, file_of-with_files_of}
-use Rattle.cg_tree.specs.declared.user.Entry.{Entry}
-use Rattle.cg_tree.specs.declared.files.ControllerSet.{ControllerSet}
-use Rattle.cg_tree.specs.declared.files.LimitFile.{LimitFile}
-use Rattle.cg_tree.specs.declared.files.EntryName.{EntryName}
-use Rattle.cg_tree.specs.declared.files.EntryName.TheVariants.{Dir, Procs, SubtreeControl, File}
-use Rattle.cg_tree.specs.declared.cgroup.LimitEntry.{LimitEntry}
-use Rattle.cg_tree.specs.declared.cgroup.Cgroup.{Cgroup}
-use Rattle.cg_tree.specs.declared.process.Process.{Process}
+use Rattle.cg_cgroup.proofs.PathOrder.{path_cmp-IsAntisymmetric}
+use Rattle.cg_cgroup.proofs.PathParents.{parent-root}
+use Rattle.cg_cgroup.proofs.CgroupLaws.{accepts-default_value, file_of-with_files_of}
+use Rattle.cg_cgroup.specs.declared.user.Entry.{Entry}
+use Rattle.cg_cgroup.specs.declared.files.ControllerSet.{ControllerSet}
+use Rattle.cg_cgroup.specs.declared.files.LimitFile.{LimitFile}
+use Rattle.cg_cgroup.specs.declared.files.EntryName.{EntryName}
+use Rattle.cg_cgroup.specs.declared.files.EntryName.TheVariants.{Dir, Procs, SubtreeControl, File}
+use Rattle.cg_cgroup.specs.declared.cgroup.LimitEntry.{LimitEntry}
+use Rattle.cg_cgroup.specs.declared.cgroup.Cgroup.{Cgroup}
+use Rattle.cg_cgroup.specs.declared.process.Process.{Process}
 use Rattle.cg_text.specs.Records.{ProcessRow}
 use Rattle.cg_text.specs.Tree.{superuser, pairs_of, cgroup_at, enabled_in, enabled_by, enabled_over, available_to, live_process, live_processes, holds_processes, state_with}
 use Rattle.cg_text.specs.declared.tree.named.NamedRow.{NamedRow}

@@ -4,8 +4,8 @@ use Rattle.std.specs.Prelude.{option_copied}
 use Rattle.std.specs.Ordering.{nat_cmp, ordering_then}
 use Rattle.std.specs.Cmp.{tied_itself, Equal-is}
 use Rattle.std.specs.Borrow.{Bor}
-use Rattle.cg_tree.specs.Paths.{Names, path_cmp}
-use Rattle.cg_tree.proofs.PathOrder.{path_cmp-IsAntisymmetric}
+use Rattle.cg_cgroup.specs.Paths.{Names, path_cmp}
+use Rattle.cg_cgroup.proofs.PathOrder.{path_cmp-IsAntisymmetric}
 use Rattle.cg_text.specs.Levels.{level_cmp, level_cmp_total}
 
 then_untied : (one other : Ordering) → is_eq other ≡ false → is_eq (ordering_then one other) ≡ false

@@ -8,10 +8,4 @@ pub mod SoundRows
 pub mod TableLaws
 pub mod TablesLaws
 pub mod TextLaws
-pub mod OutcomeLaws
-pub mod LineWords
-pub mod LineNumbers
-pub mod LineChanges
-pub mod LineSpelled
-pub mod LineLaws
 pub mod StateLaws

@@ -4,22 +4,22 @@ use Rattle.std.proofs.lemmas.Bool.Decides.{nat_tests}
 use Rattle.std.specs.List.{AllByRecursion}
 use Rattle.std.specs.Option.{option_and_then}
 use Rattle.std.specs.Cmp.{first_so}
-use Rattle.cg_tree.specs.Paths.{Names, is_root, parent, path_at}
-use Rattle.cg_tree.specs.Numbers.{is_mode}
-use Rattle.cg_tree.specs.Users.{has_bit}
-use Rattle.cg_tree.specs.Files.{default_value, accepts, is_within}
-use Rattle.cg_tree.specs.Cgroups.{file_of, entry_in, entry_made_by}
+use Rattle.cg_cgroup.specs.Paths.{Names, is_root, parent, path_at}
+use Rattle.cg_cgroup.specs.Numbers.{is_mode}
+use Rattle.cg_cgroup.specs.Users.{has_bit}
+use Rattle.cg_cgroup.specs.Files.{default_value, accepts, is_within}
+use Rattle.cg_cgroup.specs.Cgroups.{file_of, entry_in, entry_made_by}
 use Rattle.cg_tree.specs.WellFormed.{IsWellFormed}
-use Rattle.cg_tree.proofs.CgroupLaws.{accepts-default_value}
-use Rattle.cg_tree.specs.declared.user.Entry.{Entry}
-use Rattle.cg_tree.specs.declared.files.Limit.{Limit}
-use Rattle.cg_tree.specs.declared.files.Limit.TheVariants.{Max as NoLimit, At}
-use Rattle.cg_tree.specs.declared.files.ControllerSet.{ControllerSet}
-use Rattle.cg_tree.specs.declared.files.LimitFile.{LimitFile}
-use Rattle.cg_tree.specs.declared.files.LimitFile.TheVariants.{MaxDescendants, MaxDepth, CpuWeight, MemoryMin, MemoryLow, MemoryHigh, MemoryMax, PidsMax}
-use Rattle.cg_tree.specs.declared.files.EntryName.{EntryName}
-use Rattle.cg_tree.specs.declared.files.EntryName.TheVariants.{Dir, Procs, SubtreeControl, File}
-use Rattle.cg_tree.specs.declared.cgroup.LimitEntry.{LimitEntry}
+use Rattle.cg_cgroup.proofs.CgroupLaws.{accepts-default_value}
+use Rattle.cg_cgroup.specs.declared.user.Entry.{Entry}
+use Rattle.cg_cgroup.specs.declared.files.Limit.{Limit}
+use Rattle.cg_cgroup.specs.declared.files.Limit.TheVariants.{Max as NoLimit, At}
+use Rattle.cg_cgroup.specs.declared.files.ControllerSet.{ControllerSet}
+use Rattle.cg_cgroup.specs.declared.files.LimitFile.{LimitFile}
+use Rattle.cg_cgroup.specs.declared.files.LimitFile.TheVariants.{MaxDescendants, MaxDepth, CpuWeight, MemoryMin, MemoryLow, MemoryHigh, MemoryMax, PidsMax}
+use Rattle.cg_cgroup.specs.declared.files.EntryName.{EntryName}
+use Rattle.cg_cgroup.specs.declared.files.EntryName.TheVariants.{Dir, Procs, SubtreeControl, File}
+use Rattle.cg_cgroup.specs.declared.cgroup.LimitEntry.{LimitEntry}
 use Rattle.cg_text.specs.Records.{CgroupRow, ProcessRow}
 use Rattle.cg_text.specs.Document.{is_two}
 use Rattle.cg_text.specs.Tree.{or_else, first_row, number_or, passing, mode_read, id_read, entry_read, accepted, value_read, superuser, file_mode, directory_mode, entry_written, file_written, core_file, cgroup_written, named, cgroup_at, no_root, no_parent, top_down, duplicate, rows_fault, tree_fault, live_process, is_place, holds_processes, bad_pid, bad_uid, duplicate_pid, no_such_place, internal_process, Earlier, process_at, process_row_fault, process_fault, available_to, state_with}

@@ -8,15 +8,15 @@ use Rattle.std.specs.Cmp.{nat_cmp_total, eq_by_cmp_equiv}
 use Rattle.std.specs.FinMap as map
 use Rattle.std.specs.FinMap.{nat_cmp-IsAntisymmetric, same_map}
 use Rattle.std.specs.FinSet.{same_set}
-use Rattle.cg_tree.specs.Paths.{Names, is_root, parent, path_at}
-use Rattle.cg_tree.specs.Files.{no_controllers, enables_nothing, is_within}
-use Rattle.cg_tree.specs.Cgroups.{with_files_of}
+use Rattle.cg_cgroup.specs.Paths.{Names, is_root, parent, path_at}
+use Rattle.cg_cgroup.specs.Files.{no_controllers, enables_nothing, is_within}
+use Rattle.cg_cgroup.specs.Cgroups.{with_files_of}
 use Rattle.cg_tree.specs.States.{State, row_at}
 use Rattle.cg_tree.specs.WellFormed.{has_row, enabled_at, enabled_above, available_at, may_hold}
-use Rattle.cg_tree.proofs.Options.{some_value, is_some-mapped}
+use Rattle.cg_cgroup.proofs.Options.{some_value, is_some-mapped}
 use Rattle.cg_tree.proofs.FormedParts.{may_hold-row}
-use Rattle.cg_tree.proofs.PathOrder.{path_cmp_total, path_cmp-IsAntisymmetric}
-use Rattle.cg_tree.specs.declared.files.ControllerSet.{ControllerSet}
+use Rattle.cg_cgroup.proofs.PathOrder.{path_cmp_total, path_cmp-IsAntisymmetric}
+use Rattle.cg_cgroup.specs.declared.files.ControllerSet.{ControllerSet}
 use Rattle.cg_text.specs.Records.{CgroupRow, ProcessRow, TreeRecords}
 use Rattle.cg_text.specs.HasState.{IsWritten, IsListed, ArePidsOnce, IsTreeOf}
 use Rattle.cg_text.specs.Tree as tree

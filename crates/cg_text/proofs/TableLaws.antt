@@ -9,13 +9,13 @@ use Rattle.std.specs.declared.cmp.Ordering.{Ordering}
 use Rattle.std.specs.Ordering.{is_eq, eq_by_cmp}
 use Rattle.std.specs.Cmp.{eq_by_cmp_equiv}
 use Rattle.std.specs.FinMap as map
-use Rattle.cg_tree.specs.Paths.{Names, path_cmp}
-use Rattle.cg_tree.specs.Cgroups.{with_files_of}
-use Rattle.cg_tree.proofs.Changed.{sorted_map}
-use Rattle.cg_tree.proofs.Options.{none_value}
-use Rattle.cg_tree.proofs.PathOrder.{path_cmp_total}
-use Rattle.cg_tree.specs.declared.files.ControllerSet.{ControllerSet}
-use Rattle.cg_tree.specs.declared.cgroup.Cgroup.{Cgroup as CgroupValue}
+use Rattle.cg_cgroup.specs.Paths.{Names, path_cmp}
+use Rattle.cg_cgroup.specs.Cgroups.{with_files_of}
+use Rattle.cg_rows.proofs.Changed.{sorted_map}
+use Rattle.cg_cgroup.proofs.Options.{none_value}
+use Rattle.cg_cgroup.proofs.PathOrder.{path_cmp_total}
+use Rattle.cg_cgroup.specs.declared.files.ControllerSet.{ControllerSet}
+use Rattle.cg_cgroup.specs.declared.cgroup.Cgroup.{Cgroup as CgroupValue}
 use Rattle.cg_text.specs.Tree.{first_row, duplicate, pairs_of, cgroup_at, enabled_over, fitted, fitted_under, superuser}
 use Rattle.cg_text.specs.declared.tree.fault.Place.TheVariants.{Cgroup}
 use Rattle.cg_text.specs.declared.tree.fault.TreeFault.{TreeFault}

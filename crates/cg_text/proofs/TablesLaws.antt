@@ -6,14 +6,14 @@ use Rattle.std.specs.FinMap as map
 use Rattle.std.specs.FinMap.{nat_cmp-IsAntisymmetric, same_map, contains_key-keys}
 use Rattle.std.specs.FinSet as set
 use Rattle.std.specs.FinSet.{same_set, contains-from_list}
-use Rattle.cg_tree.specs.Paths.{Names}
-use Rattle.cg_tree.specs.Files.{no_controllers}
-use Rattle.cg_tree.specs.RowsForm.{state_of_tables}
+use Rattle.cg_cgroup.specs.Paths.{Names}
+use Rattle.cg_cgroup.specs.Files.{no_controllers}
+use Rattle.cg_rows.specs.RowsForm.{state_of_tables}
 use Rattle.cg_tree.specs.WellFormed.{IsWellFormed}
-use Rattle.cg_tree.specs.Cgroups.{with_files_of}
-use Rattle.cg_tree.proofs.Options.{is_some-mapped}
-use Rattle.cg_tree.proofs.PathOrder.{path_cmp_total, path_cmp-IsAntisymmetric}
-use Rattle.cg_tree.specs.declared.files.ControllerSet.{ControllerSet}
+use Rattle.cg_cgroup.specs.Cgroups.{with_files_of}
+use Rattle.cg_cgroup.proofs.Options.{is_some-mapped}
+use Rattle.cg_cgroup.proofs.PathOrder.{path_cmp_total, path_cmp-IsAntisymmetric}
+use Rattle.cg_cgroup.specs.declared.files.ControllerSet.{ControllerSet}
 use Rattle.cg_text.specs.Records.{CgroupRow, ProcessRow, TreeRecords}
 use Rattle.cg_text.specs.Tables.{AreTablesOf}
 use Rattle.cg_text.specs.Tree.{or_else, unless, first_row, row_fault, tree_fault, controllers_read, named, named_rows, controllers_of, cgroup_at, first_fault, state_with, state_of, state_or, tree_of_records, LookUp, duplicate, no_root, no_parent, top_down, no_such_file, rows_fault, process_fault, enabled_in, enabled_over, superuser}

@@ -7,18 +7,18 @@ use Rattle.std.specs.declared.cmp.Ordering.TheVariants.{Less, Equal, Greater}
 use Rattle.std.specs.Cmp.{nat_cmp_total}
 use Rattle.std.specs.FinMap.Entries.{is_some-find}
 use Rattle.std.specs.FinSet.{contains-from_list}
-use Rattle.cg_tree.specs.Files.{enables_nothing}
+use Rattle.cg_cgroup.specs.Files.{enables_nothing}
 use Rattle.std.specs.declared.cmp.Ordering.{Ordering}
 use Rattle.std.specs.FinMap as map
 use Rattle.std.specs.FinMap.{IsAntisymmetric, get-from_entries}
-use Rattle.cg_tree.specs.Paths.{Names, path_cmp, is_root, path_at}
-use Rattle.cg_tree.specs.Cgroups.{with_files_of}
+use Rattle.cg_cgroup.specs.Paths.{Names, path_cmp, is_root, path_at}
+use Rattle.cg_cgroup.specs.Cgroups.{with_files_of}
 use Rattle.cg_tree.specs.States.{row_at, process_at, is_used}
 use Rattle.cg_tree.specs.WellFormed.{enabled_at}
-use Rattle.cg_tree.proofs.Options.{none_value}
-use Rattle.cg_tree.proofs.PathOrder.{path_cmp_total, path_cmp-IsAntisymmetric}
-use Rattle.cg_tree.specs.declared.files.ControllerSet.{ControllerSet}
-use Rattle.cg_tree.specs.declared.cgroup.Cgroup.{Cgroup}
+use Rattle.cg_cgroup.proofs.Options.{none_value}
+use Rattle.cg_cgroup.proofs.PathOrder.{path_cmp_total, path_cmp-IsAntisymmetric}
+use Rattle.cg_cgroup.specs.declared.files.ControllerSet.{ControllerSet}
+use Rattle.cg_cgroup.specs.declared.cgroup.Cgroup.{Cgroup}
 use Rattle.cg_text.specs.Records.{ProcessRow}
 use Rattle.cg_text.specs.Tree.{or_else, unless, first_row, pairs_of, cgroup_at, enabled_in, enabled_by, enabled_over, fitted, superuser, live_process, live_processes, LookUp, Earlier, pid_read, id_read, bad_pid, bad_uid, duplicate_pid, no_such_place, internal_process, process_row_fault, duplicate, no_root, no_parent, top_down, no_such_file, process_fault, rows_fault, state_with}
 use Rattle.cg_text.specs.Tree as tree

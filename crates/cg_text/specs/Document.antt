@@ -1,8 +1,8 @@
 -- From a TOML document to plain records, or the first fault of its form. Own.
 use Rattle.std.specs.Prelude.{ℕ, ◌+◌, ◌≤◌, length, ℤ, pos, negsuc, Bool, true, false, ◌&&◌, ◌||◌, nat_le, ◌==◌, if◌then◌else◌, List, [], ◌∷◌, codes, Option, Some, None, option_and_then, Result, Ok, Err}
 use Rattle.std.specs.Option.{option_map}
-use Rattle.cg_tree.specs.Paths.{same_name}
-use Rattle.cg_tree.specs.Texts as texts
+use Rattle.cg_cgroup.specs.Paths.{same_name}
+use Rattle.cg_cgroup.specs.Texts as texts
 use Rattle.toml.specs.Data.{Data, string, integer, array, table, Items, no_items, item, Members, no_members, member, get_member, as_str, as_integer}
 use Rattle.cg_text.specs.Records.{Text, CgroupRow, ProcessRow, TreeRecords, no_entry, no_files}
 use Rattle.cg_text.specs.Faults.{or_fault}
@@ -20,7 +20,7 @@ use Rattle.cg_text.specs.declared.tree.records.ValueRecord.{ValueRecord}
 use Rattle.cg_text.specs.declared.tree.records.ValueRecord.TheVariants.{Number, Max, OtherText}
 use Rattle.cg_text.specs.declared.tree.records.FileRecord.{FileRecord}
 use Rattle.cg_text.specs.declared.tree.records.FilesRecord.{FilesRecord}
-use Rattle.cg_text.specs.Options.{◌>>=◌}
+use Rattle.cg_cgroup.specs.Options.{◌>>=◌}
 
 -- ---- keys. What is read of a table or a value is None where its form is wrong.
 

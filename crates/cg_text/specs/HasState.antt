@@ -3,8 +3,8 @@ use Rattle.std.specs.Prelude.{◌≡◌, ℕ, ◌≤◌, ◌<◌, true, List, le
 use Rattle.std.specs.Option.{option_map}
 use Rattle.std.specs.List.{AllByRecursion}
 use Rattle.toml.specs.Data.{Members}
-use Rattle.cg_tree.specs.Paths.{Names, path_at}
-use Rattle.cg_tree.specs.Cgroups.{with_files_of}
+use Rattle.cg_cgroup.specs.Paths.{Names, path_at}
+use Rattle.cg_cgroup.specs.Cgroups.{with_files_of}
 use Rattle.cg_tree.specs.States.{State, row_at, process_at, is_used}
 use Rattle.cg_tree.specs.WellFormed.{enabled_above, IsWellFormed}
 use Rattle.cg_text.specs.Records.{CgroupRow, ProcessRow, TreeRecords}

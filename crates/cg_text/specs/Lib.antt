@@ -1,4 +1,3 @@
-pub mod Options
 pub mod Faults
 pub mod Records
 pub mod Document
@@ -7,8 +6,4 @@ pub mod Tree
 pub mod Levels
 pub mod TreeTexts
 pub mod Tables
-pub mod Outcomes
-pub mod OperationLines
-pub mod LineReading
-pub mod LineFaults
 pub mod HasState

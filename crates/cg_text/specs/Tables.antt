@@ -3,8 +3,8 @@ use Rattle.std.specs.Prelude.{◌≡◌, ℕ, is_some}
 use Rattle.std.specs.Option.{option_map}
 use Rattle.std.specs.FinMap as map
 use Rattle.std.specs.Prelude.{List}
-use Rattle.cg_tree.specs.Paths.{Names}
-use Rattle.cg_tree.specs.Cgroups.{with_files_of}
+use Rattle.cg_cgroup.specs.Paths.{Names}
+use Rattle.cg_cgroup.specs.Cgroups.{with_files_of}
 use Rattle.cg_text.specs.Records.{ProcessRow}
 use Rattle.cg_text.specs.Tree.{cgroup_at, enabled_over, superuser, process_at}
 use Rattle.cg_text.specs.declared.tree.named.NamedRow.{NamedRow}

@@ -5,22 +5,22 @@ use Rattle.std.specs.List.{list_all}
 use Rattle.std.specs.Ordering.{nat_cmp}
 use Rattle.std.specs.FinMap as map
 use Rattle.std.specs.FinSet as set
-use Rattle.cg_tree.specs.Paths.{Names, path_cmp, is_root, parent, path_at}
-use Rattle.cg_tree.specs.Numbers.{is_pid, is_mode}
-use Rattle.cg_tree.specs.Identity.{Identity}
-use Rattle.cg_tree.specs.Users.{has_bit}
-use Rattle.cg_tree.specs.Files.{all_files, controller_named, with_controller, no_controllers, enables_nothing, is_within, default_value, accepts, stands_under}
-use Rattle.cg_tree.specs.Cgroups.{file_of, entry_made_by, file_made_by, with_files_of}
+use Rattle.cg_cgroup.specs.Paths.{Names, path_cmp, is_root, parent, path_at}
+use Rattle.cg_cgroup.specs.Numbers.{is_pid, is_mode}
+use Rattle.cg_cgroup.specs.Identity.{Identity}
+use Rattle.cg_cgroup.specs.Users.{has_bit}
+use Rattle.cg_cgroup.specs.Files.{all_files, controller_named, with_controller, no_controllers, enables_nothing, is_within, default_value, accepts, stands_under}
+use Rattle.cg_cgroup.specs.Cgroups.{file_of, entry_made_by, file_made_by, with_files_of}
 use Rattle.cg_tree.specs.States.{State}
-use Rattle.cg_tree.specs.declared.user.Entry.{Entry}
-use Rattle.cg_tree.specs.declared.files.Limit.{Limit}
-use Rattle.cg_tree.specs.declared.files.Limit.TheVariants.{Max as NoLimit, At}
-use Rattle.cg_tree.specs.declared.files.ControllerSet.{ControllerSet}
-use Rattle.cg_tree.specs.declared.files.LimitFile.{LimitFile}
-use Rattle.cg_tree.specs.declared.files.LimitFile.TheVariants.{MaxDescendants, MaxDepth, CpuWeight, MemoryMin, MemoryLow, MemoryHigh, MemoryMax, PidsMax}
-use Rattle.cg_tree.specs.declared.cgroup.LimitEntry.{LimitEntry}
-use Rattle.cg_tree.specs.declared.cgroup.Cgroup.{Cgroup}
-use Rattle.cg_tree.specs.declared.process.Process.{Process}
+use Rattle.cg_cgroup.specs.declared.user.Entry.{Entry}
+use Rattle.cg_cgroup.specs.declared.files.Limit.{Limit}
+use Rattle.cg_cgroup.specs.declared.files.Limit.TheVariants.{Max as NoLimit, At}
+use Rattle.cg_cgroup.specs.declared.files.ControllerSet.{ControllerSet}
+use Rattle.cg_cgroup.specs.declared.files.LimitFile.{LimitFile}
+use Rattle.cg_cgroup.specs.declared.files.LimitFile.TheVariants.{MaxDescendants, MaxDepth, CpuWeight, MemoryMin, MemoryLow, MemoryHigh, MemoryMax, PidsMax}
+use Rattle.cg_cgroup.specs.declared.cgroup.LimitEntry.{LimitEntry}
+use Rattle.cg_cgroup.specs.declared.cgroup.Cgroup.{Cgroup}
+use Rattle.cg_cgroup.specs.declared.process.Process.{Process}
 use Rattle.cg_text.specs.Records.{Text, CgroupRow, ProcessRow, TreeRecords}
 use Rattle.cg_text.specs.declared.tree.fault.Place.TheVariants.{Top, Cgroup as AtCgroup, Process as AtProcess}
 use Rattle.cg_text.specs.declared.tree.fault.TreeFault.{TreeFault}
@@ -33,7 +33,7 @@ use Rattle.cg_text.specs.declared.tree.records.FileRecord.{FileRecord}
 use Rattle.cg_text.specs.declared.tree.records.FilesRecord.{FilesRecord}
 use Rattle.cg_text.specs.declared.tree.named.NamedRow.{NamedRow}
 use Rattle.cg_text.specs.Document.{is_two}
-use Rattle.cg_text.specs.Options.{◌>>=◌}
+use Rattle.cg_cgroup.specs.Options.{◌>>=◌}
 
 -- ---- faults in order
 

@@ -1,6 +1,4 @@
-//! Tree texts and the texts of answers.
+//! Tree texts.
 #![tactic(auto)]
 
-pub mod lines;
-pub mod outcome;
 pub mod tree;

@@ -17,7 +17,7 @@ mod state;
 mod together;
 mod written;
 
-use cg_tree::rows::Rows;
+use cg_rows::rows::Rows;
 use document::records_of;
 pub use fault::{Place, TreeFault};
 use state::tree_of_records;

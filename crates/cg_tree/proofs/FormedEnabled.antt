@@ -1,21 +1,21 @@
 -- Well-formedness once a cgroup enables other controllers.
 use Rattle.std.proofs.Common.{◌≡◌, ℕ, Bool, true, false, cond, not, ◌||◌, [], refl, sym, ap, ◌∙◌, subst, true≢false, Some, None, is_some, option_map}
 use Rattle.std.proofs.lemmas.Bool.{false_from_ne_true}
-use Rattle.cg_tree.specs.Paths.{Names, same_path, is_root, parent, is_child}
-use Rattle.cg_tree.specs.Identity.{Identity}
-use Rattle.cg_tree.specs.Files.{no_controllers}
-use Rattle.cg_tree.specs.Cgroups.{with_files_of}
+use Rattle.cg_cgroup.specs.Paths.{Names, same_path, is_root, parent, is_child}
+use Rattle.cg_cgroup.specs.Identity.{Identity}
+use Rattle.cg_cgroup.specs.Files.{no_controllers}
+use Rattle.cg_cgroup.specs.Cgroups.{with_files_of}
 use Rattle.cg_tree.specs.States.{State, row_at, process_at, has_live, enabling_these, enabling, with_enabled}
 use Rattle.cg_tree.specs.WellFormed.{has_row, enables_nothing, is_within, enabled_at, enabled_above, available_at, may_hold, MayEnable, IsFormedRow, IsWellFormed}
-use Rattle.cg_tree.specs.declared.files.ControllerSet.{ControllerSet}
-use Rattle.cg_tree.specs.declared.cgroup.Cgroup.{Cgroup}
-use Rattle.cg_tree.specs.declared.process.Process.{Process}
-use Rattle.cg_tree.proofs.Options.{some_value, mapped_from, is_some-mapped}
-use Rattle.cg_tree.proofs.PathOrder.{same_path-is, same_path_refl, same_path_comm}
-use Rattle.cg_tree.proofs.PathParents.{is_child-parent, parent-is_child, is_root-is_child, parent-other}
+use Rattle.cg_cgroup.specs.declared.files.ControllerSet.{ControllerSet}
+use Rattle.cg_cgroup.specs.declared.cgroup.Cgroup.{Cgroup}
+use Rattle.cg_cgroup.specs.declared.process.Process.{Process}
+use Rattle.cg_cgroup.proofs.Options.{some_value, mapped_from, is_some-mapped}
+use Rattle.cg_cgroup.proofs.PathOrder.{same_path-is, same_path_refl, same_path_comm}
+use Rattle.cg_cgroup.proofs.PathParents.{is_child-parent, parent-is_child, is_root-is_child, parent-other}
 use Rattle.cg_tree.proofs.StateLaws.{row_at-with_enabled}
 use Rattle.cg_tree.proofs.StateTests.{row-child_enables, child_enables-row, process-has_live, has_live-process}
-use Rattle.cg_tree.proofs.ControllerLaws.{is_within-each, is_within-enables}
+use Rattle.cg_cgroup.proofs.ControllerLaws.{is_within-each, is_within-enables}
 use Rattle.cg_tree.proofs.FormedRows.{formed_row-with_files_of}
 use Rattle.cg_tree.proofs.FormedParts.{may_hold-row, row-may_hold, enabled_at-row}
 

@@ -1,5 +1,5 @@
 -- Each call that changes a tree keeps it well-formed, from just what the call requires.
-use Rattle.cg_tree.proofs.Options.{mapped_from}
+use Rattle.cg_cgroup.proofs.Options.{mapped_from}
 pub use Rattle.cg_tree.proofs.FormedTree.{IsNewRow, new_row-cgroup_made_by, formed-with_row, formed-with_made_row, formed-without_row}
 pub use Rattle.cg_tree.proofs.FormedEnabled.{formed-with_enabled}
 use Rattle.std.proofs.Common.{◌≡◌, ℕ, ◌≤◌, Bool, true, false, cond, ◌||◌, refl, sym, ap, ◌∙◌, subst, true≢false, Option, Some, None, is_some, option_map, nat_eq, unwrap_or}
@@ -7,18 +7,18 @@ use Rattle.std.specs.Ordering.{nat_cmp}
 use Rattle.std.specs.FinMap as finite
 use Rattle.std.specs.FinSet as set
 use Rattle.std.proofs.Math.Bool.{or-true}
-use Rattle.cg_tree.specs.Paths.{Names, same_path}
-use Rattle.cg_tree.specs.Files.{accepts}
-use Rattle.cg_tree.specs.Cgroups.{with_value_in, with_mode_in}
+use Rattle.cg_cgroup.specs.Paths.{Names, same_path}
+use Rattle.cg_cgroup.specs.Files.{accepts}
+use Rattle.cg_cgroup.specs.Cgroups.{with_value_in, with_mode_in}
 use Rattle.cg_tree.specs.States.{State, row_at, process_at, is_used, with_value, with_mode, placed_at, with_place, with_process, without_process}
 use Rattle.cg_tree.specs.WellFormed.{may_hold, IsFormedRow, IsWellFormed}
-use Rattle.cg_tree.specs.declared.files.Limit.{Limit}
-use Rattle.cg_tree.specs.declared.files.LimitFile.{LimitFile}
-use Rattle.cg_tree.specs.declared.files.EntryName.{EntryName}
-use Rattle.cg_tree.specs.declared.cgroup.Cgroup.{Cgroup}
-use Rattle.cg_tree.specs.declared.process.Process.{Process}
+use Rattle.cg_cgroup.specs.declared.files.Limit.{Limit}
+use Rattle.cg_cgroup.specs.declared.files.LimitFile.{LimitFile}
+use Rattle.cg_cgroup.specs.declared.files.EntryName.{EntryName}
+use Rattle.cg_cgroup.specs.declared.cgroup.Cgroup.{Cgroup}
+use Rattle.cg_cgroup.specs.declared.process.Process.{Process}
 use Rattle.cg_tree.proofs.StateLaws.{row_at-with_value, row_at-with_mode, process_at-with_place, process_at-with_process, process_at-without_process, is_used-with_process}
-use Rattle.cg_tree.proofs.CgroupLaws.{enabled-with_value_in, enabled-with_mode_in}
+use Rattle.cg_cgroup.proofs.CgroupLaws.{enabled-with_value_in, enabled-with_mode_in}
 use Rattle.cg_tree.proofs.FormedRows.{formed_row-with_value_in, formed_row-with_mode_in}
 use Rattle.cg_tree.proofs.FormedReshaped.{formed-reshaped}
 

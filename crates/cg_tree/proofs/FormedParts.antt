@@ -1,10 +1,10 @@
 -- Well-formedness from its parts, and what of it a change of rows leaves as it was.
 use Rattle.std.proofs.Common.{◌≡◌, true, false, ◌||◌, refl, sym, ap, ◌∙◌, true≢false, Some, None}
-use Rattle.cg_tree.specs.Paths.{Names, is_root}
-use Rattle.cg_tree.specs.Files.{no_controllers}
+use Rattle.cg_cgroup.specs.Paths.{Names, is_root}
+use Rattle.cg_cgroup.specs.Files.{no_controllers}
 use Rattle.cg_tree.specs.States.{State, row_at}
 use Rattle.cg_tree.specs.WellFormed.{enables_nothing, enabled_at, may_hold}
-use Rattle.cg_tree.specs.declared.cgroup.Cgroup.{Cgroup}
+use Rattle.cg_cgroup.specs.declared.cgroup.Cgroup.{Cgroup}
 
 -- a cgroup that may hold processes is there
 pub may_hold-row : (st : State) (path : Names) → may_hold st path ≡ true → (row : Cgroup) × (row_at st path ≡ Some row) × ((is_root path || enables_nothing row.enabled) ≡ true)

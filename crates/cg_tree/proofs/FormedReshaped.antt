@@ -1,13 +1,13 @@
 -- Well-formedness where each row is changed by its path and enables what it enabled.
 use Rattle.std.proofs.Common.{◌≡◌, true, cond, ◌||◌, [], refl, sym, ap, ◌∙◌, subst, Some, None, is_some, option_map}
 use Rattle.std.specs.FinMap as finite
-use Rattle.cg_tree.specs.Paths.{Names, path_cmp, is_root, parent}
-use Rattle.cg_tree.specs.Files.{no_controllers}
+use Rattle.cg_cgroup.specs.Paths.{Names, path_cmp, is_root, parent}
+use Rattle.cg_cgroup.specs.Files.{no_controllers}
 use Rattle.cg_tree.specs.States.{State, row_at}
 use Rattle.cg_tree.specs.WellFormed.{has_row, enables_nothing, is_within, enabled_at, enabled_above, may_hold, IsFormedRow, IsWellFormed}
-use Rattle.cg_tree.specs.declared.files.ControllerSet.{ControllerSet}
-use Rattle.cg_tree.specs.declared.cgroup.Cgroup.{Cgroup}
-use Rattle.cg_tree.proofs.Options.{mapped_from, is_some-mapped}
+use Rattle.cg_cgroup.specs.declared.files.ControllerSet.{ControllerSet}
+use Rattle.cg_cgroup.specs.declared.cgroup.Cgroup.{Cgroup}
+use Rattle.cg_cgroup.proofs.Options.{mapped_from, is_some-mapped}
 use Rattle.cg_tree.proofs.FormedParts.{may_hold-row, row-may_hold}
 
 abbrev pub with_rows : State → finite.FinMap path_cmp Cgroup → State

@@ -1,17 +1,17 @@
 -- Well-formedness once a cgroup is made and once one is removed.
 use Rattle.std.proofs.Common.{◌≡◌, true, false, cond, [], refl, sym, ap, ◌∙◌, subst, true≢false, Some, None, is_some, unwrap_or}
 use Rattle.std.proofs.lemmas.Bool.{false_from_ne_true}
-use Rattle.cg_tree.specs.Paths.{Names, same_path, is_root, parent, is_child}
-use Rattle.cg_tree.specs.Identity.{Identity}
-use Rattle.cg_tree.specs.Files.{no_controllers}
-use Rattle.cg_tree.specs.Cgroups.{cgroup_made_by}
+use Rattle.cg_cgroup.specs.Paths.{Names, same_path, is_root, parent, is_child}
+use Rattle.cg_cgroup.specs.Identity.{Identity}
+use Rattle.cg_cgroup.specs.Files.{no_controllers}
+use Rattle.cg_cgroup.specs.Cgroups.{cgroup_made_by}
 use Rattle.cg_tree.specs.States.{State, row_at, has_child, has_live, with_row, without_row}
 use Rattle.cg_tree.specs.WellFormed.{has_row, is_within, enabled_at, enabled_above, available_at, IsFormedRow, IsWellFormed}
-use Rattle.cg_tree.specs.declared.files.ControllerSet.{ControllerSet}
-use Rattle.cg_tree.specs.declared.cgroup.Cgroup.{Cgroup}
-use Rattle.cg_tree.proofs.Options.{some_value}
-use Rattle.cg_tree.proofs.PathOrder.{same_path-is, same_path_comm}
-use Rattle.cg_tree.proofs.PathParents.{is_child-parent, parent-root, is_root-is}
+use Rattle.cg_cgroup.specs.declared.files.ControllerSet.{ControllerSet}
+use Rattle.cg_cgroup.specs.declared.cgroup.Cgroup.{Cgroup}
+use Rattle.cg_cgroup.proofs.Options.{some_value}
+use Rattle.cg_cgroup.proofs.PathOrder.{same_path-is, same_path_comm}
+use Rattle.cg_cgroup.proofs.PathParents.{is_child-parent, parent-root, is_root-is}
 use Rattle.cg_tree.proofs.StateLaws.{row_at-with_row, row_at-with_row-other, row_at-without_row, row_at-without_row-other}
 use Rattle.cg_tree.proofs.StateTests.{row-has_child, process-has_live}
 use Rattle.cg_tree.proofs.FormedRows.{formed_row-cgroup_made_by}

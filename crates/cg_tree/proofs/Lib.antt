@@ -1,27 +1,9 @@
-pub mod PathOrder
-pub mod PathParents
-pub mod PathEnds
-pub mod PathNames
-mod Slashes
-mod Words
-pub mod PathSteps
-pub mod Options
-pub mod PathAt
-pub mod PathLaws
 pub mod MapLaws
 pub mod MapFolds
 pub mod StateLaws
 pub mod StateTests
 pub mod StateCounts
 pub mod FormedRows
-pub mod Sorted
-pub mod Below
-pub mod Changed
-pub mod TablesState
-pub mod CgroupLaws
-pub mod NameLaws
-pub mod ControllerLaws
-pub mod UserLaws
 pub mod FormedParts
 pub mod FormedReshaped
 pub mod FormedTree

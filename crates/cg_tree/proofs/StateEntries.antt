@@ -1,21 +1,21 @@
 -- What a cgroup's entries, values and controllers are after each change. A change of processes leaves them all, as its rows are the same.
 use Rattle.std.proofs.Common.{◌≡◌, ℕ, Bool, true, false, cond, ◌&&◌, refl, sym, ap, ◌∙◌, true≢false, Option, Some, None, is_some, option_map, option_and_then}
-use Rattle.cg_tree.specs.Paths.{Names, same_path, is_child}
-use Rattle.cg_tree.specs.Identity.{Identity}
-use Rattle.cg_tree.specs.Files.{stands_under, same_file, same_entry, no_controllers}
-use Rattle.cg_tree.specs.Cgroups.{file_of, entry_in, value_in, with_value_in, with_mode_of, with_mode_in, refitted}
+use Rattle.cg_cgroup.specs.Paths.{Names, same_path, is_child}
+use Rattle.cg_cgroup.specs.Identity.{Identity}
+use Rattle.cg_cgroup.specs.Files.{stands_under, same_file, same_entry, no_controllers}
+use Rattle.cg_cgroup.specs.Cgroups.{file_of, entry_in, value_in, with_value_in, with_mode_of, with_mode_in, refitted}
 use Rattle.cg_tree.specs.States.{State, row_at, file_at, entry_at, value_at, enabling, with_row, without_row, with_value, with_mode, with_enabled}
 use Rattle.cg_tree.specs.WellFormed.{enabled_at}
-use Rattle.cg_tree.specs.declared.files.Limit.{Limit}
-use Rattle.cg_tree.specs.declared.files.ControllerSet.{ControllerSet}
-use Rattle.cg_tree.specs.declared.files.LimitFile.{LimitFile}
-use Rattle.cg_tree.specs.declared.files.EntryName.{EntryName}
-use Rattle.cg_tree.specs.declared.files.EntryName.TheVariants.{Dir, Procs, SubtreeControl, File}
-use Rattle.cg_tree.specs.declared.cgroup.LimitEntry.{LimitEntry}
-use Rattle.cg_tree.specs.declared.cgroup.Cgroup.{Cgroup}
-use Rattle.cg_tree.proofs.PathOrder.{same_path-is}
+use Rattle.cg_cgroup.specs.declared.files.Limit.{Limit}
+use Rattle.cg_cgroup.specs.declared.files.ControllerSet.{ControllerSet}
+use Rattle.cg_cgroup.specs.declared.files.LimitFile.{LimitFile}
+use Rattle.cg_cgroup.specs.declared.files.EntryName.{EntryName}
+use Rattle.cg_cgroup.specs.declared.files.EntryName.TheVariants.{Dir, Procs, SubtreeControl, File}
+use Rattle.cg_cgroup.specs.declared.cgroup.LimitEntry.{LimitEntry}
+use Rattle.cg_cgroup.specs.declared.cgroup.Cgroup.{Cgroup}
+use Rattle.cg_cgroup.proofs.PathOrder.{same_path-is}
 use Rattle.cg_tree.proofs.StateLaws.{row_at-with_row, row_at-without_row, row_at-with_value, row_at-with_mode, row_at-with_enabled}
-use Rattle.cg_tree.proofs.CgroupLaws.{entry_in-with_value_in, value_in-with_value_in, enabled-with_value_in, entry_in-with_mode_in, value_in-with_mode_in, enabled-with_mode_in, file_of-with_files_of, same-with_files_of}
+use Rattle.cg_cgroup.proofs.CgroupLaws.{entry_in-with_value_in, value_in-with_value_in, enabled-with_value_in, entry_in-with_mode_in, value_in-with_mode_in, enabled-with_mode_in, file_of-with_files_of, same-with_files_of}
 use Rattle.cg_tree.proofs.FormedEnabled.{enabling-by, is_child-itself}
 
 -- ---- readings of a row that is changed at one path

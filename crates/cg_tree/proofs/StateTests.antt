@@ -3,13 +3,13 @@ use Rattle.std.proofs.Common.{◌≡◌, ℕ, true, ◌&&◌, sym, ◌∙◌, So
 use Rattle.std.specs.Cmp.{first_so, second_so, nat_cmp_total}
 use Rattle.std.specs.Cmp.Derive.{both_true}
 use Rattle.std.specs.FinMap as finite
-use Rattle.cg_tree.specs.Paths.{Names, same_path, is_child}
-use Rattle.cg_tree.specs.Files.{enables}
+use Rattle.cg_cgroup.specs.Paths.{Names, same_path, is_child}
+use Rattle.cg_cgroup.specs.Files.{enables}
 use Rattle.cg_tree.specs.States.{State, row_at, process_at, has_child, has_live, child_enables}
-use Rattle.cg_tree.specs.declared.files.Controller.{Controller}
-use Rattle.cg_tree.specs.declared.cgroup.Cgroup.{Cgroup}
-use Rattle.cg_tree.specs.declared.process.Process.{Process}
-use Rattle.cg_tree.proofs.PathOrder.{path_cmp_total, path_cmp-IsAntisymmetric}
+use Rattle.cg_cgroup.specs.declared.files.Controller.{Controller}
+use Rattle.cg_cgroup.specs.declared.cgroup.Cgroup.{Cgroup}
+use Rattle.cg_cgroup.specs.declared.process.Process.{Process}
+use Rattle.cg_cgroup.proofs.PathOrder.{path_cmp_total, path_cmp-IsAntisymmetric}
 use Rattle.cg_tree.proofs.MapLaws.{list_any-map, any_entry, entry_any}
 
 -- ---- children

@@ -2,11 +2,11 @@
 use Rattle.std.proofs.Common.{◌≡◌, ℕ, zero, suc, ◌+◌, ◌-◌, ◌≤◌, ◌<◌, true, false, length, take, refl, sym, ap, ◌∙◌, arith, eq-eqb, ltb-true, leb-true, leb-false, nat_le, length-take-le, take_all, take-take}
 use Rattle.std.specs.Cmp.{first_so, second_so}
 use Rattle.std.specs.Cmp.Derive.{both_true}
-use Rattle.cg_tree.specs.Paths.{Names, inside, below, parent}
+use Rattle.cg_cgroup.specs.Paths.{Names, inside, below, parent}
 use Rattle.cg_tree.specs.States.{State, row_at, has_child}
 use Rattle.cg_tree.specs.WellFormed.{has_row, IsWellFormed}
-use Rattle.cg_tree.proofs.Options.{some_value}
-use Rattle.cg_tree.proofs.PathParents.{inside-take, inside-is}
+use Rattle.cg_cgroup.proofs.Options.{some_value}
+use Rattle.cg_cgroup.proofs.PathParents.{inside-take, inside-is}
 use Rattle.cg_tree.proofs.StateTests.{row-has_child}
 
 parent-take : (path : Names) (n : ℕ) → n < length path → parent (take (suc n) path) ≡ take n path

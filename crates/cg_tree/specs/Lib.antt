@@ -1,12 +1,2 @@
-pub mod Texts
-pub mod Paths
-pub mod PathText
-pub mod Numbers
-pub mod Identity
-pub mod Users
-pub mod Files
-pub mod Cgroups
 pub mod States
 pub mod WellFormed
-pub mod Places
-pub mod RowsForm

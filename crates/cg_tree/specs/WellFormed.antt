@@ -1,18 +1,18 @@
 -- What holds of every tree.
 use Rattle.std.specs.Prelude.{◌≡◌, ℕ, ◌≤◌, Bool, true, false, ◌||◌, not, cond, [], Some, None, is_some}
-use Rattle.cg_tree.specs.Paths.{Names, is_root, parent}
-use Rattle.cg_tree.specs.Files.{enables, no_controllers, stands_under, accepts}
-pub use Rattle.cg_tree.specs.Files.{enables_nothing, is_within}
-use Rattle.cg_tree.specs.Cgroups.{file_of, entry_in}
+use Rattle.cg_cgroup.specs.Paths.{Names, is_root, parent}
+use Rattle.cg_cgroup.specs.Files.{enables, no_controllers, stands_under, accepts}
+pub use Rattle.cg_cgroup.specs.Files.{enables_nothing, is_within}
+use Rattle.cg_cgroup.specs.Cgroups.{file_of, entry_in}
 use Rattle.cg_tree.specs.States.{State, row_at, process_at, is_used, has_live, child_enables}
-use Rattle.cg_tree.specs.declared.user.Entry.{Entry}
-use Rattle.cg_tree.specs.declared.files.Controller.{Controller}
-use Rattle.cg_tree.specs.declared.files.ControllerSet.{ControllerSet}
-use Rattle.cg_tree.specs.declared.files.LimitFile.{LimitFile}
-use Rattle.cg_tree.specs.declared.files.EntryName.{EntryName}
-use Rattle.cg_tree.specs.declared.cgroup.LimitEntry.{LimitEntry}
-use Rattle.cg_tree.specs.declared.cgroup.Cgroup.{Cgroup}
-use Rattle.cg_tree.specs.declared.process.Process.{Process}
+use Rattle.cg_cgroup.specs.declared.user.Entry.{Entry}
+use Rattle.cg_cgroup.specs.declared.files.Controller.{Controller}
+use Rattle.cg_cgroup.specs.declared.files.ControllerSet.{ControllerSet}
+use Rattle.cg_cgroup.specs.declared.files.LimitFile.{LimitFile}
+use Rattle.cg_cgroup.specs.declared.files.EntryName.{EntryName}
+use Rattle.cg_cgroup.specs.declared.cgroup.LimitEntry.{LimitEntry}
+use Rattle.cg_cgroup.specs.declared.cgroup.Cgroup.{Cgroup}
+use Rattle.cg_cgroup.specs.declared.process.Process.{Process}
 
 abbrev pub has_row : State → Names → Bool
 has_row st path = is_some (row_at st path)

@@ -2,15 +2,15 @@
 ghost use Rattle.std.specs.Prelude.{◌≡◌, ◌≤◌, true, false, length, take, OnOk, OnErr, IfOk, option_copied, is_some};
 ghost use Rattle.cg_tree.specs.States.{State, row_at, process_at, place_at, owner_at, is_used, has_child, has_live, child_enables, count_below, depth_below, paths_of, pids_of, file_at, entry_at, with_row, without_row, with_value, with_mode, with_enabled, with_place, with_process, without_process};
 ghost use Rattle.cg_tree.specs.WellFormed.{IsWellFormed, has_row, may_hold, MayEnable};
-ghost use Rattle.cg_tree.specs.Paths.{is_root};
-ghost use Rattle.cg_tree.specs.Files.{accepts};
+ghost use Rattle.cg_cgroup.specs.Paths.{is_root};
+ghost use Rattle.cg_cgroup.specs.Files.{accepts};
 
-use crate::cgroup::Cgroup;
-use crate::files::{Controller, ControllerSet, EntryName, Limit, LimitFile};
-use crate::memory::NoMemory;
-use crate::path::Path;
-use crate::process::Pid;
-use crate::user::{Mode, User};
+use cg_cgroup::cgroup::Cgroup;
+use cg_cgroup::files::{Controller, ControllerSet, EntryName, Limit, LimitFile};
+use cg_cgroup::memory::NoMemory;
+use cg_cgroup::path::Path;
+use cg_cgroup::process::Pid;
+use cg_cgroup::user::{Mode, User};
 use std::alloc::Global;
 
 /// A tree of cgroups with its live processes, the PIDs that were ever used and the root's controllers.

@@ -1,12 +1,6 @@
-//! Paths, owners, limit files and the tree of cgroups, and `Hierarchy`, through which all else sees a tree.
+//! What a tree of cgroups is, and `Hierarchy`, through which all else sees one.
 #![tactic(auto)]
 
-pub mod cgroup;
-pub mod files;
 pub mod hierarchy;
-pub mod memory;
-pub mod path;
-pub mod process;
-pub mod rows;
-pub mod tables;
-pub mod user;
+
+pub use cg_cgroup::{cgroup, files, memory, path, process, user};

@@ -7,10 +7,10 @@ ghost use Rattle.cg_cli.specs.Replaying.{Answered};
 use crate::fault::CliFault;
 use crate::write::write_whole;
 use cg_ops::apply;
-use cg_text::lines::read_op;
-use cg_text::outcome::outcome_text;
+use cg_lines::lines::read_op;
+use cg_lines::outcome::outcome_text;
 use cg_tree::hierarchy::Hierarchy;
-use cg_tree::user::User;
+use cg_cgroup::user::User;
 use std::alloc::Global;
 use std::io::Write;
 

@@ -5,7 +5,7 @@ use super::vectors::delegation_with;
 use crate::arguments::UserIds;
 use crate::fault::CliFault;
 use crate::replay::{replay_bytes, replay_from};
-use cg_text::lines::LineFault;
+use cg_lines::lines::LineFault;
 use std::alloc::{AllocError, Global};
 use std::process::Abort;
 use std::test::Fail;

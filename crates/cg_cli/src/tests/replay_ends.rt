@@ -6,7 +6,7 @@ use super::writers::{ByteByByte, FailsOnce, TakesNone};
 use crate::arguments::UserIds;
 use crate::fault::{CliFault, fault_text};
 use crate::replay::{replay_bytes, replay_from};
-use cg_text::lines::LineFault;
+use cg_lines::lines::LineFault;
 use cg_text::tree::{Place, TreeFault};
 use std::alloc::{AllocError, Global};
 use std::io::{BufRead, Write};

@@ -1,19 +1,19 @@
 //! Trees for the tests, over any `Hierarchy`. Uid 1 stands for an administrator, since no user has uid 0.
 ghost use Rattle.std.specs.Prelude.{◌≡◌};
-ghost use Rattle.cg_tree.specs.Cgroups.{cgroup_made_by};
+ghost use Rattle.cg_cgroup.specs.Cgroups.{cgroup_made_by};
 
 use crate::apply;
 use crate::changes::{Change, Changes};
 use crate::operation::Op;
 use crate::outcome::Outcome;
-use cg_tree::cgroup::Cgroup;
-use cg_tree::files::{Controller, ControllerSet, Limit, LimitFile};
+use cg_cgroup::cgroup::Cgroup;
+use cg_cgroup::files::{Controller, ControllerSet, Limit, LimitFile};
 use cg_tree::hierarchy::Hierarchy;
-use cg_tree::memory::NoMemory;
-use cg_tree::path::Path;
-use cg_tree::process::Pid;
-use cg_tree::rows::Rows;
-use cg_tree::user::User;
+use cg_cgroup::memory::NoMemory;
+use cg_cgroup::path::Path;
+use cg_cgroup::process::Pid;
+use cg_rows::rows::Rows;
+use cg_cgroup::user::User;
 use std::alloc::Global;
 use std::process::Abort;
 use std::test::Fail;

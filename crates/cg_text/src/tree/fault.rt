@@ -2,7 +2,7 @@
 ghost use Rattle.std.specs.Prelude.{◌≡◌};
 ghost use Rattle.cg_text.specs.declared.tree.fault.TreeFault.TheVariants.{NoMemory as OutOfMemory};
 
-use cg_tree::memory::NoMemory;
+use cg_cgroup::memory::NoMemory;
 use std::alloc::{AllocError, AllocFailed};
 
 /// Where in a tree text a fault is. Rows are numbered from 1 within their array.

@@ -1,6 +1,6 @@
 //! The rows of a tree text, found by their paths.
 ghost use Rattle.std.specs.Prelude.{◌≡◌, ◌≤◌, length, take, option_copied};
-ghost use Rattle.cg_tree.specs.Paths.{Names};
+ghost use Rattle.cg_cgroup.specs.Paths.{Names};
 ghost use Rattle.cg_text.specs.Faults.{Passes};
 ghost use Rattle.cg_text.specs.Levels.{level_cmp, level_cmp_total, found_in};
 ghost use Rattle.cg_text.specs.Tree.{first_row, duplicate, cgroup_at};
@@ -8,8 +8,8 @@ ghost use Rattle.cg_text.specs.Tree.{first_row, duplicate, cgroup_at};
 use crate::tree::document::row_number;
 use crate::tree::fault::{Place, TreeFault};
 use crate::tree::named::NamedRow;
-use cg_tree::cgroup::Cgroup;
-use cg_tree::path::Path;
+use cg_cgroup::cgroup::Cgroup;
+use cg_cgroup::path::Path;
 use std::alloc::Global;
 use std::cmp::Ordering;
 use std::collections::BTreeMap;

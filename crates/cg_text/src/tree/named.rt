@@ -1,6 +1,6 @@
 //! Cgroups as the rows of a tree text name them.
-use cg_tree::cgroup::Cgroup;
-use cg_tree::path::Path;
+use cg_cgroup::cgroup::Cgroup;
+use cg_cgroup::path::Path;
 
 /// A path, and the cgroup with the files that its row names.
 #[derive(Debug, Drop)]

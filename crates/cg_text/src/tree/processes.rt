@@ -3,8 +3,8 @@ ghost use Rattle.std.specs.Prelude.{◌≡◌, ◌≤◌, ◌<◌, ◌||◌, ℕ
 ghost use Rattle.std.specs.Ordering.{nat_cmp};
 ghost use Rattle.std.specs.BTreeMap.{get, IsOrdered};
 ghost use Rattle.std.specs.FinMap as map;
-ghost use Rattle.cg_tree.specs.Paths.{is_root, path_at};
-ghost use Rattle.cg_tree.specs.Files.{enables_nothing};
+ghost use Rattle.cg_cgroup.specs.Paths.{is_root, path_at};
+ghost use Rattle.cg_cgroup.specs.Files.{enables_nothing};
 ghost use Rattle.cg_text.specs.Faults.{Passes};
 ghost use Rattle.cg_text.specs.Tree.{or_else, first_row, pid_read, live_process, no_such_place, internal_process, process_row_fault, process_fault, process_at};
 
@@ -14,11 +14,11 @@ use crate::tree::records::ProcessRecord;
 use crate::tree::rows::path_of;
 use crate::tree::together::is_root;
 use crate::tree::written::id_read;
-use cg_tree::cgroup::Cgroup;
-use cg_tree::files::ControllerSet;
-use cg_tree::path::Path;
-use cg_tree::process::{Pid, Process};
-use cg_tree::tables::path_table::PathTable;
+use cg_cgroup::cgroup::Cgroup;
+use cg_cgroup::files::ControllerSet;
+use cg_cgroup::path::Path;
+use cg_cgroup::process::{Pid, Process};
+use cg_rows::tables::path_table::PathTable;
 use std::alloc::Global;
 use std::collections::BTreeMap;
 

@@ -1,7 +1,7 @@
 //! What a tree text says, before any of it is judged: texts, numbers, and what is left out.
 ghost use Rattle.std.specs.Prelude.{◌≡◌};
 
-use cg_tree::files::LimitFile;
+use cg_cgroup::files::LimitFile;
 use std::marker::Model;
 
 /// The two formats of a tree text.

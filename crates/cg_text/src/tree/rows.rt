@@ -1,6 +1,6 @@
 //! The cgroups of a tree text: each row alone.
 ghost use Rattle.std.specs.Prelude.{◌≡◌, ◌≤◌, ◌<◌, length, map, Some, is_some};
-ghost use Rattle.cg_tree.specs.Paths.{path_at};
+ghost use Rattle.cg_cgroup.specs.Paths.{path_at};
 ghost use Rattle.cg_text.specs.Faults.{Passes};
 ghost use Rattle.cg_text.specs.Tree.{unless, first_row, row_fault, named};
 
@@ -9,7 +9,7 @@ use crate::tree::fault::{Place, TreeFault};
 use crate::tree::named::NamedRow;
 use crate::tree::records::{CgroupRecord, Format};
 use crate::tree::written::{cgroup_written, controllers_read, entries_pass, values_pass};
-use cg_tree::path::{Path, PathFault};
+use cg_cgroup::path::{Path, PathFault};
 use std::alloc::Global;
 
 /// The path of a text, or `fault` where it is none.

@@ -2,9 +2,9 @@
 ghost use Rattle.std.specs.Prelude.{◌≡◌, ◌≤◌, ◌||◌, ◌<◌, not, false, length, is_some, map as map_list, IfOk};
 ghost use Rattle.std.specs.Option.{option_copied};
 ghost use Rattle.std.specs.List.{list_all};
-ghost use Rattle.cg_tree.specs.Paths.{is_root, parent};
-ghost use Rattle.cg_tree.specs.Files.{is_within, stands_under};
-ghost use Rattle.cg_tree.specs.Cgroups.{file_of};
+ghost use Rattle.cg_cgroup.specs.Paths.{is_root, parent};
+ghost use Rattle.cg_cgroup.specs.Files.{is_within, stands_under};
+ghost use Rattle.cg_cgroup.specs.Cgroups.{file_of};
 ghost use Rattle.cg_text.specs.Faults.{Passes};
 ghost use Rattle.cg_text.specs.Levels.{found_in};
 ghost use Rattle.cg_text.specs.Tree.{first_row, cgroup_at, enabled_over, available_to, files_stand, no_root, no_parent, top_down, no_such_file, rows_fault};
@@ -13,10 +13,10 @@ use crate::tree::document::row_number;
 use crate::tree::fault::{Place, TreeFault};
 use crate::tree::index::{Index, cgroup_at, index_of};
 use crate::tree::named::NamedRow;
-use cg_tree::cgroup::Cgroup;
-use cg_tree::files::{ControllerSet, LimitFile};
-use cg_tree::memory::NoMemory;
-use cg_tree::path::Path;
+use cg_cgroup::cgroup::Cgroup;
+use cg_cgroup::files::{ControllerSet, LimitFile};
+use cg_cgroup::memory::NoMemory;
+use cg_cgroup::path::Path;
 use std::alloc::Global;
 
 /// The cgroup above a path that isn't the root.

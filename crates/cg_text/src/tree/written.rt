@@ -2,15 +2,15 @@
 ghost use Rattle.std.specs.Prelude.{◌≡◌, ◌≤◌, map};
 ghost use Rattle.std.specs.Option.{option_map};
 ghost use Rattle.std.specs.List.{list_all};
-ghost use Rattle.cg_tree.specs.Files.{all_files};
+ghost use Rattle.cg_cgroup.specs.Files.{all_files};
 ghost use Rattle.cg_text.specs.Tree.{id_read, mode_read, entry_read, value_read, controllers_read, passes_entry, passes_file, passes_value, entries_pass, values_pass, entry_written, file_written, core_file, cgroup_written, file_in};
 
 use crate::tree::records::{
     CgroupRecord, EntryRecord, FileRecord, FilesRecord, Format, ValueRecord,
 };
-use cg_tree::cgroup::{Cgroup, LimitEntry};
-use cg_tree::files::{Controller, ControllerSet, Limit, LimitFile};
-use cg_tree::user::Entry;
+use cg_cgroup::cgroup::{Cgroup, LimitEntry};
+use cg_cgroup::files::{Controller, ControllerSet, Limit, LimitFile};
+use cg_cgroup::user::Entry;
 
 /// The mode of a directory that says nothing of it.
 const DIRECTORY_MODE: u16 = 0o755;

@@ -1,5 +1,5 @@
 use Rattle.std.proofs.Common.{sym}
-use Rattle.cg_text.proofs.OutcomeLaws.{bars_shown}
+use Rattle.cg_lines.proofs.OutcomeLaws.{bars_shown}
 use Rattle.cg_cli.proofs.may.permission.Goals as goal
 
 pub outcome_text-requires : goal.outcome_text-requires

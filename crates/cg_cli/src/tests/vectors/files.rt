@@ -1,7 +1,7 @@
 //! Owners, modes and values of a cgroup's directory and files.
 use super::{BASE, Parts, READ, cgroup_in, expect, text_of};
-use cg_tree::files::{Limit, LimitFile};
-use cg_tree::user::Entry;
+use cg_cgroup::files::{Limit, LimitFile};
+use cg_cgroup::user::Entry;
 use std::alloc::{AllocError, Global};
 use std::test::Fail;
 

@@ -1,6 +1,6 @@
 //! What format 2 has and format 1 hasn't: groups, and the bit of a group's members.
 use super::{Asked, BASE, Parts, READ, cgroup_in, delegation_with, expect, expect_line, text_of};
-use cg_tree::user::Entry;
+use cg_cgroup::user::Entry;
 use std::test::Fail;
 
 const FORMAT_2: &str = "format = 2\ncontrollers = [\"cpu\"]";

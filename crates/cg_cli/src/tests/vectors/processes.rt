@@ -2,7 +2,7 @@
 use super::{Asked, BASE, Parts, READ, TO_A, expect, expect_line, text_of};
 use cg_text::tree::read_tree;
 use cg_tree::hierarchy::Hierarchy;
-use cg_tree::process::Pid;
+use cg_cgroup::process::Pid;
 use std::alloc::{AllocError, Global};
 use std::test::Fail;
 

@@ -1,21 +1,21 @@
 use Rattle.std.proofs.Common.{◌≡◌, ◌≢◌, ◌<◌, ◌≤◌, ◌+◌, ◌↔◌, ℕ, List, length, Result, Ok, Err, Option, refl, ap, subst, ◌∙◌, arith}
 use Rattle.std.specs.Io.KnownBytes.{Appends}
 use Rattle.std.proofs.KnownBytes.{Keeps-refl}
-use Rattle.cg_tree.specs.Identity.{Identity}
+use Rattle.cg_cgroup.specs.Identity.{Identity}
 use Rattle.cg_tree.specs.States.{State}
 use Rattle.std.proofs.lemmas.Result.{err_from_is_err_and}
 use Rattle.cg_ops.specs.declared.operation.Op.{Op}
 use Rattle.cg_ops.specs.declared.outcome.Outcome.{Outcome}
-use Rattle.cg_text.specs.OperationLines.{spelling, IsHeld}
-use Rattle.cg_text.specs.Outcomes.{outcome_text}
-use Rattle.cg_text.specs.declared.lines.fault.LineFault.{LineFault}
-use Rattle.cg_text.specs.declared.lines.fault.LineFault.TheVariants.{TooLong, BadWord, Cut, NoMemory}
+use Rattle.cg_lines.specs.OperationLines.{spelling, IsHeld}
+use Rattle.cg_lines.specs.Outcomes.{outcome_text}
+use Rattle.cg_lines.specs.declared.lines.fault.LineFault.{LineFault}
+use Rattle.cg_lines.specs.declared.lines.fault.LineFault.TheVariants.{TooLong, BadWord, Cut, NoMemory}
 use Rattle.cg_cli.specs.Faults.{lifted_line}
 use Rattle.cg_cli.specs.Replays.{operation_read, outcome_of}
 use Rattle.cg_cli.specs.Replaying.{Answered}
 use Rattle.cg_cli.specs.Written.{AppendsPart}
 use Rattle.cg_cli.proofs.ReplayLines.{operation_read_ok, operation_read_bad, operation_read_long, outcome_is, state_is}
-use Rattle.cg_text.proofs.OutcomeLaws.{outcome_shown}
+use Rattle.cg_lines.proofs.OutcomeLaws.{outcome_shown}
 use Rattle.cg_cli.proofs.replay.line.answer.Goals as goal
 
 told_apart : ◌≡◌ {A = Result Op LineFault} (Err BadWord) (Err TooLong) → ⊥

@@ -2,9 +2,9 @@ use Rattle.std.proofs.Common.{◌≡◌, ◌+◌, not, cond, is_eq, ap, sym, ◌
 use Rattle.std.proofs.lemmas.List.{take_all}
 use Rattle.std.specs.Prelude.{option_copied}
 use Rattle.std.specs.BTreeMap.{get}
-use Rattle.cg_tree.specs.Paths.{Names}
-use Rattle.cg_tree.proofs.PathOrder.{path_cmp_total}
-use Rattle.cg_tree.proofs.Options.{none_value}
+use Rattle.cg_cgroup.specs.Paths.{Names}
+use Rattle.cg_cgroup.proofs.PathOrder.{path_cmp_total}
+use Rattle.cg_cgroup.proofs.Options.{none_value}
 use Rattle.cg_text.specs.Levels.{level_cmp, found_in}
 use Rattle.cg_text.specs.declared.tree.fault.Place.TheVariants.{Cgroup}
 use Rattle.cg_text.specs.declared.tree.fault.TreeFault.TheVariants.{Duplicate}

@@ -1,5 +1,5 @@
 use Rattle.std.proofs.Common.{◌≡◌, take, drop}
-use Rattle.cg_tree.specs.Paths.{Names}
+use Rattle.cg_cgroup.specs.Paths.{Names}
 use Rattle.cg_text.specs.Levels.{found_in}
 use Rattle.cg_text.specs.Tree.{first_row, duplicate, cgroup_at}
 use Rattle.cg_text.proofs.tree.index.index_of.Given as goal

@@ -1,7 +1,7 @@
 use Rattle.std.proofs.Common.{◌+◌, ap, sym, ◌∙◌, is_some}
 use Rattle.std.proofs.lemmas.Result.{err_from_is_err_and}
 use Rattle.std.specs.FinMap as map
-use Rattle.cg_tree.specs.Paths.{path_at}
+use Rattle.cg_cgroup.specs.Paths.{path_at}
 use Rattle.cg_text.specs.Records.{ProcessRow}
 use Rattle.cg_text.specs.Tree.{unless, internal_process}
 use Rattle.cg_text.specs.declared.tree.fault.Place.TheVariants.{Process as AtProcess}

@@ -4,7 +4,7 @@ use Rattle.std.specs.Ordering.{nat_cmp}
 use Rattle.std.specs.Cmp.{nat_cmp_total}
 use Rattle.std.specs.BTreeMap.{get}
 use Rattle.std.specs.FinMap as map
-use Rattle.cg_tree.specs.declared.process.Process.{Process}
+use Rattle.cg_cgroup.specs.declared.process.Process.{Process}
 use Rattle.cg_text.specs.Tree.{process_fault, process_at, live_process}
 use Rattle.cg_text.proofs.TreeLaws.{first_row_next, first_row_stops, earlier_same, process_new}
 use Rattle.cg_text.proofs.FoundLaws.{filled}

@@ -4,7 +4,7 @@ use Rattle.std.specs.BTreeMap.{IsFromIterResult}
 use Rattle.std.proofs.lemmas.Iterator.{YieldsList-from_map, YieldsList-from_zip}
 use Rattle.std.proofs.lemmas.Iterator.Consumers.{YieldsList-at}
 use Rattle.std.proofs.lemmas.Iterator.Adapters.{YieldsList-from_vec, fact_from_collect}
-use Rattle.cg_tree.specs.Paths.{path_cmp}
+use Rattle.cg_cgroup.specs.Paths.{path_cmp}
 use Rattle.cg_text.specs.Tree.{fitted_under}
 use Rattle.cg_text.proofs.tree.state.cgroups_by_path.Goals as goal
 

@@ -1,7 +1,7 @@
 use Rattle.std.proofs.Common.{ap, ◌∙◌}
 use Rattle.std.proofs.lemmas.Result.{IfOk-weaker}
 use Rattle.std.specs.FinMap as map
-use Rattle.cg_tree.specs.Paths.{path_cmp}
+use Rattle.cg_cgroup.specs.Paths.{path_cmp}
 use Rattle.cg_text.proofs.TableLaws.{get-from_map, fitted_found}
 use Rattle.cg_text.proofs.tree.state.path_table.Goals as goal
 

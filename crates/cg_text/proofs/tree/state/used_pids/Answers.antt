@@ -7,7 +7,7 @@ use Rattle.std.specs.BTreeMap.{get}
 use Rattle.std.specs.Cmp.{nat_cmp_total}
 use Rattle.std.specs.FinMap as map
 use Rattle.std.specs.FinMap.{contains_key-keys}
-use Rattle.cg_tree.specs.declared.process.Process.{Process}
+use Rattle.cg_cgroup.specs.declared.process.Process.{Process}
 use Rattle.cg_text.proofs.FoundLaws.{marked}
 use Rattle.cg_text.proofs.TableLaws.{get-from_map}
 use Rattle.cg_text.proofs.tree.state.used_pids.Goals as goal

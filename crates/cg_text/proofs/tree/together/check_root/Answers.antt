@@ -2,7 +2,7 @@ use Rattle.std.proofs.Common.{◌≡◌, ap, sym, ◌∙◌, rules, tests}
 use Rattle.std.specs.List.{list_any}
 use Rattle.std.proofs.lemmas.Iterator.{YieldsList-from_slice}
 use Rattle.std.proofs.lemmas.Iterator.Search.{any_from_yields_List}
-use Rattle.cg_tree.specs.Paths.{is_root}
+use Rattle.cg_cgroup.specs.Paths.{is_root}
 use Rattle.cg_text.specs.Tree.{unless}
 use Rattle.cg_text.specs.declared.tree.fault.TreeFault.TheVariants.{NoRoot}
 use Rattle.cg_text.proofs.TreeLaws.{has_root}

@@ -1,7 +1,7 @@
 use Rattle.std.proofs.Common.{◌≡◌, ◌||◌, not, is_some, drop}
 use Rattle.std.specs.List.{list_all}
-use Rattle.cg_tree.specs.Files.{stands_under}
-use Rattle.cg_tree.specs.Cgroups.{file_of}
+use Rattle.cg_cgroup.specs.Files.{stands_under}
+use Rattle.cg_cgroup.specs.Cgroups.{file_of}
 use Rattle.cg_text.proofs.tree.together.stand.Given as goal
 
 abbrev pub invariant-loop-name : goal.invariant-loop-name

@@ -1,0 +1,221 @@
+-- What the entries, files and values of a cgroup are after each change, and those of a new cgroup.
+use Rattle.std.proofs.Common.{◌≡◌, ℕ, Bool, true, false, cond, refl, ap, ◌∙◌}
+use Rattle.std.specs.Prelude.{Option, Some, None, is_some, unwrap_or}
+use Rattle.std.specs.Option.{option_map}
+use Rattle.std.proofs.lemmas.Option.{same_Some}
+use Rattle.cg_cgroup.specs.Identity.{Identity}
+use Rattle.cg_cgroup.specs.Users.{entry_made_by}
+use Rattle.cg_cgroup.specs.Files.{accepts, default_value, stands_under, same_file, same_entry}
+use Rattle.cg_cgroup.specs.Cgroups.{file_of, entry_in, value_in, with_file, with_value_of, with_value_in, with_mode_of, with_file_mode_of, with_mode_in, file_made_by, refitted, with_files_of, cgroup_made_by}
+use Rattle.cg_cgroup.specs.declared.files.Limit.{Limit}
+use Rattle.cg_cgroup.specs.declared.files.ControllerSet.{ControllerSet}
+use Rattle.cg_cgroup.specs.declared.files.LimitFile.{LimitFile}
+use Rattle.cg_cgroup.specs.declared.files.LimitFile.TheVariants.{MaxDescendants, MaxDepth, CpuWeight, MemoryMin, MemoryLow, MemoryHigh, MemoryMax, PidsMax}
+use Rattle.cg_cgroup.specs.declared.files.EntryName.{EntryName}
+use Rattle.cg_cgroup.specs.declared.files.EntryName.TheVariants.{Dir, Procs, SubtreeControl, File}
+use Rattle.cg_cgroup.specs.declared.cgroup.LimitEntry.{LimitEntry}
+use Rattle.cg_cgroup.specs.declared.cgroup.Cgroup.{Cgroup}
+
+-- ---- names
+
+pub same_file-refl : (file : LimitFile) → same_file file file ≡ true
+same_file-refl MaxDescendants = refl
+same_file-refl file = refl
+
+pub same_file-true : (file other : LimitFile) → same_file file other ≡ true → file ≡ other
+same_file-true MaxDescendants MaxDescendants h = refl
+same_file-true MaxDepth MaxDepth h = refl
+same_file-true CpuWeight CpuWeight h = refl
+same_file-true MemoryMin MemoryMin h = refl
+same_file-true MemoryLow MemoryLow h = refl
+same_file-true MemoryHigh MemoryHigh h = refl
+same_file-true MemoryMax MemoryMax h = refl
+same_file-true PidsMax PidsMax h = refl
+same_file-true file other h = cc
+
+pub same_entry-refl : (name : EntryName) → same_entry name name ≡ true
+same_entry-refl Dir = refl
+same_entry-refl Procs = refl
+same_entry-refl SubtreeControl = refl
+same_entry-refl (File file) = same_file-refl file
+
+pub same_entry-true : (name other : EntryName) → same_entry name other ≡ true → name ≡ other
+same_entry-true Dir Dir h = refl
+same_entry-true Procs Procs h = refl
+same_entry-true SubtreeControl SubtreeControl h = refl
+same_entry-true (File file) (File other) h = ap File (same_file-true file other h)
+same_entry-true name other h = cc
+
+-- ---- one limit file changed
+
+pub file_of-with_file : (file : LimitFile) (f : LimitEntry → LimitEntry) (row : Cgroup) (other : LimitFile) → file_of (with_file file f row) other ≡ cond (same_file file other) (option_map f (file_of row other)) (file_of row other)
+file_of-with_file MaxDescendants f row MaxDescendants = refl
+file_of-with_file MaxDepth f row MaxDepth = refl
+file_of-with_file CpuWeight f row CpuWeight = refl
+file_of-with_file MemoryMin f row MemoryMin = refl
+file_of-with_file MemoryLow f row MemoryLow = refl
+file_of-with_file MemoryHigh f row MemoryHigh = refl
+file_of-with_file MemoryMax f row MemoryMax = refl
+file_of-with_file PidsMax f row PidsMax = refl
+file_of-with_file file f row other = refl
+
+-- what a change of a limit file leaves
+pub record SameRest (old new : Cgroup) : Type 0 where
+  pub dir : new.dir ≡ old.dir
+  pub procs : new.procs ≡ old.procs
+  pub subtree_control : new.subtree_control ≡ old.subtree_control
+  pub enabled : new.enabled ≡ old.enabled
+
+pub rest-with_file : (file : LimitFile) (f : LimitEntry → LimitEntry) (row : Cgroup) → SameRest row (with_file file f row)
+rest-with_file MaxDescendants f row = record { dir = refl; procs = refl; subtree_control = refl; enabled = refl }
+rest-with_file file f row = record { dir = refl; procs = refl; subtree_control = refl; enabled = refl }
+
+entry_part : (b : Bool) (f : LimitEntry → LimitEntry) (o : Option LimitEntry) → ((x : LimitEntry) → (f x).entry ≡ x.entry) → option_map (λ x. x.entry) (cond b (option_map f o) o) ≡ option_map (λ x. x.entry) o
+entry_part false f o h = refl
+entry_part true f None h = refl
+entry_part true f (Some x) h = ap Some (h x)
+
+pub file_of-with_value_in : (file : LimitFile) (value : Limit) (row : Cgroup) (other : LimitFile) → file_of (with_value_in file value row) other ≡ cond (same_file file other) (option_map (with_value_of value) (file_of row other)) (file_of row other)
+file_of-with_value_in file value row other = file_of-with_file file (with_value_of value) row other
+
+pub enabled-with_value_in : (file : LimitFile) (value : Limit) (row : Cgroup) → (with_value_in file value row).enabled ≡ row.enabled
+enabled-with_value_in file value row = (rest-with_file file (with_value_of value) row).enabled
+
+pub entry_in-with_value_in : (file : LimitFile) (value : Limit) (row : Cgroup) (name : EntryName) → entry_in (with_value_in file value row) name ≡ entry_in row name
+entry_in-with_value_in file value row Dir = ap Some (rest-with_file file (with_value_of value) row).dir
+entry_in-with_value_in file value row Procs = ap Some (rest-with_file file (with_value_of value) row).procs
+entry_in-with_value_in file value row SubtreeControl = ap Some (rest-with_file file (with_value_of value) row).subtree_control
+entry_in-with_value_in file value row (File other) =
+    ap (option_map (λ x. x.entry)) (file_of-with_value_in file value row other) ∙ entry_part (same_file file other) (with_value_of value) (file_of row other) (λ x. refl)
+
+value_part : (b : Bool) (value : Limit) (o : Option LimitEntry) → option_map (λ x. x.value) (cond b (option_map (with_value_of value) o) o) ≡ cond b (option_map (λ x. value) o) (option_map (λ x. x.value) o)
+value_part false value o = refl
+value_part true value None = refl
+value_part true value (Some x) = refl
+
+pub value_in-with_value_in : (file : LimitFile) (value : Limit) (row : Cgroup) (other : LimitFile) → value_in (with_value_in file value row) other ≡ cond (same_file file other) (option_map (λ x. value) (file_of row other)) (value_in row other)
+value_in-with_value_in file value row other =
+    ap (option_map (λ x. x.value)) (file_of-with_value_in file value row other) ∙ value_part (same_file file other) value (file_of row other)
+
+-- ---- one mode changed
+
+mode_part : (b : Bool) (mode : ℕ) (o : Option LimitEntry) → option_map (λ x. x.entry) (cond b (option_map (with_file_mode_of mode) o) o) ≡ cond b (option_map (with_mode_of mode) (option_map (λ x. x.entry) o)) (option_map (λ x. x.entry) o)
+mode_part false mode o = refl
+mode_part true mode None = refl
+mode_part true mode (Some x) = refl
+
+value_kept : (b : Bool) (mode : ℕ) (o : Option LimitEntry) → option_map (λ x. x.value) (cond b (option_map (with_file_mode_of mode) o) o) ≡ option_map (λ x. x.value) o
+value_kept false mode o = refl
+value_kept true mode None = refl
+value_kept true mode (Some x) = refl
+
+pub file_of-with_mode_in : (name : EntryName) (mode : ℕ) (row : Cgroup) (file : LimitFile) → file_of (with_mode_in name mode row) file ≡ cond (same_entry name (File file)) (option_map (with_file_mode_of mode) (file_of row file)) (file_of row file)
+file_of-with_mode_in (File file) mode row other = file_of-with_file file (with_file_mode_of mode) row other
+file_of-with_mode_in Dir mode row MaxDescendants = refl
+file_of-with_mode_in Procs mode row MaxDescendants = refl
+file_of-with_mode_in SubtreeControl mode row MaxDescendants = refl
+file_of-with_mode_in name mode row file = refl
+
+pub enabled-with_mode_in : (name : EntryName) (mode : ℕ) (row : Cgroup) → (with_mode_in name mode row).enabled ≡ row.enabled
+enabled-with_mode_in (File file) mode row = (rest-with_file file (with_file_mode_of mode) row).enabled
+enabled-with_mode_in name mode row = refl
+
+pub value_in-with_mode_in : (name : EntryName) (mode : ℕ) (row : Cgroup) (file : LimitFile) → value_in (with_mode_in name mode row) file ≡ value_in row file
+value_in-with_mode_in name mode row file =
+    ap (option_map (λ x. x.value)) (file_of-with_mode_in name mode row file) ∙ value_kept (same_entry name (File file)) mode (file_of row file)
+
+pub entry_in-with_mode_in : (name : EntryName) (mode : ℕ) (row : Cgroup) (other : EntryName) → entry_in (with_mode_in name mode row) other ≡ cond (same_entry name other) (option_map (with_mode_of mode) (entry_in row other)) (entry_in row other)
+entry_in-with_mode_in name mode row (File file) =
+    ap (option_map (λ x. x.entry)) (file_of-with_mode_in name mode row file) ∙ mode_part (same_entry name (File file)) mode (file_of row file)
+entry_in-with_mode_in (File file) mode row Dir = ap Some (rest-with_file file (with_file_mode_of mode) row).dir
+entry_in-with_mode_in (File file) mode row Procs = ap Some (rest-with_file file (with_file_mode_of mode) row).procs
+entry_in-with_mode_in (File file) mode row SubtreeControl = ap Some (rest-with_file file (with_file_mode_of mode) row).subtree_control
+entry_in-with_mode_in Dir mode row Dir = refl
+entry_in-with_mode_in Procs mode row Dir = refl
+entry_in-with_mode_in SubtreeControl mode row Dir = refl
+entry_in-with_mode_in name mode row other = refl
+
+-- ---- files made and removed
+
+pub file_of-with_files_of : (enabled : ControllerSet) (user : Identity) (row : Cgroup) (file : LimitFile) → file_of (with_files_of enabled user row) file ≡ refitted enabled user file (file_of row file)
+file_of-with_files_of enabled user row MaxDescendants = refl
+file_of-with_files_of enabled user row file = refl
+
+refit_part : (b : Bool) (o : Option LimitEntry) (new : LimitEntry) → option_map (λ x. x.entry) (cond b (Some (unwrap_or o new)) None) ≡ cond b (Some (unwrap_or (option_map (λ x. x.entry) o) new.entry)) None
+refit_part false o new = refl
+refit_part true None new = refl
+refit_part true (Some x) new = refl
+
+pub entry_in-with_files_of : (enabled : ControllerSet) (user : Identity) (row : Cgroup) (file : LimitFile) → entry_in (with_files_of enabled user row) (File file) ≡ cond (stands_under enabled file) (Some (unwrap_or (entry_in row (File file)) (entry_made_by user 420))) None
+entry_in-with_files_of enabled user row file =
+    ap (option_map (λ x. x.entry)) (file_of-with_files_of enabled user row file) ∙ refit_part (stands_under enabled file) (file_of row file) (file_made_by user file)
+
+is_some-cond : {A : Type 0} (b : Bool) (x : A) → is_some (cond b (Some x) None) ≡ b
+is_some-cond true x = refl
+is_some-cond false x = refl
+
+-- limit files stand exactly where they belong
+pub stands-with_files_of : (enabled : ControllerSet) (user : Identity) (row : Cgroup) (file : LimitFile) → is_some (file_of (with_files_of enabled user row) file) ≡ stands_under enabled file
+stands-with_files_of enabled user row file =
+    ap is_some (file_of-with_files_of enabled user row file) ∙ is_some-cond (stands_under enabled file) (unwrap_or (file_of row file) (file_made_by user file))
+
+-- a file that stays is kept as it is
+pub kept-with_files_of : (enabled : ControllerSet) (user : Identity) (row : Cgroup) (file : LimitFile) (held : LimitEntry) → file_of row file ≡ Some held → stands_under enabled file ≡ true → file_of (with_files_of enabled user row) file ≡ Some held
+kept-with_files_of enabled user row file held h stands = rw (file_of-with_files_of enabled user row file, stands, h) refl
+
+stays : {A : Type 0} (o : Option A) (b : Bool) (new : A) → is_some o ≡ b → cond b (Some (unwrap_or o new)) None ≡ o
+stays None true new h = cc
+stays None false new h = refl
+stays (Some x) true new h = refl
+stays (Some x) false new h = cc
+
+-- the limit files of a row that already stand where they belong all stay
+pub same-with_files_of : (enabled : ControllerSet) (user : Identity) (row : Cgroup) (file : LimitFile) → is_some (file_of row file) ≡ stands_under enabled file → file_of (with_files_of enabled user row) file ≡ file_of row file
+same-with_files_of enabled user row file h = file_of-with_files_of enabled user row file ∙ stays (file_of row file) (stands_under enabled file) (file_made_by user file) h
+
+-- rows with the same entries, files and controllers are one
+pub same_cgroup : (old new : Cgroup) → SameRest old new → ((file : LimitFile) → file_of new file ≡ file_of old file) → new ≡ old
+same_cgroup old new rest files =
+    let max_descendants : new.max_descendants ≡ old.max_descendants = same_Some new.max_descendants old.max_descendants (files MaxDescendants) in
+    let max_depth : new.max_depth ≡ old.max_depth = same_Some new.max_depth old.max_depth (files MaxDepth) in
+    λ i. record {
+      dir = rest.dir i;
+      procs = rest.procs i;
+      subtree_control = rest.subtree_control i;
+      max_descendants = max_descendants i;
+      max_depth = max_depth i;
+      cpu_weight = files CpuWeight i;
+      memory_min = files MemoryMin i;
+      memory_low = files MemoryLow i;
+      memory_high = files MemoryHigh i;
+      memory_max = files MemoryMax i;
+      pids_max = files PidsMax i;
+      enabled = rest.enabled i;
+    }
+
+-- where each file already stands as it belongs, nothing changes
+pub with_files_of-same : (enabled : ControllerSet) (user : Identity) (row : Cgroup) → ((file : LimitFile) → is_some (file_of row file) ≡ stands_under enabled file) → with_files_of enabled user row ≡ row
+with_files_of-same enabled user row stands =
+    same_cgroup row (with_files_of enabled user row) (record { dir = refl; procs = refl; subtree_control = refl; enabled = refl }) (λ file. same-with_files_of enabled user row file (stands file))
+
+-- ---- a new cgroup
+
+pub file_of-cgroup_made_by : (user : Identity) (enabled : ControllerSet) (file : LimitFile) → file_of (cgroup_made_by user enabled) file ≡ cond (stands_under enabled file) (Some (file_made_by user file)) None
+file_of-cgroup_made_by user enabled MaxDescendants = refl
+file_of-cgroup_made_by user enabled file = refl
+
+made_part : (b : Bool) (x : LimitEntry) → option_map (λ x. x.entry) (cond b (Some x) None) ≡ cond b (Some x.entry) None
+made_part false x = refl
+made_part true x = refl
+
+pub entry_in-cgroup_made_by : (user : Identity) (enabled : ControllerSet) (file : LimitFile) → entry_in (cgroup_made_by user enabled) (File file) ≡ cond (stands_under enabled file) (Some (entry_made_by user 420)) None
+entry_in-cgroup_made_by user enabled file = ap (option_map (λ x. x.entry)) (file_of-cgroup_made_by user enabled file) ∙ made_part (stands_under enabled file) (file_made_by user file)
+
+pub stands-cgroup_made_by : (user : Identity) (enabled : ControllerSet) (file : LimitFile) → is_some (file_of (cgroup_made_by user enabled) file) ≡ stands_under enabled file
+stands-cgroup_made_by user enabled file = ap is_some (file_of-cgroup_made_by user enabled file) ∙ is_some-cond (stands_under enabled file) (file_made_by user file)
+
+-- ---- values that are accepted
+
+pub accepts-default_value : (file : LimitFile) → accepts file (default_value file) ≡ true
+accepts-default_value MaxDescendants = refl
+accepts-default_value file = refl

@@ -1,0 +1,14 @@
+pub mod PathOrder
+pub mod PathParents
+pub mod PathEnds
+pub mod PathNames
+mod Slashes
+mod Words
+pub mod PathSteps
+pub mod Options
+pub mod PathAt
+pub mod PathLaws
+pub mod CgroupLaws
+pub mod NameLaws
+pub mod ControllerLaws
+pub mod UserLaws

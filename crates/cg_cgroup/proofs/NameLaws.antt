@@ -1,0 +1,58 @@
+-- The names of controllers, limit files and entries: no two are equal, and what is found by a name has that name.
+use Rattle.std.proofs.Common.{◌≡◌, ◌≢◌, ℕ, Bool, true, false, cond, List, [], ◌∷◌, refl, sym, ap, ◌∙◌}
+use Rattle.std.specs.Prelude.{Option, Some, None}
+use Rattle.std.specs.List.{find}
+use Rattle.std.specs.Cmp.Lexicographic.{bytes_decides}
+use Rattle.std.proofs.lemmas.Option.{none-some, same_Some}
+use Rattle.cg_cgroup.specs.Paths.{same_name}
+use Rattle.cg_cgroup.specs.Files.{AreNames, all_controllers, all_files, all_entries, controller_name, controller_named, file_name, file_named, entry_text, entry_named}
+use Rattle.cg_cgroup.specs.declared.files.Controller.{Controller}
+use Rattle.cg_cgroup.specs.declared.files.Controller.TheVariants.{Cpu}
+use Rattle.cg_cgroup.specs.declared.files.LimitFile.{LimitFile}
+use Rattle.cg_cgroup.specs.declared.files.LimitFile.TheVariants.{MaxDescendants}
+use Rattle.cg_cgroup.specs.declared.files.EntryName.{EntryName}
+use Rattle.cg_cgroup.specs.declared.files.EntryName.TheVariants.{Dir, Procs, SubtreeControl, File}
+
+find_passes : {A : Type 0} (test : A → Bool) (xs : List A) (x : A) → find test xs ≡ Some x → test x ≡ true
+find_passes test [] x h = absurd (none-some x h)
+find_passes test (y ∷ xs) x h =
+    elim (test y) as (λ b. test y ≡ b → cond b (Some y) (find test xs) ≡ Some x → test x ≡ true) [
+      | true ↦ λ e found. sym (ap test (same_Some y x found)) ∙ e
+      | false ↦ λ e found. find_passes test xs x found
+    ] refl h
+
+-- a list of things, each of which is found by its name, has names that tell them apart
+are_names : {A : Type 0} (name : A → List ℕ) (all : List A) → ((x : A) → find (λ y. same_name (name x) (name y)) all ≡ Some x) → AreNames name (λ text. find (λ y. same_name text (name y)) all)
+are_names name all found = record {
+  found = found;
+  named = λ text x h. (bytes_decides text (name x)).0 (find_passes (λ y. same_name text (name y)) all x h);
+  distinct = λ x y e. same_Some x y (sym (found x) ∙ ap (λ text. find (λ z. same_name text (name z)) all) e ∙ found y);
+}
+
+found_controller : (controller : Controller) → controller_named (controller_name controller) ≡ Some controller
+found_controller Cpu = refl
+found_controller controller = refl
+
+found_file : (file : LimitFile) → file_named (file_name file) ≡ Some file
+found_file MaxDescendants = refl
+found_file file = refl
+
+found_entry : (name : EntryName) → entry_named (entry_text name) ≡ Some name
+found_entry Dir = refl
+found_entry Procs = refl
+found_entry SubtreeControl = refl
+found_entry (File MaxDescendants) = refl
+found_entry (File file) = refl
+
+pub controller_names : AreNames controller_name controller_named
+controller_names = are_names controller_name all_controllers found_controller
+
+pub file_names : AreNames file_name file_named
+file_names = are_names file_name all_files found_file
+
+pub entry_names : AreNames entry_text entry_named
+entry_names = are_names entry_text all_entries found_entry
+
+-- a text by which nothing is found is no name
+pub unnamed : {A : Type 0} {name : A → List ℕ} {look_up : List ℕ → Option A} → AreNames name look_up → (text : List ℕ) → look_up text ≡ None → (x : A) → text ≢ name x
+unnamed {look_up = look_up} names text none x e = none-some x (sym none ∙ (ap look_up e ∙ names.found x))

@@ -1,0 +1,140 @@
+-- Controllers and limit files: their names, where they stand, their defaults and the values that they take.
+use Rattle.std.specs.Prelude.{◌≡◌, ℕ, Bool, true, false, ◌&&◌, ◌||◌, not, nat_le, map, List, [], ◌∷◌, Option, Some, None, codes}
+use Rattle.std.specs.List.{find, list_all}
+use Rattle.cg_cgroup.specs.Paths.{same_name}
+use Rattle.cg_cgroup.specs.Texts as texts
+use Rattle.cg_cgroup.specs.declared.files.Limit.{Limit}
+use Rattle.cg_cgroup.specs.declared.files.Limit.TheVariants.{Max, At}
+use Rattle.cg_cgroup.specs.declared.files.Controller.{Controller}
+use Rattle.cg_cgroup.specs.declared.files.Controller.TheVariants.{Cpu, Memory, Pids}
+use Rattle.cg_cgroup.specs.declared.files.ControllerSet.{ControllerSet}
+use Rattle.cg_cgroup.specs.declared.files.LimitFile.{LimitFile}
+use Rattle.cg_cgroup.specs.declared.files.LimitFile.TheVariants.{MaxDescendants, MaxDepth, CpuWeight, MemoryMin, MemoryLow, MemoryHigh, MemoryMax, PidsMax}
+use Rattle.cg_cgroup.specs.declared.files.EntryName.{EntryName}
+use Rattle.cg_cgroup.specs.declared.files.EntryName.TheVariants.{Dir, Procs, SubtreeControl, File}
+
+-- Names by which things are found: each thing by its own, what is found has the name that was sought, and no two names are equal.
+pub record AreNames {A : Type 0} (name : A → List ℕ) (look_up : List ℕ → Option A) : Type 0 where
+  pub found : (x : A) → look_up (name x) ≡ Some x
+  pub named : (text : List ℕ) (x : A) → look_up text ≡ Some x → text ≡ name x
+  pub distinct : (x y : A) → name x ≡ name y → x ≡ y
+
+-- Own: the order used everywhere.
+abbrev pub all_controllers : List Controller
+all_controllers = Cpu ∷ Memory ∷ Pids ∷ []
+
+abbrev pub controller_name : Controller → List ℕ
+controller_name Cpu = codes "cpu"
+controller_name Memory = codes "memory"
+controller_name Pids = codes "pids"
+
+-- the controller of a name
+abbrev pub controller_named : List ℕ → Option Controller
+controller_named text = find (λ controller. same_name text (controller_name controller)) all_controllers
+
+abbrev pub same_controller : Controller → Controller → Bool
+same_controller Cpu Cpu = true
+same_controller Memory Memory = true
+same_controller Pids Pids = true
+same_controller controller other = false
+
+abbrev pub enables : ControllerSet → Controller → Bool
+enables set Cpu = set.cpu
+enables set Memory = set.memory
+enables set Pids = set.pids
+
+abbrev pub with_controller : ControllerSet → Controller → Bool → ControllerSet
+with_controller set Cpu on = record set { cpu = on }
+with_controller set Memory on = record set { memory = on }
+with_controller set Pids on = record set { pids = on }
+
+abbrev pub no_controllers : ControllerSet
+no_controllers = record { cpu = false; memory = false; pids = false }
+
+abbrev pub enables_nothing : ControllerSet → Bool
+enables_nothing set = not set.cpu && (not set.memory && not set.pids)
+
+-- each controller of the first set is in the second
+abbrev pub is_within : ControllerSet → ControllerSet → Bool
+is_within set other = list_all (λ controller. not (enables set controller) || enables other controller) all_controllers
+
+-- The order used everywhere. Core Interface Files; CPU, Memory and PID.
+abbrev pub all_files : List LimitFile
+all_files = MaxDescendants ∷ MaxDepth ∷ CpuWeight ∷ MemoryMin ∷ MemoryLow ∷ MemoryHigh ∷ MemoryMax ∷ PidsMax ∷ []
+
+abbrev pub same_file : LimitFile → LimitFile → Bool
+same_file MaxDescendants MaxDescendants = true
+same_file MaxDepth MaxDepth = true
+same_file CpuWeight CpuWeight = true
+same_file MemoryMin MemoryMin = true
+same_file MemoryLow MemoryLow = true
+same_file MemoryHigh MemoryHigh = true
+same_file MemoryMax MemoryMax = true
+same_file PidsMax PidsMax = true
+same_file file other = false
+
+abbrev pub same_entry : EntryName → EntryName → Bool
+same_entry Dir Dir = true
+same_entry Procs Procs = true
+same_entry SubtreeControl SubtreeControl = true
+same_entry (File file) (File other) = same_file file other
+same_entry name other = false
+
+abbrev pub file_name : LimitFile → List ℕ
+file_name MaxDescendants = texts.cgroup_max_descendants
+file_name MaxDepth = texts.cgroup_max_depth
+file_name CpuWeight = texts.cpu_weight
+file_name MemoryMin = texts.memory_min
+file_name MemoryLow = texts.memory_low
+file_name MemoryHigh = texts.memory_high
+file_name MemoryMax = texts.memory_max
+file_name PidsMax = texts.pids_max
+
+-- the limit file of a name
+abbrev pub file_named : List ℕ → Option LimitFile
+file_named text = find (λ file. same_name text (file_name file)) all_files
+
+abbrev pub all_entries : List EntryName
+all_entries = Dir ∷ Procs ∷ SubtreeControl ∷ map File all_files
+
+abbrev pub entry_text : EntryName → List ℕ
+entry_text Dir = codes "dir"
+entry_text Procs = texts.cgroup_procs
+entry_text SubtreeControl = texts.cgroup_subtree_control
+entry_text (File file) = file_name file
+
+-- the entry of a name
+abbrev pub entry_named : List ℕ → Option EntryName
+entry_named text = find (λ name. same_name text (entry_text name)) all_entries
+
+-- The controller that brings a file. The two of the core stand at every cgroup. Enabling and Disabling; Core Interface Files.
+abbrev pub controller_of : LimitFile → Option Controller
+controller_of MaxDescendants = None
+controller_of MaxDepth = None
+controller_of CpuWeight = Some Cpu
+controller_of MemoryMin = Some Memory
+controller_of MemoryLow = Some Memory
+controller_of MemoryHigh = Some Memory
+controller_of MemoryMax = Some Memory
+controller_of PidsMax = Some Pids
+
+abbrev pub default_value : LimitFile → Limit
+default_value MaxDescendants = Max
+default_value MaxDepth = Max
+default_value CpuWeight = At 100
+default_value MemoryMin = At 0
+default_value MemoryLow = At 0
+default_value MemoryHigh = Max
+default_value MemoryMax = Max
+default_value PidsMax = Max
+
+-- CPU: a weight is 1 to 10000. The range of all others is own.
+abbrev pub accepts : LimitFile → Limit → Bool
+accepts CpuWeight Max = false
+accepts CpuWeight (At value) = nat_le 1 value && nat_le value 10000
+accepts file Max = true
+accepts file (At value) = nat_le value 9223372036854775807
+
+-- Whether a file stands at a child of a cgroup that enables these, or at the root where there is no such cgroup.
+abbrev pub stands_under : ControllerSet → LimitFile → Bool
+stands_under enabled file = elim (controller_of file) [ None ↦ true | Some controller ↦ enables enabled controller ]

@@ -1,0 +1,9 @@
+pub mod Texts
+pub mod Paths
+pub mod PathText
+pub mod Numbers
+pub mod Identity
+pub mod Users
+pub mod Files
+pub mod Cgroups
+pub mod Options

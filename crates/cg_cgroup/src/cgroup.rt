@@ -1,0 +1,245 @@
+//! One cgroup: its entries, its limits and what it enables for its children.
+ghost use Rattle.std.specs.Prelude.{◌≡◌};
+ghost use Rattle.std.specs.Option.{option_map};
+ghost use Rattle.cg_cgroup.specs.Cgroups.{file_of, entry_in, value_in, with_value_in, with_value_of, with_mode_in, with_file_mode_of, file_made_by, refitted, with_files_of, cgroup_made_by};
+
+use crate::files::{ControllerSet, EntryName, Limit, LimitFile};
+use crate::user::{Entry, Mode, User};
+
+/// A limit file: its owner and mode, and its value.
+#[derive(Clone, Copy, Debug, PartialEq, Eq)]
+pub struct LimitEntry {
+    pub entry: Entry,
+    pub value: Limit,
+}
+
+impl LimitEntry {
+    /// A limit file that has just been made: the user's, with mode 0o644 and its default value.
+    pub fn made_by(user: &User, file: LimitFile) -> LimitEntry
+        ensures { result ≡ file_made_by user.now file }
+    {
+        LimitEntry {
+            entry: Entry::made_by(user, Mode::FILE),
+            value: file.default_value(),
+        }
+    }
+}
+
+/// A cgroup. A limit file that doesn't stand at it is `None`.
+#[derive(Clone, Copy, Debug, PartialEq, Eq)]
+pub struct Cgroup {
+    pub dir: Entry,
+    pub procs: Entry,
+    pub subtree_control: Entry,
+    pub max_descendants: LimitEntry,
+    pub max_depth: LimitEntry,
+    pub cpu_weight: Option<LimitEntry>,
+    pub memory_min: Option<LimitEntry>,
+    pub memory_low: Option<LimitEntry>,
+    pub memory_high: Option<LimitEntry>,
+    pub memory_max: Option<LimitEntry>,
+    pub pids_max: Option<LimitEntry>,
+    pub enabled: ControllerSet,
+}
+
+impl Cgroup {
+    /// A new cgroup under a parent that enables these controllers: its directory has mode 0o755, its files have mode
+    /// 0o644 and default values, all are the user's, and it enables nothing.
+    pub fn made_by(user: &User, enabled: ControllerSet) -> Cgroup
+        ensures { result ≡ cgroup_made_by user.now enabled }
+    {
+        let mut cgroup = Cgroup {
+            dir: Entry::made_by(user, Mode::DIRECTORY),
+            procs: Entry::made_by(user, Mode::FILE),
+            subtree_control: Entry::made_by(user, Mode::FILE),
+            max_descendants: LimitEntry::made_by(user, LimitFile::MaxDescendants),
+            max_depth: LimitEntry::made_by(user, LimitFile::MaxDepth),
+            cpu_weight: None,
+            memory_min: None,
+            memory_low: None,
+            memory_high: None,
+            memory_max: None,
+            pids_max: None,
+            enabled: ControllerSet::none(),
+        };
+        cgroup.refit(enabled, user);
+        cgroup
+    }
+
+    /// A limit file, where it stands.
+    pub fn file(&self, file: LimitFile) -> Option<LimitEntry>
+        ensures { result ≡ file_of self.now file }
+    {
+        match file {
+            LimitFile::MaxDescendants => Some(self.max_descendants),
+            LimitFile::MaxDepth => Some(self.max_depth),
+            LimitFile::CpuWeight => self.cpu_weight,
+            LimitFile::MemoryMin => self.memory_min,
+            LimitFile::MemoryLow => self.memory_low,
+            LimitFile::MemoryHigh => self.memory_high,
+            LimitFile::MemoryMax => self.memory_max,
+            LimitFile::PidsMax => self.pids_max,
+        }
+    }
+
+    /// The owner, group and mode of an entry, where it is there.
+    pub fn entry(&self, name: EntryName) -> Option<Entry>
+        ensures { result ≡ entry_in self.now name }
+    {
+        match name {
+            EntryName::Dir => Some(self.dir),
+            EntryName::Procs => Some(self.procs),
+            EntryName::SubtreeControl => Some(self.subtree_control),
+            EntryName::File(file) => self.file(file).map(|held| held.entry),
+        }
+    }
+
+    /// The value of a limit file, where it stands.
+    pub fn limit(&self, file: LimitFile) -> Option<Limit>
+        ensures { result ≡ value_in self.now file }
+    {
+        self.file(file).map(|held| held.value)
+    }
+
+    /// Sets the value of a limit file, where it stands.
+    pub fn set_value(&mut self, file: LimitFile, value: Limit)
+        ensures { self.new ≡ with_value_in file value self.old }
+    {
+        match file {
+            LimitFile::MaxDescendants => self.max_descendants.value = value,
+            LimitFile::MaxDepth => self.max_depth.value = value,
+            LimitFile::CpuWeight => set_value_of(&mut self.cpu_weight, value),
+            LimitFile::MemoryMin => set_value_of(&mut self.memory_min, value),
+            LimitFile::MemoryLow => set_value_of(&mut self.memory_low, value),
+            LimitFile::MemoryHigh => set_value_of(&mut self.memory_high, value),
+            LimitFile::MemoryMax => set_value_of(&mut self.memory_max, value),
+            LimitFile::PidsMax => set_value_of(&mut self.pids_max, value),
+        }
+    }
+
+    /// Sets the mode of an entry, where it is there.
+    pub fn set_mode(&mut self, name: EntryName, mode: Mode)
+        ensures { self.new ≡ with_mode_in name mode self.old }
+    {
+        match name {
+            EntryName::Dir => self.dir.mode = mode.get(),
+            EntryName::Procs => self.procs.mode = mode.get(),
+            EntryName::SubtreeControl => self.subtree_control.mode = mode.get(),
+            EntryName::File(file) => self.set_file_mode(file, mode),
+        }
+    }
+
+    /// Sets the mode of a limit file, where it stands.
+    fn set_file_mode(&mut self, file: LimitFile, mode: Mode)
+        ensures { self.new ≡ with_mode_in (EntryName.File file) mode self.old }
+    {
+        match file {
+            LimitFile::MaxDescendants => self.max_descendants.entry.mode = mode.get(),
+            LimitFile::MaxDepth => self.max_depth.entry.mode = mode.get(),
+            LimitFile::CpuWeight => set_mode_of(&mut self.cpu_weight, mode),
+            LimitFile::MemoryMin => set_mode_of(&mut self.memory_min, mode),
+            LimitFile::MemoryLow => set_mode_of(&mut self.memory_low, mode),
+            LimitFile::MemoryHigh => set_mode_of(&mut self.memory_high, mode),
+            LimitFile::MemoryMax => set_mode_of(&mut self.memory_max, mode),
+            LimitFile::PidsMax => set_mode_of(&mut self.pids_max, mode),
+        }
+    }
+
+    /// Makes and removes limit files as a parent that enables these controllers has them. A file that stays is kept
+    /// as it is; a new one is the user's.
+    pub fn refit(&mut self, enabled: ControllerSet, user: &User)
+        ensures { self.new ≡ with_files_of enabled user.now self.old }
+    {
+        self.cpu_weight = refitted(self.cpu_weight, LimitFile::CpuWeight, enabled, user);
+        self.memory_min = refitted(self.memory_min, LimitFile::MemoryMin, enabled, user);
+        self.memory_low = refitted(self.memory_low, LimitFile::MemoryLow, enabled, user);
+        self.memory_high = refitted(self.memory_high, LimitFile::MemoryHigh, enabled, user);
+        self.memory_max = refitted(self.memory_max, LimitFile::MemoryMax, enabled, user);
+        self.pids_max = refitted(self.pids_max, LimitFile::PidsMax, enabled, user);
+    }
+}
+
+fn set_value_of(held: &mut Option<LimitEntry>, value: Limit)
+    ensures { held.new ≡ option_map (with_value_of value) held.old }
+{
+    if let Some(held) = held {
+        held.value = value;
+    }
+}
+
+fn set_mode_of(held: &mut Option<LimitEntry>, mode: Mode)
+    ensures { held.new ≡ option_map (with_file_mode_of mode) held.old }
+{
+    if let Some(held) = held {
+        held.entry.mode = mode.get();
+    }
+}
+
+/// A limit file that stays, a new one, or none.
+fn refitted(
+    held: Option<LimitEntry>,
+    file: LimitFile,
+    enabled: ControllerSet,
+    user: &User,
+) -> Option<LimitEntry>
+    ensures { result ≡ refitted enabled user.now file held }
+{
+    if !file.stands_under(enabled) {
+        return None;
+    }
+    Some(held.unwrap_or(LimitEntry::made_by(user, file)))
+}
+
+#[cfg(test)]
+mod tests {
+    use super::*;
+    use crate::files::Controller;
+    use std::test::Fail;
+
+    #[test]
+    fn makes_and_refits(rt: HostRuntime) -> Result<(), Fail> {
+        let maker = User::with_groups(1000, &[7]).ok_or("33 gids or uid 0")?;
+        let other = User::new(1001).ok_or("uid 0")?;
+        let memory = ControllerSet::none().with(Controller::Memory, true);
+        let mut cgroup = Cgroup::made_by(&maker, memory);
+        assert_eq!(rt;
+            cgroup.dir,
+            Entry {
+                uid: 1000,
+                gid: 7,
+                mode: 0o755
+            }
+        );
+        assert_eq!(rt; cgroup.limit(LimitFile::MemoryMin), Some(Limit::At(0)));
+        assert_eq!(rt; cgroup.limit(LimitFile::CpuWeight), None);
+        cgroup.set_value(LimitFile::MemoryMax, Limit::At(5));
+        cgroup.refit(memory.with(Controller::Cpu, true), &other);
+        assert_eq!(rt; cgroup.limit(LimitFile::MemoryMax), Some(Limit::At(5)));
+        let weight = cgroup.file(LimitFile::CpuWeight).ok_or("no cpu.weight")?;
+        assert_eq!(rt;
+            weight.entry,
+            Entry {
+                uid: 1001,
+                gid: 0,
+                mode: 0o644
+            }
+        );
+        cgroup.refit(ControllerSet::none(), &other);
+        assert_eq!(rt; cgroup.file(LimitFile::MemoryMax), None);
+        Ok(())
+    }
+
+    #[test]
+    fn sets_modes(rt: HostRuntime) -> Result<(), Fail> {
+        let maker = User::new(1000).ok_or("uid 0")?;
+        let mode = Mode::new(0o600).ok_or("over 0o777")?;
+        let before = Cgroup::made_by(&maker, ControllerSet::none());
+        for name in [EntryName::Procs, EntryName::File(LimitFile::MaxDepth)] {
+            let mut cgroup = before;
+            cgroup.set_mode(name, mode);
+            assert_eq!(rt; cgroup.entry(name).ok_or("no entry")?.mode, 0o600);
+            assert_eq!(rt; cgroup.entry(EntryName::Dir), before.entry(EntryName::Dir));
+        }
+        Ok(())
+    }
+}

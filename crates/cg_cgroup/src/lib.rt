@@ -1,0 +1,9 @@
+//! What one cgroup is made of: its path, owners and modes, limit files, and the processes that stand in it.
+#![tactic(auto)]
+
+pub mod cgroup;
+pub mod files;
+pub mod memory;
+pub mod path;
+pub mod process;
+pub mod user;

@@ -1,0 +1,6 @@
+pub mod OutcomeLaws
+pub mod LineWords
+pub mod LineNumbers
+pub mod LineChanges
+pub mod LineSpelled
+pub mod LineLaws

@@ -1,0 +1,270 @@
+-- Each word of an operation's line: its bytes, what is read of it, and what a read one is.
+use Rattle.std.proofs.Common.{◌≡◌, ℕ, ◌+◌, ◌-◌, ◌*◌, ◌/◌, ◌%◌, ◌^◌, ◌<◌, ◌≤◌, ◌⊎◌, Bool, true, false, cond, List, [], ◌∷◌, ◌++◌, get_or, map, refl, ap, sym, ◌∙◌, subst, inl, inr, arith, append_assoc}
+use Rattle.std.specs.Prelude.{◌&&◌, nat_lt, nat_le, nat_eq, Option, Some, None, codes}
+use Rattle.std.specs.Option.{option_map}
+use Rattle.std.specs.List.{list_all, flat_map, join_with_byte}
+use Rattle.std.specs.Fmt.{decimal}
+use Rattle.std.specs.Str.Parse.{AllDigits}
+use Rattle.std.specs.Cmp.Lexicographic.{bytes_decides}
+use Rattle.std.proofs.lemmas.Bool.{and_parts, and_from, lt-ltb, le-leb, leb-true, eqb-true, false_from_ne_true}
+use Rattle.std.proofs.lemmas.List.{append-nil}
+use Rattle.std.proofs.lemmas.List.Folds.{list_all-append}
+use Rattle.std.proofs.lemmas.Option.{cond_some, none-some, same_Some}
+use Rattle.std.proofs.lemmas.Str.Parse.{digit_from_value}
+use Rattle.std.proofs.lemmas.Fmt.{decimal_is_IsNumeral, decimal_digit}
+use Rattle.cg_cgroup.specs.Paths.{Name, Names, same_name, is_name, is_name_byte, path_text, IsPath}
+use Rattle.cg_cgroup.specs.Numbers.{is_pid, pid_of, is_mode, mode_of}
+use Rattle.cg_cgroup.specs.Files.{controller_name, controller_named, file_name, entry_text}
+use Rattle.cg_cgroup.specs.declared.files.Limit.{Limit}
+use Rattle.cg_cgroup.specs.declared.files.Limit.TheVariants.{Max, At}
+use Rattle.cg_cgroup.specs.declared.files.Controller.{Controller}
+use Rattle.cg_cgroup.specs.declared.files.Controller.TheVariants.{Cpu}
+use Rattle.cg_cgroup.specs.declared.files.LimitFile.{LimitFile}
+use Rattle.cg_cgroup.specs.declared.files.LimitFile.TheVariants.{MaxDescendants}
+use Rattle.cg_cgroup.specs.declared.files.EntryName.{EntryName}
+use Rattle.cg_cgroup.specs.declared.files.EntryName.TheVariants.{Dir, Procs, SubtreeControl, File}
+use Rattle.cg_cgroup.proofs.PathEnds.{path_names, is_name-bytes}
+use Rattle.cg_cgroup.proofs.NameLaws.{controller_names}
+use Rattle.cg_ops.specs.declared.changes.Change.{Change}
+use Rattle.cg_lines.specs.OperationLines.{change_word, limit_word, mode_word, IsHeldLimit}
+use Rattle.cg_lines.specs.LineReading.{number_at, pid_at, limit_at, octal_at, mode_at, sign_at, change_at, changes_at}
+use Rattle.cg_cgroup.specs.Options.{◌>>=◌}
+use Rattle.cg_lines.proofs.LineWords.{is_graphic, is_word, are_words}
+use Rattle.cg_lines.proofs.LineNumbers.{number_takes, number_again, decimal_byte}
+
+-- ---- bytes
+
+graphic : (b : ℕ) → 32 < b → b < 127 → is_graphic b ≡ true
+graphic b low high = and_from (nat_lt 32 b) (nat_lt b 127) (lt-ltb 32 b low) (lt-ltb b 127 high)
+
+digits_word : (digits : List ℕ) → AllDigits 10 digits → is_word digits ≡ true
+digits_word [] h = refl
+digits_word (c ∷ digits) h =
+    let range = digit_from_value c h.0 in
+    and_from (is_graphic c) (is_word digits) (graphic c (omega (arith, range)) (omega (arith, range))) (digits_word digits h.1)
+
+pub decimal_word : (n : ℕ) → n < 2 ^ 64 → is_word (decimal n) ≡ true
+decimal_word n l = digits_word (decimal n) (decimal_is_IsNumeral n l).0.1
+
+name_word : (name : Name) → list_all is_name_byte name ≡ true → is_word name ≡ true
+name_word [] h = refl
+name_word (b ∷ name) h =
+    let p = and_parts (is_name_byte b) (list_all is_name_byte name) h in
+    let q = and_parts (nat_le 33 b && nat_le b 126) _ p.0 in
+    let range = and_parts (nat_le 33 b) (nat_le b 126) q.0 in
+    let low = leb-true 33 b range.0 in
+    let high = leb-true b 126 range.1 in
+    and_from (is_graphic b) (is_word name) (graphic b (omega (arith, low)) (omega (arith, high))) (name_word name p.1)
+
+names_word : (path : Names) → list_all is_name path ≡ true → is_word (flat_map (λ (n : Name). 47 ∷ n) path) ≡ true
+names_word [] h = refl
+names_word (name ∷ path) h =
+    let p = and_parts (is_name name) (list_all is_name path) h in
+    list_all-append is_graphic (47 ∷ name) (flat_map (λ (n : Name). 47 ∷ n) path)
+    ∙ and_from (is_word (47 ∷ name)) (is_word (flat_map (λ (n : Name). 47 ∷ n) path)) (name_word name (is_name-bytes name p.0)) (names_word path p.1)
+
+pub path_word : (path : Names) → IsPath path → is_word (path_text path) ≡ true
+path_word [] h = refl
+path_word (name ∷ path) h = names_word (name ∷ path) (path_names (name ∷ path) h)
+
+pub file_word : (file : LimitFile) → is_word (file_name file) ≡ true
+file_word MaxDescendants = refl
+file_word file = refl
+
+pub entry_word : (entry : EntryName) → is_word (entry_text entry) ≡ true
+entry_word Dir = refl
+entry_word Procs = refl
+entry_word SubtreeControl = refl
+entry_word (File file) = file_word file
+
+sign_word : (on : Bool) (controller : Controller) → is_word (cond on 43 45 ∷ controller_name controller) ≡ true
+sign_word true Cpu = refl
+sign_word true controller = refl
+sign_word false Cpu = refl
+sign_word false controller = refl
+
+pub changes_words : (changes : List Change) → are_words (map change_word changes) ≡ true
+changes_words [] = refl
+changes_words (change ∷ changes) =
+    and_from (is_word (change_word change)) (are_words (map change_word changes)) (sign_word change.on change.controller) (changes_words changes)
+
+pub limit_is_word : (value : Limit) → IsHeldLimit value → is_word (limit_word value) ≡ true
+limit_is_word Max h = refl
+limit_is_word (At value) h = decimal_word value h
+
+octal_digit : (n : ℕ) → n ≤ 7 → is_graphic (48 + n) ≡ true
+octal_digit n h = graphic (48 + n) (omega (arith, h)) (omega (arith, h))
+
+mode_parts : (mode : ℕ) → is_mode mode ≡ true → (mode / 64 ≤ 7) × (mode / 8 % 8 ≤ 7) × (mode % 8 ≤ 7) × (mode / 64 * 64 + mode / 8 % 8 * 8 + mode % 8 ≡ mode)
+mode_parts mode h =
+    let l = leb-true mode 511 h in
+    (omega (arith, l), omega arith, omega arith, omega arith)
+
+pub mode_is_word : (mode : ℕ) → is_mode mode ≡ true → is_word (mode_word mode) ≡ true
+mode_is_word mode h =
+    let p = mode_parts mode h in
+    and_from (is_graphic (48 + mode / 64)) (is_word ((48 + mode / 8 % 8) ∷ (48 + mode % 8) ∷ [])) (octal_digit (mode / 64) p.0)
+    (and_from (is_graphic (48 + mode / 8 % 8)) (is_word ((48 + mode % 8) ∷ [])) (octal_digit (mode / 8 % 8) p.1)
+    (and_from (is_graphic (48 + mode % 8)) true (octal_digit (mode % 8) p.2) refl))
+
+-- ---- options
+
+pub bind_some : {A B : Type 0} (o : Option A) (f : A → Option B) (y : B) → (o >>= f) ≡ Some y → (x : A) × (o ≡ Some x) × (f x ≡ Some y)
+bind_some None f y h = absurd (none-some y h)
+bind_some (Some x) f y h = (x, refl, h)
+
+pub bind_at : {A B : Type 0} (o : Option A) (x : A) (f : A → Option B) (r : Option B) → o ≡ Some x → f x ≡ r → (o >>= f) ≡ r
+bind_at o x f r e h = ap (λ (q : Option _). q >>= f) e ∙ h
+
+-- which way a test went
+pub chosen : {A : Type 0} (b : Bool) (x y z : A) → cond b x y ≡ z → ((b ≡ true) × (x ≡ z)) ⊎ ((b ≡ false) × (y ≡ z))
+chosen true x y z h = inl (refl, h)
+chosen false x y z h = inr (refl, h)
+
+map_some : {A B : Type 0} (f : A → B) (o : Option A) (y : B) → option_map f o ≡ Some y → (x : A) × (o ≡ Some x) × (f x ≡ y)
+map_some f None y h = absurd (none-some y h)
+map_some f (Some x) y h = (x, refl, same_Some (f x) y h)
+
+-- ---- numbers
+
+pub small_pid : (pid : ℕ) → is_pid pid ≡ true → pid < 2 ^ 64
+small_pid pid h =
+    let l = leb-true pid 4194303 (and_parts (nat_le 1 pid) (nat_le pid 4194303) h).1 in
+    omega (arith, l)
+
+pub pid_takes : (word : List ℕ) (pid : ℕ) → pid_at word ≡ Some pid → (is_pid pid ≡ true) × (word ≡ decimal pid)
+unfolding pid_at
+pid_takes word pid h =
+    let n = bind_some (number_at word) pid_of pid h in
+    let p = cond_some (is_pid n.0) n.0 pid n.2 in
+    (subst (λ (m : ℕ). is_pid m ≡ true) p.1 p.0, (number_takes word n.0 n.1).1 ∙ ap decimal p.1)
+
+pub pid_again : (pid : ℕ) → is_pid pid ≡ true → pid_at (decimal pid) ≡ Some pid
+unfolding pid_at
+pid_again pid h =
+    bind_at (number_at (decimal pid)) pid pid_of (Some pid) (number_again pid (small_pid pid h)) (ap (λ (b : Bool). cond b (Some pid) None) h)
+
+-- ---- values of limits
+
+not_max : (value : ℕ) → value < 2 ^ 64 → same_name (decimal value) (codes "max") ≡ false
+not_max value l = false_from_ne_true (same_name (decimal value) (codes "max")) (λ e.
+    let same = (bytes_decides (decimal value) (codes "max")).0 e in
+    let first : get_or (decimal value) 0 0 ≡ 109 = ap (λ (w : List ℕ). get_or w 0 0) same in
+    let d = decimal_byte value 0 l (decimal_is_IsNumeral value l).0.0 in
+    omega (arith, d, first))
+
+pub limit_takes : (word : List ℕ) (value : Limit) → limit_at word ≡ Some value → IsHeldLimit value × (word ≡ limit_word value)
+unfolding limit_at
+limit_takes word value h =
+    elim (chosen (same_name word (codes "max")) (Some Max) (option_map At (number_at word)) (Some value) h) [
+      | inl p ↦ subst (λ (v : Limit). IsHeldLimit v × (word ≡ limit_word v)) (same_Some Max value p.1) (tt, (bytes_decides word (codes "max")).0 p.0)
+      | inr p ↦
+          let n = map_some At (number_at word) value p.1 in
+          subst (λ (v : Limit). IsHeldLimit v × (word ≡ limit_word v)) n.2 (number_takes word n.0 n.1)
+    ]
+
+pub limit_again : (value : Limit) → IsHeldLimit value → limit_at (limit_word value) ≡ Some value
+unfolding limit_at
+limit_again Max h = refl
+limit_again (At value) h =
+    ap (λ (b : Bool). cond b (Some Max) (option_map At (number_at (decimal value)))) (not_max value h) ∙ ap (option_map At) (number_again value h)
+
+-- ---- modes
+
+octal_takes : (b n : ℕ) → octal_at b ≡ Some n → (n ≤ 7) × (b ≡ 48 + n)
+octal_takes b n h =
+    let p = cond_some (nat_le 48 b && nat_le b 55) (b - 48) n h in
+    let range = and_parts (nat_le 48 b) (nat_le b 55) p.0 in
+    let low = leb-true 48 b range.0 in
+    let high = leb-true b 55 range.1 in
+    let value = p.1 in
+    (omega (arith, low, high, value), omega (arith, low, value))
+
+octal_again : (n : ℕ) → n ≤ 7 → octal_at (48 + n) ≡ Some n
+octal_again n h =
+    let test = and_from (nat_le 48 (48 + n)) (nat_le (48 + n) 55) (le-leb 48 (48 + n) (omega arith)) (le-leb (48 + n) 55 (omega (arith, h))) in
+    let value : 48 + n - 48 ≡ n = omega arith in
+    ap (λ (b : Bool). cond b (Some (48 + n - 48)) None) test ∙ ap (λ (m : ℕ). Some m) value
+
+spelled_mode : (a b c x y z : ℕ) → (x ≤ 7) × (a ≡ 48 + x) → (y ≤ 7) × (b ≡ 48 + y) → (z ≤ 7) × (c ≡ 48 + z) → (a ∷ b ∷ c ∷ []) ≡ mode_word (x * 64 + y * 8 + z)
+spelled_mode a b c x y z h k l =
+    let first : a ≡ 48 + (x * 64 + y * 8 + z) / 64 = omega (arith, h, k, l) in
+    let second : b ≡ 48 + (x * 64 + y * 8 + z) / 8 % 8 = omega (arith, h, k, l) in
+    let third : c ≡ 48 + (x * 64 + y * 8 + z) % 8 = omega (arith, h, k, l) in
+    cc
+
+pub mode_takes : (word : List ℕ) (mode : ℕ) → mode_at word ≡ Some mode → (is_mode mode ≡ true) × (word ≡ mode_word mode)
+unfolding mode_at
+mode_takes (a ∷ b ∷ c ∷ []) mode h =
+    let x = bind_some (octal_at a) (λ owner. octal_at b >>= λ group. octal_at c >>= λ others. mode_of (owner * 64 + group * 8 + others)) mode h in
+    let y = bind_some (octal_at b) (λ group. octal_at c >>= λ others. mode_of (x.0 * 64 + group * 8 + others)) mode x.2 in
+    let z = bind_some (octal_at c) (λ others. mode_of (x.0 * 64 + y.0 * 8 + others)) mode y.2 in
+    let p = cond_some (is_mode (x.0 * 64 + y.0 * 8 + z.0)) (x.0 * 64 + y.0 * 8 + z.0) mode z.2 in (
+      subst (λ (m : ℕ). is_mode m ≡ true) p.1 p.0,
+      spelled_mode a b c x.0 y.0 z.0 (octal_takes a x.0 x.1) (octal_takes b y.0 y.1) (octal_takes c z.0 z.1) ∙ ap mode_word p.1,
+    )
+mode_takes word mode h = absurd (none-some mode h)
+
+pub mode_again : (mode : ℕ) → is_mode mode ≡ true → mode_at (mode_word mode) ≡ Some mode
+unfolding mode_at
+mode_again mode h =
+    let p = mode_parts mode h in
+    bind_at (octal_at (48 + mode / 64)) (mode / 64) (λ owner. octal_at (48 + mode / 8 % 8) >>= λ group. octal_at (48 + mode % 8) >>= λ others. mode_of (owner * 64 + group * 8 + others)) (Some mode) (octal_again (mode / 64) p.0)
+    (bind_at (octal_at (48 + mode / 8 % 8)) (mode / 8 % 8) (λ group. octal_at (48 + mode % 8) >>= λ others. mode_of (mode / 64 * 64 + group * 8 + others)) (Some mode) (octal_again (mode / 8 % 8) p.1)
+    (bind_at (octal_at (48 + mode % 8)) (mode % 8) (λ others. mode_of (mode / 64 * 64 + mode / 8 % 8 * 8 + others)) (Some mode) (octal_again (mode % 8) p.2)
+    (ap mode_of p.3 ∙ ap (λ (b : Bool). cond b (Some mode) None) h)))
+
+-- ---- changes
+
+sign_takes : (b : ℕ) (on : Bool) → sign_at b ≡ Some on → b ≡ cond on 43 45
+sign_takes b on h =
+    elim (chosen (nat_eq b 43) (Some true) (cond (nat_eq b 45) (Some false) None) (Some on) h) [
+      | inl p ↦ eqb-true b 43 p.0 ∙ ap (λ (t : Bool). cond t 43 45) (same_Some true on p.1)
+      | inr p ↦ let q = cond_some (nat_eq b 45) false on p.1 in eqb-true b 45 q.0 ∙ ap (λ (t : Bool). cond t 43 45) q.1
+    ]
+
+change_takes : (word : List ℕ) (change : Change) → change_at word ≡ Some change → word ≡ change_word change
+unfolding change_at
+change_takes [] change h = absurd (none-some change h)
+change_takes (sign ∷ name) change h =
+    let on = bind_some (sign_at sign) (λ on. controller_named name >>= λ controller. Some (record { on = on; controller = controller })) change h in
+    let controller = bind_some (controller_named name) (λ controller. Some (record { on = on.0; controller = controller })) change on.2 in
+    let same = same_Some (record { on = on.0; controller = controller.0 }) change controller.2 in
+    ap (λ (b : ℕ). b ∷ name) (sign_takes sign on.0 on.1)
+    ∙ ap (λ (n : List ℕ). cond on.0 43 45 ∷ n) (controller_names.named name controller.0 controller.1)
+    ∙ ap change_word same
+
+change_again : (on : Bool) (controller : Controller) → change_at (cond on 43 45 ∷ controller_name controller) ≡ Some (record { on = on; controller = controller })
+unfolding change_at
+change_again true Cpu = refl
+change_again true controller = refl
+change_again false Cpu = refl
+change_again false controller = refl
+
+pub changes_takes : (words : List (List ℕ)) (changes : List Change) → changes_at words ≡ Some changes → words ≡ map change_word changes
+changes_takes [] changes h = ap (map change_word) (same_Some [] changes h)
+changes_takes (word ∷ words) changes h =
+    let first = bind_some (change_at word) (λ change. changes_at words >>= λ others. Some (change ∷ others)) changes h in
+    let others = bind_some (changes_at words) (λ others. Some (first.0 ∷ others)) changes first.2 in
+    ap (λ (w : List ℕ). w ∷ words) (change_takes word first.0 first.1)
+    ∙ ap (λ (ws : List (List ℕ)). change_word first.0 ∷ ws) (changes_takes words others.0 others.1)
+    ∙ ap (map change_word) (same_Some (first.0 ∷ others.0) changes others.2)
+
+pub changes_again : (changes : List Change) → changes_at (map change_word changes) ≡ Some changes
+changes_again [] = refl
+changes_again (change ∷ changes) =
+    bind_at (change_at (change_word change)) change (λ first. changes_at (map change_word changes) >>= λ others. Some (first ∷ others)) (Some (change ∷ changes)) (change_again change.on change.controller)
+    (ap (λ (o : Option (List Change)). o >>= λ others. Some (change ∷ others)) (changes_again changes))
+
+-- three digits that are written one by one, behind two words and before a newline
+pub written_mode : (at entry : List ℕ) (mode : ℕ) → mode ≤ 511 → at ++ (32 ∷ (entry ++ (32 ∷ (decimal (mode / 64) ++ (decimal (mode / 8 % 8) ++ (decimal (mode % 8) ++ (10 ∷ []))))))) ≡ (at ++ (32 ∷ (entry ++ (32 ∷ mode_word mode)))) ++ (10 ∷ [])
+written_mode at entry mode l =
+    let owner = decimal_digit (mode / 64) (omega (arith, l)) in
+    let group = decimal_digit (mode / 8 % 8) (omega arith) in
+    let others = decimal_digit (mode % 8) (omega arith) in
+    rw (owner, group, others) (simp append_assoc)
+
+-- changes that are written one by one behind a word
+pub written_changes : (word : List ℕ) (changes : List Change) → join_with_byte 32 (word ∷ map change_word changes) ≡ word ++ flat_map (λ (change : Change). 32 ∷ change_word change) changes
+written_changes word [] = sym (append-nil word)
+written_changes word (change ∷ changes) = ap (λ (text : List ℕ). word ++ (32 ∷ text)) (written_changes (change_word change) changes)

@@ -1,0 +1,4 @@
+pub mod Outcomes
+pub mod OperationLines
+pub mod LineReading
+pub mod LineFaults

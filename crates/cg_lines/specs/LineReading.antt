@@ -1,0 +1,142 @@
+-- Reading an operation line from left to right, one word at a time.
+use Rattle.std.specs.Prelude.{◌≡◌, ℕ, ◌+◌, ◌*◌, ◌-◌, ◌^◌, Bool, true, false, ◌&&◌, nat_lt, nat_le, cond, List, [], ◌∷◌, length, Option, Some, None, Result, Ok, Err, codes, ◌==◌}
+use Rattle.std.specs.List.{position_or_len, before_first, after_first, slice_split}
+use Rattle.std.specs.Option.{option_map}
+use Rattle.std.specs.Str.Parse.{digits_value}
+use Rattle.std.specs.Fmt.{decimal}
+use Rattle.cg_cgroup.specs.Paths.{same_name, path_at}
+use Rattle.cg_cgroup.specs.Numbers.{pid_of, mode_of}
+use Rattle.cg_cgroup.specs.Files.{controller_named, file_named, entry_named}
+use Rattle.cg_cgroup.specs.declared.files.Limit.{Limit}
+use Rattle.cg_cgroup.specs.declared.files.Limit.TheVariants.{Max, At}
+use Rattle.cg_ops.specs.declared.changes.Change.{Change}
+use Rattle.cg_ops.specs.declared.operation.Op.{Op}
+use Rattle.cg_ops.specs.declared.operation.Op.TheVariants.{Move, Control, Mkdir, Rmdir, Set, Fork, Exit, Chmod}
+use Rattle.cg_lines.specs.declared.lines.fault.LineFault.{LineFault}
+use Rattle.cg_lines.specs.declared.lines.fault.LineFault.TheVariants as faults
+use Rattle.cg_cgroup.specs.Options.{◌>>=◌}
+
+-- What a reader returned is what reading gives, want of memory aside: nothing is read exactly of a bad word.
+abbrev pub Fails : {Y : Type 0} → LineFault → Option Y → Type 0
+Fails faults.BadWord read = read ≡ None
+Fails faults.NoMemory read = Unit {0}
+Fails other read = ⊥
+
+abbrev pub Gives : {Y : Type 0} → Result Y LineFault → Option Y → Type 0
+Gives (Ok x) read = read ≡ Some x
+Gives (Err fault) read = Fails fault read
+
+abbrev pub is_space : ℕ → Bool
+is_space b = b == 32
+
+-- the first word of a text, and what is behind the space that ends it
+abbrev pub cut : List ℕ → Option (List ℕ × List ℕ)
+cut text = cond (nat_lt (position_or_len is_space text) (length text)) (Some (before_first is_space text, after_first is_space text)) None
+
+-- The number whose decimal text the word is.
+unfoldable pub number_at : List ℕ → Option ℕ
+number_at word =
+    cond (nat_lt (digits_value 10 word) (2 ^ 64) && same_name word (decimal (digits_value 10 word))) (Some (digits_value 10 word)) None
+
+unfoldable pub pid_at : List ℕ → Option ℕ
+pid_at word = number_at word >>= pid_of
+
+unfoldable pub limit_at : List ℕ → Option Limit
+limit_at word = cond (same_name word (codes "max")) (Some Max) (option_map At (number_at word))
+
+abbrev pub octal_at : ℕ → Option ℕ
+octal_at b = cond (nat_le 48 b && nat_le b 55) (Some (b - 48)) None
+
+unfoldable pub mode_at : List ℕ → Option ℕ
+mode_at (a ∷ b ∷ c ∷ []) = do
+  owner ← octal_at a
+  group ← octal_at b
+  others ← octal_at c
+  mode_of (owner * 64 + group * 8 + others)
+mode_at word = None
+
+abbrev pub sign_at : ℕ → Option Bool
+sign_at b = cond (b == 43) (Some true) (cond (b == 45) (Some false) None)
+
+unfoldable pub change_at : List ℕ → Option Change
+change_at [] = None
+change_at (sign ∷ name) = do
+  on ← sign_at sign
+  controller ← controller_named name
+  Some (record { on = on; controller = controller })
+
+abbrev pub changes_at : List (List ℕ) → Option (List Change)
+changes_at [] = Some []
+changes_at (word ∷ others) = do
+  change ← change_at word
+  changes ← changes_at others
+  Some (change ∷ changes)
+
+-- what follows the name of each operation
+
+unfoldable pub move_at : List ℕ → Option Op
+move_at text = do
+  words ← cut text
+  pid ← pid_at words.0
+  to ← path_at words.1
+  Some (Move pid to)
+
+abbrev pub control_from : List ℕ → Option (List ℕ × List ℕ) → Option Op
+control_from text None = path_at text >>= λ at. Some (Control at [])
+control_from text (Some words) = do
+  at ← path_at words.0
+  changes ← changes_at (slice_split is_space words.1)
+  Some (Control at changes)
+
+unfoldable pub control_at : List ℕ → Option Op
+control_at text = control_from text (cut text)
+
+unfoldable pub mkdir_at : List ℕ → Option Op
+mkdir_at text = path_at text >>= λ path. Some (Mkdir path)
+
+unfoldable pub rmdir_at : List ℕ → Option Op
+rmdir_at text = path_at text >>= λ path. Some (Rmdir path)
+
+unfoldable pub set_at : List ℕ → Option Op
+set_at text = do
+  words ← cut text
+  others ← cut words.1
+  at ← path_at words.0
+  file ← file_named others.0
+  value ← limit_at others.1
+  Some (Set at file value)
+
+unfoldable pub fork_at : List ℕ → Option Op
+fork_at text = do
+  words ← cut text
+  parent ← pid_at words.0
+  child ← pid_at words.1
+  Some (Fork parent child)
+
+unfoldable pub exit_at : List ℕ → Option Op
+exit_at text = pid_at text >>= λ pid. Some (Exit pid)
+
+unfoldable pub chmod_at : List ℕ → Option Op
+chmod_at text = do
+  words ← cut text
+  others ← cut words.1
+  at ← path_at words.0
+  entry ← entry_named others.0
+  mode ← mode_at others.1
+  Some (Chmod at entry mode)
+
+unfoldable pub operation_named : List ℕ → List ℕ → Option Op
+operation_named name text =
+    cond (same_name name (codes "move")) (move_at text)
+    (cond (same_name name (codes "control")) (control_at text)
+    (cond (same_name name (codes "mkdir")) (mkdir_at text)
+    (cond (same_name name (codes "rmdir")) (rmdir_at text)
+    (cond (same_name name (codes "set")) (set_at text)
+    (cond (same_name name (codes "fork")) (fork_at text)
+    (cond (same_name name (codes "exit")) (exit_at text)
+    (cond (same_name name (codes "chmod")) (chmod_at text) None)))))))
+
+unfoldable pub operation_at : List ℕ → Option Op
+operation_at line = do
+  words ← cut line
+  operation_named words.0 words.1

@@ -1,0 +1,54 @@
+-- Operation lines: the words of each operation, with one space between them. Own.
+use Rattle.std.specs.Prelude.{◌≡◌, ℕ, ◌+◌, ◌/◌, ◌%◌, ◌^◌, ◌<◌, true, cond, List, [], ◌∷◌, map, codes}
+use Rattle.std.specs.List.{join_with_byte}
+use Rattle.std.specs.Fmt.{decimal}
+use Rattle.cg_cgroup.specs.Paths.{path_text, IsPath}
+use Rattle.cg_cgroup.specs.Numbers.{is_pid, is_mode}
+use Rattle.cg_cgroup.specs.Files.{controller_name, file_name, entry_text}
+use Rattle.cg_cgroup.specs.declared.files.Limit.{Limit}
+use Rattle.cg_cgroup.specs.declared.files.Limit.TheVariants.{Max, At}
+use Rattle.cg_ops.specs.declared.changes.Change.{Change}
+use Rattle.cg_ops.specs.declared.operation.Op.{Op}
+use Rattle.cg_ops.specs.declared.operation.Op.TheVariants.{Move, Control, Mkdir, Rmdir, Set, Fork, Exit, Chmod}
+
+-- A plus or a minus sign and the controller. Enabling and Disabling.
+abbrev pub change_word : Change → List ℕ
+change_word change = cond change.on 43 45 ∷ controller_name change.controller
+
+abbrev pub limit_word : Limit → List ℕ
+limit_word Max = codes "max"
+limit_word (At value) = decimal value
+
+-- three octal digits
+abbrev pub mode_word : ℕ → List ℕ
+mode_word mode = (48 + mode / 64) ∷ (48 + mode / 8 % 8) ∷ (48 + mode % 8) ∷ []
+
+-- The words of an operation's line. Numbers are decimal without a sign or leading zeros.
+abbrev pub words : Op → List (List ℕ)
+words (Move pid to) = codes "move" ∷ decimal pid ∷ path_text to ∷ []
+words (Control at changes) = codes "control" ∷ path_text at ∷ map change_word changes
+words (Mkdir path) = codes "mkdir" ∷ path_text path ∷ []
+words (Rmdir path) = codes "rmdir" ∷ path_text path ∷ []
+words (Set at file value) = codes "set" ∷ path_text at ∷ file_name file ∷ limit_word value ∷ []
+words (Fork parent child) = codes "fork" ∷ decimal parent ∷ decimal child ∷ []
+words (Exit pid) = codes "exit" ∷ decimal pid ∷ []
+words (Chmod at entry mode) = codes "chmod" ∷ path_text at ∷ entry_text entry ∷ mode_word mode ∷ []
+
+-- the line of an operation, without its newline
+abbrev pub spelling : Op → List ℕ
+spelling op = join_with_byte 32 (words op)
+
+abbrev pub IsHeldLimit : Limit → Type 0
+IsHeldLimit Max = Unit {0}
+IsHeldLimit (At value) = value < 2 ^ 64
+
+-- What an operation of the program can hold: paths that are paths, PIDs and modes in their ranges, values below 2 ^ 64.
+abbrev pub IsHeld : Op → Type 0
+IsHeld (Move pid to) = (is_pid pid ≡ true) × IsPath to
+IsHeld (Control at changes) = IsPath at
+IsHeld (Mkdir path) = IsPath path
+IsHeld (Rmdir path) = IsPath path
+IsHeld (Set at file value) = IsPath at × IsHeldLimit value
+IsHeld (Fork parent child) = (is_pid parent ≡ true) × (is_pid child ≡ true)
+IsHeld (Exit pid) = is_pid pid ≡ true
+IsHeld (Chmod at entry mode) = IsPath at × (is_mode mode ≡ true)

@@ -1,0 +1,15 @@
+//! What holds of operations and their lines.
+ghost use Rattle.std.specs.Prelude.{◌≡◌, ◌↔◌, ℕ, List, Some};
+ghost use Rattle.cg_ops.specs.declared.operation.Op.{Op};
+ghost use Rattle.cg_lines.specs.OperationLines.{spelling, IsHeld};
+ghost use Rattle.cg_lines.specs.LineReading.{operation_at};
+
+/// An operation has one line, and no two operations have the same.
+pub fn one_operation()
+    ensures { (one other : Op) → IsHeld one → IsHeld other → spelling one ≡ spelling other → one ≡ other }
+{}
+
+/// A line is read as an operation exactly where the operation can be held and the line is its line.
+pub fn lines_are_exact()
+    ensures { (line : List ℕ) (op : Op) → (operation_at line ≡ Some op) ↔ (IsHeld op × (line ≡ spelling op)) }
+{}

@@ -1,0 +1,141 @@
+//! Operations read from lines.
+ghost use Rattle.std.specs.Prelude.{◌≡◌};
+ghost use Rattle.cg_cgroup.specs.Paths.{path_at};
+ghost use Rattle.std.specs.List.{slice_split};
+ghost use Rattle.cg_lines.specs.LineReading.{Gives, is_space, changes_at, move_at, control_at, mkdir_at, rmdir_at, set_at, fork_at, exit_at, chmod_at, operation_named, operation_at};
+
+use crate::lines::fault::LineFault;
+use crate::lines::words::{change_of, cut, limit_of, mode_of, pid_of};
+use cg_ops::changes::Changes;
+use cg_ops::operation::Op;
+use cg_cgroup::files::{EntryName, LimitFile};
+use cg_cgroup::path::Path;
+use std::alloc::Global;
+
+fn path_of(alloc: Global, word: &str) -> Result<Path, LineFault>
+    ensures { Gives result (path_at word.now) }
+{
+    Ok(Path::parse(alloc, word)?)
+}
+
+/// The changes of one word or more.
+fn changes_of(alloc: Global, words: &str) -> Result<Changes, LineFault>
+    ensures { Gives result (changes_at (slice_split is_space words.now)) }
+{
+    let mut changes = Changes::new(alloc);
+    let mut rest = words;
+    while let Some((word, others)) = cut(rest) {
+        changes.push(change_of(word).ok_or(LineFault::BadWord)?)?;
+        rest = others;
+    }
+    changes.push(change_of(rest).ok_or(LineFault::BadWord)?)?;
+    Ok(changes)
+}
+
+#[tactic(auto, unfolding(crate::specs::LineReading::move_at))]
+fn move_of(alloc: Global, text: &str) -> Result<Op, LineFault>
+    ensures { Gives result (move_at text.now) }
+{
+    let (pid, to) = cut(text).ok_or(LineFault::BadWord)?;
+    let pid = pid_of(pid).ok_or(LineFault::BadWord)?;
+    let to = path_of(alloc, to)?;
+    Ok(Op::Move { pid, to })
+}
+
+#[tactic(auto, unfolding(crate::specs::LineReading::control_at))]
+fn control_of(alloc: Global, text: &str) -> Result<Op, LineFault>
+    ensures { Gives result (control_at text.now) }
+{
+    let Some((at, words)) = cut(text) else {
+        let at = path_of(alloc, text)?;
+        let changes = Changes::new(alloc);
+        return Ok(Op::Control { at, changes });
+    };
+    let at = path_of(alloc, at)?;
+    let changes = changes_of(alloc, words)?;
+    Ok(Op::Control { at, changes })
+}
+
+#[tactic(auto, unfolding(crate::specs::LineReading::mkdir_at))]
+fn mkdir_of(alloc: Global, text: &str) -> Result<Op, LineFault>
+    ensures { Gives result (mkdir_at text.now) }
+{
+    let path = path_of(alloc, text)?;
+    Ok(Op::Mkdir { path })
+}
+
+#[tactic(auto, unfolding(crate::specs::LineReading::rmdir_at))]
+fn rmdir_of(alloc: Global, text: &str) -> Result<Op, LineFault>
+    ensures { Gives result (rmdir_at text.now) }
+{
+    let path = path_of(alloc, text)?;
+    Ok(Op::Rmdir { path })
+}
+
+#[tactic(auto, unfolding(crate::specs::LineReading::set_at))]
+fn set_of(alloc: Global, text: &str) -> Result<Op, LineFault>
+    ensures { Gives result (set_at text.now) }
+{
+    let (at, rest) = cut(text).ok_or(LineFault::BadWord)?;
+    let (file, value) = cut(rest).ok_or(LineFault::BadWord)?;
+    let at = path_of(alloc, at)?;
+    let file = LimitFile::from_name(file).ok_or(LineFault::BadWord)?;
+    let value = limit_of(value).ok_or(LineFault::BadWord)?;
+    Ok(Op::Set { at, file, value })
+}
+
+#[tactic(auto, unfolding(crate::specs::LineReading::fork_at))]
+fn fork_of(text: &str) -> Result<Op, LineFault>
+    ensures { Gives result (fork_at text.now) }
+{
+    let (parent, child) = cut(text).ok_or(LineFault::BadWord)?;
+    let parent = pid_of(parent).ok_or(LineFault::BadWord)?;
+    let child = pid_of(child).ok_or(LineFault::BadWord)?;
+    Ok(Op::Fork { parent, child })
+}
+
+#[tactic(auto, unfolding(crate::specs::LineReading::exit_at))]
+fn exit_of(text: &str) -> Result<Op, LineFault>
+    ensures { Gives result (exit_at text.now) }
+{
+    let pid = pid_of(text).ok_or(LineFault::BadWord)?;
+    Ok(Op::Exit { pid })
+}
+
+#[tactic(auto, unfolding(crate::specs::LineReading::chmod_at))]
+fn chmod_of(alloc: Global, text: &str) -> Result<Op, LineFault>
+    ensures { Gives result (chmod_at text.now) }
+{
+    let (at, rest) = cut(text).ok_or(LineFault::BadWord)?;
+    let (entry, mode) = cut(rest).ok_or(LineFault::BadWord)?;
+    let at = path_of(alloc, at)?;
+    let entry = EntryName::from_name(entry).ok_or(LineFault::BadWord)?;
+    let mode = mode_of(mode).ok_or(LineFault::BadWord)?;
+    Ok(Op::Chmod { at, entry, mode })
+}
+
+#[tactic(auto, unfolding(crate::specs::LineReading::operation_named))]
+fn operation_named(alloc: Global, name: &str, text: &str) -> Result<Op, LineFault>
+    ensures { Gives result (operation_named name.now text.now) }
+{
+    match name {
+        "move" => move_of(alloc, text),
+        "control" => control_of(alloc, text),
+        "mkdir" => mkdir_of(alloc, text),
+        "rmdir" => rmdir_of(alloc, text),
+        "set" => set_of(alloc, text),
+        "fork" => fork_of(text),
+        "exit" => exit_of(text),
+        "chmod" => chmod_of(alloc, text),
+        _ => Err(LineFault::BadWord),
+    }
+}
+
+/// The operation of a line.
+#[tactic(auto, unfolding(crate::specs::LineReading::operation_at))]
+pub fn operation_of(alloc: Global, line: &str) -> Result<Op, LineFault>
+    ensures { Gives result (operation_at line.now) }
+{
+    let (name, text) = cut(line).ok_or(LineFault::BadWord)?;
+    operation_named(alloc, name, text)
+}

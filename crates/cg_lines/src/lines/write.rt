@@ -1,0 +1,143 @@
+//! Writing an operation as its line.
+ghost use Rattle.std.specs.Prelude.{◌≡◌, ◌++◌, [], ◌∷◌, IfOk, OnOk};
+ghost use Rattle.std.specs.String.{string_bytes};
+ghost use Rattle.std.specs.List.{flat_map};
+ghost use Rattle.cg_cgroup.specs.Paths.{path_text, IsPath};
+ghost use Rattle.cg_ops.specs.declared.operation.Op.TheVariants.{Move, Control, Mkdir, Rmdir, Set, Fork, Exit, Chmod};
+ghost use Rattle.cg_lines.specs.OperationLines.{change_word, limit_word, mode_word, spelling, IsHeld};
+
+use cg_ops::changes::{Change, Changes};
+use cg_ops::operation::Op;
+use cg_cgroup::files::{EntryName, Limit, LimitFile};
+use cg_cgroup::memory::NoMemory;
+use cg_cgroup::path::Path;
+use cg_cgroup::process::Pid;
+use cg_cgroup::user::Mode;
+use std::alloc::Global;
+
+fn whole(path: &Path) -> &str
+    ensures text { result.now ≡ path_text path.now }
+    ensures path { IsPath path.now }
+{
+    path.prefix(path.depth())
+}
+
+fn move_line(alloc: Global, pid: Pid, to: &Path) -> Result<String, NoMemory>
+    ensures text { IfOk result (λ line. string_bytes line ≡ spelling (Move pid to.now) ++ 10 ∷ []) }
+    ensures held { IsHeld (Move pid to.now) }
+{
+    let pid = pid.get();
+    let to = whole(to);
+    Ok(format!(in alloc; "move {pid} {to}\n")?)
+}
+
+fn push_change(line: &mut String, change: Change) -> Result<(), NoMemory>
+    ensures { OnOk result (string_bytes line.new ≡ string_bytes line.old ++ 32 ∷ change_word change) }
+{
+    line.push_str(if change.on { " +" } else { " -" })?;
+    line.push_str(change.controller.name())?;
+    Ok(())
+}
+
+fn push_changes(line: &mut String, changes: &[Change]) -> Result<(), NoMemory>
+    ensures { OnOk result (string_bytes line.new ≡ string_bytes line.old ++ flat_map (λ change. 32 ∷ change_word change) changes.now) }
+{
+    for change in changes {
+        push_change(line, *change)?;
+    }
+    Ok(())
+}
+
+fn control_line(alloc: Global, at: &Path, changes: &Changes) -> Result<String, NoMemory>
+    ensures text { IfOk result (λ line. string_bytes line ≡ spelling (Control at.now changes.now) ++ 10 ∷ []) }
+    ensures held { IsHeld (Control at.now changes.now) }
+{
+    let at = whole(at);
+    let mut line = format!(in alloc; "control {at}")?;
+    push_changes(&mut line, changes.as_slice())?;
+    line.push_str("\n")?;
+    Ok(line)
+}
+
+fn mkdir_line(alloc: Global, path: &Path) -> Result<String, NoMemory>
+    ensures text { IfOk result (λ line. string_bytes line ≡ spelling (Mkdir path.now) ++ 10 ∷ []) }
+    ensures held { IsHeld (Mkdir path.now) }
+{
+    let path = whole(path);
+    Ok(format!(in alloc; "mkdir {path}\n")?)
+}
+
+fn rmdir_line(alloc: Global, path: &Path) -> Result<String, NoMemory>
+    ensures text { IfOk result (λ line. string_bytes line ≡ spelling (Rmdir path.now) ++ 10 ∷ []) }
+    ensures held { IsHeld (Rmdir path.now) }
+{
+    let path = whole(path);
+    Ok(format!(in alloc; "rmdir {path}\n")?)
+}
+
+fn set_line(alloc: Global, at: &Path, file: LimitFile, value: Limit) -> Result<String, NoMemory>
+    ensures text { IfOk result (λ line. string_bytes line ≡ spelling (Set at.now file value) ++ 10 ∷ []) }
+    ensures held { IsHeld (Set at.now file value) }
+{
+    let at = whole(at);
+    let file = file.name();
+    match value {
+        Limit::Max => Ok(format!(in alloc; "set {at} {file} max\n")?),
+        Limit::At(number) => Ok(format!(in alloc; "set {at} {file} {number}\n")?),
+    }
+}
+
+fn fork_line(alloc: Global, parent: Pid, child: Pid) -> Result<String, NoMemory>
+    ensures text { IfOk result (λ line. string_bytes line ≡ spelling (Fork parent child) ++ 10 ∷ []) }
+    ensures held { IsHeld (Fork parent child) }
+{
+    let parent = parent.get();
+    let child = child.get();
+    Ok(format!(in alloc; "fork {parent} {child}\n")?)
+}
+
+fn exit_line(alloc: Global, pid: Pid) -> Result<String, NoMemory>
+    ensures text { IfOk result (λ line. string_bytes line ≡ spelling (Exit pid) ++ 10 ∷ []) }
+    ensures held { IsHeld (Exit pid) }
+{
+    let pid = pid.get();
+    Ok(format!(in alloc; "exit {pid}\n")?)
+}
+
+fn chmod_line(alloc: Global, at: &Path, entry: EntryName, mode: Mode) -> Result<String, NoMemory>
+    ensures text { IfOk result (λ line. string_bytes line ≡ spelling (Chmod at.now entry mode) ++ 10 ∷ []) }
+    ensures held { IsHeld (Chmod at.now entry mode) }
+{
+    let at = whole(at);
+    let entry = entry.name();
+    let bits = mode.get();
+    let owner = bits / 64;
+    let group = bits / 8 % 8;
+    let others = bits % 8;
+    Ok(format!(in alloc; "chmod {at} {entry} {owner}{group}{others}\n")?)
+}
+
+fn line_of(alloc: Global, op: &Op) -> Result<String, NoMemory>
+    ensures text { IfOk result (λ line. string_bytes line ≡ spelling op.now ++ 10 ∷ []) }
+    ensures held { IsHeld op.now }
+{
+    match op {
+        Op::Move { pid, to } => move_line(alloc, *pid, to),
+        Op::Control { at, changes } => control_line(alloc, at, changes),
+        Op::Mkdir { path } => mkdir_line(alloc, path),
+        Op::Rmdir { path } => rmdir_line(alloc, path),
+        Op::Set { at, file, value } => set_line(alloc, at, *file, *value),
+        Op::Fork { parent, child } => fork_line(alloc, *parent, *child),
+        Op::Exit { pid } => exit_line(alloc, *pid),
+        Op::Chmod { at, entry, mode } => chmod_line(alloc, at, *entry, *mode),
+    }
+}
+
+/// The line of an operation, and a newline. `read_op` of the line gives the operation back, where it has at most 8192
+/// bytes.
+pub fn op_text(alloc: Global, op: &Op) -> Result<Vec<u8>, NoMemory>
+    ensures text { IfOk result (λ text. text.items ≡ spelling op.now ++ 10 ∷ []) }
+    ensures held { IsHeld op.now }
+{
+    Ok(line_of(alloc, op)?.into_bytes())
+}

@@ -1,0 +1,4 @@
+pub mod Sorted
+pub mod Below
+pub mod Changed
+pub mod TablesState

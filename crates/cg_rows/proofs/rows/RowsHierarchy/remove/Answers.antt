@@ -1,0 +1,12 @@
+use Rattle.std.proofs.Common.{ap, sym, ◌∙◌, subst}
+use Rattle.cg_tree.specs.States.{without_row}
+use Rattle.cg_tree.specs.WellFormed.{IsWellFormed}
+use Rattle.cg_rows.specs.RowsForm.{state_of_tables}
+use Rattle.cg_tree.proofs.FormedLaws.{formed-without_row}
+use Rattle.cg_rows.proofs.rows.RowsHierarchy.remove.Goals as goal
+
+pub invariant_of-self : goal.invariant_of-self
+invariant_of-self c =
+    let next = ap (λ k. state_of_tables k c.self.inside.live c.self.inside.used c.self.inside.controllers) c.remove.ensures ∙ ap (λ s. without_row s c.args.path.now) c.self.view_is in
+    subst IsWellFormed (sym next)
+    (formed-without_row _ _ c.requires.not_root c.requires.no_child c.requires.no_process (subst IsWellFormed c.self.view_is c.self.invariant))

@@ -1,0 +1,5 @@
+//! How a tree of cgroups is kept.
+#![tactic(auto)]
+
+pub mod rows;
+pub mod tables;

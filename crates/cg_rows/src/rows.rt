@@ -1,0 +1,217 @@
+//! `Rows`: a tree kept as tables.
+ghost use Rattle.std.specs.Prelude.{◌≡◌, IfOk};
+ghost use Rattle.cg_rows.specs.RowsForm.{IsRoot, state_of_root, state_of_tables};
+ghost use Rattle.cg_tree.specs.WellFormed.{IsWellFormed};
+
+mod below;
+#[cfg(test)]
+mod tests;
+
+use cg_cgroup::cgroup::Cgroup;
+use cg_cgroup::files::{Controller, ControllerSet, EntryName, Limit, LimitFile};
+use cg_tree::hierarchy::Hierarchy;
+use cg_cgroup::memory::NoMemory;
+use cg_cgroup::path::Path;
+use cg_cgroup::process::{Pid, Process};
+use crate::tables::path_table::PathTable;
+use crate::tables::pid_table::{PidTable, insert_both};
+use cg_cgroup::user::{Mode, User};
+use std::alloc::Global;
+use std::marker::Model;
+
+/// A tree of cgroups with its processes, kept as sorted tables.
+///
+/// A look-up takes time in the logarithm of the tree's size, and a question about what lies below a cgroup a walk over
+/// the cgroups below it.
+#[derive(Drop)]
+pub struct Rows {
+    rows: PathTable<Cgroup>,
+    live: PidTable<Process>,
+    used: PidTable<()>,
+    controllers: ControllerSet,
+}
+
+impl Model for Rows {
+    ghost use Rattle.std.specs.Coded.{codes};
+    ghost use Rattle.std.specs.FinMap as map;
+    ghost use Rattle.std.specs.FinSet as set;
+    ghost use Rattle.cg_tree.specs.States.{State};
+
+    ghost Value = { State };
+
+    ghost coded = { Prim.hlevel (codes, map.code, set.code) };
+
+    ghost use Rattle.cg_rows.specs.RowsForm.{state_of_tables};
+    ghost use Rattle.cg_tree.specs.WellFormed.{IsWellFormed};
+
+    ghost view = { λ t. state_of_tables t.rows t.live t.used t.controllers };
+
+    ghost invariant = { λ t. IsWellFormed (state_of_tables t.rows t.live t.used t.controllers) };
+}
+
+impl Rows {
+    /// A tree with a root alone. Fails where memory is wanted.
+    pub fn new(alloc: Global, controllers: ControllerSet, root: Cgroup) -> Result<Rows, NoMemory>
+        requires { IsRoot controllers root }
+        ensures { IfOk result (λ rows. rows ≡ state_of_root controllers root) }
+    {
+        let mut rows = PathTable::new(alloc);
+        rows.insert(Path::root(alloc), root)?;
+        Ok(Rows {
+            rows,
+            live: PidTable::new(alloc),
+            used: PidTable::new(alloc),
+            controllers,
+        })
+    }
+
+    /// The tree of these cgroups, live processes and used PIDs, where the root has the controllers that are available.
+    pub fn from_tables(
+        rows: PathTable<Cgroup>,
+        live: PidTable<Process>,
+        used: PidTable<()>,
+        available: ControllerSet,
+    ) -> Rows
+        requires { IsWellFormed (state_of_tables rows live used available) }
+        ensures { result ≡ state_of_tables rows live used available }
+    {
+        Rows {
+            rows,
+            live,
+            used,
+            controllers: available,
+        }
+    }
+}
+
+impl Hierarchy for Rows {
+    ghost state = { λ rows. rows };
+
+    fn get(&self, path: &Path, len: usize) -> Option<&Cgroup> {
+        self.rows.get(path, len)
+    }
+
+    fn place(&self, pid: Pid) -> Option<&Path> {
+        match self.live.get(pid) {
+            Some(process) => Some(&process.place),
+            None => None,
+        }
+    }
+
+    fn owner(&self, pid: Pid) -> Option<u32> {
+        match self.live.get(pid) {
+            Some(process) => Some(process.uid),
+            None => None,
+        }
+    }
+
+    fn is_used(&self, pid: Pid) -> bool {
+        self.used.contains(pid)
+    }
+
+    fn controllers(&self) -> ControllerSet {
+        self.controllers
+    }
+
+    fn has_child(&self, path: &Path, len: usize) -> bool {
+        below::any_child(self.rows.below(path, len), path, len)
+    }
+
+    fn has_live(&self, path: &Path, len: usize) -> bool {
+        below::any_at(self.live.entries(), path, len)
+    }
+
+    fn child_enables(&self, path: &Path, len: usize, controller: Controller) -> bool {
+        below::any_child_enables(self.rows.below(path, len), path, len, controller)
+    }
+
+    fn count_below(&self, path: &Path, len: usize) -> u64 {
+        self.rows.below(path, len).len() as u64
+    }
+
+    fn depth_below(&self, path: &Path, len: usize) -> u64 {
+        below::deepest(self.rows.below(path, len), len)
+    }
+
+    fn set_limit(&mut self, path: &Path, file: LimitFile, value: Limit) {
+        if let Some(row) = self.rows.get(path, path.depth()) {
+            let mut row = *row;
+            row.set_value(file, value);
+            self.rows.set(path, row);
+        }
+    }
+
+    fn set_enabled(&mut self, path: &Path, enabled: ControllerSet, user: &User) {
+        self.rows.enable(path, enabled, user);
+    }
+
+    fn set_mode(&mut self, path: &Path, name: EntryName, mode: Mode) {
+        if let Some(row) = self.rows.get(path, path.depth()) {
+            let mut row = *row;
+            // What `get` says of a mode's range keeps the tree well-formed.
+            let _bits = mode.get();
+            row.set_mode(name, mode);
+            self.rows.set(path, row);
+        }
+    }
+
+    fn remove(&mut self, path: &Path) {
+        self.rows.remove(path);
+    }
+
+    fn end_process(&mut self, pid: Pid) {
+        self.live.remove(pid);
+    }
+
+    fn paths(&self, alloc: Global) -> Result<Vec<Path>, NoMemory> {
+        let mut paths = Vec::new(alloc);
+        for entry in self.rows.entries() {
+            paths.push(entry.0.try_clone(alloc)?)?;
+        }
+        Ok(paths)
+    }
+
+    fn pids(&self, alloc: Global) -> Result<Vec<Pid>, NoMemory> {
+        Ok(
+            self.live
+                .entries()
+                .iter()
+                .map(|entry| entry.0)
+                .collect(alloc)?,
+        )
+    }
+
+    fn try_clone(&self, alloc: Global) -> Result<Self, NoMemory> {
+        Ok(Rows {
+            rows: self.rows.try_clone(alloc)?,
+            live: self.live.try_clone(alloc)?,
+            used: self.used.try_clone(alloc)?,
+            controllers: self.controllers,
+        })
+    }
+
+    fn add(&mut self, alloc: Global, path: &Path, cgroup: Cgroup) -> Result<(), NoMemory> {
+        let path = path.try_clone(alloc)?;
+        self.rows.insert(path, cgroup)
+    }
+
+    fn set_place(&mut self, alloc: Global, pid: Pid, path: &Path) -> Result<(), NoMemory> {
+        let place = path.try_clone(alloc)?;
+        if let Some(process) = self.live.get(pid) {
+            let uid = process.uid;
+            self.live.set(pid, Process { uid, place });
+        }
+        Ok(())
+    }
+
+    fn add_process(
+        &mut self,
+        alloc: Global,
+        pid: Pid,
+        uid: u32,
+        path: &Path,
+    ) -> Result<(), NoMemory> {
+        let place = path.try_clone(alloc)?;
+        insert_both(&mut self.used, &mut self.live, pid, Process { uid, place })
+    }
+}

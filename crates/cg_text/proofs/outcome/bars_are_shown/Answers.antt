@@ -1,5 +1,0 @@
-use Rattle.cg_text.proofs.OutcomeLaws.{bars_shown}
-use Rattle.cg_text.proofs.outcome.bars_are_shown.Goals as goal
-
-pub returns : goal.returns
-returns c = bars_shown

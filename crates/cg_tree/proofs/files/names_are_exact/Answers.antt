@@ -1,5 +1,0 @@
-use Rattle.cg_tree.proofs.NameLaws.{controller_names, file_names, entry_names}
-use Rattle.cg_tree.proofs.files.names_are_exact.Goals as goal
-
-pub returns : goal.returns
-returns c = record { controllers = controller_names; files = file_names; entries = entry_names }

@@ -1,7 +1,0 @@
-use Rattle.std.proofs.Common.{◌∙◌, arith}
-use Rattle.cg_tree.proofs.PathEnds.{prefix_text}
-use Rattle.cg_tree.proofs.path.Path.prefix.Goals as goal
-
-pub returns-else-len-eq0-clause-text : goal.returns-else-len-eq0-clause-text
-returns-else-len-eq0-clause-text c =
-    c.front-front.ensures.text ∙ prefix_text c.args.self.now c.args.len (omega arith) c.requires
