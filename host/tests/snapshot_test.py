@@ -63,14 +63,14 @@ class SnapshotTest(MadeUpTest):
 
     def test_text(self):
         host = self.host
-        host.cgroup("/", modes={"dir": 0o555}, enabled="memory pids", pids=(2, 9), values={
-            "cgroup.controllers": "cpu memory pids"})
+        host.cgroup("/", enabled="memory pids", pids=(2, 9), values={"cgroup.controllers": "cpu memory pids"})
         host.cgroup("/a.slice", owners={**DELEGATED, "cgroup.subtree_control": (1000, 50)}, enabled="memory",
                     modes={"cgroup.subtree_control": 0o664},
                     values={"pids.max": 50, "memory.low": "max", "cgroup.max.depth": 3})
         host.cgroup("/a.slice/with\\x20space\\x2d.service", pids=(7, 8))
         host.cgroup("/a-b")
         host.cgroup("/it's\\x20")
+        host.own(host.mount, 0, 0o555)
         host.process(7, uid=1000)
         host.process(9)
         host.process(2, flags=KERNEL_THREAD)
@@ -108,8 +108,9 @@ class SnapshotTest(MadeUpTest):
         self.assertEqual(sorted(taken.tree.rows), ["/", "/plain", "/plain/...", "/plain/cgroup.procs.d"])
         lines = [line for line in taken.note_lines() if line.startswith("name: ")]
         self.assertEqual(len(lines), 7)
-        self.assertIn(r"name: b'/plain/\xff\xfe': left out, and 2 cgroups inside: no name of the format, or too long a path", lines)
-        self.assertIn(r"name: b'/plain/\x1b[31m': left out: no name of the format, or too long a path", lines)
+        why = "no name of the format, or too long a path"
+        self.assertIn(rf"name: b'/plain/\xff\xfe': left out, and 2 cgroups inside: {why}", lines)
+        self.assertIn(rf"name: b'/plain/\x1b[31m': left out: {why}", lines)
         self.assertTrue(all(line.isprintable() and line.isascii() for line in lines))
 
     def test_long_paths(self):

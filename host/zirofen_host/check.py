@@ -6,7 +6,7 @@ from collections import namedtuple
 
 from zirofen_host.delegations import Delegations, accounts_of
 from zirofen_host.fault import FAULT, Fault
-from zirofen_host.unseen import Line, Unseen
+from zirofen_host.unseen import Unseen
 
 HERE = os.path.dirname(os.path.dirname(os.path.realpath(__file__)))
 PROGRAM = os.path.join(os.path.dirname(HERE), "zirofen")
@@ -19,14 +19,16 @@ Answer = namedtuple("Answer", "status lines")
 
 
 def command(program, tree, delegation):
-    groups = [word for gid in delegation.user.gids for word in ("--gid", str(gid))]
-    return [program, "check", "--tree", tree, "--uid", str(delegation.user.uid), *groups, "--subtree", delegation.path]
+    path, user = delegation
+    groups = [word for gid in user.gids for word in ("--gid", str(gid))]
+    return [program, "check", "--tree", tree, "--uid", str(user.uid), *groups, "--subtree", path]
 
 
 def ask(program, tree, delegation):
     """The program's answer; anything that isn't one of its three is a fault, whose line it is."""
     try:
-        ended = subprocess.run(command(program, tree, delegation), stdin=subprocess.DEVNULL, capture_output=True, text=True)
+        words = command(program, tree, delegation)
+        ended = subprocess.run(words, stdin=subprocess.DEVNULL, capture_output=True, text=True)
     except OSError as error:
         raise Fault(f"can't run {program}: {error.strerror}") from None
     lines = ended.stdout.splitlines()
@@ -66,8 +68,7 @@ def unseen_lines(snapshot, accounts, delegations, mounts, options):
         for line in unseen.lines(each):
             yield f"{each.user.uid} {each.path}: {line.kind}: {line.text}"
     if "nsdelegate" in mounts.options(options.mount):
-        line = Line("nsdelegate", "the mount has it: what runs in a cgroup namespace is kept in there, safer than the answers")
-        yield f"{line.kind}: {line.text}"
+        yield "nsdelegate: the mount has it: what runs in a cgroup namespace is kept in there, safer than the answers"
     yield from (f"snapshot: {line}" for line in snapshot.note_lines())
 
 

@@ -42,7 +42,7 @@ class Delegations:
         return users
 
     def users(self, kind, number):
-        """The users of a uid or in a group. Somebody unknown stands for a group that has no known member, but for root's."""
+        """The users of a uid or in a group. Somebody unknown stands for a group without known members, but for root's."""
         if (kind, number) not in self.known:
             found = self.accounts.users_of(number) if kind == "uid" else self.accounts.members_of(number)
             if kind == "gid" and number and not found:
@@ -74,7 +74,7 @@ class Delegations:
 
 def add_account_arguments(parser):
     parser.add_argument("--accounts", metavar="FOLDER",
-                        help="a folder with the files passwd, group, subuid and subgid, in place of the host's own accounts")
+                        help="a folder with passwd, group, subuid and subgid, in place of the host's own accounts")
 
 
 def accounts_of(options, processes):

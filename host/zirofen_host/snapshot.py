@@ -1,4 +1,4 @@
-"""From what was found on a host to a tree that the format carries, with a line for each thing that was bent or left out."""
+"""From what was found on a host to a tree that the format carries, with a line for each thing bent or left out."""
 import os
 from collections import Counter, namedtuple
 
@@ -133,7 +133,8 @@ def note_first_version(snapshot, mounts):
 
 def add_arguments(parser):
     """The options of every script that looks at a host."""
-    parser.add_argument("--mount", metavar="FOLDER", default="/sys/fs/cgroup", help="the cgroup v2 mount (/sys/fs/cgroup)")
+    parser.add_argument("--mount", metavar="FOLDER", default="/sys/fs/cgroup",
+                        help="the cgroup v2 mount (/sys/fs/cgroup)")
     parser.add_argument("--only", metavar="PATH", type=os.fsencode,
                         help="that cgroup, its ancestors and what is inside it, and no more")
     parser.add_argument("--proc", metavar="FOLDER", default="/proc", help="where processes are told of (/proc)")

@@ -45,7 +45,8 @@ class Unseen:
             if found and name in found.files and not user.reaches(found.files[name]):
                 held.setdefault(file, []).append(str(pid))
         for file, pids in sorted(held.items()):
-            yield Line("descriptor", f"{file} is open for writing in process {', '.join(pids)}, and he may not open it now")
+            where = f"in process {', '.join(pids)}"
+            yield Line("descriptor", f"{file} is open for writing {where}, and he may not open it now")
 
     def other_files(self, path, user):
         """Files beside the profile's that are his where the subtree's limits stand."""
