@@ -111,6 +111,8 @@ class SnapshotTest(MadeUpTest):
         why = "no name of the format, or too long a path"
         self.assertIn(rf"name: b'/plain/\xff\xfe': left out, and 2 cgroups inside: {why}", lines)
         self.assertIn(rf"name: b'/plain/\x1b[31m': left out: {why}", lines)
+        self.assertIn("file-name: /plain/memory.max: named as a file: a controller with that file can't be enabled above",
+                      taken.note_lines())
         self.assertTrue(all(line.isprintable() and line.isascii() for line in lines))
 
     def test_long_paths(self):
@@ -152,8 +154,10 @@ class SnapshotTest(MadeUpTest):
         host.cgroup("/idle", values={"cpu.weight": 0})
         host.cgroup("/worker", enabled="cpu pids cpuset", pids=(5, 6))
         host.cgroup("/worker/thread", kind="threaded", without=("cgroup.max.depth",))
-        host.cgroup("/extra", more=("cgroup.more",))
+        host.cgroup("/extra", more=("memory.stat",))
         host.cgroup("/extra/below", values={"memory.max": 4096})
+        host.cgroup("/extra/memory.stat.d")
+        host.cgroup("/idle/memory.stat")
         for pid in (5, 6, 12):
             host.process(pid)
         taken = host.snapshot()
@@ -166,6 +170,7 @@ class SnapshotTest(MadeUpTest):
         self.assertEqual(sorted(taken.note_lines()), [
             "controller: /: cpuset left out, which 2 cgroups enable",
             "controller: /: io left out, which 0 cgroups enable",
+            "file-name: /idle/memory.stat: named as a file: a controller with that file can't be enabled above",
             "file: /extra/below: memory.max left out: the parent doesn't enable memory",
             "mode: /set: cgroup.procs has mode 0o1644, written as 0o644",
             "mode: /set: dir has mode 0o2755, written as 0o755",

@@ -20,6 +20,9 @@ def run(name, main):
         # what reads the output has ended; nothing more can be told it, at the end of the program neither
         sys.stdout = None
         status = FAULT
+    except SystemExit as ended:
+        # argparse ends with 2 where the options are wrong, and this is another answer's status
+        status = FAULT if ended.code else 0
     except OSError as error:
         print(f"{name}: {error}", file=sys.stderr)
         status = FAULT

@@ -13,6 +13,7 @@ from zirofen_host.users import Entry
 Note = namedtuple("Note", "kind place detail")
 ANY_MODE = 0o777
 LARGEST_PID = 4194303
+RESERVED = [name.encode() for name in (*CONTROL_FILES, *LIMIT_FILES)]
 
 
 class Snapshot:
@@ -38,6 +39,10 @@ class Snapshot:
         for path, count in sorted(self.walk.left_out.items()):
             inside = "" if count == 1 else f", and {count - 1} cgroups inside"
             self.note("name", shown(path), f"left out{inside}: no name of the format, or too long a path")
+        files = {os.fsencode(file) for found in self.rows_found.values() for file in found.files} | set(RESERVED)
+        for path in sorted({*self.walk.found, *self.walk.left_out}):
+            if path.rpartition(b"/")[2] in files:
+                self.note("file-name", shown(path), "named as a file: a controller with that file can't be enabled above")
 
     def note_controllers(self):
         others = Counter(name for found in self.rows_found.values() for name in found.enabled if name not in CONTROLLERS)
