@@ -92,6 +92,32 @@ class DelegationsTest(unittest.TestCase):
         self.assertEqual((uid, gids[0], len(gids), 139 in gids), (1000, 9, 32, True))
 
 
+class RealTreesTest(unittest.TestCase):
+    """The delegations of trees that were taken from running hosts."""
+
+    ACCOUNTS = Accounts([Account("alice", 1000, 1000), Account("bob", 1001, 1001), Account("builder", 890, 890)],
+                        [Group(2000, ["alice", "bob"])], [Range("alice", 100000, 65536)], [Range("alice", 100000, 65536)])
+    MANAGER = "/user.slice/user-1000.slice/user@1000.service"
+    CONTAINER = "libpod-0ef3b471c021517a3a177f12a695ad2792476642ea54fa128344eaebddc28d93.scope/container"
+    ALICE, BOB = (1000, (1000, 2000)), (1001, (1001, 2000))
+
+    def found(self, name):
+        with open(f"{TOP}/examples/{name}", encoding="ascii") as text:
+            return found(read_tree(text.read()), self.ACCOUNTS)
+
+    def test_user_managers(self):
+        self.assertEqual(self.found("host-user-managers.toml"), [
+            (*self.ALICE, "/system.slice/alicesvc.service"), (*self.ALICE, self.MANAGER),
+            (*self.BOB, "/user.slice/user-1001.slice/user@1001.service")])
+
+    def test_a_rootless_container(self):
+        self.assertEqual(self.found("host-rootless-containers.toml"), [
+            (*self.ALICE, self.MANAGER), (100000, (100000,), f"{self.MANAGER}/user.slice/{self.CONTAINER}")])
+
+    def test_a_service_that_was_given_away_whole(self):
+        self.assertEqual(self.found("host-service-chown.toml"), [(890, (890,), "/system.slice/builder.service")])
+
+
 class AccountsTest(unittest.TestCase):
     def test_subordinate_ids(self):
         accounts = Accounts([Account("alice", 1000, 1000)], [], [Range("alice", 100000, 10), Range("bob", 7, 1),
