@@ -7,7 +7,7 @@ import unittest
 from unittest import mock
 
 from made_up import DELEGATED, KERNEL_THREAD, TOP, MadeUpTest
-from zirofen_host import mount
+from zirofen_host import mount, snapshot
 from zirofen_host.fault import Fault
 from zirofen_host.mount import Mounts
 from zirofen_host.tree import read_tree, tree_text
@@ -235,10 +235,10 @@ class SnapshotTest(MadeUpTest):
             mount.steady_walk(self.host.mount)
 
     def test_too_many_processes(self):
-        self.host.cgroup("/", pids=range(1, 4098))
-        for pid in range(1, 4098):
+        self.host.cgroup("/", pids=range(1, 5))
+        for pid in range(1, 5):
             self.host.process(pid)
-        with self.assertRaisesRegex(Fault, "4097 processes.*--only"):
+        with mock.patch.object(snapshot, "MOST_PROCESSES", 3), self.assertRaisesRegex(Fault, "4 processes.*--only"):
             self.host.snapshot()
 
     def test_a_process_that_ended(self):

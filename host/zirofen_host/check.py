@@ -63,7 +63,7 @@ def table(delegations, answers):
 
 def unseen_lines(snapshot, accounts, delegations, mounts, options):
     """What was looked at by nobody, for each delegation and for all."""
-    unseen = Unseen(snapshot, accounts, delegations, options.mount, options.proc)
+    unseen = Unseen(snapshot, accounts, delegations, options.proc)
     for each in delegations:
         for line in unseen.lines(each):
             yield f"{each.user.uid} {each.path}: {line.kind}: {line.text}"

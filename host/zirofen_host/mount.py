@@ -44,6 +44,8 @@ class Walk:
         self.only = only
         self.found = {}
         self.left_out = {}
+        # each file that was found, by its device and inode
+        self.places = {}
         self.is_whole = True
         waiting = [b"/"]
         while waiting:
@@ -81,6 +83,7 @@ class Walk:
                 names.append(name)
             elif stat.S_ISREG(status.st_mode):
                 files[os.fsdecode(name)] = entry_of(status)
+                self.places[status.st_dev, status.st_ino] = os.fsdecode(path), os.fsdecode(name)
         texts = {file: text_of(full, file) for file in LIMIT_FILES if file in files}
         kind = text_of(full, "cgroup.type") if "cgroup.type" in files else "domain"
         return Found(directory=entry_of(os.lstat(full)), files=files, texts=texts,

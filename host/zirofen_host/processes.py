@@ -35,8 +35,8 @@ def read_processes(proc):
     return {process.pid: process for process in read if process}
 
 
-def open_for_writing(proc, mount, pids):
-    """The files below a mount that these processes hold open for writing, as (pid, path)."""
+def open_for_writing(proc, pids):
+    """What these processes hold open for writing, as (pid, device and inode): a path looks otherwise in a container."""
     for pid in pids:
         folder = f"{proc}/{pid}/fd"
         try:
@@ -45,9 +45,9 @@ def open_for_writing(proc, mount, pids):
             continue
         for number in numbers:
             try:
-                target = os.readlink(f"{folder}/{number}")
-                if target.startswith(mount + "/") and is_for_writing(f"{proc}/{pid}/fdinfo/{number}"):
-                    yield pid, target[len(mount):]
+                if is_for_writing(f"{proc}/{pid}/fdinfo/{number}"):
+                    status = os.stat(f"{folder}/{number}")
+                    yield pid, (status.st_dev, status.st_ino)
             except OSError:
                 continue
 

@@ -20,13 +20,13 @@ def ancestors(path):
 class Unseen:
     """Looks at a host once, and then at each delegation that was found on it."""
 
-    def __init__(self, snapshot, accounts, delegations, mount, proc):
+    def __init__(self, snapshot, accounts, delegations, proc):
         self.rows = snapshot.rows_found
         self.tree = snapshot.tree
         self.running = snapshot.running
         self.accounts = accounts
         self.delegations = delegations
-        self.mount = mount.rstrip("/")
+        self.places = snapshot.walk.places
         self.proc = proc
 
     def lines(self, delegation):
@@ -36,17 +36,16 @@ class Unseen:
         return [line for look in looks for line in look(path, user)]
 
     def descriptors(self, _, user):
-        """Files that he was kept from after one of his processes had opened them."""
+        """Files that he was kept from after one of his processes had opened them. A kernel asks again at cgroup.procs."""
         pids = [process.pid for process in self.running.values() if user.uid in (process.uid, process.user.uid)]
         held = {}
-        for pid, file in open_for_writing(self.proc, self.mount, sorted(pids)):
-            folder, _, name = file.rpartition("/")
-            found = self.rows.get(folder or "/")
-            if found and name in found.files and not user.reaches(found.files[name]):
-                held.setdefault(file, []).append(str(pid))
-        for file, pids in sorted(held.items()):
-            where = f"in process {', '.join(pids)}"
-            yield Line("descriptor", f"{file} is open for writing {where}, and he may not open it now")
+        for pid, file in open_for_writing(self.proc, sorted(pids)):
+            place, name = self.places.get(file, (None, "cgroup.procs"))
+            if name != "cgroup.procs" and not user.reaches(self.rows[place].files[name]):
+                held.setdefault((place, name), set()).add(pid)
+        for (place, name), pids in sorted(held.items()):
+            where = f"in process {', '.join(map(str, sorted(pids)))}"
+            yield Line("descriptor", f"{name} at {place} is open for writing {where}, and he may not open it now")
 
     def other_files(self, path, user):
         """Files beside the profile's that are his where the subtree's limits stand."""
