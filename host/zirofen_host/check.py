@@ -50,9 +50,9 @@ def ask_all(program, snapshot, delegations, kept=None):
 
 
 def table(delegations, answers):
-    """Columns of uid, groups, path and answer; what an answer shows stands below it."""
-    rows = [("UID", "GIDS", "PATH", "ANSWER")]
-    rows += [(str(each.user.uid), ",".join(map(str, each.user.gids)) or "-", each.path, answer.lines[0])
+    """Columns of uid, groups, answer and path, which may be long; what an answer shows stands below it."""
+    rows = [("UID", "GIDS", "ANSWER", "PATH")]
+    rows += [(str(each.user.uid), ",".join(map(str, each.user.gids)) or "-", answer.lines[0], each.path)
              for each, answer in zip(delegations, answers)]
     widths = [max(len(row[column]) for row in rows) for column in range(3)]
     further = [()] + [answer.lines[1:] for answer in answers]

@@ -2,7 +2,7 @@
 from collections import namedtuple
 
 from zirofen_host.processes import open_for_writing
-from zirofen_host.profile import CONTROL_FILES, LIMIT_FILES, is_inside, parent_of
+from zirofen_host.profile import ANYBODY, CONTROL_FILES, LIMIT_FILES, is_inside, parent_of
 
 Line = namedtuple("Line", "kind text")
 
@@ -73,7 +73,7 @@ class Unseen:
 
     def further_delegations(self, path, user):
         others = sorted({each.path for each in self.delegations if each.user.uid == user.uid} - {path})
-        if others:
+        if others and user.uid != ANYBODY:
             yield Line("same-uid", "a service manager may move his processes on request between this and "
                        + " ".join(others))
 
@@ -82,7 +82,7 @@ class Unseen:
         mine = {each.path for each in self.delegations if each.user.uid == user.uid} | {path}
         places = sorted({at for _, uid, at in self.tree.processes
                          if uid == user.uid and not any(is_inside(at, each) for each in mine)})
-        if places:
+        if places and user.uid != ANYBODY:
             yield Line("outside", f"processes of his are in {' '.join(places)}")
 
     def search_bits(self, path, user):
