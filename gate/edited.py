@@ -1,5 +1,5 @@
 """The must-fail edits of a crate, and the functions that they change."""
-import json, os, re
+import functools, json, os, re
 
 MOST_IN_A_CHECK = 12
 FUNCTION = re.compile(r"( *)(?:pub(?:\([\w ]+\))? )?(?:const |unsafe )*fn (\w+)")
@@ -19,12 +19,13 @@ class Edit:
 
     def __init__(self, crate, file):
         self.crate, self.name, self.pairs, self.verdict = crate, f"{crate.name}/{file.removesuffix('.edit')}", [], None
-        path = old = ""
+        path = old = self.goal = ""
         for line in text_of(f"{crate.folder}/must-fail/{file}").split("\n"):
             word, _, text = line.partition(":")
             text = text.removeprefix(" ")
             path, old = (text.strip(), old) if word == "file" else (path, text if word == "old" else old)
             self.pairs += [(path, old, text)] if word == "new" else []
+            self.goal = text.strip() if word == "goal" else self.goal
         try:
             self.apply({})
         except (OSError, ValueError) as error:
@@ -54,10 +55,12 @@ class Edit:
         return found
 
     def goes_beside(self, other):
-        """Returns whether one check can try both: no function of one reaches one of the other."""
-        pairs = [(a, b) for f in self.functions() for g in other.functions() for a in f["names"] for b in g["names"]]
+        """Returns whether one check can try both: no function of one reaches one of the other, or both name a goal of one."""
+        ours, theirs = ({name for it in edit.functions() for name in it["names"]} for edit in (self, other))
+        if ours == theirs:
+            return bool(self.goal and other.goal and self.goal != other.goal)
         reached = self.crate.reached
-        return not any(a == b or a in reached[b] or b in reached[a] for a, b in pairs)
+        return not any(a == b or a in reached[b] or b in reached[a] for a in ours for b in theirs)
 
     def open_goal(self, said):
         """Returns the first goal of an edited function that stays open. Outside functions any function's will do."""
@@ -65,13 +68,12 @@ class Edit:
         folders = [name.split("::", 1)[1].replace("::", "/") for it in functions for name in it["names"]]
         for line in said:
             goal, answer = OPEN.match(line), REFUSED_ANSWER.match(line)
-            if goal:
-                path, at = goal[1], int(goal[2])
-                here = [it for it in functions if it["file"] == path and it["first"] <= at <= it["last"]]
-                if here or not functions:
-                    return f"{path}:{at}: {goal[3]}"
-            if answer and (answer[1] in folders or not functions):
-                return f"proofs/{answer[1]}: {answer[2]}"
+            if not goal and not answer or self.goal and f"`{self.goal}`" not in line:
+                continue
+            path, at = (goal[1], int(goal[2])) if goal else (f"proofs/{answer[1]}", 0)
+            here = [it for it in functions if goal and it["file"] == path and it["first"] <= at <= it["last"]]
+            if here or not functions or answer and answer[1] in folders:
+                return f"{path}:{at}: {goal[3]}" if goal else f"{path}: {answer[2]}"
         return None
 
 
@@ -125,6 +127,11 @@ def names_of(name, module, block, known):
     return [it for it in parts if parts[it][-1] == name and re.fullmatch(under, parts[it][-2])]
 
 
+def texts_with(edits):
+    """Returns the texts that these edits change, by path."""
+    return functools.reduce(lambda texts, it: it.apply(texts), edits, {})
+
+
 def groups_of(edits):
     """Returns the edits in groups of one check each. Alone is what lies outside functions, or in one of no known name."""
     groups, alone = [], []
@@ -133,11 +140,19 @@ def groups_of(edits):
         if not functions or not all(it["names"] for it in functions):
             alone.append([edit])
             continue
-        group = next((it for it in groups if len(it) < MOST_IN_A_CHECK and all(map(edit.goes_beside, it))), [])
+        group = next((it for it in groups if can_join(edit, it)), [])
         if not group:
             groups.append(group)
         group.append(edit)
     return groups + alone
+
+
+def can_join(edit, group):
+    try:
+        texts_with([*group, edit])
+    except ValueError:
+        return False
+    return len(group) < MOST_IN_A_CHECK and all(map(edit.goes_beside, group))
 
 
 def crates_of(top, wanted):
