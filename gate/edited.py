@@ -6,7 +6,9 @@ FUNCTION = re.compile(r"( *)(?:pub(?:\([\w ]+\))? )?(?:const |unsafe )*fn (\w+)"
 BLOCK = re.compile(r"impl(?:<.*?>)? (?:(?:\w+::)*(?P<trait>\w+)(?:<.*>)? for )?(?P<type>\w+)")
 # How the prover says that a goal of a function is open, and that an answer in a proof file doesn't prove its goal.
 OPEN = re.compile(r"note: (src/\S+?):(\d+):\d+: (it is not proved that .*)")
-REFUSED_ANSWER = re.compile(r"\./proofs/(\S+)/(?:Answers|Invariants|Proof)\.antt:\d+:\d+: error: (`[^`]*`: (?:as printed, |`(?:grind|omega|search|simp)`: ).*)")
+NOT_MET = r"`[^`]*`: (?:as printed, |`(?:grind|omega|search|simp)`: ).*"
+REFUSED_ANSWER = re.compile(rf"\./proofs/(\S+)/(?:Answers|Invariants|Proof)\.antt:\d+:\d+: error: ({NOT_MET})")
+CALLS = re.compile(r"fn (\S+): .*?it calls (.*?), which (?:is|are) not proved")
 
 
 def text_of(file):
@@ -55,7 +57,7 @@ class Edit:
         return found
 
     def goes_beside(self, other):
-        """Returns whether one check can try both: no function of one reaches one of the other, or both name a goal of one."""
+        """Returns whether one check can try both: neither edited function reaches the other, or each names a goal."""
         ours, theirs = ({name for it in edit.functions() for name in it["names"]} for edit in (self, other))
         if ours == theirs:
             return bool(self.goal and other.goal and self.goal != other.goal)
@@ -103,10 +105,17 @@ class Crate:
             for file in files:
                 self.functions += self.functions_in(os.path.relpath(f"{at}/{file}", self.folder), known)
 
+    def stop_on_unknown_calls(self, said):
+        """Stops where the prover names a call that is not in what the kit keeps for linking, on which groups rest."""
+        for caller, callees in (it.groups() for it in map(CALLS.match, said) if it and self.reached):
+            if not {*re.findall(r"`([^`]+)`", callees)} <= self.reached[caller]:
+                raise ValueError(f"{caller} calls {callees}, which mir.json of {self.name} doesn't say")
+
     def functions_in(self, path, known):
-        """Returns the functions of a file that is laid out by rt fmt: each ends at the first brace below it at its depth."""
+        """Returns the functions of a file in rt fmt's layout: each ends at the first brace below it at its depth."""
         lines, found, block = text_of(f"{self.folder}/{path}").split("\n"), [], None
-        module = "::".join(it for it in [self.name, *path[len("src/") : -len(".rt")].split("/")] if it not in ("lib", "mod"))
+        parts = [self.name, *path[len("src/") : -len(".rt")].split("/")]
+        module = "::".join(parts[:-1] if parts[-1] in ("lib", "mod") else parts)
         for first, line in enumerate(lines, 1):
             block = BLOCK.match(line) if re.match(r"\w", line) else block
             head = FUNCTION.match(line)
@@ -119,7 +128,7 @@ class Crate:
 
 
 def names_of(name, module, block, known):
-    """Returns the names that the prover may give a function: a method's stands under its type's name and its trait's."""
+    """Returns the names that the prover may give a function: a method's stands under its type's and its trait's."""
     if not block:
         return [it for it in known if it == f"{module}::{name}"]
     under = re.escape(block["type"]) + (f"{block['trait']}.*" if block["trait"] else "([+].*)?")
@@ -133,7 +142,7 @@ def texts_with(edits):
 
 
 def groups_of(edits):
-    """Returns the edits in groups of one check each. Alone is what lies outside functions, or in one of no known name."""
+    """Returns the edits in groups of one check each. One outside functions, or in one of no known name, is alone."""
     groups, alone = [], []
     for edit in edits:
         functions = edit.functions()
