@@ -1,0 +1,182 @@
+"""The must-fail edits of a crate, and the functions that they change."""
+import functools, json, os, re
+
+MOST_IN_A_CHECK = 12
+FUNCTION = re.compile(r"( *)(?:pub(?:\([\w ]+\))? )?(?:const |unsafe )*fn (\w+)")
+BLOCK = re.compile(r"impl(?:<.*?>)? (?:(?:\w+::)*(?P<trait>\w+)(?:<.*>)? for )?(?P<type>\w+)")
+# How the prover says that a goal of a function is open, and that an answer in a proof file doesn't prove its goal.
+OPEN = re.compile(r"note: (src/\S+?):(\d+):\d+: (it is not proved that .*)")
+NOT_MET = r"`[^`]*`: (?:as printed, |`(?:grind|omega|search|simp)`: ).*"
+REFUSED_ANSWER = re.compile(rf"\./proofs/(\S+)/(?:Answers|Invariants|Proof)\.antt:\d+:\d+: error: ({NOT_MET})")
+CALLS = re.compile(r"fn (\S+): .*?it calls (.*?), which (?:is|are) not proved")
+
+
+def text_of(file):
+    with open(file, encoding="utf-8") as it:
+        return it.read()
+
+
+class Edit:
+    """A change of a crate's code, as the kit reads it, and whether the prover refuses it."""
+
+    def __init__(self, crate, file):
+        self.crate, self.name, self.pairs, self.verdict = crate, f"{crate.name}/{file.removesuffix('.edit')}", [], None
+        path = old = self.goal = ""
+        for line in text_of(f"{crate.folder}/must-fail/{file}").split("\n"):
+            word, _, text = line.partition(":")
+            text = text.removeprefix(" ")
+            path, old = (text.strip(), old) if word == "file" else (path, text if word == "old" else old)
+            self.pairs += [(path, old, text)] if word == "new" else []
+            self.goal = text.strip() if word == "goal" else self.goal
+        try:
+            self.apply({})
+        except (OSError, ValueError) as error:
+            self.verdict = False, f"it can't be applied: {error}"
+
+    def apply(self, texts):
+        """Returns the texts, by path, with this edit in them, and notes which lines it changes."""
+        texts, self.lines = {**texts}, []
+        for path, old, new in self.pairs:
+            text = texts.get(path) or text_of(f"{self.crate.folder}/{path}")
+            if not path.startswith("src/") or not old or text.count(old) != 1:
+                raise ValueError(f"'{old}' is in {path} {text.count(old)} times, and not once in a file of src/")
+            self.lines.append((path, text.count("\n", 0, text.index(old)) + 1, old))
+            texts[path] = text.replace(old, new)
+        if not self.pairs:
+            raise ValueError("it has no 'old:' and 'new:' pair")
+        return texts
+
+    def functions(self):
+        """Returns the functions that the edit changes, or none where it changes what lies outside functions."""
+        found = []
+        for path, line, old in self.lines:
+            here = [it for it in self.crate.functions if it["file"] == path and it["first"] <= line <= it["last"]]
+            if not here and not old.lstrip().startswith(("use ", "pub use ")):
+                return []
+            found += here[-1:]
+        return found
+
+    def goes_beside(self, other):
+        """Returns whether one check can try both: neither edited function reaches the other, or each names a goal."""
+        ours, theirs = ({name for it in edit.functions() for name in it["names"]} for edit in (self, other))
+        if ours == theirs:
+            return bool(self.goal and other.goal and self.goal != other.goal)
+        reached = self.crate.reached
+        return not any(a == b or a in reached[b] or b in reached[a] for a in ours for b in theirs)
+
+    def open_goal(self, said):
+        """Returns the first goal of an edited function that stays open. Outside functions any function's will do."""
+        functions = self.functions()
+        folders = [name.split("::", 1)[1].replace("::", "/") for it in functions for name in it["names"]]
+        for line in said:
+            goal, answer = OPEN.match(line), REFUSED_ANSWER.match(line)
+            if not goal and not answer or self.goal and f"`{self.goal}`" not in line:
+                continue
+            path, at = (goal[1], int(goal[2])) if goal else (f"proofs/{answer[1]}", 0)
+            here = [it for it in functions if goal and it["file"] == path and it["first"] <= at <= it["last"]]
+            if here or not functions or answer and answer[1] in folders:
+                return f"{path}:{at}: {goal[3]}" if goal else f"{path}: {answer[2]}"
+        return None
+
+
+class Crate:
+    def __init__(self, folder, uses):
+        self.name, self.folder, self.uses = os.path.basename(folder), folder, uses
+        self.is_library = os.path.isfile(f"{self.folder}/src/lib.rt")
+        self.edits, self.functions, self.reached = [], [], {}
+
+    def read_edits(self):
+        folder = f"{self.folder}/must-fail"
+        files = sorted(os.listdir(folder)) if os.path.isdir(folder) else []
+        self.edits = [Edit(self, it) for it in files if not it.endswith(".md")]
+
+    def read_functions(self, rlib):
+        """Finds the functions in the text, and which reaches which in what the kit keeps of a library for linking."""
+        made = json.loads(text_of(f"{rlib}/toolchain/mir.json")) if self.is_library else []
+        known = {name for name, _ in made}
+        calls = {name: known & {*re.findall(r'"([^"\\]+)"', json.dumps(does))} for name, does in made}
+        for name in known:
+            found, ahead = set(), [name]
+            while ahead:
+                ahead += calls[ahead.pop()] - found
+                found.update(ahead)
+            self.reached[name] = found
+        for at, _, files in os.walk(f"{self.folder}/src"):
+            for file in files:
+                self.functions += self.functions_in(os.path.relpath(f"{at}/{file}", self.folder), known)
+
+    def stop_on_unknown_calls(self, said):
+        """Stops where the prover names a call that is not in what the kit keeps for linking, on which groups rest."""
+        for caller, callees in (it.groups() for it in map(CALLS.match, said) if it and self.reached):
+            if not {*re.findall(r"`([^`]+)`", callees)} <= self.reached[caller]:
+                raise ValueError(f"{caller} calls {callees}, which mir.json of {self.name} doesn't say")
+
+    def functions_in(self, path, known):
+        """Returns the functions of a file in rt fmt's layout: each ends at the first brace below it at its depth."""
+        lines, found, block = text_of(f"{self.folder}/{path}").split("\n"), [], None
+        parts = [self.name, *path[len("src/") : -len(".rt")].split("/")]
+        module = "::".join(parts[:-1] if parts[-1] in ("lib", "mod") else parts)
+        for first, line in enumerate(lines, 1):
+            block = BLOCK.match(line) if re.match(r"\w", line) else block
+            head = FUNCTION.match(line)
+            if head:
+                below = (at for at in range(first, len(lines)) if re.match(rf" {{0,{len(head[1])}}}\}}", lines[at]))
+                last = first if line.endswith("}") else next(below, first) + 1
+                names = names_of(head[2], module, block if head[1] else None, known)
+                found.append({"file": path, "first": first, "last": last, "names": names})
+        return found
+
+
+def names_of(name, module, block, known):
+    """Returns the names that the prover may give a function: a method's stands under its type's and its trait's."""
+    if not block:
+        return [it for it in known if it == f"{module}::{name}"]
+    under = re.escape(block["type"]) + (f"{block['trait']}.*" if block["trait"] else "([+].*)?")
+    parts = {it: it.split("::") for it in known if "::fn::" not in it}
+    return [it for it in parts if parts[it][-1] == name and re.fullmatch(under, parts[it][-2])]
+
+
+def texts_with(edits):
+    """Returns the texts that these edits change, by path."""
+    return functools.reduce(lambda texts, it: it.apply(texts), edits, {})
+
+
+def groups_of(edits):
+    """Returns the edits in groups of one check each. One outside functions, or in one of no known name, is alone."""
+    groups, alone = [], []
+    for edit in edits:
+        functions = edit.functions()
+        if not functions or not all(it["names"] for it in functions):
+            alone.append([edit])
+            continue
+        group = next((it for it in groups if can_join(edit, it)), [])
+        if not group:
+            groups.append(group)
+        group.append(edit)
+    return groups + alone
+
+
+def can_join(edit, group):
+    try:
+        texts_with([*group, edit])
+    except ValueError:
+        return False
+    return len(group) < MOST_IN_A_CHECK and all(map(edit.goes_beside, group))
+
+
+def crates_of(top, wanted):
+    """Returns the crates of crates.txt whose edits are wanted, and those below them, by name."""
+    found = {}
+    for line in text_of(f"{top}/crates.txt").split("\n"):
+        row = re.fullmatch(r"(\w+)\s*:\s*([\w ]*)", line.partition("#")[0].strip())
+        if row:
+            found[row[1]] = Crate(f"{top}/crates/{row[1]}", {*row[2].split()})
+        elif line.partition("#")[0].strip():
+            raise ValueError(f"crates.txt has a line that is not 'NAME: LIBRARY ..': {line}")
+    for name in wanted or found:
+        found[name].read_edits()
+    needed, ahead = set(), [it for it in found if found[it].edits]
+    while ahead:
+        needed.add(ahead[-1])
+        ahead += found[ahead.pop()].uses & {*found} - needed
+    return {it: found[it] for it in found if it in needed}
