@@ -6,7 +6,7 @@ FUNCTION = re.compile(r"( *)(?:pub(?:\([\w ]+\))? )?(?:const |unsafe )*fn (\w+)"
 BLOCK = re.compile(r"impl(?:<.*?>)? (?:(?:\w+::)*(?P<trait>\w+)(?:<.*>)? for )?(?P<type>\w+)")
 # How the prover says that a goal of a function is open, and that an answer in a proof file doesn't prove its goal.
 OPEN = re.compile(r"note: (src/\S+?):(\d+):\d+: (it is not proved that .*)")
-NOT_MET = r"`[^`]*`: (?:as printed, |`(?:grind|omega|search|simp)`: ).*"
+NOT_MET = r"`[^`]*`: (?:as printed, |computed as far as they go, |expected type |`(?:grind|omega|search|simp)`:? ).*"
 REFUSED_ANSWER = re.compile(rf"\./proofs/(\S+)/(?:Answers|Invariants|Proof)\.antt:\d+:\d+: error: ({NOT_MET})")
 CALLS = re.compile(r"fn (\S+): .*?it calls (.*?), which (?:is|are) not proved")
 
@@ -122,6 +122,8 @@ class Crate:
             if head:
                 below = (at for at in range(first, len(lines)) if re.match(rf" {{0,{len(head[1])}}}\}}", lines[at]))
                 last = first if line.endswith("}") else next(below, first) + 1
+                while first > 1 and lines[first - 2] and not lines[first - 2].endswith(("{", "}", ";")):
+                    first -= 1
                 names = names_of(head[2], module, block if head[1] else None, known)
                 found.append({"file": path, "first": first, "last": last, "names": names})
         return found
