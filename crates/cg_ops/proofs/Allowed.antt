@@ -1,20 +1,22 @@
 -- What holds where nothing bars an operation: what the tree asks for before it makes the change.
-use Rattle.std.proofs.Common.{◌≡◌, ℕ, ◌+◌, Bool, true, false, not, ◌||◌, cond, [], length, option_and_then, take, Option, Some, None, is_some, refl, sym, ap, ◌∙◌, subst, true≢false}
+use Rattle.std.proofs.Common.{◌≡◌, ℕ, ◌+◌, Bool, true, false, not, ◌||◌, cond, List, [], length, option_and_then, take, Option, Some, None, is_some, refl, sym, ap, ◌∙◌, subst, true≢false}
 use Rattle.cg_cgroup.specs.Paths.{Names, is_root, parent}
 use Rattle.cg_cgroup.specs.Identity.{Identity}
 use Rattle.cg_cgroup.specs.Files.{enables_nothing, accepts}
 use Rattle.cg_cgroup.specs.Cgroups.{file_of, cgroup_made_by}
-use Rattle.cg_tree.specs.States.{State, row_at, has_child, has_live, is_used, with_row}
+use Rattle.cg_tree.specs.States.{State, row_at, process_at, owner_at, has_child, has_live, is_used, with_row}
 use Rattle.cg_tree.specs.WellFormed.{IsWellFormed, has_row, enabled_at, may_hold}
 use Rattle.cg_tree.proofs.FormedParts.{enabled_at-row}
 use Rattle.cg_tree.proofs.FormedLaws.{formed-with_made_row}
 use Rattle.cg_cgroup.specs.declared.files.Limit.{Limit}
 use Rattle.cg_cgroup.specs.declared.files.LimitFile.{LimitFile}
 use Rattle.cg_cgroup.specs.declared.cgroup.Cgroup.{Cgroup}
+use Rattle.cg_cgroup.proofs.Options.{is_some-mapped}
+use Rattle.cg_ops.specs.declared.changes.Change.{Change}
 use Rattle.cg_ops.specs.Clauses.{unless, absent, present}
-use Rattle.cg_ops.specs.Bars.{row_above, move_bars, mkdir_bars, rmdir_bars, set_bars, fork_bars}
+use Rattle.cg_ops.specs.Bars.{row_above, move_bars, mkdir_bars, rmdir_bars, set_bars, fork_bars, control_bars}
 use Rattle.cg_ops.specs.declared.outcome.Refusal.{Refusal}
-use Rattle.cg_ops.specs.declared.outcome.Refusal.TheVariants.{NoSuchCgroup, InternalProcess, RootCgroup, HasChildren, HasProcesses, NoSuchFile, BadValue}
+use Rattle.cg_ops.specs.declared.outcome.Refusal.TheVariants.{NoSuchCgroup, NoSuchProcess, InternalProcess, RootCgroup, HasChildren, HasProcesses, NoSuchFile, BadValue}
 use Rattle.cg_ops.proofs.Prefixes.{take_parent}
 use Rattle.cg_ops.proofs.ClauseLaws.{no_parts, no_unless, no_absent, none_present}
 
@@ -96,3 +98,10 @@ allowed_set st user at file value h =
 
 pub allowed_fork : (st : State) (user : Identity) (parent child : ℕ) → fork_bars st user parent child ≡ [] → is_used st child ≡ false
 allowed_fork st user parent child h = not_false (is_used st child) (no_unless _ _ (no_parts _ _ h).1)
+
+pub live_fork : (st : State) (user : Identity) (parent child : ℕ) → fork_bars st user parent child ≡ [] → is_some (process_at st parent) ≡ true
+live_fork st user parent child h =
+    sym (is_some-mapped (λ process. process.uid) (process_at st parent)) ∙ no_absent (owner_at st parent) (NoSuchProcess parent) (no_parts _ _ (no_parts _ _ h).0).0
+
+pub there_control : (st : State) (user : Identity) (at : Names) (changes : List Change) → control_bars st user at changes ≡ [] → has_row st at ≡ true
+there_control st user at changes h = no_absent (row_at st at) (NoSuchCgroup (length at)) (no_parts _ _ (no_parts _ _ h).0).0

@@ -19,9 +19,9 @@ mod process_events;
 mod procs_rule;
 mod subtree_control;
 
-use cg_tree::hierarchy::Hierarchy;
 use cg_cgroup::memory::NoMemory;
 use cg_cgroup::user::User;
+use cg_tree::hierarchy::Hierarchy;
 use operation::Op;
 use outcome::{Outcome, Refusal};
 use std::alloc::Global;

@@ -5,9 +5,9 @@ ghost use Rattle.cg_ops.specs.Bars.{set_bars};
 
 use crate::outcome::Refusal;
 use cg_cgroup::files::{EntryName, Limit, LimitFile};
-use cg_tree::hierarchy::Hierarchy;
 use cg_cgroup::path::Path;
 use cg_cgroup::user::User;
+use cg_tree::hierarchy::Hierarchy;
 
 /// The first refusal that a write of a value meets.
 pub fn refusal<H: Hierarchy>(

@@ -8,10 +8,10 @@ use crate::operation::Op;
 use crate::outcome::Refusal;
 use cg_cgroup::cgroup::Cgroup;
 use cg_cgroup::files::{EntryName, Limit};
-use cg_tree::hierarchy::Hierarchy;
 use cg_cgroup::memory::NoMemory;
 use cg_cgroup::path::Path;
 use cg_cgroup::user::User;
+use cg_tree::hierarchy::Hierarchy;
 use std::alloc::Global;
 
 /// The first refusal that making a cgroup meets.
@@ -128,9 +128,9 @@ pub fn mkdir<H: Hierarchy>(
     ensures ok { OnOk result (H.state tree.new ≡ next (H.state tree.old) user.now (Op.Mkdir path.now)) }
     ensures err { OnErr result (H.state tree.new ≡ H.state tree.old) }
 {
-    if let Some(parent) = tree.get(path, path.parent_len()) {
-        let cgroup = Cgroup::made_by(user, parent.enabled);
-        tree.add(alloc, path, cgroup)?;
-    }
-    Ok(())
+    let Some(parent) = tree.get(path, path.parent_len()) else {
+        unreachable!()
+    };
+    let cgroup = Cgroup::made_by(user, parent.enabled);
+    tree.add(alloc, path, cgroup)
 }

@@ -5,10 +5,10 @@ ghost use Rattle.cg_ops.specs.Bars.{fork_bars, exit_bars};
 ghost use Rattle.cg_ops.specs.Next.{with_fork};
 
 use crate::outcome::Refusal;
-use cg_tree::hierarchy::Hierarchy;
 use cg_cgroup::memory::NoMemory;
 use cg_cgroup::process::Pid;
 use cg_cgroup::user::User;
+use cg_tree::hierarchy::Hierarchy;
 use std::alloc::Global;
 
 /// The first refusal that a fork meets.
@@ -49,11 +49,12 @@ pub fn fork<H: Hierarchy>(
     ensures ok { OnOk result (H.state tree.new ≡ with_fork (H.state tree.old) parent child) }
     ensures err { OnErr result (H.state tree.new ≡ H.state tree.old) }
 {
-    if let Some(uid) = tree.owner(parent)
-        && let Some(place) = tree.place(parent)
-    {
-        let place = place.try_clone(alloc)?;
-        tree.add_process(alloc, child, uid, &place)?;
-    }
-    Ok(())
+    let Some(uid) = tree.owner(parent) else {
+        unreachable!()
+    };
+    let Some(place) = tree.place(parent) else {
+        unreachable!()
+    };
+    let place = place.try_clone(alloc)?;
+    tree.add_process(alloc, child, uid, &place)
 }

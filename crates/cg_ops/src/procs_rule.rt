@@ -8,10 +8,10 @@ ghost use Rattle.cg_cgroup.specs.Files.{enables_nothing};
 use crate::outcome::Refusal;
 use cg_cgroup::cgroup::Cgroup;
 use cg_cgroup::files::EntryName;
-use cg_tree::hierarchy::Hierarchy;
 use cg_cgroup::path::Path;
 use cg_cgroup::process::Pid;
 use cg_cgroup::user::User;
+use cg_tree::hierarchy::Hierarchy;
 
 /// The first refusal that a move meets.
 pub fn refusal<H: Hierarchy>(tree: &H, user: &User, pid: Pid, to: &Path) -> Option<Refusal>

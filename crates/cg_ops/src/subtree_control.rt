@@ -12,9 +12,9 @@ use crate::operation::Op;
 use crate::outcome::Refusal;
 use cg_cgroup::cgroup::Cgroup;
 use cg_cgroup::files::{Controller, ControllerSet, EntryName};
-use cg_tree::hierarchy::Hierarchy;
 use cg_cgroup::path::Path;
 use cg_cgroup::user::User;
+use cg_tree::hierarchy::Hierarchy;
 
 /// The first refusal that a write of changes meets.
 pub fn refusal<H: Hierarchy>(tree: &H, user: &User, at: &Path, changes: &Changes) -> Option<Refusal>
@@ -114,8 +114,9 @@ pub fn carry_out<H: Hierarchy>(tree: &mut H, user: &User, at: &Path, changes: &C
     requires { control_bars (H.state tree.old) user.now at.now changes.now ≡ [] }
     ensures { H.state tree.new ≡ next (H.state tree.old) user.now (Op.Control at.now changes.now) }
 {
-    if let Some(cgroup) = tree.get(at, at.depth()) {
-        let enabled = changes.enabled_after(cgroup.enabled);
-        tree.set_enabled(at, enabled, user);
-    }
+    let Some(cgroup) = tree.get(at, at.depth()) else {
+        unreachable!()
+    };
+    let enabled = changes.enabled_after(cgroup.enabled);
+    tree.set_enabled(at, enabled, user);
 }
