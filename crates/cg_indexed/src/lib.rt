@@ -1,0 +1,4 @@
+//! A tree of cgroups kept by places, found through their paths' texts, with kept counts.
+#![tactic(auto)]
+
+pub mod path_index;
