@@ -1,23 +1,24 @@
 -- A table under the texts of paths is a map from paths.
-use Rattle.std.proofs.Common.{◌≡◌, ℕ, ◌+◌, ◌≤◌, length, arith, Bool, true, false, cond, List, [], ◌∷◌, map as map_list, Some, None, Option, is_some, string_bytes, String, refl, sym, ap, ◌∙◌, subst, true≢false}
-use Rattle.std.specs.Option.{MatchOption}
-use Rattle.std.specs.List.{All, AllByRecursion}
-use Rattle.std.specs.List.Sorted.{IsPermutation}
-use Rattle.std.specs.Map.{lookup, remove_entry}
+use Rattle.std.proofs.Common.{◌≡◌, ℕ, ◌+◌, ◌≤◌, length, arith, Bool, true, false, cond, List, [], ◌∷◌, map as map_list, Some, None, Option, Less, Equal, Greater, is_some, string_bytes, String, refl, sym, ap, ◌∙◌, subst, true≢false}
+use Rattle.std.specs.List.{AllByRecursion}
+use Rattle.std.specs.Map.{remove_entry}
 use Rattle.std.specs.Str.{bytes_eq}
+use Rattle.std.specs.BTreeMap.{insert_entry}
+use Rattle.std.specs.Ordering.{nat_cmp, is_eq, match_ordering}
+use Rattle.std.specs.String.{string_cmp}
+use Rattle.std.specs.Cmp.Lexicographic.{slice_cmp}
+use Rattle.std.proofs.lemmas.Map.Text.{is_eq-slice_cmp}
 use Rattle.std.specs.Ordering.{eq_by_cmp}
-use Rattle.std.specs.Cmp.{eq_by_cmp_equiv}
 use Rattle.std.proofs.lemmas.Slice.Eq.{bytes_eq-Decides}
 use Rattle.std.proofs.lemmas.Bool.Decides.{same_from_decides}
 use Rattle.std.proofs.lemmas.List.Elements.{recursion_from_All, All-from_recursion}
-use Rattle.std.proofs.lemmas.List.Sorted.{All-permutation}
 use Rattle.std.specs.FinMap as map
 use Rattle.std.specs.FinMap.{FinMap, find}
 use Rattle.std.specs.declared.alloc.Global.{Global}
 use Rattle.cg_cgroup.specs.Paths.{Names, path_cmp, same_path, path_text, names_at, is_path, IsPath}
 use Rattle.cg_cgroup.proofs.PathOrder.{path_cmp_total, path_cmp-IsAntisymmetric, same_path-ties, same_path_decides}
 use Rattle.cg_cgroup.proofs.PathAt.{path_at-text}
-use Rattle.cg_cgroup.proofs.Options.{same_some, none_value}
+use Rattle.cg_cgroup.proofs.Options.{same_some}
 use Rattle.cg_cgroup.proofs.PathLaws.{path_text-injective}
 use Rattle.cg_indexed.specs.TextKeys.{number_of, numbers_of, number_at, IsText, HasText, AreTexts}
 
@@ -38,8 +39,8 @@ other_key q t h is =
 find-texts : (q : Names) (es : List (String Global × ℕ)) → IsPath q → AllByRecursion HasText es → find path_cmp q (map_list number_of es) ≡ number_at es (path_text q)
 find-texts q [] h are = refl
 find-texts q (e ∷ es) h are =
-    ap (λ b. cond b (Some e.1) (find path_cmp q (map_list number_of es))) (same_key q (string_bytes e.0) h are.0)
-    ∙ ap (cond (bytes_eq (path_text q) (string_bytes e.0)) (Some e.1)) (find-texts q es h are.1)
+    ap (λ b. cond b (Some e.1) (find path_cmp q (map_list number_of es))) (same_key q (string_bytes e.0) h are.0 ∙ sym (is_eq-slice_cmp (path_text q) (string_bytes e.0)))
+    ∙ ap (cond (is_eq (slice_cmp nat_cmp (path_text q) (string_bytes e.0))) (Some e.1)) (find-texts q es h are.1)
 
 find-none : (q : Names) (es : List (String Global × ℕ)) → is_path q ≡ false → AllByRecursion HasText es → find path_cmp q (map_list number_of es) ≡ None
 find-none q [] h are = refl
@@ -84,6 +85,7 @@ numbers_changed es fs p w m are were h found has =
         same_from_decides (bytes_eq (path_text p) (path_text q)) (same_path q p)
         ((λ e. path_text-injective q p k h (sym ((bytes_eq-Decides (path_text p) (path_text q)).0 e))), (λ e. (bytes_eq-Decides (path_text p) (path_text q)).1 (sym (ap path_text e)))) (same_path_decides q p)
         ∙ same_path-ties q p
+
     other : (q : Names) → is_path q ≡ false → eq_by_cmp path_cmp q p ≡ false
     other q k =
         elim (eq_by_cmp path_cmp q p) as (λ b. eq_by_cmp path_cmp q p ≡ b → b ≡ false) [
@@ -91,23 +93,23 @@ numbers_changed es fs p w m are were h found has =
           | false ↦ λ e. refl
         ] refl
 
-pub texts_added : (es fs : List (String Global × ℕ)) (k : String Global) (v : ℕ) (p : Names) → AreTexts es → IsPath p → string_bytes k ≡ path_text p → IsPermutation ((k, v) ∷ es) fs → AreTexts fs
-texts_added es fs k v p are h is moved =
-    All-permutation HasText ((k, v) ∷ es) fs moved (All-from_recursion HasText ((k, v) ∷ es) (subst IsText (sym is) (text_is p h), recursion_from_All HasText es are))
+pub texts_added : (es : List (String Global × ℕ)) (k : String Global) (v : ℕ) (p : Names) → AreTexts es → IsPath p → string_bytes k ≡ path_text p → AreTexts (insert_entry string_cmp es k v)
+texts_added es k v p are h is = All-from_recursion HasText _ (added es (recursion_from_All HasText es are))
+  where
+    added : (es : List (String Global × ℕ)) → AllByRecursion HasText es → AllByRecursion HasText (insert_entry string_cmp es k v)
+    added [] are = (subst IsText (sym is) (text_is p h), tt)
+    added (e ∷ es) are = elim (string_cmp k e.0) as (λ r. AllByRecursion HasText (match_ordering r ((k, v) ∷ e ∷ es) ((e.0, v) ∷ es) (e ∷ insert_entry string_cmp es k v))) [
+      | Less ↦ (subst IsText (sym is) (text_is p h), are)
+      | Equal ↦ are
+      | Greater ↦ (are.0, added es are.1)
+    ]
 
-pub texts_removed : (es fs : List (String Global × ℕ)) (test : String Global → Bool) → AreTexts es → IsPermutation (remove_entry test es) fs → AreTexts fs
-texts_removed es fs test are moved = All-permutation HasText (remove_entry test es) fs moved (All-from_recursion HasText _ (removed es (recursion_from_All HasText es are)))
+pub texts_removed : (es : List (String Global × ℕ)) (test : String Global → Bool) → AreTexts es → AreTexts (remove_entry test es)
+texts_removed es test are = All-from_recursion HasText _ (removed es (recursion_from_All HasText es are))
   where
     removed : (es : List (String Global × ℕ)) → AllByRecursion HasText es → AllByRecursion HasText (remove_entry test es)
     removed [] are = are
     removed (e ∷ es) are = elim (test e.0) as (λ b. AllByRecursion HasText (cond b es (e ∷ remove_entry test es))) [ true ↦ are.1 | false ↦ (are.0, removed es are.1) ]
-
--- a new path's text goes in as a new key
-pub texts_put : (es fs : List (String Global × ℕ)) (k : String Global) (v : ℕ) (p : Names) (old : Option ℕ) (again : Type 0) → AreTexts es → IsPath p → string_bytes k ≡ path_text p
-    → is_some (map.get (numbers_of es) p) ≡ false → old ≡ number_at es (string_bytes k) → MatchOption old (IsPermutation ((k, v) ∷ es) fs) (λ _. again) → AreTexts fs
-texts_put es fs k v p old again are h is absent was puts =
-    let none : old ≡ None = was ∙ ap (number_at es) is ∙ sym (get-numbers p es h are) ∙ none_value _ absent in
-    texts_added es fs k v p are h is (subst (λ o. MatchOption o (IsPermutation ((k, v) ∷ es) fs) (λ _. again)) none puts)
 
 module _ (es fs : List (String Global × ℕ)) (m : FinMap path_cmp ℕ) (shows : numbers_of es ≡ m) (p : Names) (key : List ℕ) (is : key ≡ path_text p) (h : IsPath p) (are : AreTexts es) (were : AreTexts fs) where
   abbrev Changes : Option ℕ → Type 0

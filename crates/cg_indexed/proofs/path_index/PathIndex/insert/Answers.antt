@@ -1,10 +1,9 @@
-use Rattle.std.proofs.Common.{◌≡◌, take, ap, sym, ◌∙◌, subst, Some, is_some, false, string_bytes, arith}
+use Rattle.std.proofs.Common.{◌≡◌, ap, sym, ◌∙◌, subst, Some, string_bytes, arith}
 use Rattle.std.proofs.lemmas.List.{take_all}
 use Rattle.std.proofs.lemmas.Map.Text.{btree_map_updates_text}
-use Rattle.std.specs.FinMap as map
 use Rattle.cg_cgroup.specs.Paths.{path_text}
-use Rattle.cg_indexed.specs.TextKeys.{AreTexts, numbers_of}
-use Rattle.cg_indexed.proofs.TextKeys.{texts_put, numbers_put}
+use Rattle.cg_indexed.specs.TextKeys.{AreTexts}
+use Rattle.cg_indexed.proofs.TextKeys.{texts_added, numbers_put}
 use Rattle.cg_indexed.proofs.path_index.PathIndex.insert.Goals as goal
 
 -- the key is the path's text
@@ -12,9 +11,7 @@ key_is : (c : goal.In_ok-insert) → string_bytes c.in_ok-text.text ≡ path_tex
 key_is c = c.in_ok-text.ensures.ok ∙ c.prefix.ensures.text ∙ ap path_text (take_all c.depth.result c.args.path.now (omega arith))
 
 were : (c : goal.In_ok-insert) → AreTexts c.insert.new.self.entries
-were c =
-    texts_put c.self.inside.numbers.entries c.insert.new.self.entries c.in_ok-text.text c.args.number c.args.path.now c.in_ok-insert.field-0 _ c.self.invariant c.prefix.ensures.path (key_is c)
-    (ap (λ m. is_some (map.get m c.args.path.now)) c.self.view_is ∙ c.requires) c.in_ok-insert.ensures.old c.in_ok-insert.ensures.entries
+were c = subst AreTexts (sym c.in_ok-insert.ensures.entries) (texts_added c.self.inside.numbers.entries c.in_ok-text.text c.args.number c.args.path.now c.self.invariant c.prefix.ensures.path (key_is c))
 
 pub invariant_of-self-2 : goal.invariant_of-self-2
 invariant_of-self-2 c = were c

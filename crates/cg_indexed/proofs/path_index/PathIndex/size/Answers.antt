@@ -1,4 +1,4 @@
-use Rattle.std.proofs.Common.{◌≤◌, ◌∙◌, ap, sym, arith}
+use Rattle.std.proofs.Common.{ap, arith}
 use Rattle.std.specs.FinMap as map
 use Rattle.cg_indexed.proofs.TextKeys.{few_numbers}
 use Rattle.cg_indexed.proofs.path_index.PathIndex.size.Goals as goal
