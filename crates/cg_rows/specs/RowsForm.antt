@@ -1,6 +1,5 @@
 -- How `Rows` keeps a tree: the state that its tables show, and what holds of the root that a tree begins with.
 use Rattle.std.specs.Prelude.{◌≡◌, true, []}
-use Rattle.std.specs.Ordering.{nat_cmp}
 use Rattle.std.specs.FinMap as map
 use Rattle.std.specs.FinSet as set
 use Rattle.cg_cgroup.specs.Paths.{path_cmp}
@@ -9,11 +8,11 @@ use Rattle.cg_tree.specs.States.{State}
 use Rattle.cg_tree.specs.WellFormed.{IsFormedRow}
 use Rattle.cg_cgroup.specs.declared.files.ControllerSet.{ControllerSet}
 use Rattle.cg_cgroup.specs.declared.cgroup.Cgroup.{Cgroup}
-use Rattle.cg_cgroup.specs.declared.process.Process.{Process}
+use Rattle.cg_rows.specs.Processes.{LiveAndUsed}
 
--- the state of these tables, where the used PIDs are the keys of the third
-abbrev pub state_of_tables : map.FinMap path_cmp Cgroup → map.FinMap nat_cmp Process → map.FinMap nat_cmp (Unit {0}) → ControllerSet → State
-state_of_tables rows live used controllers = record { rows = rows; live = live; used = set.from_list (map.keys used); controllers = controllers }
+-- the state of these cgroups and processes
+abbrev pub state_of_tables : map.FinMap path_cmp Cgroup → LiveAndUsed → ControllerSet → State
+state_of_tables rows processes controllers = record { rows = rows; live = processes.live; used = processes.used; controllers = controllers }
 
 -- the state of a root alone, where no PID was ever used
 abbrev pub state_of_root : ControllerSet → Cgroup → State

@@ -8,16 +8,16 @@ mod below;
 #[cfg(test)]
 mod tests;
 
+use crate::processes::Processes;
+use crate::tables::path_table::PathTable;
 use cg_cgroup::cgroup::Cgroup;
 use cg_cgroup::files::{Controller, ControllerSet, EntryName, Limit, LimitFile};
-use cg_tree::hierarchy::Hierarchy;
-use cg_tree::limits::is_under;
 use cg_cgroup::memory::NoMemory;
 use cg_cgroup::path::Path;
 use cg_cgroup::process::{Pid, Process};
-use crate::tables::path_table::PathTable;
-use crate::tables::pid_table::{PidTable, insert_both};
 use cg_cgroup::user::{Mode, User};
+use cg_tree::hierarchy::Hierarchy;
+use cg_tree::limits::is_under;
 use std::alloc::Global;
 use std::marker::Model;
 
@@ -28,8 +28,7 @@ use std::marker::Model;
 #[derive(Drop)]
 pub struct Rows {
     rows: PathTable<Cgroup>,
-    live: PidTable<Process>,
-    used: PidTable<()>,
+    processes: Processes,
     controllers: ControllerSet,
 }
 
@@ -46,9 +45,9 @@ impl Model for Rows {
     ghost use Rattle.cg_rows.specs.RowsForm.{state_of_tables};
     ghost use Rattle.cg_tree.specs.WellFormed.{IsWellFormed};
 
-    ghost view = { λ t. state_of_tables t.rows t.live t.used t.controllers };
+    ghost view = { λ t. state_of_tables t.rows t.processes t.controllers };
 
-    ghost invariant = { λ t. IsWellFormed (state_of_tables t.rows t.live t.used t.controllers) };
+    ghost invariant = { λ t. IsWellFormed (state_of_tables t.rows t.processes t.controllers) };
 }
 
 impl Rows {
@@ -61,26 +60,23 @@ impl Rows {
         rows.insert(Path::root(alloc), root)?;
         Ok(Rows {
             rows,
-            live: PidTable::new(alloc),
-            used: PidTable::new(alloc),
+            processes: Processes::new(alloc),
             controllers,
         })
     }
 
-    /// The tree of these cgroups, live processes and used PIDs, where the root has the controllers that are available.
+    /// The tree of these cgroups and processes, where the root has the controllers that are available.
     pub fn from_tables(
         rows: PathTable<Cgroup>,
-        live: PidTable<Process>,
-        used: PidTable<()>,
+        processes: Processes,
         available: ControllerSet,
     ) -> Rows
-        requires { IsWellFormed (state_of_tables rows live used available) }
-        ensures { result ≡ state_of_tables rows live used available }
+        requires { IsWellFormed (state_of_tables rows processes available) }
+        ensures { result ≡ state_of_tables rows processes available }
     {
         Rows {
             rows,
-            live,
-            used,
+            processes,
             controllers: available,
         }
     }
@@ -109,21 +105,21 @@ impl Hierarchy for Rows {
     }
 
     fn place(&self, pid: Pid) -> Option<&Path> {
-        match self.live.get(pid) {
+        match self.processes.get(pid) {
             Some(process) => Some(&process.place),
             None => None,
         }
     }
 
     fn owner(&self, pid: Pid) -> Option<u32> {
-        match self.live.get(pid) {
+        match self.processes.get(pid) {
             Some(process) => Some(process.uid),
             None => None,
         }
     }
 
     fn is_used(&self, pid: Pid) -> bool {
-        self.used.contains(pid)
+        self.processes.is_used(pid)
     }
 
     fn controllers(&self) -> ControllerSet {
@@ -135,7 +131,7 @@ impl Hierarchy for Rows {
     }
 
     fn has_live(&self, path: &Path, len: usize) -> bool {
-        below::any_at(self.live.entries(), path, len)
+        below::any_at(&self.processes, path, len)
     }
 
     fn child_enables(&self, path: &Path, len: usize, controller: Controller) -> bool {
@@ -163,11 +159,12 @@ impl Hierarchy for Rows {
     }
 
     fn set_limit(&mut self, path: &Path, file: LimitFile, value: Limit) {
-        if let Some(row) = self.rows.get(path, path.depth()) {
-            let mut row = *row;
-            row.set_value(file, value);
-            self.rows.set(path, row);
-        }
+        let Some(row) = self.rows.get(path, path.depth()) else {
+            unreachable!()
+        };
+        let mut row = *row;
+        row.set_value(file, value);
+        self.rows.set(path, row);
     }
 
     fn set_enabled(&mut self, path: &Path, enabled: ControllerSet, user: &User) {
@@ -175,13 +172,14 @@ impl Hierarchy for Rows {
     }
 
     fn set_mode(&mut self, path: &Path, name: EntryName, mode: Mode) {
-        if let Some(row) = self.rows.get(path, path.depth()) {
-            let mut row = *row;
-            // What `get` says of a mode's range keeps the tree well-formed.
-            let _bits = mode.get();
-            row.set_mode(name, mode);
-            self.rows.set(path, row);
-        }
+        let Some(row) = self.rows.get(path, path.depth()) else {
+            unreachable!()
+        };
+        let mut row = *row;
+        // What `get` says of a mode's range keeps the tree well-formed.
+        let _bits = mode.get();
+        row.set_mode(name, mode);
+        self.rows.set(path, row);
     }
 
     fn remove(&mut self, path: &Path) {
@@ -189,7 +187,7 @@ impl Hierarchy for Rows {
     }
 
     fn end_process(&mut self, pid: Pid) {
-        self.live.remove(pid);
+        self.processes.end(pid);
     }
 
     fn paths(&self, alloc: Global) -> Result<Vec<Path>, NoMemory> {
@@ -201,20 +199,13 @@ impl Hierarchy for Rows {
     }
 
     fn pids(&self, alloc: Global) -> Result<Vec<Pid>, NoMemory> {
-        Ok(
-            self.live
-                .entries()
-                .iter()
-                .map(|entry| entry.0)
-                .collect(alloc)?,
-        )
+        self.processes.pids(alloc)
     }
 
     fn try_clone(&self, alloc: Global) -> Result<Self, NoMemory> {
         Ok(Rows {
             rows: self.rows.try_clone(alloc)?,
-            live: self.live.try_clone(alloc)?,
-            used: self.used.try_clone(alloc)?,
+            processes: self.processes.try_clone(alloc)?,
             controllers: self.controllers,
         })
     }
@@ -226,10 +217,7 @@ impl Hierarchy for Rows {
 
     fn set_place(&mut self, alloc: Global, pid: Pid, path: &Path) -> Result<(), NoMemory> {
         let place = path.try_clone(alloc)?;
-        if let Some(process) = self.live.get(pid) {
-            let uid = process.uid;
-            self.live.set(pid, Process { uid, place });
-        }
+        self.processes.set_place(pid, place);
         Ok(())
     }
 
@@ -241,6 +229,6 @@ impl Hierarchy for Rows {
         path: &Path,
     ) -> Result<(), NoMemory> {
         let place = path.try_clone(alloc)?;
-        insert_both(&mut self.used, &mut self.live, pid, Process { uid, place })
+        self.processes.insert(pid, Process { uid, place })
     }
 }

@@ -4,7 +4,6 @@ ghost use Rattle.std.specs.FinMap.{is_sorted};
 
 pub mod kin;
 pub mod path_table;
-pub mod pid_table;
 
 use cg_cgroup::cgroup::Cgroup;
 use cg_cgroup::memory::NoMemory;
@@ -17,12 +16,6 @@ pub trait TryClone: Drop {
     /// An equal value. Fails where memory is wanted.
     fn try_clone(&self, alloc: Global) -> Result<Self, NoMemory>
         ensures { IfOk result (λ copy. copy ≡ self.now) };
-}
-
-impl TryClone for () {
-    fn try_clone(&self, _alloc: Global) -> Result<Self, NoMemory> {
-        Ok(())
-    }
 }
 
 impl TryClone for Cgroup {

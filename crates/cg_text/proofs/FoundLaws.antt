@@ -1,9 +1,8 @@
 -- A map that is filled with the items of a list in turn, none twice.
-use Rattle.std.proofs.Common.{◌≡◌, ℕ, ◌+◌, ◌<◌, ◌≤◌, zero, suc, arith, Bool, true, false, ◌||◌, is_some, cond, List, [], ◌∷◌, ◌++◌, length, take, get_or, map as map_list, refl, subst, sym, ap, ◌∙◌, Option, Some, None}
+use Rattle.std.proofs.Common.{◌≡◌, ℕ, ◌+◌, ◌<◌, ◌≤◌, zero, suc, arith, cond, List, [], ◌∷◌, ◌++◌, length, take, get_or, map as map_list, refl, subst, sym, ap, ◌∙◌, Option, Some, None}
 use Rattle.std.proofs.lemmas.List.{take_more, take_all, map-append}
 use Rattle.std.specs.Map.{update, update_all}
 use Rattle.std.proofs.lemmas.List.Sums.{fold-append}
-use Rattle.std.specs.List.{list_any}
 use Rattle.std.specs.Ordering.{eq_by_cmp, is_eq}
 use Rattle.std.specs.Cmp.{IsTotalOrder, eq_by_cmp_equiv}
 use Rattle.std.specs.declared.cmp.Ordering.{Ordering}
@@ -57,28 +56,3 @@ module _ {A K X : Type 0} {R : K → K → Ordering} (total : IsTotalOrder R) (p
   gathered q =
       let all : take (length items) items ≡ items = take_all (length items) items (omega arith) in
       ap (λ some. taken (map_list pair some) q) (sym all) ∙ gathered_part (length items) (omega arith) q ∙ ap (λ some. find R q (map_list pair some)) all
-
-or_swap : (a b c : Bool) → (a || (b || c)) ≡ (b || (a || c))
-or_swap true true c = refl
-or_swap true false c = refl
-or_swap false b c = refl
-
-any_push : {K : Type 0} (p : K → Bool) (ks : List K) (k : K) → list_any p (ks ++ k ∷ []) ≡ (p k || list_any p ks)
-any_push p [] k = refl
-any_push p (x ∷ ks) k = ap (λ b. p x || b) (any_push p ks k) ∙ or_swap (p x) (p k) (list_any p ks)
-
-some_or : (b : Bool) (o : Option (Unit {0})) → is_some (cond b (Some tt) o) ≡ (b || is_some o)
-some_or true o = refl
-some_or false o = refl
-
-module _ {A K : Type 0} {R : K → K → Ordering} (total : IsTotalOrder R) (key : A → K) where
-  -- the keys of a map that has the items so far, once it takes the next
-  pub marked : (items : List A) (i : ℕ) (item : A) (before after : K → Option (Unit {0})) → i < length items → item ≡ get_or items i item
-      → ((q : K) → is_some (before q) ≡ list_any (eq_by_cmp R q) (map_list key (take i items)))
-      → ((q : K) → after q ≡ cond (is_eq (R (key item) q)) (Some tt) (before q))
-      → (q : K) → is_some (after q) ≡ list_any (eq_by_cmp R q) (map_list key (take (i + 1) items))
-  marked items i item before after inside is kept updated q =
-      ap is_some (updated q) ∙ some_or (is_eq (R (key item) q)) (before q) ∙ ap (λ b. b || is_some (before q)) ((eq_by_cmp_equiv total).symm (key item) q)
-      ∙ ap (λ b. eq_by_cmp R q (key item) || b) (kept q) ∙ sym (any_push (eq_by_cmp R q) (map_list key (take i items)) (key item))
-      ∙ sym (ap (λ some. list_any (eq_by_cmp R q) (map_list key some)) (take_more items i item inside ∙ ap (λ x. take i items ++ x ∷ []) (sym is))
-      ∙ ap (list_any (eq_by_cmp R q)) (map-append key (take i items) (item ∷ [])))

@@ -2,10 +2,8 @@
 use Rattle.std.proofs.Common.{◌≡◌, List, [], map as map_list, sym, ap, subst, ◌∙◌, Option, Some, None, is_some, option_map, unwrap_or, Ok, Err}
 use Rattle.std.specs.List.{AllByRecursion}
 use Rattle.std.specs.Cmp.{nat_cmp_total}
-use Rattle.std.specs.FinMap as map
-use Rattle.std.specs.FinMap.{nat_cmp-IsAntisymmetric, same_map, contains_key-keys}
-use Rattle.std.specs.FinSet as set
-use Rattle.std.specs.FinSet.{same_set, contains-from_list}
+use Rattle.std.specs.FinMap.{nat_cmp-IsAntisymmetric, same_map}
+use Rattle.std.specs.FinSet.{same_set}
 use Rattle.cg_cgroup.specs.Paths.{Names}
 use Rattle.cg_cgroup.specs.Files.{no_controllers}
 use Rattle.cg_rows.specs.RowsForm.{state_of_tables}
@@ -28,21 +26,20 @@ use Rattle.cg_text.proofs.FormedTree.{IsInRange}
 use Rattle.cg_text.proofs.SoundRows.{formed-tree, in_range-named}
 
 module _ (rows : List NamedRow) (controllers : ControllerSet) (processes : List ProcessRow) (tables : Tables) (are : AreTablesOf rows processes tables) where
-  same_used : set.from_list (map.keys tables.used) ≡ (state_with rows (cgroup_at rows) controllers processes).used
+  same_used : tables.processes.used ≡ (state_with rows (cgroup_at rows) controllers processes).used
   same_used = same_set nat_cmp_total nat_cmp-IsAntisymmetric _ _ (λ pid.
-      contains-from_list nat_cmp_total (map.keys tables.used) pid ∙ sym (contains_key-keys tables.used pid) ∙ are.used pid
-      ∙ sym (is_used-state rows controllers processes pid ∙ ap is_some (process_at-state rows controllers processes pid)))
+      are.used pid ∙ sym (is_used-state rows controllers processes pid ∙ ap is_some (process_at-state rows controllers processes pid)))
 
-  pub tables_state : state_of_tables tables.cgroups tables.live tables.used controllers ≡ state_with rows (cgroup_at rows) controllers processes
+  pub tables_state : state_of_tables tables.cgroups tables.processes controllers ≡ state_with rows (cgroup_at rows) controllers processes
   tables_state =
       let cgroups : tables.cgroups ≡ (state_with rows (cgroup_at rows) controllers processes).rows =
       same_map path_cmp_total path_cmp-IsAntisymmetric _ _ (λ path. are.cgroups path ∙ sym (row_at-state rows controllers processes path)) in
-      let live : tables.live ≡ (state_with rows (cgroup_at rows) controllers processes).live =
+      let live : tables.processes.live ≡ (state_with rows (cgroup_at rows) controllers processes).live =
       same_map nat_cmp_total nat_cmp-IsAntisymmetric _ _ (λ pid. are.live pid ∙ sym (process_at-state rows controllers processes pid)) in
       λ i. record { rows = cgroups i; live = live i; used = same_used i; controllers = controllers }
 
   pub formed_tables : AllByRecursion (λ row. IsInRange row.cgroup) rows → tree_fault rows (cgroup_at rows) controllers processes ≡ None
-      → IsWellFormed (state_of_tables tables.cgroups tables.live tables.used controllers)
+      → IsWellFormed (state_of_tables tables.cgroups tables.processes controllers)
   formed_tables fine none = subst IsWellFormed (sym tables_state) (formed-tree rows controllers processes fine none)
 
 module _ (records : TreeRecords) (controllers : ControllerSet) (read : controllers_read records.controllers ≡ Some controllers) where
@@ -61,7 +58,7 @@ module _ (records : TreeRecords) (controllers : ControllerSet) (read : controlle
         ∙ ap (λ set. tree_fault rows (cgroup_at rows) set records.processes) (ap (λ o. unwrap_or o no_controllers) read)
 
     pub tree_said : (tables : Tables) → tree_fault rows (cgroup_at rows) controllers records.processes ≡ None → AreTablesOf rows records.processes tables
-        → tree_of_records records ≡ Ok (state_of_tables tables.cgroups tables.live tables.used controllers)
+        → tree_of_records records ≡ Ok (state_of_tables tables.cgroups tables.processes controllers)
     unfolding state_of
     tree_said tables none say =
         ap (λ fault. state_or fault (state_of records)) (from_tables ∙ none)

@@ -2,6 +2,7 @@
 use Rattle.std.specs.Prelude.{◌≡◌, ℕ, is_some}
 use Rattle.std.specs.Option.{option_map}
 use Rattle.std.specs.FinMap as map
+use Rattle.std.specs.FinSet as set
 use Rattle.std.specs.Prelude.{List}
 use Rattle.cg_cgroup.specs.Paths.{Names}
 use Rattle.cg_cgroup.specs.Cgroups.{with_files_of}
@@ -12,5 +13,5 @@ use Rattle.cg_text.specs.declared.tree.state.Tables.{Tables}
 
 pub record AreTablesOf (rows : List NamedRow) (processes : List ProcessRow) (tables : Tables) : Type 0 where
   pub cgroups : (path : Names) → map.get tables.cgroups path ≡ option_map (with_files_of (enabled_over (cgroup_at rows) path) superuser) (cgroup_at rows path)
-  pub live : (pid : ℕ) → map.get tables.live pid ≡ process_at processes pid
-  pub used : (pid : ℕ) → map.contains_key tables.used pid ≡ is_some (process_at processes pid)
+  pub live : (pid : ℕ) → map.get tables.processes.live pid ≡ process_at processes pid
+  pub used : (pid : ℕ) → set.contains tables.processes.used pid ≡ is_some (process_at processes pid)

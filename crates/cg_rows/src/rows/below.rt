@@ -1,14 +1,15 @@
 //! Questions about the entries below a cgroup, and about live processes.
 ghost use Rattle.std.specs.Prelude.{◌≡◌, ◌≤◌, ◌-◌, ◌&&◌, length, take, fold, max, map as map_list};
 ghost use Rattle.std.specs.List.{list_any};
+ghost use Rattle.std.specs.FinMap as map;
 ghost use Rattle.cg_cgroup.specs.Paths.{is_child, same_path};
 ghost use Rattle.cg_cgroup.specs.Files.{enables};
 
+use crate::processes::Processes;
+use crate::tables::kin;
 use cg_cgroup::cgroup::Cgroup;
 use cg_cgroup::files::Controller;
 use cg_cgroup::path::Path;
-use cg_cgroup::process::{Pid, Process};
-use crate::tables::kin;
 
 pub fn any_child(entries: &[(Path, Cgroup)], path: &Path, len: usize) -> bool
     requires { len ≤ length path.now }
@@ -40,13 +41,13 @@ pub fn any_child_enables(
         .any(|entry| child_has(entry, path, len, controller))
 }
 
-pub fn any_at(entries: &[(Pid, Process)], path: &Path, len: usize) -> bool
+pub fn any_at(processes: &Processes, path: &Path, len: usize) -> bool
     requires { len ≤ length path.now }
-    ensures { result ≡ list_any (λ e. same_path e.1.place (take len path.now)) entries.now }
+    ensures { result ≡ list_any (λ process. same_path process.place (take len path.now)) (map.values processes.now.live) }
 {
-    entries
+    processes
         .iter()
-        .any(|entry| kin::is_same(path, len, &entry.1.place))
+        .any(|(_, process)| kin::is_same(path, len, &process.place))
 }
 
 pub fn deepest(entries: &[(Path, Cgroup)], len: usize) -> u64

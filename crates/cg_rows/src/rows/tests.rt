@@ -2,13 +2,14 @@
 mod fixtures;
 mod readings;
 
-use cg_cgroup::files::{Controller, ControllerSet, EntryName, Limit, LimitFile};
-use cg_tree::hierarchy::Hierarchy;
-use cg_cgroup::process::Pid;
+use crate::processes::Processes;
 use crate::rows::Rows;
 use crate::tables::path_table::PathTable;
-use crate::tables::pid_table::PidTable;
+use cg_cgroup::files::{Controller, ControllerSet, EntryName, Limit, LimitFile};
+use cg_cgroup::path::Path;
+use cg_cgroup::process::{Pid, Process};
 use cg_cgroup::user::{Entry, Mode, User};
+use cg_tree::hierarchy::Hierarchy;
 use fixtures::{
     ALL, MEMORY, Owners, add, copy_of, delegation, end, nested, nested_of_tables, open_delegation,
     path, populate, remove, set_enabled, set_limit, set_mode, transfer,
@@ -18,7 +19,7 @@ use readings::{
     check_limits, check_lists, check_places, check_uses,
 };
 use std::alloc::Global;
-use std::collections::BTreeMap;
+use std::collections::{BTreeMap, BTreeSet};
 use std::process::Abort;
 use std::test::Fail;
 
@@ -405,13 +406,17 @@ fn placed_paths(alloc: Global) -> Result<PathTable<usize>, Fail> {
     Ok(PathTable::from_map(alloc, paths)?)
 }
 
-/// A table of PIDs, each with its place in their order.
-fn placed_pids(alloc: Global) -> Result<PidTable<usize>, Fail> {
-    let mut pids = BTreeMap::new(alloc);
-    for (number, place) in [(4194303, 2), (1, 0), (14, 1)] {
-        pids.insert(Pid::new(number).ok_or("no PID")?, place)?;
+/// Processes of the uids 2, 0 and 1, made of finished maps in this order.
+fn placed_pids(alloc: Global) -> Result<Processes, Fail> {
+    let mut live = BTreeMap::new(alloc);
+    for (number, uid) in [(4194303, 2), (1, 0), (14, 1)] {
+        let process = Process {
+            uid,
+            place: Path::root(alloc),
+        };
+        live.insert(Pid::new(number).ok_or("no PID")?, process)?;
     }
-    Ok(PidTable::from_map(alloc, pids)?)
+    Ok(Processes::from_maps(live, BTreeSet::new(alloc)))
 }
 
 #[test]
@@ -426,10 +431,10 @@ fn paths_stand_in_order(rt: HostRuntime) -> Result<(), Fail> {
 
 #[test]
 fn pids_stand_in_order(rt: HostRuntime) -> Result<(), Fail> {
-    let table = placed_pids(rt.alloc())?;
-    for (index, entry) in table.entries().iter().enumerate() {
-        assert_eq!(rt; entry.1, index);
+    let processes = placed_pids(rt.alloc())?;
+    for (index, (_, process)) in processes.iter().enumerate() {
+        assert_eq!(rt; process.uid as usize, index);
     }
-    assert_eq!(rt; table.len(), 3);
+    assert_eq!(rt; processes.iter().count(), 3);
     Ok(())
 }

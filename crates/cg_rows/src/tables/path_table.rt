@@ -8,9 +8,9 @@ ghost use Rattle.cg_rows.specs.Places.{IsPlace, IsGap};
 
 pub mod enable;
 
+use crate::tables::{TryClone, entries_of};
 use cg_cgroup::memory::NoMemory;
 use cg_cgroup::path::Path;
-use crate::tables::{TryClone, entries_of};
 use std::alloc::Global;
 use std::cmp::Ordering;
 use std::collections::BTreeMap;
@@ -115,9 +115,10 @@ impl<V: Drop> PathTable<V> {
         ensures ok { OnOk result (self.new ≡ map.insert self.old path value) }
         ensures err { OnErr result (self.new ≡ self.old) }
     {
-        if let Err(at) = search(&self.entries, &path) {
-            self.entries.insert(at, (path, value))?;
-        }
+        let Err(at) = search(&self.entries, &path) else {
+            unreachable!()
+        };
+        self.entries.insert(at, (path, value))?;
         Ok(())
     }
 
@@ -126,9 +127,10 @@ impl<V: Drop> PathTable<V> {
         requires { map.contains_key self.old path.now ≡ true }
         ensures { self.new ≡ map.insert self.old path.now value }
     {
-        if let Ok(at) = search(&self.entries, path) {
-            self.entries[at].1 = value;
-        }
+        let Ok(at) = search(&self.entries, path) else {
+            unreachable!()
+        };
+        self.entries[at].1 = value;
     }
 
     /// Removes a path of the table.
@@ -136,9 +138,10 @@ impl<V: Drop> PathTable<V> {
         requires { map.contains_key self.old path.now ≡ true }
         ensures { self.new ≡ map.remove self.old path.now }
     {
-        if let Ok(at) = search(&self.entries, path) {
-            let _ = self.entries.remove(at);
-        }
+        let Ok(at) = search(&self.entries, path) else {
+            unreachable!()
+        };
+        let _ = self.entries.remove(at);
     }
 }
 

@@ -1,9 +1,10 @@
 //! From plain records to a tree.
-ghost use Rattle.std.specs.Prelude.{◌≡◌, ◌≤◌, ℕ, None, length, map as map_list, option_map, IfOk};
+ghost use Rattle.std.specs.Prelude.{◌≡◌, ◌≤◌, ℕ, None, length, map as map_list, option_map, is_some, IfOk};
 ghost use Rattle.std.specs.Ordering.{nat_cmp};
-ghost use Rattle.std.specs.BTreeMap.{get, IsFromIterResult, IsOrdered};
+ghost use Rattle.std.specs.BTreeMap.{get, IsFromIterResult};
 ghost use Rattle.std.specs.List.{zip};
 ghost use Rattle.std.specs.FinMap as map;
+ghost use Rattle.std.specs.FinSet as set;
 ghost use Rattle.cg_cgroup.specs.Paths.{Names, path_cmp};
 ghost use Rattle.cg_cgroup.specs.Cgroups.{refitted, with_files_of};
 ghost use Rattle.cg_text.specs.Faults.{Passes, Reads};
@@ -23,12 +24,12 @@ use cg_cgroup::files::{ControllerSet, LimitFile};
 use cg_cgroup::memory::NoMemory;
 use cg_cgroup::path::Path;
 use cg_cgroup::process::{Pid, Process};
+use cg_cgroup::user::Entry;
+use cg_rows::processes::Processes;
 use cg_rows::rows::Rows;
 use cg_rows::tables::path_table::PathTable;
-use cg_rows::tables::pid_table::PidTable;
-use cg_cgroup::user::Entry;
 use std::alloc::Global;
-use std::collections::BTreeMap;
+use std::collections::{BTreeMap, BTreeSet};
 
 /// A limit file under a parent that enables `above`: as its row names it, or with its defaults.
 fn brought(above: ControllerSet, name: LimitFile, had: Option<LimitEntry>) -> Option<LimitEntry>
@@ -98,33 +99,21 @@ fn path_table(
     PathTable::from_map(alloc, cgroups)
 }
 
-fn pid_table(
-    alloc: Global,
-    processes: BTreeMap<Pid, Process>,
-) -> Result<PidTable<Process>, NoMemory>
-    requires { IsOrdered nat_cmp processes }
-    ensures { IfOk result (λ table. (pid : ℕ) → map.get table pid ≡ get nat_cmp processes pid) }
+/// These live processes, whose PIDs are the used ones.
+fn processes_of(alloc: Global, live: BTreeMap<Pid, Process>) -> Result<Processes, NoMemory>
+    ensures live { IfOk result (λ all. (pid : ℕ) → map.get all.live pid ≡ get nat_cmp live pid) }
+    ensures used { IfOk result (λ all. (pid : ℕ)
+        → set.contains all.used pid ≡ is_some (get nat_cmp live pid)) }
 {
-    PidTable::from_map(alloc, processes)
-}
-
-/// The PIDs of a table.
-fn used_pids(alloc: Global, live: &PidTable<Process>) -> Result<PidTable<()>, NoMemory>
-    ensures { IfOk result (λ used. (pid : ℕ) → map.contains_key used pid ≡ map.contains_key live.now pid) }
-{
-    let mut used = BTreeMap::new(alloc);
-    for (pid, _) in live.entries() {
-        used.insert(*pid, ())?;
-    }
-    PidTable::from_map(alloc, used)
+    let used: BTreeSet<Pid> = live.keys().copied().collect(alloc)?;
+    Ok(Processes::from_maps(live, used))
 }
 
 /// The tables of a tree.
 #[derive(Drop)]
 struct Tables {
     cgroups: PathTable<Cgroup>,
-    live: PidTable<Process>,
-    used: PidTable<()>,
+    processes: Processes,
 }
 
 /// The tables of a tree's rows, or the first fault of these together.
@@ -142,13 +131,8 @@ fn tables_of(
     let above = checked_rows(alloc, &rows, controllers)?;
     let cgroups = path_table(alloc, rows, above)?;
     let by_pid = processes_by_pid(alloc, &cgroups, processes)?;
-    let live = pid_table(alloc, by_pid)?;
-    let used = used_pids(alloc, &live)?;
-    Ok(Tables {
-        cgroups,
-        live,
-        used,
-    })
+    let processes = processes_of(alloc, by_pid)?;
+    Ok(Tables { cgroups, processes })
 }
 
 /// The tree that records say, or their first fault.
@@ -162,10 +146,6 @@ pub fn tree_of_records(alloc: Global, records: &Records) -> Result<Rows, TreeFau
     ))?;
     let rows = named_rows(alloc, records.format, &records.cgroups)?;
     let tables = tables_of(alloc, rows, controllers, &records.processes)?;
-    let Tables {
-        cgroups,
-        live,
-        used,
-    } = tables;
-    Ok(Rows::from_tables(cgroups, live, used, controllers))
+    let Tables { cgroups, processes } = tables;
+    Ok(Rows::from_tables(cgroups, processes, controllers))
 }

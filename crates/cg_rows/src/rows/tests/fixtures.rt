@@ -6,16 +6,16 @@ ghost use Rattle.cg_tree.specs.States.{child_enables};
 ghost use Rattle.cg_rows.specs.RowsForm.{IsRoot, state_of_root};
 ghost use Rattle.cg_tree.specs.WellFormed.{has_row, available_at};
 
+use crate::processes::Processes;
+use crate::rows::Rows;
+use crate::tables::path_table::PathTable;
 use cg_cgroup::cgroup::{Cgroup, LimitEntry};
 use cg_cgroup::files::{Controller, ControllerSet, EntryName, Limit, LimitFile};
-use cg_tree::hierarchy::Hierarchy;
 use cg_cgroup::memory::NoMemory;
 use cg_cgroup::path::{Path, PathFault};
 use cg_cgroup::process::Pid;
-use crate::rows::Rows;
-use crate::tables::path_table::PathTable;
-use crate::tables::pid_table::PidTable;
 use cg_cgroup::user::{Entry, Mode, User};
+use cg_tree::hierarchy::Hierarchy;
 use std::alloc::Global;
 use std::collections::BTreeMap;
 use std::process::Abort;
@@ -341,9 +341,7 @@ pub fn of_tables(alloc: Global, controllers: ControllerSet, root: Cgroup) -> Res
     let mut cgroups = BTreeMap::new(alloc);
     cgroups.insert(Path::root(alloc), root)?;
     let cgroups = PathTable::from_map(alloc, cgroups)?;
-    let live = PidTable::from_map(alloc, BTreeMap::new(alloc))?;
-    let used = PidTable::from_map(alloc, BTreeMap::new(alloc))?;
-    Ok(Rows::from_tables(cgroups, live, used, controllers))
+    Ok(Rows::from_tables(cgroups, Processes::new(alloc), controllers))
 }
 
 /// Hands `/c0` and `/c1` over, with two levels and four cgroups allowed below `/c0`, and fills them with cgroups of user

@@ -1,12 +1,12 @@
 //! What any tree answers, compared with what is wanted.
+use crate::rows::tests::fixtures::path;
 use cg_cgroup::cgroup::Cgroup;
 use cg_cgroup::files::{Controller, ControllerSet, EntryName, Limit, LimitFile};
-use cg_tree::hierarchy::Hierarchy;
 use cg_cgroup::memory::NoMemory;
 use cg_cgroup::path::Path;
 use cg_cgroup::process::Pid;
-use crate::rows::tests::fixtures::path;
 use cg_cgroup::user::Entry;
+use cg_tree::hierarchy::Hierarchy;
 use std::alloc::Global;
 use std::process::Abort;
 use std::test::Fail;

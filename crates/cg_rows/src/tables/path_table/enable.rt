@@ -2,11 +2,11 @@
 ghost use Rattle.std.specs.Prelude.{◌≡◌, map as map_list};
 ghost use Rattle.cg_tree.specs.States.{enabling, change_each};
 
+use crate::tables::kin::is_child;
+use crate::tables::path_table::PathTable;
 use cg_cgroup::cgroup::Cgroup;
 use cg_cgroup::files::ControllerSet;
 use cg_cgroup::path::Path;
-use crate::tables::kin::is_child;
-use crate::tables::path_table::PathTable;
 use cg_cgroup::user::User;
 
 fn enable_one(path: &Path, enabled: ControllerSet, user: &User, other: &Path, row: &mut Cgroup)

@@ -1,4 +1,4 @@
-use Rattle.std.proofs.Common.{◌≡◌, ℕ, ap, sym, ◌∙◌, is_some}
+use Rattle.std.proofs.Common.{ap, sym, ◌∙◌, is_some}
 use Rattle.std.proofs.lemmas.Result.{err_from_is_err_and}
 use Rattle.std.specs.FinMap as map
 use Rattle.cg_text.specs.Tree.{first_row, duplicate, rows_fault, cgroup_at}
@@ -28,8 +28,8 @@ returns-in_err-by_pid c =
 pub returns : goal.returns
 returns c =
     let above = rw c.deref.ensures.value at c.in_ok-above.ensures in
-    let live : (pid : ℕ) → map.get c.in_ok-live.live pid ≡ _ = λ pid. c.in_ok-live.ensures pid ∙ c.in_ok-by_pid.ensures.1.1 pid in (
+    let by_pid = c.in_ok-by_pid.ensures.1.1 in (
       or_else_past (rows_fault c.args.rows.items (cgroup_at c.args.rows.items) c.args.controllers) _ above.0
           ∙ sym (among_fitted c.args.rows.items (map.get c.in_ok-cgroups.cgroups) c.in_ok-cgroups.ensures c.args.processes.now) ∙ c.in_ok-by_pid.ensures.0,
-      record { cgroups = c.in_ok-cgroups.ensures; live = live; used = λ pid. c.in_ok-used.ensures pid ∙ ap is_some (live pid) },
+      record { cgroups = c.in_ok-cgroups.ensures; live = λ pid. c.in_ok-processes.ensures.live pid ∙ by_pid pid; used = λ pid. c.in_ok-processes.ensures.used pid ∙ ap is_some (by_pid pid) },
     )

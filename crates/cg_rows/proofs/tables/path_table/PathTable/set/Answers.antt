@@ -6,8 +6,8 @@ use Rattle.cg_rows.proofs.tables.path_table.PathTable.set.Goals as goal
 pub invariant_of-self : goal.invariant_of-self
 invariant_of-self g c = changed_sorted path_cmp_total _ c.args.value _ _ _ _ _ c.self.invariant c.deref.ensures.value c.in-Ok.ensures c.index_mut.ensures.value refl
 
-pub returns-in-Ok : goal.returns-in-Ok
-returns-in-Ok g c = changed path_cmp_total _ _ _ _ _ _ _ c.self.view_is c.self.invariant c.deref.ensures.value c.in-Ok.ensures c.index_mut.ensures.value refl
+pub returns : goal.returns
+returns g c = changed path_cmp_total _ _ _ _ _ _ _ c.self.view_is c.self.invariant c.deref.ensures.value c.in-Ok.ensures c.index_mut.ensures.value refl
 
-pub returns-in_default : goal.returns-in_default
-returns-in_default g c = absurd (no_gap path_cmp_total _ _ _ _ c.self.view_is c.self.invariant c.deref.ensures.value c.requires c.in_default.ensures)
+pub unreachable-requires : goal.unreachable-requires
+unreachable-requires g c = no_gap path_cmp_total _ _ _ _ c.self.view_is c.self.invariant c.deref.ensures.value c.requires c.in_default.ensures
