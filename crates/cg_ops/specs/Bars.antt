@@ -1,5 +1,5 @@
 -- What bars an operation of a user: the clauses that it fails, each as its refusal, in order. The orders are own.
-use Rattle.std.specs.Prelude.{ℕ, zero, suc, ◌-◌, Bool, true, false, ◌&&◌, ◌||◌, not, nat_eq, nat_lt, List, [], ◌∷◌, ◌++◌, length, take, flat_map, Option, Some, None, cond}
+use Rattle.std.specs.Prelude.{ℕ, zero, suc, ◌-◌, Bool, true, false, ◌&&◌, ◌||◌, not, nat_eq, List, [], ◌∷◌, ◌++◌, length, take, flat_map, Option, Some, None, cond}
 use Rattle.cg_cgroup.specs.Paths.{Names, common, is_root, parent}
 use Rattle.cg_cgroup.specs.Identity.{Identity}
 use Rattle.cg_cgroup.specs.Users.{writes, owns}
@@ -7,10 +7,10 @@ use Rattle.cg_cgroup.specs.Files.{all_controllers, enables, enables_nothing, is_
 use Rattle.cg_cgroup.specs.Cgroups.{file_of}
 use Rattle.cg_tree.specs.States.{State, row_at, place_at, owner_at, file_at, entry_at, is_used, has_child, has_live, child_enables, count_below}
 use Rattle.cg_tree.specs.WellFormed.{available_at}
+pub use Rattle.cg_tree.specs.Limits.{is_under}
 use Rattle.cg_cgroup.specs.declared.files.Controller.{Controller}
 use Rattle.cg_cgroup.specs.declared.files.LimitFile.{LimitFile}
 use Rattle.cg_cgroup.specs.declared.files.Limit.{Limit}
-use Rattle.cg_cgroup.specs.declared.files.Limit.TheVariants.{Max, At}
 use Rattle.cg_cgroup.specs.declared.files.EntryName.{EntryName}
 use Rattle.cg_cgroup.specs.declared.files.EntryName.TheVariants.{Dir, Procs, SubtreeControl, File}
 use Rattle.cg_cgroup.specs.declared.cgroup.Cgroup.{Cgroup}
@@ -73,11 +73,6 @@ row_above st path = cond (is_root path) None (row_at st (parent path))
 -- Model of Delegation: whether a user writes the parent's directory, where there is one.
 abbrev pub writes_above : State → Identity → Names → Bool
 writes_above st user path = elim (row_above st path) [ None ↦ true | Some row ↦ writes user row.dir ]
-
--- Own: whether so many are fewer than a limit allows.
-abbrev pub is_under : ℕ → Limit → Bool
-is_under count Max = true
-is_under count (At most) = nat_lt count most
 
 -- Core Interface Files, cgroup.max.descendants and cgroup.max.depth. Own: a new cgroup meets the limits of each cgroup
 -- above it, of which the one of `len` names lies that many names fewer above the parent.

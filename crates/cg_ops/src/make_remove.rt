@@ -1,17 +1,18 @@
 //! Making and removing a cgroup: its directory.
-ghost use Rattle.std.specs.Prelude.{◌≡◌, ◌<◌, [], length, option_copied, OnOk, OnErr};
+ghost use Rattle.std.specs.Prelude.{◌≡◌, ◌<◌, true, [], length, option_copied, is_some, OnOk, OnErr};
 ghost use Rattle.cg_ops.specs.Clauses.{first};
-ghost use Rattle.cg_ops.specs.Bars.{is_under, row_above, writes_above, level_bars, limit_bars, mkdir_bars, rmdir_bars};
+ghost use Rattle.cg_ops.specs.Bars.{row_above, writes_above, level_bars, limit_bars, mkdir_bars, rmdir_bars};
 ghost use Rattle.cg_ops.specs.Next.{next};
 
 use crate::operation::Op;
 use crate::outcome::Refusal;
 use cg_cgroup::cgroup::Cgroup;
-use cg_cgroup::files::{EntryName, Limit};
+use cg_cgroup::files::EntryName;
 use cg_cgroup::memory::NoMemory;
 use cg_cgroup::path::Path;
 use cg_cgroup::user::User;
 use cg_tree::hierarchy::Hierarchy;
+use cg_tree::limits::is_under;
 use std::alloc::Global;
 
 /// The first refusal that making a cgroup meets.
@@ -56,14 +57,11 @@ fn writes_above<H: Hierarchy>(tree: &H, user: &User, path: &Path) -> bool
 
 /// The first limit of the cgroups above a new one that it would pass, the nearest first.
 fn limit_refusal<H: Hierarchy>(tree: &H, path: &Path) -> Option<Refusal>
+    requires { is_some (row_above (H.state tree.now) path.now) ≡ true }
     ensures { result ≡ first (limit_bars (H.state tree.now) path.now (length path.now)) }
 {
-    for len in (0..path.depth()).rev() {
-        if let Some(refusal) = level_refusal(tree, path, len) {
-            return Some(refusal);
-        }
-    }
-    None
+    let nearest = tree.nearest_full(path, path.parent_len())?;
+    level_refusal(tree, path, nearest)
 }
 
 /// The limit of the cgroup of the first `len` names that a new cgroup would pass.
@@ -79,16 +77,6 @@ fn level_refusal<H: Hierarchy>(tree: &H, path: &Path, len: usize) -> Option<Refu
         return Some(Refusal::DepthLimit { len });
     }
     None
-}
-
-/// Whether so many are fewer than a limit allows.
-fn is_under(count: u64, limit: Limit) -> bool
-    ensures { result ≡ is_under count limit }
-{
-    match limit {
-        Limit::Max => true,
-        Limit::At(most) => count < most,
-    }
 }
 
 /// The first refusal that removing a cgroup meets.

@@ -1,7 +1,8 @@
 //! `Rows`: a tree kept as tables.
-ghost use Rattle.std.specs.Prelude.{◌≡◌, IfOk};
+ghost use Rattle.std.specs.Prelude.{◌≡◌, ◌≤◌, length, IfOk};
 ghost use Rattle.cg_rows.specs.RowsForm.{IsRoot, state_of_root, state_of_tables};
 ghost use Rattle.cg_tree.specs.WellFormed.{IsWellFormed};
+ghost use Rattle.cg_tree.specs.Limits.{is_full};
 
 mod below;
 #[cfg(test)]
@@ -16,6 +17,7 @@ use cg_cgroup::path::Path;
 use cg_cgroup::process::{Pid, Process};
 use cg_cgroup::user::{Mode, User};
 use cg_tree::hierarchy::Hierarchy;
+use cg_tree::limits::is_under;
 use std::alloc::Global;
 use std::marker::Model;
 
@@ -78,6 +80,21 @@ impl Rows {
             controllers: available,
         }
     }
+
+    /// Whether the cgroup of the first `at` names bars a child of that of the first `len` names, by its limits.
+    fn is_full(&self, path: &Path, len: usize, at: usize) -> bool
+        requires within { len ≤ length path.now }
+        requires above { at ≤ len }
+        ensures { result ≡ is_full self.now path.now len at }
+    {
+        let Some(cgroup) = self.get(path, at) else {
+            return false;
+        };
+        !(is_under(
+            self.count_below(path, at),
+            cgroup.max_descendants.value,
+        ) && is_under((len - at) as u64, cgroup.max_depth.value))
+    }
 }
 
 impl Hierarchy for Rows {
@@ -127,6 +144,18 @@ impl Hierarchy for Rows {
 
     fn depth_below(&self, path: &Path, len: usize) -> u64 {
         below::deepest(self.rows.below(path, len), len)
+    }
+
+    fn nearest_full(&self, path: &Path, len: usize) -> Option<usize> {
+        if self.is_full(path, len, len) {
+            return Some(len);
+        }
+        for at in (0..len).rev() {
+            if self.is_full(path, len, at) {
+                return Some(at);
+            }
+        }
+        None
     }
 
     fn set_limit(&mut self, path: &Path, file: LimitFile, value: Limit) {

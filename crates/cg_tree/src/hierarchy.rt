@@ -1,7 +1,8 @@
 //! `Hierarchy`: a tree of cgroups with its processes, however it is kept.
-ghost use Rattle.std.specs.Prelude.{◌≡◌, ◌≤◌, true, false, length, take, OnOk, OnErr, IfOk, option_copied, is_some};
+ghost use Rattle.std.specs.Prelude.{◌≡◌, ◌≤◌, true, false, length, take, OnOk, OnErr, IfOk, MatchOption, option_copied, is_some};
 ghost use Rattle.cg_tree.specs.States.{State, row_at, process_at, place_at, owner_at, is_used, has_child, has_live, child_enables, count_below, depth_below, paths_of, pids_of, file_at, entry_at, with_row, without_row, with_value, with_mode, with_enabled, with_place, with_process, without_process};
 ghost use Rattle.cg_tree.specs.WellFormed.{IsWellFormed, has_row, may_hold, MayEnable};
+ghost use Rattle.cg_tree.specs.Limits.{NoneIsFull, IsNearestFull};
 ghost use Rattle.cg_cgroup.specs.Paths.{is_root};
 ghost use Rattle.cg_cgroup.specs.Files.{accepts};
 
@@ -73,6 +74,15 @@ pub trait Hierarchy {
         requires within { len ≤ length path.now }
         requires there { has_row (state self.now) (take len path.now) ≡ true }
         ensures { result ≡ depth_below (state self.now) (take len path.now) };
+
+    /// The nearest of a cgroup and those above it whose limits bar a new child of that cgroup, by its number of names.
+    fn nearest_full(&self, path: &Path, len: usize) -> Option<usize>
+        requires within { len ≤ length path.now }
+        requires there { has_row (state self.now) (take len path.now) ≡ true }
+        ensures { MatchOption
+            result
+            (NoneIsFull (state self.now) path.now len)
+            (IsNearestFull (state self.now) path.now len) };
 
     /// Sets the value of a limit file that stands and accepts it.
     fn set_limit(&mut self, path: &Path, file: LimitFile, value: Limit)

@@ -2,5 +2,6 @@
 #![tactic(auto)]
 
 pub mod hierarchy;
+pub mod limits;
 
 pub use cg_cgroup::{cgroup, files, memory, path, process, user};

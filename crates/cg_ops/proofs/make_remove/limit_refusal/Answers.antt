@@ -1,13 +1,11 @@
 use Rattle.std.proofs.Common.{sym, ◌∙◌}
-use Rattle.cg_ops.proofs.LevelBars.{limit_some, limit_none}
+use Rattle.cg_ops.proofs.LevelBars.{limits_free, limits_nearest}
 use Rattle.cg_ops.proofs.make_remove.limit_refusal.Goals as goal
 
-pub returns-in-Some : goal.returns-in-Some
-returns-in-Some g c =
-    let st = g.H.Hierarchy.state c.args.tree.now in
-    sym (limit_some st c.args.path.now c.loop-len.len _ c.loop-len-test.true (sym c.in-Some.ensures)) ∙ c.loop-len.invariant
+pub returns-in_err-nearest : goal.returns-in_err-nearest
+returns-in_err-nearest g c =
+    c.from_residual.ensures ∙ sym (limits_free (g.H.Hierarchy.state c.args.tree.now) c.args.path.now c.parent_len.result c.parent_len.ensures c.in_err-nearest.ensures)
 
-pub loop-len-preserved : goal.loop-len-preserved
-loop-len-preserved g c =
-    let st = g.H.Hierarchy.state c.args.tree.now in
-    limit_none st c.args.path.now c.loop-len.len c.loop-len-test.true (sym c.in_default.ensures) ∙ c.loop-len.invariant
+pub returns : goal.returns
+returns g c =
+    c.level_refusal.ensures ∙ sym (limits_nearest (g.H.Hierarchy.state c.args.tree.now) c.args.path.now c.parent_len.result c.parent_len.ensures c.in_ok-nearest.nearest c.in_ok-nearest.ensures)

@@ -1,0 +1,310 @@
+-- A cgroup more.
+use Rattle.std.proofs.Common.{◌≡◌, ℕ, zero, suc, ◌+◌, ◌-◌, ◌<◌, ◌≢◌, true, false, cond, ◌&&◌, List, [], ◌∷◌, ◌++◌, length, count_by, take, refl, sym, ap, ◌∙◌, true≢false, Some, None, is_some, option_map, arith, ◌⊎◌, ⊎_elim, inl, inr}
+use Rattle.std.specs.Prelude.{slice_set}
+use Rattle.std.specs.List.{list_any}
+use Rattle.std.proofs.lemmas.Bool.{cases_Bool}
+use Rattle.std.proofs.lemmas.List.{get_or_append_left, get_or_at, length-append, length-set, length-map, take_all}
+use Rattle.std.proofs.lemmas.List.Sums.{count_by-le-length}
+use Rattle.std.specs.Cmp.{first_so}
+use Rattle.std.specs.FinMap as map
+use Rattle.std.specs.FinMap.{FinMap}
+use Rattle.cg_cgroup.specs.Paths.{Names, path_cmp, same_path, inside, below, is_child, parent, is_root}
+use Rattle.cg_cgroup.specs.Files.{no_controllers, enables}
+use Rattle.cg_cgroup.specs.declared.files.Controller.{Controller}
+use Rattle.cg_cgroup.specs.declared.files.Controller.TheVariants.{Cpu, Memory, Pids}
+use Rattle.cg_cgroup.specs.declared.files.ControllerSet.{ControllerSet}
+use Rattle.cg_cgroup.specs.declared.cgroup.Cgroup.{Cgroup}
+use Rattle.cg_tree.specs.States.{with_row}
+use Rattle.cg_cgroup.proofs.PathOrder.{path_cmp_total, same_path-is, same_path-not, same_path_refl, same_path-other}
+use Rattle.cg_cgroup.proofs.PathParents.{length-parent, parent-is_child}
+use Rattle.cg_cgroup.proofs.PathLaws.{inside_decides, inside-length}
+use Rattle.cg_cgroup.proofs.Options.{same_some, some_value}
+use Rattle.cg_tree.proofs.MapLaws.{any_entry, list_any-map}
+use Rattle.cg_tree.proofs.StateCounts.{count_below-with_row}
+use Rattle.cg_indexed.specs.Links.{no_link, link_at, new_link, ArePlaced, one_more, raised}
+use Rattle.cg_indexed.specs.Nodes.{new_node, no_cgroup, node_at, no_uses, uses_of, recounted}
+use Rattle.cg_indexed.specs.Kept.{Held, held_of, enabled_of, values_of, child_uses, AreKept, new_held, tree_of}
+use Rattle.cg_indexed.specs.declared.links.Link.{Link}
+use Rattle.cg_indexed.specs.declared.nodes.Node.{Node}
+use Rattle.cg_indexed.proofs.Counts.{count-none, uses-insert, few_uses, no_uses-childless, recount_exact, is_child-parents}
+use Rattle.cg_indexed.proofs.Values.{values-insert, get-put, values_same, values_put, value_none, keys-values}
+use Rattle.cg_indexed.proofs.Read.{paths_are, row_is}
+use Rattle.cg_indexed.proofs.Limits.{parent_take}
+use Rattle.cg_indexed.proofs.Climb.{changed_at, placed_changed, changed_length, below_parent, not_inside_parent}
+use Rattle.cg_indexed.proofs.Changed.{node_set}
+
+-- ---- paths above
+
+module _ (places : FinMap path_cmp ℕ) (links : List Link) (placed : ArePlaced places links) where
+  above_there : (q : Names) (k n : ℕ) → n + k ≡ length q → is_some (map.get places q) ≡ true → is_some (map.get places (take n q)) ≡ true
+  above_there q zero n e there = ap (λ x. is_some (map.get places x)) (take_all n q (omega arith)) ∙ there
+  above_there q (suc k) n e there =
+      let part = take (suc n) q in
+      let has = some_value (map.get places part) (above_there q k (suc n) (omega arith) there) in
+      ap (λ x. is_some (map.get places x)) (sym (parent_take q n (omega arith))) ∙ ap is_some (placed.above part has.0 has.1)
+
+  -- nothing is below a path that isn't there
+  pub none_below : (p : Names) → map.get places p ≡ None → count_by (below p) (map.keys places) ≡ 0
+  none_below p none =
+      count-none (below p) (map.keys places) (⊎_elim (λ (some : list_any (below p) (map.keys places) ≡ true). absurd (no_one some)) (λ (h : list_any (below p) (map.keys places) ≡ false). h) (cases_Bool (list_any (below p) (map.keys places))))
+    where
+      no_one : list_any (below p) (map.keys places) ≡ true → ⊥
+      no_one some =
+          let found = any_entry path_cmp_total (λ e. below p e.0) places (sym (list_any-map (below p) (λ e. e.0) (map.entries places)) ∙ some) in
+          let q = found.0 in
+          let is_part = (inside_decides p q).0 (first_so (inside p q) _ found.3) in
+          let size = inside-length p q (first_so (inside p q) _ found.3) in
+          let there = above_there q (length q - length p) (length p) (omega arith) (ap is_some found.2) in
+          true≢false (sym there ∙ ap (λ x. is_some (map.get places x)) (sym is_part) ∙ ap is_some none)
+
+  -- nor a child
+  pub no_child_there : (p : Names) → map.get places p ≡ None → (r : Names) → is_child p r ≡ true → map.get places r ≡ None
+  no_child_there p none r child =
+      elim (map.get places r) as (λ o. map.get places r ≡ o → o ≡ None) [
+        | None ↦ λ e. refl
+        | Some j ↦ λ e. absurd (true≢false (ap is_some (sym (placed.above r j e) ∙ ap (map.get places) (parent-is_child p r child) ∙ none)))
+      ] refl
+
+-- ---- one more of each, that no path has
+
+module _ (places : FinMap path_cmp ℕ) (links : List Link) (nodes : List Node) (kept : AreKept places links nodes) (link : Link) (node : Node) where
+  abbrev more_links : List Link
+  more_links = links ++ link ∷ []
+
+  abbrev more_nodes : List Node
+  more_nodes = nodes ++ node ∷ []
+
+  same_link : (j : ℕ) → j < length links → link_at more_links j ≡ link_at links j
+  same_link j l = get_or_append_left links (link ∷ []) no_link j l
+
+  same_node : (j : ℕ) → j < length links → node_at more_nodes j ≡ node_at nodes j
+  same_node j l = get_or_append_left nodes (node ∷ []) (new_node no_cgroup) j (omega (arith, l, kept.paired))
+
+  paired_more : length more_nodes ≡ length more_links
+  paired_more = omega (arith, kept.paired, length-append nodes (node ∷ []), length-append links (link ∷ []))
+
+  pub kept_more : AreKept places more_links more_nodes
+  kept_more = record {
+    placed = record {
+      within = λ p i is. let l = kept.placed.within p i is in omega (arith, l, length-append links (link ∷ []));
+      apart = kept.placed.apart;
+      above = λ p i is. kept.placed.above p i is ∙ ap (λ n. Some n.above) (sym (same_link i (kept.placed.within p i is)));
+    };
+    paired = paired_more;
+    below = λ p i is. ap (λ n. n.below) (same_link i (kept.placed.within p i is)) ∙ kept.below p i is;
+    descendants = λ p i is. let l = kept.placed.within p i is in ap (λ n. n.max_descendants) (same_link i l) ∙ kept.descendants p i is ∙ ap (λ n. n.cgroup.max_descendants.value) (sym (same_node i l));
+    depths = λ p i is. let l = kept.placed.within p i is in ap (λ n. n.max_depth) (same_link i l) ∙ kept.depths p i is ∙ ap (λ n. n.cgroup.max_depth.value) (sym (same_node i l));
+    uses = λ p i is controller.
+        ap (λ n. uses_of n.uses controller) (same_node i (kept.placed.within p i is)) ∙ kept.uses p i is controller
+        ∙ ap (λ sets. child_uses sets p controller) (values_same enabled_of places nodes more_nodes (λ q j has. ap enabled_of (sym (same_node j (kept.placed.within q j has)))));
+  }
+
+  pub held_more : values_of held_of places more_nodes ≡ values_of held_of places nodes
+  held_more = values_same held_of places more_nodes nodes (λ q j is. ap held_of (same_node j (kept.placed.within q j is)))
+
+-- ---- a path more
+
+module _ (places : FinMap path_cmp ℕ) (links : List Link) (nodes : List Node) (kept : AreKept places links nodes) (few : map.len places < 9223372036854775808)
+    (p : Names) (root : is_root p ≡ false) (none : map.get places p ≡ None) (i : ℕ) (parent_is : map.get places (parent p) ≡ Some i) (row : Cgroup) where
+  abbrev pushed_links : List Link
+  pushed_links = links ++ new_link i row ∷ []
+
+  abbrev pushed_nodes : List Node
+  pushed_nodes = nodes ++ new_node row ∷ []
+
+  abbrev k : ℕ
+  k = length links
+
+  abbrev next : FinMap path_cmp ℕ
+  next = map.insert places p k
+
+  next_get : (q : Names) → map.get next q ≡ cond (same_path q p) (Some k) (map.get places q)
+  next_get q = get-put places p k q
+
+  next_same : map.get next p ≡ Some k
+  next_same = next_get p ∙ ap (λ b. cond b (Some k) (map.get places p)) (same_path_refl p)
+
+  next_other : (q : Names) → q ≢ p → map.get next q ≡ map.get places q
+  next_other q apart = next_get q ∙ ap (λ b. cond b (Some k) (map.get places q)) (same_path-not q p apart)
+
+  -- a path of the new table is the new one, or an old one
+  which : (q : Names) (j : ℕ) → map.get next q ≡ Some j → ((q ≡ p) × (j ≡ k)) ⊎ ((q ≢ p) × (map.get places q ≡ Some j) × (j < k))
+  which q j is =
+      elim (same_path q p) as (λ b. same_path q p ≡ b → ((q ≡ p) × (j ≡ k)) ⊎ ((q ≢ p) × (map.get places q ≡ Some j) × (j < k))) [
+        | true ↦ λ e. let same = same_path-is q p e in inl (same, same_some j k (sym is ∙ ap (map.get next) same ∙ next_same))
+        | false ↦ λ e. let apart = same_path-other q p e in let old = sym (next_other q apart) ∙ is in inr (apart, old, kept.placed.within q j old)
+      ] refl
+
+  -- what is there is no path that isn't
+  old_other : (q : Names) (j : ℕ) → map.get places q ≡ Some j → q ≢ p
+  old_other q j is same = true≢false (ap is_some (sym is ∙ ap (map.get places) same ∙ none))
+
+  parent_next : map.get next (parent p) ≡ Some i
+  parent_next = next_other (parent p) (old_other (parent p) i parent_is) ∙ parent_is
+
+  new_link_there : link_at pushed_links k ≡ new_link i row
+  new_link_there = get_or_at links (new_link i row) [] no_link k refl
+
+  new_node_there : node_at pushed_nodes k ≡ new_node row
+  new_node_there = get_or_at nodes (new_node row) [] (new_node no_cgroup) k kept.paired
+
+  old_link : (j : ℕ) → j < k → link_at pushed_links j ≡ link_at links j
+  old_link j l = same_link places links nodes kept (new_link i row) (new_node row) j l
+
+  old_node : (j : ℕ) → j < k → node_at pushed_nodes j ≡ node_at nodes j
+  old_node j l = same_node places links nodes kept (new_link i row) (new_node row) j l
+
+  placed_next : ArePlaced next pushed_links
+  placed_next = record {
+    within = λ q j is. ⊎_elim (λ h. omega (arith, h.1, length-append links (new_link i row ∷ []))) (λ h. omega (arith, h.2, length-append links (new_link i row ∷ []))) (which q j is);
+    apart = λ q r j is has.
+        ⊎_elim
+        (λ h. ⊎_elim (λ g. h.0 ∙ sym g.0) (λ g. absurd (omega (arith, h.1, g.2))) (which r j has))
+        (λ h. ⊎_elim (λ g. absurd (omega (arith, g.1, h.2))) (λ g. kept.placed.apart q r j h.1 g.1) (which r j has)) (which q j is);
+    above = λ q j is.
+        ⊎_elim
+        (λ h. ap (λ x. map.get next (parent x)) h.0 ∙ parent_next ∙ ap (λ n. Some n.above) (sym (ap (link_at pushed_links) h.1 ∙ new_link_there)))
+        (λ h.
+        let up = kept.placed.above q j h.1 in
+        next_other (parent q) (old_other (parent q) _ up) ∙ up ∙ ap (λ n. Some n.above) (sym (old_link j h.2))) (which q j is);
+  }
+
+  abbrev after_links : List Link
+  after_links = raised pushed_links i (length p)
+
+  abbrev after_nodes : List Node
+  after_nodes = slice_set pushed_nodes i (recounted no_controllers row.enabled (node_at pushed_nodes i))
+
+  -- each link after the climb, and each node after the recount
+  link_after : (q : Names) (j : ℕ) → map.get next q ≡ Some j → link_at after_links j ≡ cond (inside q (parent p)) (one_more (link_at pushed_links j)) (link_at pushed_links j)
+  link_after q j is = changed_at one_more (λ n. refl) next (length p) (parent p) i pushed_links placed_next parent_next (length-parent p root) q j is
+
+  node_after : (q : Names) (j : ℕ) → map.get next q ≡ Some j → node_at after_nodes j ≡ cond (same_path q (parent p)) (recounted no_controllers row.enabled (node_at pushed_nodes i)) (node_at pushed_nodes j)
+  node_after q j is =
+      node_set next pushed_links placed_next (parent p) i parent_next pushed_nodes (recounted no_controllers row.enabled (node_at pushed_nodes i)) (paired_more places links nodes kept (new_link i row) (new_node row)) q j is
+
+  -- what neither changes
+  kept_link : {A : Type 0} (g : Link → A) → ((l : Link) → g (one_more l) ≡ g l) → (q : Names) (j : ℕ) → map.get next q ≡ Some j → g (link_at after_links j) ≡ g (link_at pushed_links j)
+  kept_link g same q j is =
+      ap g (link_after q j is) ∙ elim (inside q (parent p)) as (λ b. g (cond b (one_more (link_at pushed_links j)) (link_at pushed_links j)) ≡ g (link_at pushed_links j)) [ true ↦ same (link_at pushed_links j) | false ↦ refl ]
+
+  row_after : (q : Names) (j : ℕ) → map.get next q ≡ Some j → held_of (node_at after_nodes j) ≡ held_of (node_at pushed_nodes j)
+  row_after q j is =
+      ap held_of (node_after q j is)
+      ∙ elim (same_path q (parent p)) as (λ b. same_path q (parent p) ≡ b → held_of (cond b (recounted no_controllers row.enabled (node_at pushed_nodes i)) (node_at pushed_nodes j)) ≡ held_of (node_at pushed_nodes j)) [
+        | true ↦ λ e. ap (λ n. held_of (node_at pushed_nodes n)) (same_some i j (sym parent_next ∙ ap (map.get next) (sym (same_path-is q (parent p) e)) ∙ is))
+        | false ↦ λ e. refl
+      ] refl
+
+  cgroup_after : (q : Names) (j : ℕ) → map.get next q ≡ Some j → (node_at after_nodes j).cgroup ≡ (node_at pushed_nodes j).cgroup
+  cgroup_after q j is = ap (λ (h : Held). h.cgroup) (row_after q j is)
+
+  -- the map of what is read, one path more
+  map_next : {A : Type 0} (g : Node → A) → ((q : Names) (j : ℕ) → map.get next q ≡ Some j → g (node_at after_nodes j) ≡ g (node_at pushed_nodes j)) → values_of g next after_nodes ≡ map.insert (values_of g places nodes) p (g (new_node row))
+  map_next g same =
+      values_put g places next nodes after_nodes p k (g (new_node row)) next_get (same p k next_same ∙ ap g new_node_there)
+      (λ q j apart has. same q j (next_other q (same_path-other q p apart) ∙ has) ∙ ap g (old_node j (kept.placed.within q j has)))
+
+  pub held_next : values_of held_of next after_nodes ≡ map.insert (values_of held_of places nodes) p (new_held row)
+  held_next = map_next held_of row_after
+
+  sets_next : values_of enabled_of next after_nodes ≡ map.insert (values_of enabled_of places nodes) p row.enabled
+  sets_next = map_next enabled_of (λ q j is. ap (λ (h : Held). h.cgroup.enabled) (row_after q j is))
+
+  -- counting afresh after the change
+  count_next : (q : Names) → count_by (below q) (map.keys next) ≡ cond (inside q (parent p)) (1 + count_by (below q) (map.keys places)) (count_by (below q) (map.keys places))
+  count_next q =
+      let old = values_of held_of places nodes in
+      let rows = λ (m : FinMap path_cmp Held). (tree_of m).rows in
+      ap (count_by (below q)) (sym (keys_next))
+      ∙ count_below-with_row (tree_of old) p row (ap is_some (row_is places nodes old refl p ∙ ap (option_map (λ j. (node_at nodes j).cgroup)) none)) q
+      ∙ (λ t. cond (below_parent q p root t) (1 + count_by (below q) (paths_are places nodes old refl t)) (count_by (below q) (paths_are places nodes old refl t)))
+    where
+      keys_next : map.keys (with_row (tree_of (values_of held_of places nodes)) p row).rows ≡ map.keys next
+      keys_next =
+          sym (ap map.keys (values-insert (λ (h : Held). h.cgroup) (values_of held_of places nodes) p (new_held row)))
+          ∙ ap (λ m. map.keys (tree_of m).rows) (sym held_next) ∙ paths_are next after_nodes (values_of held_of next after_nodes) refl
+
+  fits : (q : Names) → count_by (below q) (map.keys places) < 9223372036854775808
+  fits q =
+      let most = count_by-le-length (below q) (map.keys places) in
+      omega (arith, most, length-map (map.entries places) (λ e. e.0), map.len-entries places)
+
+  counts : (q : Names) (j : ℕ) → map.get next q ≡ Some j
+      → (cond (inside q (parent p)) (one_more (link_at pushed_links j)) (link_at pushed_links j)).below ≡ cond (inside q (parent p)) (1 + count_by (below q) (map.keys places)) (count_by (below q) (map.keys places))
+  counts q j is =
+      ⊎_elim
+      (λ h.
+      let out : inside q (parent p) ≡ false = ap (λ x. inside x (parent p)) h.0 ∙ not_inside_parent p root in
+      ap (λ b. (cond b (one_more (link_at pushed_links j)) (link_at pushed_links j)).below) out
+      ∙ ap (λ n. n.below) (ap (link_at pushed_links) h.1 ∙ new_link_there)
+      ∙ sym (ap (λ b. cond b (1 + count_by (below q) (map.keys places)) (count_by (below q) (map.keys places))) out ∙ ap (λ x. count_by (below x) (map.keys places)) h.0 ∙ none_below places links kept.placed p none))
+      (λ h.
+      let old = ap (λ n. n.below) (old_link j h.2) ∙ kept.below q j h.1 in
+      let small = fits q in
+      elim (inside q (parent p)) as (λ b. (cond b (one_more (link_at pushed_links j)) (link_at pushed_links j)).below ≡ cond b (1 + count_by (below q) (map.keys places)) (count_by (below q) (map.keys places))) [
+        | true ↦ omega (arith, old, small)
+        | false ↦ old
+      ]) (which q j is)
+
+  -- children that enable a controller, counted afresh
+  abbrev sets : FinMap path_cmp ControllerSet
+  sets = values_of enabled_of places nodes
+
+  few_before : (q : Names) (controller : Controller) → child_uses sets q controller < 9223372036854775808
+  few_before q controller =
+      let most = few_uses sets q q controller in
+      let same : map.len sets ≡ map.len places =
+      let long = ap length (keys-values enabled_of places nodes) in
+      omega (arith, long, length-map (map.entries sets) (λ e. e.0), length-map (map.entries places) (λ e. e.0), map.len-entries sets, map.len-entries places) in
+      omega arith
+
+  uses_next : (q : Names) (j : ℕ) → map.get next q ≡ Some j → (controller : Controller) → uses_of (node_at after_nodes j).uses controller ≡ child_uses (values_of enabled_of next after_nodes) q controller
+  uses_next q j is controller =
+      let u = child_uses sets q controller in
+      let afresh = ap (λ m. child_uses m q controller) sets_next ∙ uses-insert sets p row.enabled (value_none enabled_of places nodes p none) q controller
+      ∙ ap (λ b. cond (b && enables row.enabled controller) (1 + u) u) (is_child-parents q p root) in
+      ap (λ n. uses_of n.uses controller) (node_after q j is)
+      ∙ elim (same_path q (parent p)) as (λ b. same_path q (parent p) ≡ b → uses_of (cond b (recounted no_controllers row.enabled (node_at pushed_nodes i)) (node_at pushed_nodes j)).uses controller ≡ cond (b && enables row.enabled controller) (1 + u) u) [
+        | true ↦ λ e.
+            let at_parent : map.get places q ≡ Some i = ap (map.get places) (same_path-is q (parent p) e) ∙ parent_is in
+            let was = ap (λ n. uses_of n.uses controller) (old_node i (kept.placed.within q i at_parent)) ∙ kept.uses q i at_parent controller in
+            recount_exact no_controllers row.enabled (node_at pushed_nodes i).uses controller u (was ∙ sym (none_enabled controller u)) (few_before q controller)
+        | false ↦ λ e.
+            ⊎_elim
+            (λ h.
+            ap (λ n. uses_of n.uses controller) (ap (node_at pushed_nodes) h.1 ∙ new_node_there) ∙ nothing controller
+            ∙ sym (ap (λ x. child_uses sets x controller) h.0 ∙ no_uses-childless sets p p controller (λ r child. value_none enabled_of places nodes r (no_child_there places links kept.placed p none r child))))
+            (λ h. ap (λ n. uses_of n.uses controller) (old_node j h.2) ∙ kept.uses q j h.1 controller) (which q j is)
+      ] refl
+      ∙ sym afresh
+    where
+      none_enabled : (controller : Controller) (u : ℕ) → cond (enables no_controllers controller) (1 + u) u ≡ u
+      none_enabled Cpu u = refl
+      none_enabled Memory u = refl
+      none_enabled Pids u = refl
+
+      nothing : (controller : Controller) → uses_of no_uses controller ≡ 0
+      nothing Cpu = refl
+      nothing Memory = refl
+      nothing Pids = refl
+
+  -- a limit of each link is that of the cgroup
+  limit_next : {A : Type 0} (g : Link → A) (h : Cgroup → A) → ((l : Link) → g (one_more l) ≡ g l) → g (new_link i row) ≡ h row → ((q : Names) (j : ℕ) → map.get places q ≡ Some j → g (link_at links j) ≡ h (node_at nodes j).cgroup)
+      → (q : Names) (j : ℕ) → map.get next q ≡ Some j → g (link_at after_links j) ≡ h (node_at after_nodes j).cgroup
+  limit_next g h same new old q j is =
+      kept_link g same q j is
+      ∙ ⊎_elim
+      (λ w. ap g (ap (link_at pushed_links) w.1 ∙ new_link_there) ∙ new ∙ ap (λ n. h n.cgroup) (sym (ap (node_at pushed_nodes) w.1 ∙ new_node_there)))
+      (λ w. ap g (old_link j w.2) ∙ old q j w.1 ∙ ap (λ n. h n.cgroup) (sym (old_node j w.2))) (which q j is)
+      ∙ ap h (sym (cgroup_after q j is))
+
+  pub kept_next : AreKept next after_links after_nodes
+  kept_next = record {
+    placed = placed_changed one_more (λ n. refl) next (length p) i pushed_links placed_next;
+    paired = length-set pushed_nodes i (recounted no_controllers row.enabled (node_at pushed_nodes i)) ∙ paired_more places links nodes kept (new_link i row) (new_node row) ∙ sym (changed_length one_more (λ n. refl) (length p) i pushed_links);
+    below = λ q j is. ap (λ n. n.below) (link_after q j is) ∙ counts q j is ∙ sym (count_next q);
+    descendants = limit_next (λ l. l.max_descendants) (λ r. r.max_descendants.value) (λ l. refl) refl kept.descendants;
+    depths = limit_next (λ l. l.max_depth) (λ r. r.max_depth.value) (λ l. refl) refl kept.depths;
+    uses = uses_next;
+  }

@@ -1,0 +1,12 @@
+pub mod TextKeys
+pub mod Climb
+pub mod Limits
+pub mod Refits
+pub mod Values
+pub mod Counts
+pub mod Read
+pub mod Changed
+pub mod Added
+pub mod Removed
+pub mod Begun
+pub mod Enabled

@@ -1,0 +1,80 @@
+-- How cgroups are kept at places, and what is kept of each.
+use Rattle.std.specs.Prelude.{◌≡◌, ℕ, ◌+◌, ◌-◌, min, ◌&&◌, List, length, map as map_list, count_by, Some, None}
+use Rattle.std.specs.FinMap as map
+use Rattle.std.specs.FinSet as set
+use Rattle.cg_cgroup.specs.Paths.{Names, path_cmp, below, is_child}
+use Rattle.cg_cgroup.specs.Identity.{Identity}
+use Rattle.cg_cgroup.specs.Files.{no_controllers, enables}
+use Rattle.cg_tree.specs.States.{State, enabling}
+use Rattle.cg_cgroup.specs.declared.files.Controller.{Controller}
+use Rattle.cg_cgroup.specs.declared.files.ControllerSet.{ControllerSet}
+use Rattle.cg_cgroup.specs.declared.cgroup.Cgroup.{Cgroup}
+use Rattle.cg_indexed.specs.Links.{link_at, ArePlaced}
+use Rattle.cg_indexed.specs.Nodes.{node_at, uses_of}
+use Rattle.cg_indexed.specs.declared.links.Link.{Link}
+use Rattle.cg_indexed.specs.declared.nodes.Node.{Node}
+
+-- a cgroup, and how many live processes are counted at it
+pub record Held : Type 0 where
+  pub cgroup : Cgroup
+  pub live : ℕ
+
+-- the map with each value mapped
+abbrev pub map_values : {X Y : Type 0} → (X → Y) → map.FinMap path_cmp X → map.FinMap path_cmp Y
+map_values f m = map.from_sorted (map_list (λ e. (e.0, f e.1)) (map.entries m))
+
+-- what is read of the node at each path's place
+abbrev pub values_of : {A : Type 0} → (Node → A) → map.FinMap path_cmp ℕ → List Node → map.FinMap path_cmp A
+values_of g places nodes = map_values (λ i. g (node_at nodes i)) places
+
+abbrev pub held_of : Node → Held
+held_of node = record { cgroup = node.cgroup; live = node.live }
+
+abbrev pub enabled_of : Node → ControllerSet
+enabled_of node = node.cgroup.enabled
+
+-- how many children of a path enable a controller, where these are the sets that cgroups enable
+abbrev pub child_uses : map.FinMap path_cmp ControllerSet → Names → Controller → ℕ
+child_uses sets path controller = count_by (λ e. is_child path e.0 && enables e.1 controller) (map.entries sets)
+
+-- What is kept is what counting and reading afresh would give.
+pub record AreKept (places : map.FinMap path_cmp ℕ) (links : List Link) (nodes : List Node) : Type 0 where
+  pub placed : ArePlaced places links
+  pub paired : length nodes ≡ length links
+  pub below : (p : Names) (i : ℕ) → map.get places p ≡ Some i → (link_at links i).below ≡ count_by (below p) (map.keys places)
+  pub descendants : (p : Names) (i : ℕ) → map.get places p ≡ Some i → (link_at links i).max_descendants ≡ (node_at nodes i).cgroup.max_descendants.value
+  pub depths : (p : Names) (i : ℕ) → map.get places p ≡ Some i → (link_at links i).max_depth ≡ (node_at nodes i).cgroup.max_depth.value
+  pub uses : (p : Names) (i : ℕ) → map.get places p ≡ Some i → (controller : Controller) → uses_of (node_at nodes i).uses controller ≡ child_uses (values_of enabled_of places nodes) p controller
+
+-- ---- what callers see
+
+abbrev pub new_held : Cgroup → Held
+new_held row = record { cgroup = row; live = 0 }
+
+abbrev pub with_row_of : Cgroup → Held → Held
+with_row_of row held = record held { cgroup = row }
+
+abbrev pub one_live_more : Held → Held
+one_live_more held = record held { live = min (held.live + 1) 18446744073709551615 }
+
+abbrev pub one_live_less : Held → Held
+one_live_less held = record held { live = held.live - 1 }
+
+-- the row of a path, and its children's files, once the path enables these
+abbrev pub enabling_held : Names → ControllerSet → Identity → Names → Held → Held
+enabling_held path enabled user q held = record held { cgroup = enabling path enabled user q held.cgroup }
+
+-- the map with the value of a path changed, where the path is there
+abbrev pub change_held : map.FinMap path_cmp Held → Names → (Held → Held) → map.FinMap path_cmp Held
+change_held held path f = elim (map.get held path) [ None ↦ held | Some h ↦ map.insert held path (f h) ]
+
+-- the map with each value changed by its path
+abbrev pub change_each_held : (Names → Held → Held) → map.FinMap path_cmp Held → map.FinMap path_cmp Held
+change_each_held f held = map.from_sorted (map_list (λ e. (e.0, f e.0 e.1)) (map.entries held))
+
+abbrev pub cgroups_of : map.FinMap path_cmp Held → map.FinMap path_cmp Cgroup
+cgroups_of held = map_values (λ h. h.cgroup) held
+
+-- the state of these cgroups, where there is no process
+abbrev pub tree_of : map.FinMap path_cmp Held → State
+tree_of held = record { rows = cgroups_of held; live = map.empty; used = set.empty; controllers = no_controllers }

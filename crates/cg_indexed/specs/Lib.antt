@@ -1,0 +1,4 @@
+pub mod TextKeys
+pub mod Links
+pub mod Nodes
+pub mod Kept

@@ -1,0 +1,57 @@
+-- Links from places to those of the parents, and what a climb along them changes and finds.
+use Rattle.std.specs.Prelude.{◌≡◌, ℕ, zero, suc, ◌+◌, ◌-◌, ◌<◌, min, Bool, not, ◌&&◌, cond, nat_lt, Option, List, length, Some, None, slice_set}
+use Rattle.std.proofs.Common.{get_or}
+use Rattle.std.specs.FinMap as map
+use Rattle.cg_cgroup.specs.Paths.{Names, path_cmp, parent}
+use Rattle.cg_tree.specs.Limits.{is_under}
+use Rattle.cg_cgroup.specs.declared.files.Limit.TheVariants.{Max}
+use Rattle.cg_cgroup.specs.declared.cgroup.Cgroup.{Cgroup}
+use Rattle.cg_indexed.specs.declared.links.Link.{Link}
+
+-- what is read where there is no place
+abbrev pub no_link : Link
+no_link = record { above = 0; below = 0; max_descendants = Max; max_depth = Max }
+
+abbrev pub link_at : List Link → ℕ → Link
+link_at links i = get_or links i no_link
+
+-- the link of a cgroup with nothing below it
+abbrev pub new_link : ℕ → Cgroup → Link
+new_link above row = record { above = above; below = 0; max_descendants = row.max_descendants.value; max_depth = row.max_depth.value }
+
+abbrev pub with_limits : Cgroup → Link → Link
+with_limits row link = record link { max_descendants = row.max_descendants.value; max_depth = row.max_depth.value }
+
+-- each path has a place of its own, and knows its parent's; the root knows its own
+pub record ArePlaced (places : map.FinMap path_cmp ℕ) (links : List Link) : Type 0 where
+  pub within : (p : Names) (i : ℕ) → map.get places p ≡ Some i → i < length links
+  pub apart : (p q : Names) (i : ℕ) → map.get places p ≡ Some i → map.get places q ≡ Some i → p ≡ q
+  pub above : (p : Names) (i : ℕ) → map.get places p ≡ Some i → map.get places (parent p) ≡ Some (link_at links i).above
+
+-- one more below
+abbrev pub one_more : Link → Link
+one_more link = record link { below = min (link.below + 1) 18446744073709551615 }
+
+-- one fewer below
+abbrev pub one_less : Link → Link
+one_less link = record link { below = link.below - 1 }
+
+-- a change at a place, and at the places above it: at so many places
+abbrev pub changed_up : (Link → Link) → List Link → ℕ → ℕ → List Link
+changed_up f links i zero = links
+changed_up f links i (suc n) = cond (nat_lt i (length links)) (changed_up f (slice_set links i (f (link_at links i))) (link_at links i).above n) links
+
+abbrev pub raised : List Link → ℕ → ℕ → List Link
+raised = changed_up one_more
+
+abbrev pub lowered : List Link → ℕ → ℕ → List Link
+lowered = changed_up one_less
+
+-- whether a cgroup bars a child of one so many levels below it
+abbrev pub is_full_link : Link → ℕ → Bool
+is_full_link link levels = not (is_under link.below link.max_descendants && is_under levels link.max_depth)
+
+-- the nearest of a place and those above it that does, by the number of places above it
+abbrev pub climbed : List Link → ℕ → ℕ → ℕ → Option ℕ
+climbed links len at zero = cond (nat_lt at (length links)) (cond (is_full_link (link_at links at) len) (Some 0) None) None
+climbed links len at (suc k) = cond (nat_lt at (length links)) (cond (is_full_link (link_at links at) (len - suc k)) (Some (suc k)) (climbed links len (link_at links at).above k)) None

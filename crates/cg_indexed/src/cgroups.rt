@@ -1,0 +1,225 @@
+//! Cgroups by path, with kept counts.
+ghost use Rattle.std.specs.Prelude.{◌≡◌, ◌≤◌, true, false, length, take, option_copied, [], Some, IfOk, IfSome, OnOk, OnErr, MatchOption};
+ghost use Rattle.std.specs.Option.{option_map};
+ghost use Rattle.std.specs.FinMap as map;
+ghost use Rattle.cg_cgroup.specs.Paths.{parent, is_root};
+ghost use Rattle.cg_cgroup.specs.Files.{enables};
+ghost use Rattle.cg_tree.specs.States.{row_at, count_below, has_child, child_enables};
+ghost use Rattle.cg_tree.specs.WellFormed.{has_row};
+ghost use Rattle.cg_tree.specs.Limits.{NoneIsFull, IsNearestFull};
+ghost use Rattle.cg_indexed.specs.Kept.{tree_of, new_held, with_row_of, one_live_more, one_live_less, enabling_held, change_held, change_each_held};
+
+use crate::links::{Link, climb, lower, put_limits, raise};
+use crate::nodes::{Node, enable, lower_live, put, raise_live, recount, refit_children};
+use crate::path_index::PathIndex;
+use cg_cgroup::cgroup::Cgroup;
+use cg_cgroup::files::{Controller, ControllerSet};
+use cg_cgroup::memory::NoMemory;
+use cg_cgroup::path::Path;
+use cg_cgroup::user::User;
+use std::alloc::Global;
+use std::marker::Model;
+
+/// Cgroups by path, each with the number of its live processes.
+///
+/// Each cgroup has a place, which it keeps, and knows its parent's. A place that was a cgroup's is no other's.
+#[derive(Drop)]
+pub struct Cgroups {
+    places: PathIndex,
+    links: Vec<Link>,
+    nodes: Vec<Node>,
+}
+
+impl Model for Cgroups {
+    ghost use Rattle.std.specs.Coded.{codes};
+    ghost use Rattle.std.specs.FinMap as map;
+    ghost use Rattle.cg_cgroup.specs.Paths.{path_cmp};
+    ghost use Rattle.cg_indexed.specs.Kept.{Held, held_of, values_of, AreKept};
+
+    ghost Value = { map.FinMap path_cmp Held };
+
+    ghost coded = { Prim.hlevel (codes, map.code) };
+
+    ghost view = { λ t. values_of held_of t.places t.nodes.items };
+
+    ghost invariant = { λ t. AreKept t.places t.links.items t.nodes.items };
+}
+
+impl Cgroups {
+    /// A root alone. Fails where memory is wanted.
+    pub fn new(alloc: Global, root: Cgroup) -> Result<Cgroups, NoMemory>
+        ensures { IfOk result (λ tree. tree ≡ map.insert map.empty [] (new_held root)) }
+    {
+        let mut places = PathIndex::new(alloc);
+        places.insert(alloc, &Path::root(alloc), 0)?;
+        let mut links = Vec::new(alloc);
+        links.push(Link::new(0, &root))?;
+        let mut nodes = Vec::new(alloc);
+        nodes.push(Node::new(root))?;
+        Ok(Cgroups {
+            places,
+            links,
+            nodes,
+        })
+    }
+
+    /// The cgroup of the first `len` names of `path`.
+    pub fn get(&self, path: &Path, len: usize) -> Option<&Cgroup>
+        requires { len ≤ length path.now }
+        ensures { option_copied result ≡ row_at (tree_of self.now) (take len path.now) }
+    {
+        match self.places.get(path, len) {
+            Some(place) => Some(&self.nodes[place].cgroup),
+            None => None,
+        }
+    }
+
+    /// How many live processes are counted at a cgroup.
+    pub fn live(&self, path: &Path, len: usize) -> u64
+        requires within { len ≤ length path.now }
+        requires there { has_row (tree_of self.now) (take len path.now) ≡ true }
+        ensures { option_map (λ held. held.live) (map.get self.now (take len path.now)) ≡ Some result }
+    {
+        let Some(place) = self.places.get(path, len) else {
+            unreachable!()
+        };
+        self.nodes[place].live
+    }
+
+    /// Whether a child of a cgroup enables a controller.
+    pub fn child_enables(&self, path: &Path, len: usize, controller: Controller) -> bool
+        requires within { len ≤ length path.now }
+        requires there { has_row (tree_of self.now) (take len path.now) ≡ true }
+        ensures { result ≡ child_enables (tree_of self.now) (take len path.now) controller }
+    {
+        let Some(place) = self.places.get(path, len) else {
+            unreachable!()
+        };
+        self.nodes[place].uses.of(controller) > 0
+    }
+
+    /// How many cgroups lie below a cgroup, at any depth.
+    pub fn count_below(&self, path: &Path, len: usize) -> u64
+        requires within { len ≤ length path.now }
+        requires there { has_row (tree_of self.now) (take len path.now) ≡ true }
+        ensures { result ≡ count_below (tree_of self.now) (take len path.now) }
+    {
+        let Some(place) = self.places.get(path, len) else {
+            unreachable!()
+        };
+        self.links[place].below
+    }
+
+    /// The nearest of a cgroup and those above it whose limits bar a new child of that cgroup, by its number of names.
+    pub fn nearest_full(&self, path: &Path, len: usize) -> Option<usize>
+        requires within { len ≤ length path.now }
+        requires there { has_row (tree_of self.now) (take len path.now) ≡ true }
+        ensures { MatchOption
+            result
+            (NoneIsFull (tree_of self.now) path.now len)
+            (IsNearestFull (tree_of self.now) path.now len) }
+    {
+        let Some(place) = self.places.get(path, len) else {
+            unreachable!()
+        };
+        climb(&self.links, place, len)
+    }
+
+    /// Puts a cgroup in the place of one that enables the same.
+    pub fn set(&mut self, path: &Path, cgroup: Cgroup)
+        requires { option_map (λ held. held.cgroup.enabled) (map.get self.old path.now) ≡ Some cgroup.enabled }
+        ensures { self.new ≡ change_held self.old path.now (with_row_of cgroup) }
+    {
+        let Some(place) = self.places.get(path, path.depth()) else {
+            unreachable!()
+        };
+        put(&mut self.nodes, place, cgroup);
+        put_limits(&mut self.links, place, &cgroup);
+    }
+
+    /// Counts one more live process at a cgroup.
+    pub fn raise_live(&mut self, path: &Path)
+        requires { has_row (tree_of self.old) path.now ≡ true }
+        ensures { self.new ≡ change_held self.old path.now one_live_more }
+    {
+        let Some(place) = self.places.get(path, path.depth()) else {
+            unreachable!()
+        };
+        raise_live(&mut self.nodes, place);
+    }
+
+    /// Counts one live process fewer at a cgroup.
+    pub fn lower_live(&mut self, path: &Path)
+        requires { has_row (tree_of self.old) path.now ≡ true }
+        ensures { self.new ≡ change_held self.old path.now one_live_less }
+    {
+        let Some(place) = self.places.get(path, path.depth()) else {
+            unreachable!()
+        };
+        lower_live(&mut self.nodes, place);
+    }
+
+    /// Sets what a cgroup enables for its children, and makes and removes their limit files.
+    pub fn enable(&mut self, path: &Path, enabled: ControllerSet, user: &User)
+        requires { has_row (tree_of self.old) path.now ≡ true }
+        ensures { self.new ≡ change_each_held (enabling_held path.now enabled user.now) self.old }
+    {
+        let Some(place) = self.places.get(path, path.depth()) else {
+            unreachable!()
+        };
+        // What `size` says bounds the counts.
+        let _size = self.places.size();
+        let link = self.links[place];
+        enable(&mut self.nodes, place, link.above, enabled);
+        if link.below > 0 {
+            refit_children(&self.links, &mut self.nodes, place, enabled, user);
+        }
+    }
+
+    /// Adds a cgroup below one that is there.
+    pub fn add(&mut self, alloc: Global, path: &Path, cgroup: Cgroup) -> Result<(), NoMemory>
+        requires absent { has_row (tree_of self.old) path.now ≡ false }
+        requires not_root { is_root path.now ≡ false }
+        requires parent { has_row (tree_of self.old) (parent path.now) ≡ true }
+        ensures ok { OnOk result (self.new ≡ map.insert self.old path.now (new_held cgroup)) }
+        ensures err { OnErr result (self.new ≡ self.old) }
+    {
+        let Some(above) = self.places.get(path, path.parent_len()) else {
+            unreachable!()
+        };
+        let place = self.links.len();
+        // What `size` says bounds the counts.
+        let _size = self.places.size();
+        self.nodes.reserve(1)?;
+        self.links.push(Link::new(above, &cgroup))?;
+        let Ok(()) = self.nodes.push(Node::new(cgroup)) else {
+            unreachable!()
+        };
+        self.places.insert(alloc, path, place)?;
+        raise(&mut self.links, above, path.depth());
+        recount(
+            &mut self.nodes,
+            above,
+            ControllerSet::none(),
+            cgroup.enabled,
+        );
+        Ok(())
+    }
+
+    /// Removes a cgroup that isn't the root and has no child.
+    pub fn remove(&mut self, path: &Path)
+        requires there { has_row (tree_of self.old) path.now ≡ true }
+        requires not_root { is_root path.now ≡ false }
+        requires no_child { has_child (tree_of self.old) path.now ≡ false }
+        ensures { self.new ≡ map.remove self.old path.now }
+    {
+        let Some(place) = self.places.get(path, path.depth()) else {
+            unreachable!()
+        };
+        let above = self.links[place].above;
+        let enabled = self.nodes[place].cgroup.enabled;
+        self.places.remove(path);
+        lower(&mut self.links, above, path.depth());
+        recount(&mut self.nodes, above, enabled, ControllerSet::none());
+    }
+}

@@ -1,0 +1,7 @@
+//! A tree of cgroups kept by places, found through their paths' texts, with kept counts.
+#![tactic(auto)]
+
+pub mod cgroups;
+pub mod links;
+pub mod nodes;
+pub mod path_index;

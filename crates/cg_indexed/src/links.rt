@@ -1,0 +1,105 @@
+//! Links from places of cgroups to those of their parents, and climbs along them.
+ghost use Rattle.std.specs.Prelude.{◌≡◌, ◌<◌, length, slice_set};
+ghost use Rattle.cg_indexed.specs.Links.{link_at, new_link, with_limits, is_full_link, raised, lowered, climbed};
+
+use cg_cgroup::cgroup::Cgroup;
+use cg_cgroup::files::Limit;
+use cg_tree::limits::is_under;
+
+/// What a climb reads of a cgroup.
+#[derive(Clone, Copy)]
+pub struct Link {
+    /// The place of the parent; the root's own place for the root.
+    pub above: usize,
+    /// How many cgroups lie below.
+    pub below: u64,
+    /// The value of `cgroup.max.descendants`.
+    pub max_descendants: Limit,
+    /// The value of `cgroup.max.depth`.
+    pub max_depth: Limit,
+}
+
+impl Link {
+    /// The link of a cgroup with nothing below it.
+    pub fn new(above: usize, cgroup: &Cgroup) -> Link
+        ensures { result ≡ new_link above cgroup.now }
+    {
+        Link {
+            above,
+            below: 0,
+            max_descendants: cgroup.max_descendants.value,
+            max_depth: cgroup.max_depth.value,
+        }
+    }
+
+    /// Whether a cgroup bars a child of one so many levels below it.
+    fn is_full(&self, levels: u64) -> bool
+        ensures { result ≡ is_full_link self.now levels }
+    {
+        !(is_under(self.below, self.max_descendants) && is_under(levels, self.max_depth))
+    }
+}
+
+/// Notes the limits of the cgroup at a place.
+pub fn put_limits(links: &mut [Link], at: usize, cgroup: &Cgroup)
+    requires { at < length links.old }
+    ensures { links.new ≡ slice_set links.old at (with_limits cgroup.now (link_at links.old at)) }
+{
+    let link = &mut links[at];
+    link.max_descendants = cgroup.max_descendants.value;
+    link.max_depth = cgroup.max_depth.value;
+}
+
+/// Counts one more below a place and those above it, `count` places in all.
+pub fn raise(links: &mut [Link], start: usize, count: usize)
+    ensures { links.new ≡ raised links.old start count }
+{
+    let mut at = start;
+    for done in 0..count {
+        if at >= links.len() {
+            return;
+        }
+        let link = &mut links[at];
+        link.below = link.below.saturating_add(1);
+        at = link.above;
+    }
+}
+
+/// Counts one fewer below a place and those above it, `count` places in all.
+pub fn lower(links: &mut [Link], start: usize, count: usize)
+    ensures { links.new ≡ lowered links.old start count }
+{
+    let mut at = start;
+    for done in 0..count {
+        if at >= links.len() {
+            return;
+        }
+        let link = &mut links[at];
+        link.below = link.below.saturating_sub(1);
+        at = link.above;
+    }
+}
+
+/// The nearest of a place and the `len` places above it that bars a child of the first, by the number of places above it.
+pub fn climb(links: &[Link], start: usize, len: usize) -> Option<usize>
+    ensures { result ≡ climbed links.now len start len }
+{
+    let mut at = start;
+    for up in 0..len {
+        if at >= links.len() {
+            return None;
+        }
+        let link = &links[at];
+        if link.is_full(up as u64) {
+            return Some(len - up);
+        }
+        at = link.above;
+    }
+    if at >= links.len() {
+        return None;
+    }
+    if links[at].is_full(len as u64) {
+        return Some(0);
+    }
+    None
+}

@@ -1,0 +1,31 @@
+-- The limits that a new cgroup meets: its parent's, and those of each cgroup above.
+use Rattle.std.specs.Prelude.{◌≡◌, ℕ, ◌-◌, ◌<◌, ◌≤◌, Bool, true, false, ◌&&◌, not, nat_lt, take, Some, None}
+use Rattle.cg_cgroup.specs.Paths.{Names}
+use Rattle.cg_tree.specs.States.{State, row_at, count_below}
+use Rattle.cg_cgroup.specs.declared.files.Limit.{Limit}
+use Rattle.cg_cgroup.specs.declared.files.Limit.TheVariants.{Max, At}
+use Rattle.cg_cgroup.specs.declared.cgroup.Cgroup.{Cgroup}
+
+-- Own: whether so many are fewer than a limit allows.
+abbrev pub is_under : ℕ → Limit → Bool
+is_under count Max = true
+is_under count (At most) = nat_lt count most
+
+-- Core Interface Files, cgroup.max.descendants and cgroup.max.depth: whether a cgroup with so many below it bars a child of
+-- the cgroup so many levels below it.
+abbrev pub bars_child : Cgroup → ℕ → ℕ → Bool
+bars_child row count levels = not (is_under count row.max_descendants.value && is_under levels row.max_depth.value)
+
+-- whether the cgroup of the first `at` names bars a child of that of the first `len` names
+abbrev pub is_full : State → Names → ℕ → ℕ → Bool
+is_full st path len at = elim (row_at st (take at path)) [ None ↦ false | Some row ↦ bars_child row (count_below st (take at path)) (len - at) ]
+
+-- neither the cgroup of the first `len` names nor one above it bars a child of it
+abbrev pub NoneIsFull : State → Names → ℕ → Type 0
+NoneIsFull st path len = (k : ℕ) → k ≤ len → is_full st path len k ≡ false
+
+-- that of the first `at` names does, and none between the two
+pub record IsNearestFull (st : State) (path : Names) (len at : ℕ) : Type 0 where
+  pub within : at ≤ len
+  pub full : is_full st path len at ≡ true
+  pub nearer : (k : ℕ) → at < k → k ≤ len → is_full st path len k ≡ false
