@@ -1,0 +1,26 @@
+-- What the laws of a step speak of.
+use Rattle.std.specs.Prelude.{◌≡◌, true, false, []}
+use Rattle.cg_cgroup.specs.Paths.{Names, is_root}
+use Rattle.cg_cgroup.specs.Identity.{Identity}
+use Rattle.cg_tree.specs.States.{State}
+use Rattle.cg_tree.specs.WellFormed.{has_row}
+use Rattle.cg_guards.specs.Limits.{limits, fits_descendants, fits_depth}
+use Rattle.cg_guards.specs.Edge.{crossing}
+use Rattle.cg_guards.specs.Guards.{GuardsHold}
+
+-- A subtree that may be asked about: it is there and isn't the root.
+abbrev pub IsSubtree : State → Names → Type 0
+IsSubtree st subtree = (has_row st subtree ≡ true) × (is_root subtree ≡ false)
+
+-- What a step leaves of a subtree whose guards hold for the user who made it.
+pub record IsKept (st new : State) (user : Identity) (subtree : Names) : Type 0 where
+  -- it is there, with the limits that it had
+  pub there : has_row new subtree ≡ true
+  pub limits : limits new subtree ≡ limits st subtree
+  -- no process crossed its edge
+  pub edge : crossing st new subtree ≡ []
+  -- it is within its own limits
+  pub descendants : fits_descendants new subtree ≡ true
+  pub depth : fits_depth new subtree ≡ true
+  -- and the guards hold again
+  pub guards : GuardsHold new user subtree

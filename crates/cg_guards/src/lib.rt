@@ -1,0 +1,4 @@
+//! What containment of a subtree stands on, and what a step leaves of it.
+#![tactic(auto)]
+
+pub mod guard;
