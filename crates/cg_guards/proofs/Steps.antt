@@ -9,13 +9,7 @@ use Rattle.cg_ops.specs.declared.operation.Op.{Op}
 use Rattle.cg_guards.specs.Limits.{limits}
 use Rattle.cg_guards.specs.Guards.{GuardsHold, over_failures, sets_guarded_mode}
 use Rattle.cg_guards.specs.Guarding.{IsSubtree, AreUntouched, IsKept}
-pub use Rattle.cg_guards.proofs.Sound.{IsSound}
-
-pub sound-formed : (st : State) → IsWellFormed st → IsSound st
-sound-formed st whole = ?
-
-pub sound-after : (st : State) (user : Identity) (op : Op) → IsSound st → IsSound (after st user op)
-sound-after st user op sound = ?
+pub use Rattle.cg_guards.proofs.Sound.{IsSound, sound-formed, sound-after}
 
 -- anyone's step that leaves the subtree there with its limits, and is no chmod of a guarded entry, touches none
 pub untouched-after : (st : State) (user : Identity) (subtree : Names) (op : Op) → IsSound st → IsSubtree st subtree → has_row (after st user op) subtree ≡ true
