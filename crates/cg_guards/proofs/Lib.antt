@@ -1,2 +1,4 @@
 pub mod Sound
+pub mod GuardedEntries
+pub mod Untouched
 pub mod Steps

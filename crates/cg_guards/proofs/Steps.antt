@@ -9,12 +9,10 @@ use Rattle.cg_ops.specs.declared.operation.Op.{Op}
 use Rattle.cg_guards.specs.Limits.{limits}
 use Rattle.cg_guards.specs.Guards.{GuardsHold, over_failures, sets_guarded_mode}
 use Rattle.cg_guards.specs.Guarding.{IsSubtree, AreUntouched, IsKept}
+use Rattle.cg_guards.proofs.GuardedEntries.{hold_again}
 pub use Rattle.cg_guards.proofs.Sound.{IsSound, sound-formed, sound-after}
-
 -- anyone's step that leaves the subtree there with its limits, and is no chmod of a guarded entry, touches none
-pub untouched-after : (st : State) (user : Identity) (subtree : Names) (op : Op) → IsSound st → IsSubtree st subtree → has_row (after st user op) subtree ≡ true
-    → limits (after st user op) subtree ≡ limits st subtree → sets_guarded_mode subtree op ≡ false → AreUntouched st (after st user op) subtree
-untouched-after st user subtree op sound sub there same no_chmod = ?
+pub use Rattle.cg_guards.proofs.Untouched.{untouched-after}
 
 -- a step of a user against whom the guards hold
 pub kept-after : (st : State) (user : Identity) (subtree : Names) (op : Op) → IsSound st → IsSubtree st subtree → GuardsHold st user subtree → IsKept st (after st user op) user subtree
@@ -29,4 +27,4 @@ over-kept st new user subtree kept = ?
 
 -- the guards against any user hold again where the guarded entries are untouched and the counts fit
 pub hold-untouched : (st new : State) (user : Identity) (subtree : Names) → GuardsHold st user subtree → AreUntouched st new subtree → over_failures new subtree ≡ [] → GuardsHold new user subtree
-hold-untouched st new user subtree hold untouched fits = ?
+hold-untouched st new user subtree hold untouched fits = hold_again st user subtree hold new untouched fits
