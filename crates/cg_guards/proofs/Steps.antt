@@ -27,4 +27,4 @@ over-kept st new user subtree kept = ?
 
 -- the guards against any user hold again where the guarded entries are untouched and the counts fit
 pub hold-untouched : (st new : State) (user : Identity) (subtree : Names) → GuardsHold st user subtree → AreUntouched st new subtree → over_failures new subtree ≡ [] → GuardsHold new user subtree
-hold-untouched st new user subtree hold untouched fits = hold_again st user subtree hold new untouched fits
+hold-untouched st new user subtree hold untouched fits = hold_again st new user subtree hold untouched fits
