@@ -1,4 +1,5 @@
 pub mod Sound
 pub mod GuardedEntries
 pub mod Untouched
+pub mod Barred
 pub mod Steps
