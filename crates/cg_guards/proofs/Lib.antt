@@ -2,4 +2,5 @@ pub mod Sound
 pub mod GuardedEntries
 pub mod Untouched
 pub mod Barred
+pub mod Crossing
 pub mod Steps
