@@ -1,5 +1,5 @@
 -- No process crosses the edge of a subtree where the user writes no cgroup.procs above it.
-use Rattle.std.proofs.Common.{◌≡◌, ℕ, ◌<◌, ◌≤◌, Bool, true, false, cond, not, List, [], ◌∷◌, length, take, filter, nat_eq, refl, sym, ap, ◌∙◌, subst, true≢false, Option, Some, None, is_some, option_map, option_and_then, ⊎_elim, arith, take-take, eqb-true}
+use Rattle.std.proofs.Common.{◌≡◌, ℕ, ◌<◌, Bool, true, false, cond, not, List, [], ◌∷◌, length, take, filter, nat_eq, refl, sym, ap, ◌∙◌, true≢false, Option, Some, None, is_some, option_map, option_and_then, ⊎_elim, arith, take-take, eqb-true}
 use Rattle.std.proofs.lemmas.Bool.{cases_lt, true_from_ne_false, false_from_ne_true}
 use Rattle.cg_cgroup.specs.Paths.{Names, inside, common}
 use Rattle.cg_cgroup.specs.Identity.{Identity}
@@ -9,9 +9,8 @@ use Rattle.cg_cgroup.specs.declared.files.EntryName.TheVariants.{Procs}
 use Rattle.cg_cgroup.specs.declared.process.Process.{Process}
 use Rattle.cg_cgroup.proofs.Options.{some_value, none_value}
 use Rattle.cg_cgroup.proofs.PathParents.{inside-is, inside-take}
-use Rattle.cg_cgroup.proofs.PathLaws.{inside_trans, common-inside_first, common-inside_second, common-take_first, common_comm}
+use Rattle.cg_cgroup.proofs.PathLaws.{inside_trans, common-inside_second, common-take_first, common_comm}
 use Rattle.cg_tree.specs.States.{State, row_at, process_at, place_at, is_used, placed_at, pids_of, with_place, without_process}
-use Rattle.cg_tree.specs.WellFormed.{has_row}
 use Rattle.cg_tree.proofs.StateLaws.{process_at-with_place, process_at-without_process}
 use Rattle.cg_ops.specs.Clauses.{unless}
 use Rattle.cg_ops.specs.Bars.{bars, move_bars, passes}
@@ -22,7 +21,7 @@ use Rattle.cg_ops.specs.declared.operation.Op.TheVariants.{Move, Control, Mkdir,
 use Rattle.cg_ops.specs.declared.outcome.Refusal.TheVariants.{NoAccess}
 use Rattle.cg_ops.proofs.ClauseLaws.{no_parts, no_unless, no_present}
 use Rattle.cg_ops.proofs.Allowed.{allowed_fork}
-use Rattle.cg_ops.proofs.StepFormed.{after-by, after-allowed}
+use Rattle.cg_ops.proofs.StepFormed.{after-allowed}
 use Rattle.cg_ops.proofs.StepEffects.{process_at-after}
 use Rattle.cg_guards.specs.Edge.{is_crossed, crossing}
 use Rattle.cg_guards.specs.Guards.{ancestors}
@@ -40,9 +39,9 @@ common-above subtree from to within without =
     ⊎_elim
     (λ above. (above, common-take_first from to ∙ sym (take-take (length top) (length subtree) from (omega arith)) ∙ ap (take (length top)) at))
     (λ below.
-        let cut : take (length subtree) top ≡ subtree = ap (take (length subtree)) (common-take_first from to) ∙ take-take (length subtree) (length top) from below ∙ at in
-        let higher : inside subtree top ≡ true = ap (λ p. inside p top) (sym cut) ∙ inside-take (length subtree) top in
-        absurd (true≢false (sym (inside_trans subtree top to higher (common-inside_second from to)) ∙ without)))
+    let cut : take (length subtree) top ≡ subtree = ap (take (length subtree)) (common-take_first from to) ∙ take-take (length subtree) (length top) from below ∙ at in
+    let higher : inside subtree top ≡ true = ap (λ p. inside p top) (sym cut) ∙ inside-take (length subtree) top in
+    absurd (true≢false (sym (inside_trans subtree top to higher (common-inside_second from to)) ∙ without)))
     (cases_lt (length top) (length subtree))
 
 -- ---- places
@@ -105,7 +104,7 @@ module _ (st : State) (user : Identity) (subtree : Names) (sound : IsSound st) (
       elim (nat_eq child q) as (λ b. nat_eq child q ≡ b → is_crossed subtree (place_at st q) (place_at (after st user (Fork parent child)) q) ≡ false) [
         | true ↦ λ same.
             let gone : process_at st q ≡ None = none_value (process_at st q) (false_from_ne_true (is_some (process_at st q)) (λ live.
-                true≢false (sym (sound.used q live) ∙ ap (is_used st) (sym (eqb-true child q same)) ∙ allowed_fork st user parent child free))) in
+            true≢false (sym (sound.used q live) ∙ ap (is_used st) (sym (eqb-true child q same)) ∙ allowed_fork st user parent child free))) in
             ap (λ process. is_crossed subtree (option_map (λ p. p.place) process) (place_at (after st user (Fork parent child)) q)) gone
         | false ↦ kept (Fork parent child) q
       ] refl

@@ -1,5 +1,5 @@
 -- Which entries are guarded, and what guards that hold say of them.
-use Rattle.std.proofs.Common.{◌≡◌, ℕ, zero, suc, ◌+◌, ◌-◌, ◌<◌, Bool, true, false, not, ◌&&◌, List, [], ◌∷◌, ◌++◌, length, get_or, sym, ap, ◌∙◌, refl, subst, true≢false, Some, ⊎_elim, arith}
+use Rattle.std.proofs.Common.{◌≡◌, ℕ, zero, suc, ◌<◌, true, false, not, List, [], ◌∷◌, ◌++◌, length, get_or, sym, ap, ◌∙◌, refl, subst, true≢false, Some, ⊎_elim, arith}
 use Rattle.std.specs.List.{All, AllByRecursion, Contains, flat_map}
 use Rattle.std.proofs.lemmas.Bool.{not-true, or_parts, and_parts, cases_lt}
 use Rattle.std.proofs.lemmas.List.Elements.{All-from_recursion, recursion_from_All, All-contains, All-append, All-map, Contains-append_right}
@@ -27,6 +27,9 @@ at_ancestor len = record { guard = CommonAncestor; len = len; name = Procs }
 
 abbrev pub at_file : Names → LimitFile → Guarded
 at_file subtree file = record { guard = LimitFileGuard file; len = length subtree; name = File file }
+
+pub contains-alone : {A : Type 0} (x : A) → Contains (x ∷ []) x
+contains-alone x = (0, omega arith, refl)
 
 pub ancestors-has : (m n : ℕ) → n < m → Contains (ancestors m) (at_ancestor n)
 ancestors-has zero n h = absurd (omega arith)
@@ -95,7 +98,7 @@ pub holding : (st : State) (user : Identity) (subtree : Names) → GuardsHold st
 holding st user subtree hold =
     let entries = no_parts (flat_map (entry_failures st user subtree) (guarded_entries subtree)) (over_failures st subtree) hold in
     let split = λ (xs ys : List Guarded) (h : AreUnreached st user subtree (xs ++ ys)).
-        no_parts (flat_map (entry_failures st user subtree) xs) (flat_map (entry_failures st user subtree) ys) (sym (flat_map-append (entry_failures st user subtree) xs ys) ∙ h) in
+    no_parts (flat_map (entry_failures st user subtree) xs) (flat_map (entry_failures st user subtree) ys) (sym (flat_map-append (entry_failures st user subtree) xs ys) ∙ h) in
     let last = split (ancestors (length subtree) ++ limit_files (length subtree)) (parent_control subtree ∷ parent_dir subtree ∷ []) entries.0 in
     let first = split (ancestors (length subtree)) (limit_files (length subtree)) last.0 in
     let two = split (parent_control subtree ∷ []) (parent_dir subtree ∷ []) last.1 in
@@ -111,8 +114,8 @@ holding st user subtree hold =
     }
 
 -- they hold again where the guarded entries are untouched and the counts fit
-pub hold_again : (st new : State) (user : Identity) (subtree : Names) → GuardsHold st user subtree → AreUntouched st new subtree → over_failures new subtree ≡ [] → GuardsHold new user subtree
-hold_again st new user subtree hold untouched fits = λ i.
+pub hold-untouched : (st new : State) (user : Identity) (subtree : Names) → GuardsHold st user subtree → AreUntouched st new subtree → over_failures new subtree ≡ [] → GuardsHold new user subtree
+hold-untouched st new user subtree hold untouched fits = λ i.
     each_none (entry_failures new user subtree) (guarded_entries subtree)
     (each (guarded_entries subtree) (recursion_from_All (λ guarded. guarded_entry new subtree guarded ≡ guarded_entry st subtree guarded) (guarded_entries subtree) untouched)
     (none_each (entry_failures st user subtree) (guarded_entries subtree) (holding st user subtree hold).all)) i ++ fits i

@@ -1,6 +1,6 @@
 -- The part of well-formedness that containment stands on. Every step keeps it, whatever mode a chmod sets.
 use Rattle.std.proofs.Common.{◌≡◌, ℕ, Bool, true, false, cond, ◌||◌, nat_eq, refl, sym, ap, ◌∙◌, subst, true≢false, Option, Some, None, is_some, option_map, take}
-use Rattle.std.proofs.lemmas.Bool.{false_from_ne_true, or_right}
+use Rattle.std.proofs.lemmas.Bool.{false_from_ne_true}
 use Rattle.cg_cgroup.specs.Paths.{Names, parent, same_path, is_root, is_child}
 use Rattle.cg_cgroup.specs.Identity.{Identity}
 use Rattle.cg_cgroup.specs.declared.cgroup.Cgroup.{Cgroup}

@@ -1,6 +1,6 @@
 -- A step that leaves a subtree there, with its limits, touches no entry on which a guard of it stands, but for a chmod of one.
-use Rattle.std.proofs.Common.{◌≡◌, ℕ, Bool, true, false, cond, List, [], ◌∷◌, length, take, get_or, refl, sym, ap, ◌∙◌, true≢false, Option, Some, None, is_some, option_map, option_and_then, unwrap_or, take_all, arith, subst, ◌-◌}
-use Rattle.std.specs.List.{All, AllByRecursion, list_any}
+use Rattle.std.proofs.Common.{◌≡◌, Bool, true, false, cond, List, [], ◌∷◌, length, take, get_or, refl, sym, ap, ◌∙◌, true≢false, Option, Some, None, is_some, option_map, option_and_then, unwrap_or, take_all, arith, subst, ◌-◌}
+use Rattle.std.specs.List.{AllByRecursion, list_any}
 use Rattle.std.proofs.lemmas.Bool.{false_from_ne_true, or_parts}
 use Rattle.std.proofs.lemmas.List.Elements.{All-from_recursion, All-weaker}
 use Rattle.cg_cgroup.specs.Paths.{Names, same_path, is_child}
@@ -9,7 +9,7 @@ use Rattle.cg_cgroup.specs.Files.{stands_under}
 use Rattle.cg_cgroup.specs.Cgroups.{file_of, refitted, file_made_by}
 use Rattle.cg_cgroup.specs.declared.files.ControllerSet.{ControllerSet}
 use Rattle.cg_cgroup.specs.declared.files.LimitFile.{LimitFile}
-use Rattle.cg_cgroup.specs.declared.files.EntryName.TheVariants.{Dir, Procs, SubtreeControl, File}
+use Rattle.cg_cgroup.specs.declared.files.EntryName.TheVariants.{File}
 use Rattle.cg_cgroup.specs.declared.cgroup.LimitEntry.{LimitEntry}
 use Rattle.cg_cgroup.proofs.Options.{some_value}
 use Rattle.cg_cgroup.proofs.PathOrder.{same_path-is}
@@ -105,10 +105,10 @@ untouched-after st user subtree (Mkdir path) sound sub there same shut =
 untouched-after st user subtree (Rmdir path) sound sub there same shut =
     after-cases st user (Rmdir path) (λ new. AreUntouched st new subtree)
     (λ free.
-        let new = after st user (Rmdir path) in
-        let gone = ap (λ new. has_row new path) (after-allowed st user (Rmdir path) free) ∙ ap is_some (row_at-without_row-same path st) in
-        by_alters st user subtree (Rmdir path) (λ guarded.
-        there-other new path (take guarded.len subtree) gone (take-there new (sound-after st user (Rmdir path) sound) subtree guarded.len there)))
+    let new = after st user (Rmdir path) in
+    let gone = ap (λ new. has_row new path) (after-allowed st user (Rmdir path) free) ∙ ap is_some (row_at-without_row-same path st) in
+    by_alters st user subtree (Rmdir path) (λ guarded.
+    there-other new path (take guarded.len subtree) gone (take-there new (sound-after st user (Rmdir path) sound) subtree guarded.len there)))
     (stays st subtree)
 untouched-after st user subtree (Set at file value) sound sub there same shut = by_alters st user subtree (Set at file value) (λ guarded. refl)
 untouched-after st user subtree (Fork parent child) sound sub there same shut = by_alters st user subtree (Fork parent child) (λ guarded. refl)
