@@ -15,13 +15,34 @@ type Named = (usize, &'static str);
 const GUARDED: [(Guard, Named); 12] = [
     (Guard::CommonAncestor, (1, "\"cgroup.procs\"")),
     (Guard::CommonAncestor, (0, "\"cgroup.procs\"")),
-    (Guard::LimitFile(LimitFile::MaxDescendants), (2, "\"cgroup.max.descendants\"")),
-    (Guard::LimitFile(LimitFile::MaxDepth), (2, "\"cgroup.max.depth\"")),
-    (Guard::LimitFile(LimitFile::CpuWeight), (2, "\"cpu.weight\"")),
-    (Guard::LimitFile(LimitFile::MemoryMin), (2, "\"memory.min\"")),
-    (Guard::LimitFile(LimitFile::MemoryLow), (2, "\"memory.low\"")),
-    (Guard::LimitFile(LimitFile::MemoryHigh), (2, "\"memory.high\"")),
-    (Guard::LimitFile(LimitFile::MemoryMax), (2, "\"memory.max\"")),
+    (
+        Guard::LimitFile(LimitFile::MaxDescendants),
+        (2, "\"cgroup.max.descendants\""),
+    ),
+    (
+        Guard::LimitFile(LimitFile::MaxDepth),
+        (2, "\"cgroup.max.depth\""),
+    ),
+    (
+        Guard::LimitFile(LimitFile::CpuWeight),
+        (2, "\"cpu.weight\""),
+    ),
+    (
+        Guard::LimitFile(LimitFile::MemoryMin),
+        (2, "\"memory.min\""),
+    ),
+    (
+        Guard::LimitFile(LimitFile::MemoryLow),
+        (2, "\"memory.low\""),
+    ),
+    (
+        Guard::LimitFile(LimitFile::MemoryHigh),
+        (2, "\"memory.high\""),
+    ),
+    (
+        Guard::LimitFile(LimitFile::MemoryMax),
+        (2, "\"memory.max\""),
+    ),
     (Guard::LimitFile(LimitFile::PidsMax), (2, "\"pids.max\"")),
     (Guard::ParentControl, (1, "\"cgroup.subtree_control\"")),
     (Guard::ParentDir, (1, "dir")),
@@ -41,9 +62,15 @@ const UNGUARDED: [Named; 8] = [
 
 /// The tree `/a/b` in which all controllers are enabled down to it, with these entries so.
 fn tree_of(alloc: Global, entries: &[Named], so: &str) -> Result<Rows, Fail> {
-    let mut text = format!(in alloc; "format = 2\ncontrollers = [\"cpu\", \"memory\", \"pids\"]\n")?;
+    let mut text = format!(in alloc;
+        "format = 2\ncontrollers = [\"cpu\", \"memory\", \"pids\"]\n"
+    )?;
     for (level, path) in ["/", "/a", "/a/b"].iter().enumerate() {
-        let enabled = if level == 2 { "" } else { "\"cpu\", \"memory\", \"pids\"" };
+        let enabled = if level == 2 {
+            ""
+        } else {
+            "\"cpu\", \"memory\", \"pids\""
+        };
         text = format!(in alloc; "{text}[[cgroup]]\npath = \"{path}\"\nenabled = [{enabled}]\n")?;
         for (len, name) in entries {
             if *len == level && *name == "dir" {
@@ -61,7 +88,9 @@ fn tree_of(alloc: Global, entries: &[Named], so: &str) -> Result<Rows, Fail> {
 }
 
 const WRITTEN: &str = "{ mode = 0o446 }";
+
 const OWNED: &str = "{ uid = 1000, mode = 0o444 }";
+
 const WRITTEN_BY_GROUP: &str = "{ gid = 50, mode = 0o464 }";
 
 #[test]
@@ -85,7 +114,11 @@ fn others_are_reached(rt: HostRuntime) -> Result<(), Fail> {
     let user = User::with_groups(1000, &[50]).ok_or("user")?;
     for so in [WRITTEN, OWNED, WRITTEN_BY_GROUP] {
         let tree = tree_of(rt.alloc(), &UNGUARDED, so)?;
-        assert_eq!(rt; first_failed(rt.alloc(), &tree, &user, "/a/b")?, None, "{so}");
+        assert_eq!(rt;
+            first_failed(rt.alloc(), &tree, &user, "/a/b")?,
+            None,
+            "{so}"
+        );
     }
     Ok(())
 }

@@ -20,7 +20,11 @@ fn expect(
     let tree = tree_with(alloc, text, &[change])?;
     let user = User::with_groups(1000, gids).ok_or("user")?;
     let wanted = wanted.map(|(guard, len)| Failed { guard, len });
-    assert_eq!(rt; first_failed(alloc, &tree, &user, subtree)?, wanted, "{change:?}");
+    assert_eq!(rt;
+        first_failed(alloc, &tree, &user, subtree)?,
+        wanted,
+        "{change:?}"
+    );
     Ok(())
 }
 
@@ -44,7 +48,10 @@ fn the_delegation_example(rt: HostRuntime) -> Result<(), Fail> {
             Some((memory_max, 1)),
         ),
         (
-            ("\"memory.max\" = {", "\"memory.max\" = { uid = 1000, mode = 0o444,"),
+            (
+                "\"memory.max\" = {",
+                "\"memory.max\" = { uid = 1000, mode = 0o444,",
+            ),
             "/c0",
             Some((memory_max, 1)),
         ),
@@ -54,9 +61,17 @@ fn the_delegation_example(rt: HostRuntime) -> Result<(), Fail> {
             None,
         ),
         (("value = 4", "value = 2"), "/c0", None),
-        (("value = 4", "value = 1"), "/c0", Some((Guard::AlreadyOver, 1))),
+        (
+            ("value = 4", "value = 1"),
+            "/c0",
+            Some((Guard::AlreadyOver, 1)),
+        ),
         (("{ value = 2", "{ value = 1"), "/c0", None),
-        (("{ value = 2", "{ value = 0"), "/c0", Some((Guard::AlreadyOver, 1))),
+        (
+            ("{ value = 2", "{ value = 0"),
+            "/c0",
+            Some((Guard::AlreadyOver, 1)),
+        ),
         (
             root_files("[cgroup.files]\n\"cgroup.procs\" = { mode = 0o646 }"),
             "/c0",
@@ -72,7 +87,11 @@ fn the_delegation_example(rt: HostRuntime) -> Result<(), Fail> {
             "/c0",
             Some((Guard::ParentControl, 0)),
         ),
-        (root_files("dir = { uid = 1000 }"), "/c0", Some((Guard::ParentDir, 0))),
+        (
+            root_files("dir = { uid = 1000 }"),
+            "/c0",
+            Some((Guard::ParentDir, 0)),
+        ),
         (
             root_files("dir = { uid = 1000, mode = 0o555 }"),
             "/c0",
@@ -94,14 +113,24 @@ fn small_trees(rt: HostRuntime) -> Result<(), Fail> {
             "/c0",
             Some((Guard::CommonAncestor, 0)),
         ),
-        (SINGLE, root_files("dir = { uid = 1000 }"), "/c0", Some((Guard::ParentDir, 0))),
+        (
+            SINGLE,
+            root_files("dir = { uid = 1000 }"),
+            "/c0",
+            Some((Guard::ParentDir, 0)),
+        ),
         (
             SINGLE,
             root_files("dir = { uid = 1000, mode = 0o555 }"),
             "/c0",
             Some((Guard::ParentDir, 0)),
         ),
-        (PARENT_DELEGATED, SAME, "/p/s", Some((Guard::CommonAncestor, 1))),
+        (
+            PARENT_DELEGATED,
+            SAME,
+            "/p/s",
+            Some((Guard::CommonAncestor, 1)),
+        ),
         (
             PARENT_DELEGATED,
             ("# parent", "dir = { uid = 1000 }"),
@@ -120,10 +149,20 @@ fn groups(rt: HostRuntime) -> Result<(), Fail> {
     let ancestor = Some((Guard::CommonAncestor, 0));
     let of_members = root_files("[cgroup.files]\n\"cgroup.procs\" = { gid = 50, mode = 0o664 }");
     let of_others = root_files("[cgroup.files]\n\"cgroup.procs\" = { gid = 50, mode = 0o646 }");
-    let owned = root_files("[cgroup.files]\n\"cgroup.procs\" = { uid = 1000, gid = 50, mode = 0o466 }");
+    let owned = root_files(
+        "[cgroup.files]\n\"cgroup.procs\" = { uid = 1000, gid = 50, mode = 0o466 }",
+    );
     let of_group_0 = root_files("[cgroup.files]\n\"cgroup.procs\" = { mode = 0o646 }");
     expect(&rt, rt.alloc(), DELEGATION, of_members, &[], "/c0", None)?;
-    expect(&rt, rt.alloc(), DELEGATION, of_members, &[7, 50], "/c0", ancestor)?;
+    expect(
+        &rt,
+        rt.alloc(),
+        DELEGATION,
+        of_members,
+        &[7, 50],
+        "/c0",
+        ancestor,
+    )?;
     expect(&rt, rt.alloc(), DELEGATION, of_others, &[], "/c0", ancestor)?;
     expect(&rt, rt.alloc(), DELEGATION, of_others, &[50], "/c0", None)?;
     expect(&rt, rt.alloc(), DELEGATION, owned, &[50], "/c0", ancestor)?;

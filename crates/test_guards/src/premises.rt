@@ -46,8 +46,18 @@ fn a_process_crosses(rt: HostRuntime) -> Result<(), Fail> {
         pid,
         to: Path::parse(alloc, "/c0")?,
     };
-    let open = ("# root", "[cgroup.files]\n\"cgroup.procs\" = { mode = 0o646 }");
-    let tree = after(&rt, alloc, DELEGATION, open, (Guard::CommonAncestor, 0), &op)?;
+    let open = (
+        "# root",
+        "[cgroup.files]\n\"cgroup.procs\" = { mode = 0o646 }",
+    );
+    let tree = after(
+        &rt,
+        alloc,
+        DELEGATION,
+        open,
+        (Guard::CommonAncestor, 0),
+        &op,
+    )?;
     assert!(rt; *tree.place(pid).ok_or("place")? == c0);
     Ok(())
 }
@@ -62,7 +72,14 @@ fn a_limit_is_set(rt: HostRuntime) -> Result<(), Fail> {
         value: Limit::Max,
     };
     let own = ("\"memory.max\" = {", "\"memory.max\" = { uid = 1000,");
-    let tree = after(&rt, alloc, DELEGATION, own, (Guard::LimitFile(file), 1), &op)?;
+    let tree = after(
+        &rt,
+        alloc,
+        DELEGATION,
+        own,
+        (Guard::LimitFile(file), 1),
+        &op,
+    )?;
     assert_eq!(rt; limit_of_c0(alloc, &tree, file)?, Some(Limit::Max));
     Ok(())
 }
@@ -86,9 +103,15 @@ fn a_limit_file_appears(rt: HostRuntime) -> Result<(), Fail> {
         at: Path::parse(alloc, "/")?,
         changes,
     };
-    let own = ("# root", "[cgroup.files]\n\"cgroup.subtree_control\" = { uid = 1000 }");
+    let own = (
+        "# root",
+        "[cgroup.files]\n\"cgroup.subtree_control\" = { uid = 1000 }",
+    );
     let tree = after(&rt, alloc, DELEGATION, own, (Guard::ParentControl, 0), &op)?;
-    assert_eq!(rt; limit_of_c0(alloc, &tree, LimitFile::CpuWeight)?, Some(Limit::At(100)));
+    assert_eq!(rt;
+        limit_of_c0(alloc, &tree, LimitFile::CpuWeight)?,
+        Some(Limit::At(100))
+    );
     Ok(())
 }
 
