@@ -1,0 +1,4 @@
+pub mod Limits
+pub mod Edge
+pub mod Guards
+pub mod Guarding

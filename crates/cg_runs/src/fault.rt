@@ -1,0 +1,21 @@
+//! Why a subtree isn't checked, and why a step isn't made.
+
+/// Why a subtree isn't checked.
+#[derive(Clone, Copy, Debug, PartialEq, Eq)]
+pub enum CheckFault {
+    /// 1: the subtree is the root.
+    RootSubtree,
+    /// 2: the subtree isn't there.
+    NoSuchSubtree,
+    /// 3: an allocation was refused.
+    NoMemory,
+}
+
+/// Why a step of a replay isn't made.
+#[derive(Clone, Copy, Debug, PartialEq, Eq)]
+pub enum StepFault {
+    /// 1: so many steps were made as a replay may have.
+    TooManySteps,
+    /// 2: an allocation was refused.
+    NoMemory,
+}
