@@ -95,11 +95,11 @@ module _ (st : State) (user : Identity) (subtree : Names) (sound : IsSound st) (
 
   -- ---- each operation
 
-  kept : (op : Op) (q : ℕ) → alters_process op q ≡ false → is_crossed subtree (place_at st q) (place_at (after st user op) q) ≡ false
+  pub kept : (op : Op) (q : ℕ) → alters_process op q ≡ false → is_crossed subtree (place_at st q) (place_at (after st user op) q) ≡ false
   kept op q same = ap (λ process. is_crossed subtree (place_at st q) (option_map (λ p. p.place) process)) (process_at-after st user op q same) ∙ stays-there subtree (place_at st q)
 
   -- a process that is made was nowhere
-  fork-crosses : (parent child q : ℕ) → bars st user (Fork parent child) ≡ [] → is_crossed subtree (place_at st q) (place_at (after st user (Fork parent child)) q) ≡ false
+  pub fork-crosses : (parent child q : ℕ) → bars st user (Fork parent child) ≡ [] → is_crossed subtree (place_at st q) (place_at (after st user (Fork parent child)) q) ≡ false
   fork-crosses parent child q free =
       elim (nat_eq child q) as (λ b. nat_eq child q ≡ b → is_crossed subtree (place_at st q) (place_at (after st user (Fork parent child)) q) ≡ false) [
         | true ↦ λ same.
@@ -109,7 +109,7 @@ module _ (st : State) (user : Identity) (subtree : Names) (sound : IsSound st) (
         | false ↦ kept (Fork parent child) q
       ] refl
 
-  exit-crosses : (pid q : ℕ) → is_crossed subtree (place_at st q) (place_at (without_process st pid) q) ≡ false
+  pub exit-crosses : (pid q : ℕ) → is_crossed subtree (place_at st q) (place_at (without_process st pid) q) ≡ false
   exit-crosses pid q =
       ap (λ process. is_crossed subtree (place_at st q) (option_map (λ p. p.place) process)) (process_at-without_process st pid q)
       ∙ elim (nat_eq pid q) as (λ b. is_crossed subtree (place_at st q) (option_map (λ p. p.place) (cond b None (process_at st q))) ≡ false) [ true ↦ ends subtree (place_at st q) | false ↦ stays-there subtree (place_at st q) ]
