@@ -60,7 +60,7 @@ row-asked st subtree len row whole is = ap (row_at st) (sym (take_whole subtree 
 pub not_root-asked : (subtree : Names) (len : ℕ) → len ≡ length subtree → (len ≡ 0 → ⊥) → is_root subtree ≡ false
 not_root-asked subtree len whole some = no_root_of_length subtree (omega (arith, some))
 
-module _ (st : State) (subtree : Names) (row : Cgroup) (start : Verdict) (formed : IsWellFormed st) (not_root : is_root subtree ≡ false) (is : row_at st subtree ≡ Some row) (found : start ≡ or_later (broken st st st subtree) 0 Kept) where
+module _ (st : State) (subtree : Names) (row : Cgroup) (start : Verdict) (formed : IsWellFormed st) (is : row_at st subtree ≡ Some row) (found : start ≡ or_later (broken st st st subtree) 0 Kept) where
   abbrev begun : Progress
   begun = record { subtree = subtree; original = row; state = st; steps = 0; verdict = start }
 
@@ -68,7 +68,6 @@ module _ (st : State) (subtree : Names) (row : Cgroup) (start : Verdict) (formed
   replay-start = record {
     bound = omega arith;
     sound = sound-formed st formed;
-    not_root = not_root;
     intact = λ kept. subst (λ had. IsIntact had st subtree) (limits-row st subtree row is)
         (intact-whole (limits st subtree) st st subtree (broken-whole (limits st subtree) st st subtree (none_later _ 0 (sym found ∙ kept))));
   }
@@ -84,7 +83,6 @@ module _ (run : Progress) (user : Identity) (op : Op) (at : IsReplay run) (few :
   replay-stepped = record {
     bound = omega (arith, few);
     sound = sound-after run.state user op at.sound;
-    not_root = at.not_root;
     intact = λ kept. intact-whole (value_in run.original) run.state (after run.state user op) run.subtree
         (broken-whole (value_in run.original) run.state (after run.state user op) run.subtree (still_kept run.verdict _ _ kept).1);
   }
@@ -145,7 +143,7 @@ module _ (run : Progress) (user : Identity) (op : Op) where
         let had = value_in run.original in
         let moves = moves_over run.state run.subtree op in
         let is_after = applied-after run.state user op new outcome is in
-        let first_broken = by ∙ ap (λ st. first (broken_by had moves st run.subtree op)) is_after ∙ first-broken_by had run.state user run.subtree at.sound at.not_root (at.intact both.0) op free in
+        let first_broken = by ∙ ap (λ st. first (broken_by had moves st run.subtree op)) is_after ∙ first-broken_by had run.state user run.subtree at.sound (at.intact both.0) op free in
         let before = sym (ap (λ verdict. or_broken verdict broke (suc run.steps)) both.0) in
         come_to-stepped new now is_after (found broke first_broken ∙ ap (λ n. or_later broke n Kept) (add-one run.steps) ∙ before)
 

@@ -3,7 +3,7 @@ use Rattle.std.proofs.Common.{◌≡◌, ℕ, Bool, true, false, not, ◌||◌, 
 use Rattle.std.proofs.lemmas.Bool.{false≢true, false_from_ne_true, eq-eqb}
 use Rattle.std.specs.List.{list_any}
 use Rattle.std.specs.FinMap as finite
-use Rattle.cg_cgroup.specs.Paths.{Names, is_root, same_path, is_child}
+use Rattle.cg_cgroup.specs.Paths.{Names, same_path, is_child}
 use Rattle.cg_cgroup.specs.Identity.{Identity}
 use Rattle.cg_cgroup.specs.Files.{controller_of, same_file}
 use Rattle.cg_cgroup.specs.declared.files.LimitFile.{LimitFile}
@@ -26,7 +26,6 @@ use Rattle.cg_ops.proofs.StepFormed.{after-allowed}
 use Rattle.cg_ops.proofs.StepEffects.{has_row-after, value_at-after}
 use Rattle.cg_guards.specs.Limits.{Limits as LimitMap, limits, same_limits, fits_descendants, fits_depth}
 use Rattle.cg_guards.specs.Edge.{is_crossed, crossing}
-use Rattle.cg_guards.specs.Guarding.{IsSubtree}
 use Rattle.cg_guards.proofs.Sound.{IsSound}
 use Rattle.cg_guards.proofs.Counts.{fits-after}
 use Rattle.cg_guards.proofs.Crossing.{kept, fork-crosses, exit-crosses, none-crosses}
@@ -61,10 +60,7 @@ first-fitting : (same descendants depth : Bool) → (same ≡ true → (descenda
 first-fitting false descendants depth fits = refl
 first-fitting true descendants depth fits = let both = fits refl in λ i. first (clauses_of true [] true (both.0 i) (both.1 i))
 
-module _ (had : LimitMap) (st : State) (user : Identity) (subtree : Names) (sound : IsSound st) (not_root : is_root subtree ≡ false) (intact : IsIntact had st subtree) where
-  is : IsSubtree st subtree
-  is = (intact.there, not_root)
-
+module _ (had : LimitMap) (st : State) (user : Identity) (subtree : Names) (sound : IsSound st) (intact : IsIntact had st subtree) where
   -- where no process crosses and the subtree stays, the limits are asked alone
   by-limits : (op : Op) → bars st user op ≡ [] → has_row (after st user op) subtree ≡ true → crossing st (after st user op) subtree ≡ []
       → first (broken_since had st (after st user op) subtree) ≡ first (unless (same_limits had (limits (after st user op) subtree)) Limits)
@@ -82,7 +78,7 @@ module _ (had : LimitMap) (st : State) (user : Identity) (subtree : Names) (soun
       by-limits op free there edge ∙ ap (λ these. first (unless (same_limits had these) Limits)) same ∙ ap (λ b. first (unless b Limits)) intact.limits
 
   no-crossing : (op : Op) → ((pid : ℕ) → alters_process op pid ≡ false) → crossing st (after st user op) subtree ≡ []
-  no-crossing op none = none-crosses st (after st user op) subtree (λ pid. kept st user subtree sound is op pid (none pid))
+  no-crossing op none = none-crosses st (after st user op) subtree (λ pid. kept st user subtree op pid (none pid))
 
   stays : (op : Op) → alters_row op subtree ≡ false → has_row (after st user op) subtree ≡ true
   stays op same = has_row-after st user op subtree same ∙ intact.there
@@ -110,7 +106,7 @@ module _ (had : LimitMap) (st : State) (user : Identity) (subtree : Names) (soun
         ] refl
 
     others : (q : ℕ) → nat_eq pid q ≡ false → test q ≡ false
-    others q other = kept st user subtree sound is (Move pid to) q other
+    others q other = kept st user subtree (Move pid to) q other
 
     none-over : over ≡ false → crossing st moved subtree ≡ []
     none-over stays_inside = none-crosses st moved subtree (λ q.
@@ -156,8 +152,8 @@ module _ (had : LimitMap) (st : State) (user : Identity) (subtree : Names) (soun
         | false ↦ λ other. sym (by-nothing (Set at file value) free (stays (Set at file value) refl) (no-crossing (Set at file value) (λ _. refl)) (λ asked. ap (λ b. b && same_file file asked) other))
       ] refl
   first-broken_by (Fork parent child) free =
-      sym (by-nothing (Fork parent child) free (stays (Fork parent child) refl) (none-crosses st (after st user (Fork parent child)) subtree (λ pid. fork-crosses st user subtree sound is parent child pid free)) (λ _. refl))
+      sym (by-nothing (Fork parent child) free (stays (Fork parent child) refl) (none-crosses st (after st user (Fork parent child)) subtree (λ pid. fork-crosses st user subtree sound parent child pid free)) (λ _. refl))
   first-broken_by (Exit pid) free =
       sym (by-nothing (Exit pid) free (stays (Exit pid) refl)
-      (none-crosses st (after st user (Exit pid)) subtree (λ other. ap (λ new. is_crossed subtree (place_at st other) (place_at new other)) (after-allowed st user (Exit pid) free) ∙ exit-crosses st user subtree sound is pid other)) (λ _. refl))
+      (none-crosses st (after st user (Exit pid)) subtree (λ other. ap (λ new. is_crossed subtree (place_at st other) (place_at new other)) (after-allowed st user (Exit pid) free) ∙ exit-crosses st user subtree pid other)) (λ _. refl))
   first-broken_by (Chmod at name mode) free = sym (by-nothing (Chmod at name mode) free (stays (Chmod at name mode) refl) (no-crossing (Chmod at name mode) (λ _. refl)) (λ _. refl))

@@ -1,7 +1,7 @@
 -- How a replay tells what a step breaks: by no more than the operation may change. That this is what the definition says
 -- is proved; a reader of the contracts needs none of it.
 use Rattle.std.specs.Prelude.{◌≡◌, ◌≤◌, Bool, true, false, not, ◌||◌, List, [], Some}
-use Rattle.cg_cgroup.specs.Paths.{Names, is_root, same_path, is_child}
+use Rattle.cg_cgroup.specs.Paths.{Names, same_path, is_child}
 use Rattle.cg_cgroup.specs.Cgroups.{value_in}
 use Rattle.cg_tree.specs.States.{State, place_at}
 use Rattle.cg_tree.specs.WellFormed.{has_row}
@@ -49,5 +49,4 @@ pub record IsIntact (had : LimitMap) (st : State) (subtree : Names) : Type 0 whe
 pub record IsReplay (run : Progress) : Type 0 where
   pub bound : run.steps ≤ 65536
   pub sound : IsSound run.state
-  pub not_root : is_root run.subtree ≡ false
   pub intact : run.verdict ≡ Kept → IsIntact (value_in run.original) run.state run.subtree

@@ -4,14 +4,15 @@ ghost use Rattle.cg_cgroup.specs.Paths.{is_child};
 ghost use Rattle.cg_cgroup.specs.Cgroups.{value_in};
 ghost use Rattle.cg_tree.specs.States.{row_at};
 ghost use Rattle.cg_ops.specs.Clauses.{first, unless};
-ghost use Rattle.cg_guards.specs.Limits.{limits, same_limits, is_within_limit};
+ghost use Rattle.cg_guards.specs.Limits.{limits, same_limits};
 ghost use Rattle.cg_runs.specs.Verdicts.{broken, or_later};
 ghost use Rattle.cg_runs.specs.Shortcuts.{moves_over, may_break, broken_by};
 
 use crate::verdict::{Clause, Verdict};
 use cg_cgroup::cgroup::Cgroup;
-use cg_cgroup::files::{Limit, LimitFile};
+use cg_cgroup::files::LimitFile;
 use cg_cgroup::path::Path;
+use cg_guards::failed::{fits_depth, fits_descendants};
 use cg_ops::operation::Op;
 use cg_ops::outcome::Outcome;
 use cg_tree::hierarchy::Hierarchy;
@@ -21,11 +22,10 @@ pub fn broken_at_start<H: Hierarchy>(tree: &H, subtree: &Path, cgroup: &Cgroup) 
     requires { row_at (H.state tree.now) subtree.now ≡ Some cgroup.now }
     ensures { result ≡ first (broken (H.state tree.now) (H.state tree.now) (H.state tree.now) subtree.now) }
 {
-    let len = subtree.depth();
-    if !fits(tree.count_below(subtree, len), cgroup.max_descendants.value) {
+    if !fits_descendants(tree, subtree, cgroup) {
         return Some(Clause::Descendants);
     }
-    if !fits(tree.depth_below(subtree, len), cgroup.max_depth.value) {
+    if !fits_depth(tree, subtree, cgroup) {
         return Some(Clause::Depth);
     }
     None
@@ -41,16 +41,6 @@ pub fn verdict_by(broken: Option<Clause>, steps: usize) -> Verdict
             after: steps,
             clause,
         },
-    }
-}
-
-/// Whether so many are within a limit.
-fn fits(count: u64, limit: Limit) -> bool
-    ensures { result ≡ is_within_limit count limit }
-{
-    match limit {
-        Limit::Max => true,
-        Limit::At(most) => count <= most,
     }
 }
 
