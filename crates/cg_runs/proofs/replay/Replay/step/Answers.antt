@@ -14,7 +14,7 @@ invariant_of-self-then-may_break g c =
     let promised = c.in_ok-outcome.ensures in
     let is : IsApplied run.state c.args.user.now c.args.op.now new c.in_ok-outcome.outcome =
     record { done = λ done. promised.done (ap Ok done); refused = promised.refused; unchanged = promised.unchanged } in
-    let few : run.steps < 65536 = omega (arith, c.if-self-eq-MAX_STEPS.false, c.self.invariant.bound) in
+    let few : run.steps < 65536 = omega (arith, c.self.invariant.bound) in
     let by = ap (λ moves. first (broken_by (value_in run.original) moves new run.subtree c.args.op.now)) c.moves_over-moves.ensures in
     replay-done run c.args.user.now c.args.op.now c.self.invariant new c.in_ok-outcome.outcome is few (sym c.may_break.ensures ∙ c.if-may_break.true)
     c.broken_by-broken.result (c.broken_by-broken.ensures ∙ by) c.verdict_by-self-inside.result c.verdict_by-self-inside.ensures
@@ -26,7 +26,7 @@ invariant_of-self-else-may_break g c =
     let promised = c.in_ok-outcome.ensures in
     let is : IsApplied run.state c.args.user.now c.args.op.now new c.in_ok-outcome.outcome =
     record { done = λ done. promised.done (ap Ok done); refused = promised.refused; unchanged = promised.unchanged } in
-    let few : run.steps < 65536 = omega (arith, c.if-self-eq-MAX_STEPS.false, c.self.invariant.bound) in
+    let few : run.steps < 65536 = omega (arith, c.self.invariant.bound) in
     replay-still run c.args.user.now c.args.op.now c.self.invariant new c.in_ok-outcome.outcome is few (sym c.may_break.ensures ∙ c.if-may_break.false)
 
 pub returns-clause-ok : goal.returns-clause-ok
