@@ -65,7 +65,7 @@ placed to (Some process) = refl
 -- ---- a process that isn't named, is made or ends
 
 module _ (st : State) (user : Identity) (subtree : Names) where
-  kept : (op : Op) (q : ℕ) → alters_process op q ≡ false → is_crossed subtree (place_at st q) (place_at (after st user op) q) ≡ false
+  pub kept : (op : Op) (q : ℕ) → alters_process op q ≡ false → is_crossed subtree (place_at st q) (place_at (after st user op) q) ≡ false
   kept op q same = ap (λ process. is_crossed subtree (place_at st q) (option_map (λ p. p.place) process)) (process_at-after st user op q same) ∙ stays-there subtree (place_at st q)
 
   -- a process that is made was nowhere

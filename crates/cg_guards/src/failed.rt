@@ -49,7 +49,7 @@ pub fn is_over<H: Hierarchy>(tree: &H, subtree: &Path) -> bool
 }
 
 /// Whether a cgroup has no more descendants than it says.
-fn fits_descendants<H: Hierarchy>(tree: &H, subtree: &Path, cgroup: &Cgroup) -> bool
+pub fn fits_descendants<H: Hierarchy>(tree: &H, subtree: &Path, cgroup: &Cgroup) -> bool
     requires { row_at (H.state tree.now) subtree.now ≡ Some cgroup.now }
     ensures { result ≡ fits_descendants (H.state tree.now) subtree.now }
 {
@@ -58,7 +58,7 @@ fn fits_descendants<H: Hierarchy>(tree: &H, subtree: &Path, cgroup: &Cgroup) -> 
 }
 
 /// Whether a cgroup has no descendant further down than it says.
-fn fits_depth<H: Hierarchy>(tree: &H, subtree: &Path, cgroup: &Cgroup) -> bool
+pub fn fits_depth<H: Hierarchy>(tree: &H, subtree: &Path, cgroup: &Cgroup) -> bool
     requires { row_at (H.state tree.now) subtree.now ≡ Some cgroup.now }
     ensures { result ≡ fits_depth (H.state tree.now) subtree.now }
 {
