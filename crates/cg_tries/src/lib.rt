@@ -1,0 +1,4 @@
+//! Operations that break a subtree, looked for among stated tries.
+#![tactic(auto)]
+
+pub mod operations;
