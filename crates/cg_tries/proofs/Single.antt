@@ -65,6 +65,12 @@ where_allowed st user subtree op whole step =
       | bar ∷ others ↦ λ _. refl
     ] refl
 
+pub nothing_bars : (st : State) (user : Identity) (op : Op) → allowed st user op ≡ true → bars st user op ≡ []
+nothing_bars st user op h = elim (bars st user op) as (λ l. not (is_some (first l)) ≡ true → l ≡ []) [
+    | [] ↦ λ _. refl
+    | bar ∷ others ↦ λ h. absurd (true≢false (sym h))
+  ] h
+
 -- ---- rmdir
 
 still_there : (start st new : State) (subtree : Names) → broken start st new subtree ≡ [] → has_row new subtree ≡ true
