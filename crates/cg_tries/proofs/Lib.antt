@@ -3,3 +3,4 @@ pub mod Single
 pub mod Controls
 pub mod Moves
 pub mod Probes
+pub mod Walks

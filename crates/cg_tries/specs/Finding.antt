@@ -1,10 +1,12 @@
 -- How the first plain try that breaks is found without carrying tries out. Nothing in it has to be believed.
-use Rattle.std.specs.Prelude.{ℕ, zero, suc, ◌-◌, Bool, true, false, cond, not, ◌&&◌, ◌||◌, nat_le, List, [], ◌∷◌, length, take, find, Option, Some, None, is_some, option_and_then}
+use Rattle.std.specs.Prelude.{ℕ, zero, suc, ◌+◌, ◌-◌, min, Bool, true, false, cond, not, ◌&&◌, ◌||◌, nat_le, List, [], ◌∷◌, length, take, find, Option, Some, None, is_some, option_and_then}
 use Rattle.std.specs.Option.{option_map, option_or}
 use Rattle.cg_cgroup.specs.Paths.{Names, inside, is_root, parent, path_text}
 use Rattle.cg_cgroup.specs.Identity.{Identity}
 use Rattle.cg_cgroup.specs.Users.{writes}
 use Rattle.cg_cgroup.specs.Files.{all_files, all_controllers, enables, enables_nothing}
+use Rattle.cg_cgroup.specs.declared.files.Limit.{Limit}
+use Rattle.cg_cgroup.specs.declared.files.Limit.TheVariants.{Max, At}
 use Rattle.cg_cgroup.specs.declared.files.LimitFile.{LimitFile}
 use Rattle.cg_cgroup.specs.declared.files.Controller.{Controller}
 use Rattle.cg_cgroup.specs.declared.files.ControllerSet.{ControllerSet}
@@ -102,6 +104,11 @@ levels_pass st subtree len (suc at) = level_passes st subtree len at && levels_p
 -- whether the ancestor of `len` names and all above it let in a new child of it
 abbrev pub lets_in : State → Names → ℕ → Bool
 lets_in st subtree len = levels_pass st subtree len (suc len)
+
+-- a level, or the lower one at which the depth limit of the cgroup of `at` names is reached
+abbrev pub lowered : ℕ → ℕ → Limit → ℕ
+lowered level at Max = level
+lowered level at (At most) = min level (at + most)
 
 -- the user writes the directory and cgroup.procs of the ancestor
 abbrev pub writes_both : State → Identity → Names → Bool

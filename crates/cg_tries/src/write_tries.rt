@@ -1,6 +1,8 @@
 //! Tries of one write: the limits of a subtree, what its parent enables, its removal.
 ghost use Rattle.std.specs.Prelude.{◌≡◌, false, IfOk, cond, ◌∷◌, [], Some, None};
-ghost use Rattle.cg_cgroup.specs.Paths.{is_root};
+ghost use Rattle.cg_cgroup.specs.Paths.{is_root, parent};
+ghost use Rattle.cg_cgroup.specs.Files.{enables};
+ghost use Rattle.cg_tree.specs.WellFormed.{enabled_at};
 ghost use Rattle.cg_tries.specs.Tries.{other_value};
 ghost use Rattle.cg_tries.specs.Finding.{if_allowed, set_of, first_set, control_of, first_control};
 
@@ -73,15 +75,27 @@ pub fn first_set<H: Hierarchy>(
     ensures { IfOk result (λ found. found ≡ first_set (H.state tree.now) user.now subtree.now) }
 {
     for file in LimitFile::ALL {
-        let found = set_of(alloc, tree, user, subtree, file)?;
-        if found.is_some() {
-            return Ok(found);
+        if let Some(found) = set_of(alloc, tree, user, subtree, file)? {
+            return Ok(Some(found));
         }
     }
     Ok(None)
 }
 
+/// Whether the subtree's parent enables a controller.
+#[tactic(auto, using(cg_ops::proofs::Prefixes::take_parent))]
+fn is_enabled_above<H: Hierarchy>(tree: &H, subtree: &Path, controller: Controller) -> bool
+    requires { is_root subtree.now ≡ false }
+    ensures { result ≡ enables (enabled_at (H.state tree.now) (parent subtree.now)) controller }
+{
+    match tree.get(subtree, subtree.parent_len()) {
+        Some(parent) => parent.enabled.contains(controller),
+        None => false,
+    }
+}
+
 /// The change of a controller that has an effect at the subtree's parent, where the user may make it.
+#[tactic(auto, using(cg_ops::proofs::Prefixes::take_parent))]
 fn control_of<H: Hierarchy>(
     alloc: Global,
     tree: &H,
@@ -92,17 +106,10 @@ fn control_of<H: Hierarchy>(
     requires { is_root subtree.now ≡ false }
     ensures { IfOk result (λ found. found ≡ control_of (H.state tree.now) user.now subtree.now controller) }
 {
-    let len = subtree.parent_len();
-    let enabled = match tree.get(subtree, len) {
-        Some(parent) => parent.enabled.contains(controller),
-        None => false,
-    };
-    let at = subtree.try_prefix(alloc, len)?;
+    let on = !is_enabled_above(tree, subtree, controller);
     let mut changes = Changes::new(alloc);
-    changes.push(Change {
-        on: !enabled,
-        controller,
-    })?;
+    changes.push(Change { on, controller })?;
+    let at = subtree.try_prefix(alloc, subtree.parent_len())?;
     if_allowed(alloc, tree, user, Op::Control { at, changes })
 }
 
@@ -117,9 +124,8 @@ pub fn first_control<H: Hierarchy>(
     ensures { IfOk result (λ found. found ≡ first_control (H.state tree.now) user.now subtree.now) }
 {
     for controller in Controller::ALL {
-        let found = control_of(alloc, tree, user, subtree, controller)?;
-        if found.is_some() {
-            return Ok(found);
+        if let Some(found) = control_of(alloc, tree, user, subtree, controller)? {
+            return Ok(Some(found));
         }
     }
     Ok(None)
