@@ -4,3 +4,5 @@ pub mod Controls
 pub mod Moves
 pub mod Probes
 pub mod Walks
+pub mod Levels
+pub mod ProbeNames

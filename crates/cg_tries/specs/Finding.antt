@@ -84,10 +84,13 @@ first_move st user subtree =
 
 -- ---- probes
 
--- the path of the first free probe, where it is short enough
+-- the path of a probe, where it is short enough
+abbrev pub short_probe : Names → ℕ → Option Names
+short_probe ancestor number = cond (nat_le (length (path_text (probe ancestor number))) 4095) (Some (probe ancestor number)) None
+
+-- that of the first free one
 abbrev pub free_path : State → Names → Option Names
-free_path st ancestor =
-    option_and_then (λ number. cond (nat_le (length (path_text (probe ancestor number))) 4095) (Some (probe ancestor number)) None) (free_probe st ancestor)
+free_path st ancestor = option_and_then (short_probe ancestor) (free_probe st ancestor)
 
 -- the cgroup of the first `at` names lets in a new child of the ancestor of `len` names
 abbrev pub level_passes : State → Names → ℕ → ℕ → Bool

@@ -1,10 +1,11 @@
 //! Tries of a new cgroup above a subtree, to which a process from inside moves.
-ghost use Rattle.std.specs.Prelude.{◌≡◌, ◌≤◌, ◌<◌, ◌&&◌, ℕ, true, min, find, length, take, nat_lt, option_copied, IfOk, IfNone, Some, ◌∷◌, []};
+ghost use Rattle.std.specs.Prelude.{◌≡◌, ◌≤◌, ◌<◌, ◌+◌, ℕ, find, length, take, nat_lt, IfOk};
 ghost use Rattle.cg_cgroup.specs.Paths.{IsPath};
-ghost use Rattle.cg_tree.specs.States.{paths_of, pids_of, row_at};
+ghost use Rattle.cg_tree.specs.States.{paths_of, pids_of};
+ghost use Rattle.cg_tree.specs.WellFormed.{has_row};
 ghost use Rattle.cg_ops.specs.Bars.{is_under};
 ghost use Rattle.cg_tries.specs.Tries.{is_inside};
-ghost use Rattle.cg_tries.specs.Finding.{lets_in, lowered, writes_both, free_path, probe_path, first_probe_path, first_inside, first_probe};
+ghost use Rattle.cg_tries.specs.Finding.{lets_in, lowered, writes_both, short_probe, free_path, first_probe_path, first_inside, first_probe};
 
 use crate::operations::Operations;
 use cg_cgroup::files::Limit;
@@ -44,6 +45,7 @@ fn lowered(level: usize, at: usize, limit: Limit) -> usize
 /// How many of the subtree's proper ancestors, from the root down, let in a new child as far as limits go.
 fn open_levels<H: Hierarchy>(tree: &H, subtree: &Path) -> usize
     ensures within { result ≤ length subtree.now }
+    ensures path { IsPath subtree.now }
     ensures open { (len : ℕ) → len < length subtree.now → lets_in (H.state tree.now) subtree.now len ≡ nat_lt len result }
 {
     let mut level = subtree.depth();
@@ -82,8 +84,35 @@ fn writes_both<H: Hierarchy>(tree: &H, user: &User, path: &Path, len: usize) -> 
     }
 }
 
-/// The path of the first probe that isn't there, of an ancestor of `len` names, in a tree of `count` cgroups. None where
-/// it would be too long.
+/// The path of the probe of a number at the ancestor of `len` names; none where it would be too long.
+fn probe(
+    alloc: Global,
+    subtree: &Path,
+    len: usize,
+    number: usize,
+) -> Result<Option<Path>, NoMemory>
+    requires within { len ≤ length subtree.now }
+    requires path { IsPath subtree.now }
+    ensures { IfOk result (λ found. found ≡ short_probe (take len subtree.now) number) }
+{
+    let name = format!(in alloc; "probe{number}")?;
+    match subtree.with_child(alloc, len, &name) {
+        Ok(path) => Ok(Some(path)),
+        Err(PathFault::BadPath) => Ok(None),
+        Err(PathFault::NoMemory) => Err(NoMemory),
+    }
+}
+
+/// Whether there is a cgroup of a path.
+#[tactic(auto, using(cg_ops::proofs::Prefixes::take_whole))]
+fn is_there<H: Hierarchy>(tree: &H, path: &Path) -> bool
+    ensures { result ≡ has_row (H.state tree.now) path.now }
+{
+    tree.get(path, path.depth()).is_some()
+}
+
+/// The path of the first probe that isn't there, of numbers below `count`, at the ancestor of `len` names; none where it
+/// would be too long.
 fn free_path<H: Hierarchy>(
     alloc: Global,
     tree: &H,
@@ -92,19 +121,16 @@ fn free_path<H: Hierarchy>(
     count: usize,
 ) -> Result<Option<Path>, NoMemory>
     requires within { len ≤ length subtree.now }
-    requires count { count ≡ length (paths_of (H.state tree.now)) }
+    requires path { IsPath subtree.now }
+    requires count { count ≡ length (paths_of (H.state tree.now)) + 1 }
     ensures { IfOk result (λ found. found ≡ free_path (H.state tree.now) (take len subtree.now)) }
 {
-    for number in 0..=count {
-        let name = format!(in alloc; "probe{number}")?;
-        match subtree.with_child(alloc, len, &name) {
-            Ok(path) => {
-                if tree.get(&path, path.depth()).is_none() {
-                    return Ok(Some(path));
-                }
-            }
-            Err(PathFault::BadPath) => return Ok(None),
-            Err(PathFault::NoMemory) => return Err(NoMemory),
+    for number in 0..count {
+        let Some(path) = probe(alloc, subtree, len, number)? else {
+            return Ok(None);
+        };
+        if !is_there(tree, &path) {
+            return Ok(Some(path));
         }
     }
     Ok(None)
@@ -118,7 +144,7 @@ fn first_probe_path<H: Hierarchy>(
     subtree: &Path,
     count: usize,
 ) -> Result<Option<Path>, NoMemory>
-    requires count { count ≡ length (paths_of (H.state tree.now)) }
+    requires count { count ≡ length (paths_of (H.state tree.now)) + 1 }
     ensures { IfOk result (λ found. found ≡ first_probe_path (H.state tree.now) user.now subtree.now (length subtree.now)) }
 {
     for len in (0..open_levels(tree, subtree)).rev() {
@@ -147,7 +173,7 @@ pub fn first_probe<H: Hierarchy>(
     let Some(pid) = first_inside(tree, subtree, pids) else {
         return Ok(None);
     };
-    let Some(to) = first_probe_path(alloc, tree, user, subtree, paths.len())? else {
+    let Some(to) = first_probe_path(alloc, tree, user, subtree, paths.len() + 1)? else {
         return Ok(None);
     };
     let path = to.try_clone(alloc)?;
