@@ -19,6 +19,10 @@ above_lowered : (len at level : ℕ) (limit : Limit) → len < at → at < level
 above_lowered len at level Max h k = refl
 above_lowered len at level (At most) h k = grind (arith, nat_tests)
 
+pub lowered-le : (level at : ℕ) (limit : Limit) → lowered level at limit ≤ level
+lowered-le level at Max = omega arith
+lowered-le level at (At most) = omega arith
+
 module _ (st : State) (subtree : Names) where
   -- with what the cgroups of fewer than `at` names say, an ancestor lets in a child where it lies above a level
   abbrev pub OpenAbove : ℕ → ℕ → Type 0

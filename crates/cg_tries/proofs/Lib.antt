@@ -6,3 +6,5 @@ pub mod Probes
 pub mod Walks
 pub mod Levels
 pub mod ProbeNames
+pub mod ProbeWalk
+pub mod ProbeLaws

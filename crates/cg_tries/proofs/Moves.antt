@@ -88,12 +88,12 @@ first_given-same f g (x ∷ xs) same = λ i. option_or (same x i) (first_given-s
 
 -- ---- the first move
 
-find-guarded : {A : Type 0} (p : A → Bool) (guard : Bool) (xs : List A) → find (λ x. p x && guard) xs ≡ cond guard (find p xs) None
+pub find-guarded : {A : Type 0} (p : A → Bool) (guard : Bool) (xs : List A) → find (λ x. p x && guard) xs ≡ cond guard (find p xs) None
 find-guarded p true xs = find-same (λ x. p x && true) p xs (λ x. and-true (p x))
 find-guarded p false [] = refl
 find-guarded p false (x ∷ xs) = ap (λ b. cond b (Some x) (find (λ y. p y && false) xs)) (and-false (p x)) ∙ find-guarded p false xs
 
-where_so : (b p q : Bool) → (b ≡ true → p ≡ q) → (b && p) ≡ (b && q)
+pub where_so : (b p q : Bool) → (b ≡ true → p ≡ q) → (b && p) ≡ (b && q)
 where_so true p q h = h refl
 where_so false p q h = refl
 

@@ -10,6 +10,7 @@ use Rattle.std.proofs.lemmas.List.Folds.{list_all-append}
 use Rattle.cg_cgroup.specs.Paths.{Name, Names, IsPath, is_path, is_name, is_word, is_reserved, is_name_byte, path_text}
 use Rattle.cg_cgroup.specs.PathText.{names_text}
 use Rattle.cg_cgroup.proofs.PathNames.{IsPath-push, names_text-push}
+use Rattle.cg_cgroup.proofs.Options.{same_some}
 use Rattle.cg_tries.specs.Tries.{probe, numbers_from}
 use Rattle.cg_tries.specs.Finding.{short_probe}
 
@@ -107,6 +108,12 @@ short-not_path ancestor number path h =
         (let l = length-probe ancestor number in let m = length-append (codes "probe") (decimal number) in omega (arith, le, l, m)) in
       true≢false (sym is ∙ h)) in
     ap (λ b. cond b (Some (probe ancestor number)) None) long
+
+pub short_is : (ancestor : Names) (number : ℕ) (path : Names) → short_probe ancestor number ≡ Some path → probe ancestor number ≡ path
+short_is ancestor number path h = elim (nat_le (length (path_text (probe ancestor number))) 4095) as (λ b. cond b (Some (probe ancestor number)) None ≡ Some path → probe ancestor number ≡ path) [
+    | true ↦ λ e. same_some _ _ e
+    | false ↦ λ e. absurd (none-some _ e)
+  ] h
 
 longer_later : (ancestor : Names) (number : ℕ) → short_probe ancestor number ≡ None → short_probe ancestor (suc number) ≡ None
 longer_later ancestor number h =

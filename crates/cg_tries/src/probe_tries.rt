@@ -53,12 +53,13 @@ fn open_levels<H: Hierarchy>(tree: &H, subtree: &Path) -> usize
         if level <= at {
             return level;
         }
-        if let Some(cgroup) = tree.get(subtree, at) {
-            if !is_under(tree.count_below(subtree, at), cgroup.max_descendants.value) {
-                return at;
-            }
-            level = lowered(level, at, cgroup.max_depth.value);
+        let Some(cgroup) = tree.get(subtree, at) else {
+            continue;
+        };
+        if !is_under(tree.count_below(subtree, at), cgroup.max_descendants.value) {
+            return at;
         }
+        level = lowered(level, at, cgroup.max_depth.value);
     }
     level
 }
