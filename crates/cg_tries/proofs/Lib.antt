@@ -8,3 +8,4 @@ pub mod Levels
 pub mod ProbeNames
 pub mod ProbeWalk
 pub mod ProbeLaws
+pub mod PlainTries
