@@ -15,7 +15,7 @@ use Rattle.cg_tree.specs.WellFormed.{enabled_at}
 use Rattle.cg_ops.specs.Clauses.{first}
 use Rattle.cg_ops.specs.Bars.{bars, passes, is_under}
 use Rattle.cg_ops.specs.declared.operation.Op.{Op}
-use Rattle.cg_ops.specs.declared.operation.Op.TheVariants.{Move, Control, Mkdir, Set}
+use Rattle.cg_ops.specs.declared.operation.Op.TheVariants.{Move, Control, Mkdir, Rmdir, Set}
 use Rattle.cg_guards.specs.Limits.{limits}
 use Rattle.cg_tries.specs.Tries.{other_value, change_of, probe, free_probe, is_inside}
 
@@ -51,6 +51,10 @@ control_of st user subtree controller =
 
 abbrev pub first_control : State → Identity → Names → Option (List Op)
 first_control st user subtree = first_given (control_of st user subtree) all_controllers
+
+-- the first of these, or the removal
+abbrev pub first_write : State → Identity → Names → Option (List Op)
+first_write st user subtree = option_or (first_set st user subtree) (option_or (first_control st user subtree) (if_allowed st user (Rmdir subtree)))
 
 -- ---- moves
 
@@ -133,3 +137,8 @@ first_inside st subtree = find (is_inside st subtree) (pids_of st)
 abbrev pub first_probe : State → Identity → Names → Option (List Op)
 first_probe st user subtree =
     option_and_then (λ pid. option_map (λ path. Mkdir path ∷ Move pid path ∷ []) (first_probe_path st user subtree (length subtree))) (first_inside st subtree)
+
+-- ---- what goes over the edge
+
+abbrev pub first_passage : State → Identity → Names → Option (List Op)
+first_passage st user subtree = option_or (first_move st user subtree) (first_probe st user subtree)

@@ -2,11 +2,13 @@
 ghost use Rattle.std.specs.Prelude.{◌≡◌, false, IfOk, cond, ◌∷◌, [], Some, None};
 ghost use Rattle.cg_cgroup.specs.Paths.{is_root, parent};
 ghost use Rattle.cg_cgroup.specs.Files.{enables};
+ghost use Rattle.cg_tree.specs.States.{row_at};
 ghost use Rattle.cg_tree.specs.WellFormed.{enabled_at};
 ghost use Rattle.cg_tries.specs.Tries.{other_value};
-ghost use Rattle.cg_tries.specs.Finding.{if_allowed, set_of, first_set, control_of, first_control};
+ghost use Rattle.cg_tries.specs.Finding.{if_allowed, set_of, first_set, control_of, first_control, first_write};
 
 use crate::operations::Operations;
+use cg_cgroup::cgroup::Cgroup;
 use cg_cgroup::files::{Controller, Limit, LimitFile};
 use cg_cgroup::memory::NoMemory;
 use cg_cgroup::path::Path;
@@ -18,7 +20,7 @@ use cg_tree::hierarchy::Hierarchy;
 use std::alloc::Global;
 
 /// An operation alone, where nothing refuses it.
-pub fn if_allowed<H: Hierarchy>(
+fn if_allowed<H: Hierarchy>(
     alloc: Global,
     tree: &H,
     user: &User,
@@ -50,13 +52,12 @@ fn set_of<H: Hierarchy>(
     tree: &H,
     user: &User,
     subtree: &Path,
+    cgroup: &Cgroup,
     file: LimitFile,
 ) -> Result<Option<Operations>, NoMemory>
+    requires { row_at (H.state tree.now) subtree.now ≡ Some cgroup.now }
     ensures { IfOk result (λ found. found ≡ set_of (H.state tree.now) user.now subtree.now file) }
 {
-    let Some(cgroup) = tree.get(subtree, subtree.depth()) else {
-        return Ok(None);
-    };
     let Some(held) = cgroup.file(file) else {
         return Ok(None);
     };
@@ -66,16 +67,18 @@ fn set_of<H: Hierarchy>(
 }
 
 /// The first limit of the subtree that the user may set to another value.
-pub fn first_set<H: Hierarchy>(
+fn first_set<H: Hierarchy>(
     alloc: Global,
     tree: &H,
     user: &User,
     subtree: &Path,
+    cgroup: &Cgroup,
 ) -> Result<Option<Operations>, NoMemory>
+    requires { row_at (H.state tree.now) subtree.now ≡ Some cgroup.now }
     ensures { IfOk result (λ found. found ≡ first_set (H.state tree.now) user.now subtree.now) }
 {
     for file in LimitFile::ALL {
-        if let Some(found) = set_of(alloc, tree, user, subtree, file)? {
+        if let Some(found) = set_of(alloc, tree, user, subtree, cgroup, file)? {
             return Ok(Some(found));
         }
     }
@@ -114,7 +117,7 @@ fn control_of<H: Hierarchy>(
 }
 
 /// The first change of one controller, at the subtree's parent, that the user may make and that has an effect.
-pub fn first_control<H: Hierarchy>(
+fn first_control<H: Hierarchy>(
     alloc: Global,
     tree: &H,
     user: &User,
@@ -129,4 +132,26 @@ pub fn first_control<H: Hierarchy>(
         }
     }
     Ok(None)
+}
+
+/// The first write that breaks the subtree: to one of its limits, to its parent's `cgroup.subtree_control`, or its removal.
+pub fn first_write<H: Hierarchy>(
+    alloc: Global,
+    tree: &H,
+    user: &User,
+    subtree: &Path,
+    cgroup: &Cgroup,
+) -> Result<Option<Operations>, NoMemory>
+    requires row { row_at (H.state tree.now) subtree.now ≡ Some cgroup.now }
+    requires not_root { is_root subtree.now ≡ false }
+    ensures { IfOk result (λ found. found ≡ first_write (H.state tree.now) user.now subtree.now) }
+{
+    if let Some(set) = first_set(alloc, tree, user, subtree, cgroup)? {
+        return Ok(Some(set));
+    }
+    if let Some(control) = first_control(alloc, tree, user, subtree)? {
+        return Ok(Some(control));
+    }
+    let path = subtree.try_clone(alloc)?;
+    if_allowed(alloc, tree, user, Op::Rmdir { path })
 }
