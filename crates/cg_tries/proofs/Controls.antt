@@ -1,5 +1,5 @@
 -- A change of one controller at the parent breaks where it is allowed and changes what the parent enables.
-use Rattle.std.proofs.Common.{◌≡◌, Bool, true, false, cond, not, ◌&&◌, List, [], ◌∷◌, Some, is_some, option_map, option_and_then, refl, sym, ap, ◌∙◌, subst, true≢false}
+use Rattle.std.proofs.Common.{◌≡◌, Bool, true, false, cond, not, ◌&&◌, List, [], ◌∷◌, is_some, option_map, option_and_then, refl, sym, ap, ◌∙◌, true≢false}
 use Rattle.cg_cgroup.specs.Paths.{Names, parent, is_root}
 use Rattle.cg_cgroup.specs.Identity.{Identity}
 use Rattle.cg_cgroup.specs.Files.{enables, stands_under, no_controllers}
@@ -9,9 +9,8 @@ use Rattle.cg_cgroup.specs.declared.files.Controller.TheVariants.{Cpu, Memory, P
 use Rattle.cg_cgroup.specs.declared.files.ControllerSet.{ControllerSet}
 use Rattle.cg_cgroup.specs.declared.files.LimitFile.{LimitFile}
 use Rattle.cg_cgroup.specs.declared.files.LimitFile.TheVariants.{CpuWeight, MemoryMax, PidsMax}
-use Rattle.cg_cgroup.specs.declared.cgroup.Cgroup.{Cgroup}
 use Rattle.cg_cgroup.proofs.Options.{some_value, is_some-mapped}
-use Rattle.cg_tree.specs.States.{State, row_at, file_at, value_at, with_enabled}
+use Rattle.cg_tree.specs.States.{State, row_at, file_at}
 use Rattle.cg_tree.specs.WellFormed.{IsWellFormed, has_row, enabled_at}
 use Rattle.cg_tree.proofs.StateCounts.{paths_of-with_enabled, count_below-same_paths, depth_below-same_paths}
 use Rattle.cg_tree.proofs.StateEntries.{value_at-file, file_at-with_enabled-same}
@@ -19,7 +18,6 @@ use Rattle.cg_tree.proofs.FormedEnabled.{has_row-with_enabled, enabled_at-with_e
 use Rattle.cg_ops.specs.Bars.{bars}
 use Rattle.cg_ops.specs.Changes.{enabled_after}
 use Rattle.cg_ops.specs.Next.{next}
-use Rattle.cg_ops.proofs.ClauseLaws.{none_of_first}
 use Rattle.cg_ops.proofs.StepFormed.{formed-next}
 use Rattle.cg_ops.specs.declared.operation.Op.{Op}
 use Rattle.cg_ops.specs.declared.operation.Op.TheVariants.{Control}
@@ -31,7 +29,7 @@ use Rattle.cg_tries.specs.Tries.{change_of}
 use Rattle.cg_tries.specs.Escapes.{breaks, IsUnbroken}
 use Rattle.cg_tries.specs.Finding.{allowed, changes_enabled}
 
-use Rattle.cg_tries.proofs.Seen.{Seen, seen, IsAlike, is_empty, step-alike}
+use Rattle.cg_tries.proofs.Seen.{seen, IsAlike, is_empty, step-alike}
 use Rattle.cg_tries.proofs.Single.{step_breaks, one_operation, limits_stay, nothing_bars}
 
 -- a limit file stands where the parent enables what brings it

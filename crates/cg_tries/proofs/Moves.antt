@@ -16,7 +16,6 @@ use Rattle.cg_cgroup.proofs.PathLaws.{common_comm}
 use Rattle.cg_tree.specs.States.{State, row_at, place_at, paths_of, pids_of}
 use Rattle.cg_ops.specs.Clauses.{unless, absent, present, first}
 use Rattle.cg_ops.specs.Bars.{passes}
-use Rattle.cg_ops.specs.declared.operation.Op.{Op}
 use Rattle.cg_ops.specs.declared.operation.Op.TheVariants.{Move}
 use Rattle.cg_ops.specs.declared.outcome.Refusal.{Refusal}
 use Rattle.cg_ops.specs.declared.outcome.Refusal.TheVariants.{NoSuchCgroup, NoAccess, NoSuchProcess, InternalProcess}

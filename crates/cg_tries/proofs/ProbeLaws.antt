@@ -15,7 +15,7 @@ use Rattle.cg_tree.specs.States.{State, row_at, place_at, paths_of, pids_of, cou
 use Rattle.cg_tree.specs.WellFormed.{IsWellFormed, has_row}
 use Rattle.cg_tree.proofs.TreeLaws.{take-there}
 use Rattle.cg_ops.specs.Clauses.{unless, absent, present, first}
-use Rattle.cg_ops.specs.Bars.{is_under, level_bars, limit_bars, mkdir_bars, row_above, writes_above}
+use Rattle.cg_ops.specs.Bars.{is_under, level_bars, limit_bars, row_above, writes_above}
 use Rattle.cg_ops.specs.declared.operation.Op.{Op}
 use Rattle.cg_ops.specs.declared.operation.Op.TheVariants.{Move, Mkdir}
 use Rattle.cg_ops.specs.declared.outcome.Refusal.{Refusal}
@@ -23,7 +23,7 @@ use Rattle.cg_ops.specs.declared.outcome.Refusal.TheVariants.{Exists, NoSuchCgro
 use Rattle.cg_ops.proofs.Prefixes.{no_root_of_length}
 use Rattle.cg_tries.specs.Tries.{probe, free_probe, numbers_from, is_inside, probe_tries_at, probe_tries}
 use Rattle.cg_tries.specs.Escapes.{breaks, IsUnbroken}
-use Rattle.cg_tries.specs.Finding.{allowed, passes_at, short_probe, free_path, level_passes, levels_pass, lets_in, writes_both, probe_path, first_probe_path, first_inside, first_probe}
+use Rattle.cg_tries.specs.Finding.{allowed, passes_at, short_probe, levels_pass, lets_in, writes_both, probe_path, first_probe_path, first_inside, first_probe}
 use Rattle.cg_tries.proofs.Moves.{find-map_filter, find-same, find-guarded, where_so}
 use Rattle.cg_tries.proofs.Probes.{probe_try}
 

@@ -1,10 +1,9 @@
 -- The names of probes, and the first of them that is free.
-use Rattle.std.proofs.Common.{◌≡◌, ℕ, zero, suc, ◌+◌, ◌-◌, ◌/◌, ◌%◌, ◌<◌, ◌≤◌, Bool, true, false, cond, ◌&&◌, not, List, [], ◌∷◌, ◌++◌, length, find, nat_eq, nat_le, nat_lt, Option, Some, None, option_and_then, codes, decimal, refl, sym, ap, ◌∙◌, arith, true≢false}
+use Rattle.std.proofs.Common.{◌≡◌, ℕ, zero, suc, ◌+◌, ◌-◌, ◌/◌, ◌%◌, ◌<◌, ◌≤◌, Bool, true, false, cond, not, List, [], ◌∷◌, ◌++◌, length, find, nat_eq, nat_le, Option, Some, None, option_and_then, codes, decimal, refl, sym, ap, ◌∙◌, arith, true≢false}
 use Rattle.std.specs.Fmt.{digit_glyph, digits_onto, digits}
 use Rattle.std.specs.List.{list_all}
 use Rattle.std.proofs.lemmas.Bool.{false_from_ne_true, and_from, leb-true, leb-false, eqb-true, eqb-false, and_parts, lt-ltb, le-leb}
 use Rattle.std.proofs.lemmas.Option.{none-some}
-use Rattle.std.proofs.lemmas.Bool.Decides.{nat_tests}
 use Rattle.std.proofs.lemmas.List.{length-append}
 use Rattle.std.proofs.lemmas.List.Folds.{list_all-append}
 use Rattle.cg_cgroup.specs.Paths.{Name, Names, IsPath, is_path, is_name, is_word, is_reserved, is_name_byte, path_text}

@@ -1,5 +1,5 @@
 -- A new cgroup above the subtree and a process from inside moved there: whether this breaks depends on the ancestor alone.
-use Rattle.std.proofs.Common.{◌≡◌, ◌≢◌, ℕ, zero, suc, ◌+◌, ◌-◌, ◌<◌, max, Bool, true, false, cond, not, ◌&&◌, ◌||◌, List, [], ◌∷◌, ◌++◌, length, take, Some, None, is_some, nat_lt, refl, sym, ap, ◌∙◌, subst, arith, true≢false, take_all}
+use Rattle.std.proofs.Common.{◌≡◌, ◌≢◌, ℕ, zero, suc, ◌+◌, ◌-◌, ◌<◌, max, true, false, cond, not, ◌&&◌, ◌||◌, [], ◌∷◌, ◌++◌, length, take, Some, None, is_some, nat_lt, refl, sym, ap, ◌∙◌, arith, true≢false, take_all}
 use Rattle.std.proofs.lemmas.Bool.{false_from_ne_true, and_from}
 use Rattle.std.proofs.Math.Bool.{or-true}
 use Rattle.std.proofs.lemmas.List.{length-append, length-take-le}
@@ -12,7 +12,7 @@ use Rattle.cg_cgroup.specs.Cgroups.{cgroup_made_by, value_in}
 use Rattle.cg_cgroup.specs.declared.files.LimitFile.{LimitFile}
 use Rattle.cg_cgroup.specs.declared.cgroup.Cgroup.{Cgroup}
 use Rattle.cg_cgroup.proofs.Options.{none_value}
-use Rattle.cg_cgroup.proofs.PathLaws.{inside-length, inside_refl}
+use Rattle.cg_cgroup.proofs.PathLaws.{inside-length}
 use Rattle.cg_cgroup.proofs.PathOrder.{same_path-not, same_path_refl}
 use Rattle.cg_cgroup.proofs.PathParents.{inside-is}
 use Rattle.cg_cgroup.proofs.UserLaws.{writes-made_by}
@@ -24,9 +24,7 @@ use Rattle.cg_tree.proofs.StateEntries.{value_at-with_row}
 use Rattle.cg_tree.proofs.TreeLaws.{take-there}
 use Rattle.cg_ops.specs.Clauses.{first}
 use Rattle.cg_ops.specs.Bars.{bars}
-use Rattle.cg_ops.specs.Next.{next}
 use Rattle.cg_ops.specs.Steps.{after}
-use Rattle.cg_ops.specs.declared.operation.Op.{Op}
 use Rattle.cg_ops.specs.declared.operation.Op.TheVariants.{Move, Mkdir}
 use Rattle.cg_guards.specs.Limits.{limits}
 use Rattle.cg_tries.specs.Escapes.{breaks, IsUnbroken}

@@ -20,7 +20,7 @@ use Rattle.cg_tree.specs.States.{State, row_at, process_at, place_at, pids_of, w
 use Rattle.cg_tree.specs.WellFormed.{has_row}
 use Rattle.cg_tree.proofs.StateLaws.{row_at-without_row, process_at-with_place-same}
 use Rattle.cg_tree.proofs.StateEntries.{value_at-with_value}
-use Rattle.cg_ops.specs.Clauses.{unless, first}
+use Rattle.cg_ops.specs.Clauses.{first}
 use Rattle.cg_ops.specs.Steps.{after}
 use Rattle.cg_ops.proofs.ClauseLaws.{no_parts, no_unless}
 use Rattle.cg_ops.specs.Bars.{bars}

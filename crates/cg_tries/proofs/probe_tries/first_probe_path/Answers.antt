@@ -1,4 +1,4 @@
-use Rattle.std.proofs.Common.{◌≡◌, ℕ, ◌+◌, ◌-◌, length, sym, ap, ◌∙◌, arith}
+use Rattle.std.proofs.Common.{◌≡◌, ◌+◌, ◌-◌, length, sym, ap, ◌∙◌, arith}
 use Rattle.cg_tries.specs.Finding.{first_probe_path}
 use Rattle.cg_tries.proofs.ProbeWalk.{probe_past, probe_here, unwritten, opened, from_level}
 use Rattle.cg_tries.proofs.probe_tries.first_probe_path.Goals as goal

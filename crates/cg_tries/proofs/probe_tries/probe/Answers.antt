@@ -1,4 +1,4 @@
-use Rattle.std.proofs.Common.{◌≡◌, Some, Err, false, ◌++◌, ◌∷◌, [], codes, decimal, subst, sym, ap, ◌∙◌, take}
+use Rattle.std.proofs.Common.{◌≡◌, Some, Err, false, ◌++◌, ◌∷◌, [], subst, sym, ap, ◌∙◌, take}
 use Rattle.cg_cgroup.specs.Paths.{Name, Names, IsPath, is_path}
 use Rattle.cg_cgroup.proofs.PathNames.{IsPath-take}
 use Rattle.cg_tries.specs.Tries.{probe}
