@@ -85,9 +85,9 @@ module _ (st : State) (user : Identity) (subtree : Names) (whole : IsUnbroken st
         ap (λ b. cond b (Some []) (find p (writes ++ (Rmdir subtree ∷ []) ∷ others))) nothing_kept
         ∙ find-append p writes ((Rmdir subtree ∷ []) ∷ others)
         ∙ (λ i. option_or (find-append p (set_tries st subtree) (control_tries subtree) i)
-            (cond (rmdir_try st user subtree whole i) (Some (Rmdir subtree ∷ [])) (find-append p (move_tries st subtree) (probe_tries st subtree (length subtree)) i)))
+        (cond (rmdir_try st user subtree whole i) (Some (Rmdir subtree ∷ [])) (find-append p (move_tries st subtree) (probe_tries st subtree (length subtree)) i)))
         ∙ (λ i. option_or (option_or (first_set-is i) (first_control-is i))
-            (cond (allowed st user (Rmdir subtree)) (Some (Rmdir subtree ∷ [])) (option_or (first_move-is st user subtree whole i) (first_probe-is st user subtree whole formed there.0 i))))
+        (cond (allowed st user (Rmdir subtree)) (Some (Rmdir subtree ∷ [])) (option_or (first_move-is st user subtree whole i) (first_probe-is st user subtree whole formed there.0 i))))
         ∙ joined (first_set st user subtree) (first_control st user subtree) (allowed st user (Rmdir subtree)) (Rmdir subtree ∷ []) (option_or (first_move st user subtree) (first_probe st user subtree))
 
 -- ---- where the user writes no cgroup.procs above
@@ -106,10 +106,10 @@ common-shorter subtree path out =
     let shared = common subtree path in
     let short = inside-length shared subtree (common-inside_first subtree path) in
     ⊎_elim (λ less. less)
-      (λ same.
-        let is : shared ≡ subtree = common-take_first subtree path ∙ take_all (length shared) subtree same in
-        absurd (true≢false (sym (common-inside_second subtree path) ∙ ap (λ (p : Names). inside p path) is ∙ out)))
-      (cases_lt (length shared) (length subtree))
+    (λ same.
+    let is : shared ≡ subtree = common-take_first subtree path ∙ take_all (length shared) subtree same in
+    absurd (true≢false (sym (common-inside_second subtree path) ∙ ap (λ (p : Names). inside p path) is ∙ out)))
+    (cases_lt (length shared) (length subtree))
 
 module _ (st : State) (user : Identity) (subtree : Names) (none : (len : ℕ) → len < length subtree → passes_at st user (take len subtree) ≡ false) where
   apart : (path : Names) → inside subtree path ≡ false → passes st user subtree path ≡ false
@@ -127,9 +127,9 @@ module _ (st : State) (user : Identity) (subtree : Names) (none : (len : ℕ) �
 
   unwritten_at : (len : ℕ) → len < length subtree → writes_both st user (take len subtree) ≡ false
   unwritten_at len within = elim (row_at st (take len subtree)) as (λ r. elim r [ None ↦ true | Some row ↦ writes user row.procs ] ≡ false → elim r [ None ↦ false | Some row ↦ writes user row.dir && writes user row.procs ] ≡ false) [
-      | None ↦ λ h. absurd (true≢false h)
-      | Some row ↦ λ h. ap (λ b. writes user row.dir && b) h ∙ and-false (writes user row.dir)
-    ] (none len within)
+    | None ↦ λ h. absurd (true≢false h)
+    | Some row ↦ λ h. ap (λ b. writes user row.dir && b) h ∙ and-false (writes user row.dir)
+  ] (none len within)
 
   no_path : (len : ℕ) → len ≤ length subtree → first_probe_path st user subtree len ≡ None
   no_path zero h = refl
@@ -139,16 +139,16 @@ module _ (st : State) (user : Identity) (subtree : Names) (none : (len : ℕ) �
   no_move =
       let out = find-none (can_leave_to st user subtree) (paths_of st) (λ path. no_leave path (inside subtree path) refl) in
       given-none (move_of st user subtree (find (can_leave_to st user subtree) (paths_of st)) (find (can_enter_at st user subtree) (paths_of st))) (pids_of st)
-        (λ pid. elim (place_at st pid) as (λ o. option_and_then (λ place. option_map (λ path. Move pid path ∷ []) (goes_from st user subtree (find (can_leave_to st user subtree) (paths_of st)) (find (can_enter_at st user subtree) (paths_of st)) place)) o ≡ None) [
-          | None ↦ refl
-          | Some place ↦ ap (option_map (λ path. Move pid path ∷ [])) (ap (λ o. goes_from st user subtree o (find (can_enter_at st user subtree) (paths_of st)) place) out ∙ stays place (inside subtree place) refl)
-        ])
+      (λ pid. elim (place_at st pid) as (λ o. option_and_then (λ place. option_map (λ path. Move pid path ∷ []) (goes_from st user subtree (find (can_leave_to st user subtree) (paths_of st)) (find (can_enter_at st user subtree) (paths_of st)) place)) o ≡ None) [
+        | None ↦ refl
+        | Some place ↦ ap (option_map (λ path. Move pid path ∷ [])) (ap (λ o. goes_from st user subtree o (find (can_enter_at st user subtree) (paths_of st)) place) out ∙ stays place (inside subtree place) refl)
+      ])
 
   pub no_probe : first_probe st user subtree ≡ None
   no_probe = elim (first_inside st subtree) as (λ o. option_and_then (λ pid. option_map (λ path. Mkdir path ∷ Move pid path ∷ []) (first_probe_path st user subtree (length subtree))) o ≡ None) [
-      | None ↦ refl
-      | Some pid ↦ ap (option_map (λ path. Mkdir path ∷ Move pid path ∷ [])) (no_path (length subtree) (omega arith))
-    ]
+    | None ↦ refl
+    | Some pid ↦ ap (option_map (λ path. Mkdir path ∷ Move pid path ∷ [])) (no_path (length subtree) (omega arith))
+  ]
 
   pub no_passage : first_passage st user subtree ≡ None
   no_passage = λ i. option_or (no_move i) (no_probe i)

@@ -24,7 +24,8 @@ use Rattle.cg_ops.proofs.Prefixes.{no_root_of_length}
 use Rattle.cg_tries.specs.Tries.{probe, free_probe, numbers_from, is_inside, probe_tries_at, probe_tries}
 use Rattle.cg_tries.specs.Escapes.{breaks, IsUnbroken}
 use Rattle.cg_tries.specs.Finding.{allowed, passes_at, short_probe, levels_pass, lets_in, writes_both, probe_path, first_probe_path, first_inside, first_probe}
-use Rattle.cg_tries.proofs.Moves.{find-map_filter, find-same, find-guarded, where_so}
+use Rattle.cg_tries.proofs.Moves.{find-map_filter, find-same, find-guarded}
+use Rattle.cg_tries.proofs.Single.{where_so}
 use Rattle.cg_tries.proofs.Probes.{probe_try}
 
 -- ---- whether a child may be made
@@ -81,9 +82,9 @@ module _ (st : State) (user : Identity) (subtree : Names) (len : ℕ) (name : Na
       passed-append (level_bars st path at) (limit_bars st path at)
       ∙ (λ i. level-passed (row_at st (take at path)) (count_below st (take at path)) (length path - 1 - at) (DescendantLimit at) (DepthLimit at) i && limits-passed at (omega (arith, h)) i)
       ∙ (λ i. elim (row_at st (front at (omega (arith, h)) i)) [
-          | None ↦ true
-          | Some row ↦ is_under (count_below st (front at (omega (arith, h)) i)) row.max_descendants.value && is_under (down at i) row.max_depth.value
-        ] && levels_pass st subtree len at)
+        | None ↦ true
+        | Some row ↦ is_under (count_below st (front at (omega (arith, h)) i)) row.max_descendants.value && is_under (down at i) row.max_depth.value
+      ] && levels_pass st subtree len at)
     where
       down : (at : ℕ) → length path - 1 - at ≡ len - at
       down at = omega (arith, length_path)
@@ -108,7 +109,7 @@ module _ (st : State) (user : Identity) (subtree : Names) (len : ℕ) (name : Na
       let passes : passes_at st user (take len subtree) ≡ writes user row.procs = ap (λ r. elim r [ None ↦ true | Some row ↦ writes user row.procs ]) ancestor-row.1 in
       let both : writes_both st user (take len subtree) ≡ (writes user row.dir && writes user row.procs) = ap (λ r. elim r [ None ↦ false | Some row ↦ writes user row.dir && writes user row.procs ]) ancestor-row.1 in
       ap (λ r. passed (present r (λ row. Exists ∷ []) ++ absent (row_above st path) (NoSuchCgroup (length path - 1)) ++ unless (writes_above st user path) (NoAccess (length path - 1) Dir)
-        ++ present (row_above st path) (λ row. limit_bars st path (length path))) && passes_at st user (take len subtree)) none
+      ++ present (row_above st path) (λ row. limit_bars st path (length path))) && passes_at st user (take len subtree)) none
       ∙ ap (λ b. b && passes_at st user (take len subtree)) (made (row_above st path) row user (limit_bars st path (length path)) (NoSuchCgroup (length path - 1)) (NoAccess (length path - 1) Dir) above-row)
       ∙ (λ i. (writes user row.dir && limits i) && passes i)
       ∙ shuffled (writes user row.dir) (lets_in st subtree len) (writes user row.procs)
@@ -119,15 +120,15 @@ module _ (st : State) (user : Identity) (subtree : Names) (len : ℕ) (name : Na
 found-so : {A : Type 0} (p : A → Bool) (xs : List A) (x : A) → find p xs ≡ Some x → p x ≡ true
 found-so p [] x h = absurd (none-some x h)
 found-so p (y ∷ xs) x h = elim (p y) as (λ b. p y ≡ b → cond b (Some y) (find p xs) ≡ Some x → p x ≡ true) [
-    | true ↦ λ e k. ap p (sym (same_some y x k)) ∙ e
-    | false ↦ λ _ k. found-so p xs x k
-  ] refl h
+  | true ↦ λ e k. ap p (sym (same_some y x k)) ∙ e
+  | false ↦ λ _ k. found-so p xs x k
+] refl h
 
 is_inside-place : (st : State) (subtree : Names) (pid : ℕ) → is_inside st subtree pid ≡ true → (place : Names) × (place_at st pid ≡ Some place) × (inside subtree place ≡ true)
 is_inside-place st subtree pid h = elim (place_at st pid) as (λ o. place_at st pid ≡ o → elim o [ None ↦ false | Some place ↦ inside subtree place ] ≡ true → (place : Names) × (place_at st pid ≡ Some place) × (inside subtree place ≡ true)) [
-    | None ↦ λ _ h. absurd (true≢false (sym h))
-    | Some place ↦ λ at h. (place, at, h)
-  ] refl h
+  | None ↦ λ _ h. absurd (true≢false (sym h))
+  | Some place ↦ λ at h. (place, at, h)
+] refl h
 
 -- the two operations of a probe
 abbrev probing : Names → ℕ → List Op
@@ -155,8 +156,8 @@ module _ (st : State) (user : Identity) (subtree : Names) (whole : IsUnbroken st
       let path = probe (take len subtree) number in
       let may = lets_in st subtree len && writes_both st user (take len subtree) in
       let each : (pid : ℕ) → (is_inside st subtree pid && breaks st user subtree (probing path pid)) ≡ (is_inside st subtree pid && may) = λ pid.
-        where_so _ _ _ (λ h. let place = is_inside-place st subtree pid h in
-          probe_try st user subtree len _ pid place.0 whole formed there within free place.1 place.2 ∙ probe_allowed st user subtree len _ formed there within free) in
+      where_so _ _ _ (λ h. let place = is_inside-place st subtree pid h in
+      probe_try st user subtree len _ pid place.0 whole formed there within free place.1 place.2 ∙ probe_allowed st user subtree len _ formed there within free) in
       find-map_filter (breaks st user subtree) (probing path) (is_inside st subtree) (pids_of st)
       ∙ ap (option_map (probing path)) (find-same _ (λ pid. is_inside st subtree pid && may) (pids_of st) each ∙ find-guarded (is_inside st subtree) may (pids_of st))
       ∙ guarded may path (first_inside st subtree)
@@ -166,14 +167,14 @@ module _ (st : State) (user : Identity) (subtree : Names) (whole : IsUnbroken st
   at_ancestor len within = elim (free_probe st (take len subtree)) as (λ o. free_probe st (take len subtree) ≡ o
       → find (breaks st user subtree) (present o (λ number. cond (nat_le (length (path_text (probe (take len subtree) number))) 4095) (map (probing (probe (take len subtree) number)) (filter (is_inside st subtree) (pids_of st))) []))
       ≡ by_path (cond (lets_in st subtree len && writes_both st user (take len subtree)) (option_and_then (short_probe (take len subtree)) o) None)) [
-      | None ↦ λ _. no_probe (first_inside st subtree) ∙ ap by_path (no_path (lets_in st subtree len && writes_both st user (take len subtree)))
-      | Some number ↦ λ e. elim (nat_le (length (path_text (probe (take len subtree) number))) 4095) as (λ b.
-          find (breaks st user subtree) (cond b (map (probing (probe (take len subtree) number)) (filter (is_inside st subtree) (pids_of st))) [])
-          ≡ by_path (cond (lets_in st subtree len && writes_both st user (take len subtree)) (cond b (Some (probe (take len subtree) number)) None) None)) [
-        | true ↦ at_number len number within (not-true _ (found-so (λ number. not (has_row st (probe (take len subtree) number))) (numbers_from 0 (length (paths_of st) + 1)) number e))
-        | false ↦ no_probe (first_inside st subtree) ∙ ap by_path (no_path (lets_in st subtree len && writes_both st user (take len subtree)))
-      ]
-    ] refl
+        | None ↦ λ _. no_probe (first_inside st subtree) ∙ ap by_path (no_path (lets_in st subtree len && writes_both st user (take len subtree)))
+        | Some number ↦ λ e. elim (nat_le (length (path_text (probe (take len subtree) number))) 4095) as (λ b.
+            find (breaks st user subtree) (cond b (map (probing (probe (take len subtree) number)) (filter (is_inside st subtree) (pids_of st))) [])
+            ≡ by_path (cond (lets_in st subtree len && writes_both st user (take len subtree)) (cond b (Some (probe (take len subtree) number)) None) None)) [
+              | true ↦ at_number len number within (not-true _ (found-so (λ number. not (has_row st (probe (take len subtree) number))) (numbers_from 0 (length (paths_of st) + 1)) number e))
+              | false ↦ no_probe (first_inside st subtree) ∙ ap by_path (no_path (lets_in st subtree len && writes_both st user (take len subtree)))
+            ]
+      ] refl
     where
       no_path : (b : Bool) → ◌≡◌ {A = Option Names} None (cond b None None)
       no_path true = refl
@@ -185,9 +186,9 @@ module _ (st : State) (user : Identity) (subtree : Names) (whole : IsUnbroken st
   unfolding by_path
   or_by first later = elim (first_inside st subtree) as (λ o. option_or (option_and_then (λ pid. option_map (λ path. probing path pid) first) o) (option_and_then (λ pid. option_map (λ path. probing path pid) later) o)
       ≡ option_and_then (λ pid. option_map (λ path. probing path pid) (option_or first later)) o) [
-      | None ↦ refl
-      | Some pid ↦ elim first as (λ o. option_or (option_map (λ path. probing path pid) o) (option_map (λ path. probing path pid) later) ≡ option_map (λ path. probing path pid) (option_or o later)) [ None ↦ refl | Some path ↦ refl ]
-    ]
+        | None ↦ refl
+        | Some pid ↦ elim first as (λ o. option_or (option_map (λ path. probing path pid) o) (option_map (λ path. probing path pid) later) ≡ option_map (λ path. probing path pid) (option_or o later)) [ None ↦ refl | Some path ↦ refl ]
+      ]
 
   at_all : (len : ℕ) → len ≤ length subtree → find (breaks st user subtree) (probe_tries st subtree len) ≡ by_path (first_probe_path st user subtree len)
   unfolding by_path

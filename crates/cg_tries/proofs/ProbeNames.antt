@@ -29,9 +29,9 @@ numbers_end p number count h = let e : count - number ≡ 0 = omega arith in ap 
 digits-longer : (k n : ℕ) (rest : List ℕ) → length rest ≤ length (digits_onto k 10 false n rest)
 digits-longer zero n rest = omega arith
 digits-longer (suc k) n rest = elim (nat_eq (n / 10) 0) as (λ b. length rest ≤ length (cond b (digit_glyph false (n % 10) ∷ rest) (digits_onto k 10 false (n / 10) (digit_glyph false (n % 10) ∷ rest)))) [
-    | true ↦ omega arith
-    | false ↦ let h = digits-longer k (n / 10) (digit_glyph false (n % 10) ∷ rest) in omega (arith, h)
-  ]
+  | true ↦ omega arith
+  | false ↦ let h = digits-longer k (n / 10) (digit_glyph false (n % 10) ∷ rest) in omega (arith, h)
+]
 
 digits-rising : (k m n : ℕ) (rest more : List ℕ) → m ≤ n → length rest ≤ length more → length (digits_onto k 10 false m rest) ≤ length (digits_onto k 10 false n more)
 digits-rising zero m n rest more h l = l
@@ -51,9 +51,9 @@ digits-rising (suc k) m n rest more h l =
 digits-short : (k n : ℕ) (rest : List ℕ) → length (digits_onto k 10 false n rest) ≤ k + length rest
 digits-short zero n rest = omega arith
 digits-short (suc k) n rest = elim (nat_eq (n / 10) 0) as (λ b. length (cond b (digit_glyph false (n % 10) ∷ rest) (digits_onto k 10 false (n / 10) (digit_glyph false (n % 10) ∷ rest))) ≤ suc k + length rest) [
-    | true ↦ omega arith
-    | false ↦ let h = digits-short k (n / 10) (digit_glyph false (n % 10) ∷ rest) in omega (arith, h)
-  ]
+  | true ↦ omega arith
+  | false ↦ let h = digits-short k (n / 10) (digit_glyph false (n % 10) ∷ rest) in omega (arith, h)
+]
 
 pub decimal-rising : (m n : ℕ) → m ≤ n → length (decimal m) ≤ length (decimal n)
 unfolding digits
@@ -72,9 +72,9 @@ name_glyph n = name_digit (n % 10) (omega arith)
 name_digits : (k n : ℕ) (rest : List ℕ) → list_all is_name_byte rest ≡ true → list_all is_name_byte (digits_onto k 10 false n rest) ≡ true
 name_digits zero n rest h = h
 name_digits (suc k) n rest h = elim (nat_eq (n / 10) 0) as (λ b. list_all is_name_byte (cond b (digit_glyph false (n % 10) ∷ rest) (digits_onto k 10 false (n / 10) (digit_glyph false (n % 10) ∷ rest))) ≡ true) [
-    | true ↦ and_from _ _ (name_glyph n) h
-    | false ↦ name_digits k (n / 10) (digit_glyph false (n % 10) ∷ rest) (and_from _ _ (name_glyph n) h)
-  ]
+  | true ↦ and_from _ _ (name_glyph n) h
+  | false ↦ name_digits k (n / 10) (digit_glyph false (n % 10) ∷ rest) (and_from _ _ (name_glyph n) h)
+]
 
 pub is_name-probe : (number : ℕ) → is_name (codes "probe" ++ decimal number) ≡ true
 unfolding digits
@@ -102,17 +102,17 @@ short-is_path ancestor number h =
 pub short-not_path : (ancestor : Names) (number : ℕ) → IsPath ancestor → is_path (probe ancestor number) ≡ false → short_probe ancestor number ≡ None
 short-not_path ancestor number path h =
     let long : nat_le (length (path_text (probe ancestor number))) 4095 ≡ false = false_from_ne_true _ (λ fits.
-      let le = leb-true _ _ fits in
-      let is : is_path (probe ancestor number) ≡ true = IsPath-push ancestor (codes "probe" ++ decimal number) path (is_name-probe number)
-        (let l = length-probe ancestor number in let m = length-append (codes "probe") (decimal number) in omega (arith, le, l, m)) in
-      true≢false (sym is ∙ h)) in
+    let le = leb-true _ _ fits in
+    let is : is_path (probe ancestor number) ≡ true = IsPath-push ancestor (codes "probe" ++ decimal number) path (is_name-probe number)
+    (let l = length-probe ancestor number in let m = length-append (codes "probe") (decimal number) in omega (arith, le, l, m)) in
+    true≢false (sym is ∙ h)) in
     ap (λ b. cond b (Some (probe ancestor number)) None) long
 
 pub short_is : (ancestor : Names) (number : ℕ) (path : Names) → short_probe ancestor number ≡ Some path → probe ancestor number ≡ path
 short_is ancestor number path h = elim (nat_le (length (path_text (probe ancestor number))) 4095) as (λ b. cond b (Some (probe ancestor number)) None ≡ Some path → probe ancestor number ≡ path) [
-    | true ↦ λ e. same_some _ _ e
-    | false ↦ λ e. absurd (none-some _ e)
-  ] h
+  | true ↦ λ e. same_some _ _ e
+  | false ↦ λ e. absurd (none-some _ e)
+] h
 
 longer_later : (ancestor : Names) (number : ℕ) → short_probe ancestor number ≡ None → short_probe ancestor (suc number) ≡ None
 longer_later ancestor number h =
@@ -133,6 +133,6 @@ longer_later ancestor number h =
 pub none_short : (ancestor : Names) (p : ℕ → Bool) (number count : ℕ) → short_probe ancestor number ≡ None → option_and_then (short_probe ancestor) (find p (numbers_from number count)) ≡ None
 none_short ancestor p number zero h = refl
 none_short ancestor p number (suc count) h = elim (p number) as (λ b. option_and_then (short_probe ancestor) (cond b (Some number) (find p (numbers_from (suc number) count))) ≡ None) [
-    | true ↦ h
-    | false ↦ none_short ancestor p (suc number) count (longer_later ancestor number h)
-  ]
+  | true ↦ h
+  | false ↦ none_short ancestor p (suc number) count (longer_later ancestor number h)
+]

@@ -99,9 +99,9 @@ free_path st ancestor = option_and_then (short_probe ancestor) (free_probe st an
 -- the cgroup of the first `at` names lets in a new child of the ancestor of `len` names
 abbrev pub level_passes : State → Names → ℕ → ℕ → Bool
 level_passes st subtree len at = elim (row_at st (take at subtree)) [
-    | None ↦ true
-    | Some row ↦ is_under (count_below st (take at subtree)) row.max_descendants.value && is_under (len - at) row.max_depth.value
-  ]
+  | None ↦ true
+  | Some row ↦ is_under (count_below st (take at subtree)) row.max_descendants.value && is_under (len - at) row.max_depth.value
+]
 
 -- those of fewer than `count` names do
 abbrev pub levels_pass : State → Names → ℕ → ℕ → Bool

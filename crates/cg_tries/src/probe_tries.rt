@@ -86,12 +86,7 @@ fn writes_both<H: Hierarchy>(tree: &H, user: &User, path: &Path, len: usize) -> 
 }
 
 /// The path of the probe of a number at the ancestor of `len` names; none where it would be too long.
-fn probe(
-    alloc: Global,
-    subtree: &Path,
-    len: usize,
-    number: usize,
-) -> Result<Option<Path>, NoMemory>
+fn probe(alloc: Global, subtree: &Path, len: usize, number: usize) -> Result<Option<Path>, NoMemory>
     requires within { len ≤ length subtree.now }
     requires path { IsPath subtree.now }
     ensures { IfOk result (λ found. found ≡ short_probe (take len subtree.now) number) }

@@ -20,8 +20,8 @@ returns-then-not-passes_above g c =
     let user = c.args.user.now in
     let subtree = c.args.subtree.now in
     sym (plain-is st user subtree c.requires.unbroken c.get.ensures.formed c.requires.subtree
-      ∙ ap (λ o. option_or o (first_passage st user subtree)) (sym c.in_ok-found.ensures ∙ c.in_default-2.is)
-      ∙ no_passage st user subtree (c.passes_above.ensures c.if-not-passes_above.true))
+    ∙ ap (λ o. option_or o (first_passage st user subtree)) (sym c.in_ok-found.ensures ∙ c.in_default-2.is)
+    ∙ no_passage st user subtree (c.passes_above.ensures c.if-not-passes_above.true))
 
 pub returns : goal.returns
 returns g c =
@@ -30,5 +30,5 @@ returns g c =
     let subtree = c.args.subtree.now in
     subst (λ (first : Option (List Op)). IfOk c.first_passage.result (λ found. found ≡ first))
     (sym (plain-is st user subtree c.requires.unbroken c.get.ensures.formed c.requires.subtree
-      ∙ ap (λ o. option_or o (first_passage st user subtree)) (sym c.in_ok-found.ensures ∙ c.in_default-2.is)))
+    ∙ ap (λ o. option_or o (first_passage st user subtree)) (sym c.in_ok-found.ensures ∙ c.in_default-2.is)))
     c.first_passage.ensures

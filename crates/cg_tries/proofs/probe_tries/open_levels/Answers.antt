@@ -19,7 +19,7 @@ loop-at-preserved g c =
     let st = g.H.Hierarchy.state c.args.tree.now in
     let limit = c.in-Some.cgroup.now.max_descendants.value in
     let next = open_row st c.args.subtree.now c.loop-at.at c.loop-at.level c.in-Some.cgroup.now (omega arith) c.loop-at.invariant.open_above (sym c.in-Some.ensures.row)
-      (ap (λ n. is_under n limit) (sym c.count_below.ensures) ∙ sym c.is_under.ensures ∙ c.if-not-is_under.false) in
+    (ap (λ n. is_under n limit) (sym c.count_below.ensures) ∙ sym c.is_under.ensures ∙ c.if-not-is_under.false) in
     record {
       within = let l = lowered-le c.loop-at.level c.loop-at.at c.in-Some.cgroup.now.max_depth.value in let h = c.lowered-level.ensures in let w = c.loop-at.invariant.within in omega (arith, l, h, w);
       open_above = subst (λ (level : ℕ). OpenAbove st c.args.subtree.now (c.loop-at.at + 1) level) (sym c.lowered-level.ensures) next;
