@@ -1,0 +1,4 @@
+pub mod Seen
+pub mod Single
+pub mod Controls
+pub mod Probes
