@@ -1,4 +1,5 @@
 pub mod Seen
 pub mod Single
 pub mod Controls
+pub mod Moves
 pub mod Probes

@@ -25,3 +25,57 @@ changes_enabled on controller enabled = cond on (not (enables enabled controller
 -- the user writes cgroup.procs there, if there is such a cgroup
 abbrev pub passes_at : State → Identity → Names → Bool
 passes_at st user path = elim (row_at st path) [ None ↦ true | Some row ↦ writes user row.procs ]
+
+-- ---- moves
+
+-- a process may come to a place, once it may pass
+abbrev pub receives : State → Identity → Names → Bool
+receives st user path = elim (row_at st path) [ None ↦ false | Some row ↦ writes user row.procs && (is_root path || enables_nothing row.enabled) ]
+
+-- where a process from inside may go, whichever it is
+abbrev pub can_leave_to : State → Identity → Names → Names → Bool
+can_leave_to st user subtree path = not (inside subtree path) && (receives st user path && passes st user subtree path)
+
+-- where a process from outside may come to, once it may pass
+abbrev pub can_enter_at : State → Identity → Names → Names → Bool
+can_enter_at st user subtree path = inside subtree path && receives st user path
+
+-- where a process at a place goes, if these are the first places outside and inside
+abbrev pub goes_from : State → Identity → Names → Option Names → Option Names → Names → Option Names
+goes_from st user subtree out into place = cond (inside subtree place) out (cond (passes st user place subtree) into None)
+
+abbrev pub move_of : State → Identity → Names → Option Names → Option Names → ℕ → Option (List Op)
+move_of st user subtree out into pid =
+    option_and_then (λ place. option_map (λ path. Move pid path ∷ []) (goes_from st user subtree out into place)) (place_at st pid)
+
+-- the first of what a list's elements give
+abbrev pub first_given : {A B : Type 0} → (A → Option B) → List A → Option B
+first_given f [] = None
+first_given f (x ∷ xs) = option_or (f x) (first_given f xs)
+
+abbrev pub first_move : State → Identity → Names → Option (List Op)
+first_move st user subtree =
+    first_given (move_of st user subtree (find (can_leave_to st user subtree) (paths_of st)) (find (can_enter_at st user subtree) (paths_of st))) (pids_of st)
+
+-- ---- probes
+
+-- the path of the first free probe, where it is short enough
+abbrev pub free_path : State → Names → Option Names
+free_path st ancestor =
+    option_and_then (λ number. cond (nat_le (length (path_text (probe ancestor number))) 4095) (Some (probe ancestor number)) None) (free_probe st ancestor)
+
+-- the first probe at an ancestor: a process may be moved there
+abbrev pub probe_path : State → Identity → Names → Option Names
+probe_path st user ancestor = option_and_then (λ path. cond (allowed st user (Mkdir path) && passes_at st user ancestor) (Some path) None) (free_path st ancestor)
+
+-- at the first `len` ancestors from the root down, the nearest first
+abbrev pub first_probe : State → Identity → Names → ℕ → Option Names
+first_probe st user subtree zero = None
+first_probe st user subtree (suc len) = option_or (probe_path st user (take len subtree)) (first_probe st user subtree len)
+
+-- the first process inside
+abbrev pub first_inside : State → Names → Option ℕ
+first_inside st subtree = find (is_inside st subtree) (pids_of st)
+
+abbrev pub probe_by : Option ℕ → Option Names → Option (List Op)
+probe_by pid path = option_and_then (λ pid. option_map (λ path. Mkdir path ∷ Move pid path ∷ []) path) pid
