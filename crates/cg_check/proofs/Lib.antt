@@ -1,0 +1,4 @@
+mod Lists
+mod Wider
+mod Tried
+mod Monotone
