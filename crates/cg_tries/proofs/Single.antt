@@ -1,6 +1,7 @@
 -- A try of one operation breaks where it is allowed and its step breaks.
 use Rattle.std.proofs.Common.{◌≡◌, ℕ, Bool, true, false, cond, not, ◌&&◌, ◌||◌, ◌≢◌, List, [], ◌∷◌, map, filter, Option, Some, None, is_some, option_map, nat_eq, refl, sym, ap, ◌∙◌, true≢false, arith}
 use Rattle.std.proofs.lemmas.Bool.{and_from, eqb-true, eqb-false}
+use Rattle.std.proofs.Math.Bool.{and-true}
 use Rattle.std.specs.List.{list_any, list_all}
 use Rattle.std.specs.Ordering.{nat_cmp, eq_by_cmp}
 use Rattle.std.specs.Cmp.{unsigned_ties}
@@ -39,15 +40,11 @@ use Rattle.cg_tries.proofs.Seen.{is_empty, breaks-run}
 abbrev pub step_breaks : State → State → Names → Bool
 step_breaks st new subtree = not (is_empty (broken st st new subtree))
 
-and_true : (b : Bool) → (b && true) ≡ b
-and_true true = refl
-and_true false = refl
-
 pub one_operation : (st : State) (user : Identity) (subtree : Names) (op : Op) → IsUnbroken st subtree → breaks st user subtree (op ∷ []) ≡ (allowed st user op && step_breaks st (next st user op) subtree)
 one_operation st user subtree op whole =
     breaks-run st user subtree (op ∷ [])
     ∙ ap (λ (l : List Clause). not (is_empty l && (is_empty (broken st st (after st user op) subtree) && true))) whole
-    ∙ ap not (and_true (is_empty (broken st st (after st user op) subtree)))
+    ∙ ap not (and-true (is_empty (broken st st (after st user op) subtree)))
     ∙ elim (bars st user op) as (λ l. not (is_empty (broken st st (elim l [ [] ↦ next st user op | bar ∷ others ↦ st ]) subtree)) ≡ (not (is_some (first l)) && step_breaks st (next st user op) subtree)) [
       | [] ↦ refl
       | bar ∷ others ↦ ap (λ (l : List Clause). not (is_empty l)) whole
