@@ -2,3 +2,4 @@ mod Lists
 mod Wider
 mod Tried
 mod Monotone
+mod Openings

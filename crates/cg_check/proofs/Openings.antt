@@ -1,0 +1,142 @@
+-- The first escape is the first plain try that breaks the opened tree, with the opening before it where it isn't free without.
+use Rattle.std.proofs.Common.{◌≡◌, ℕ, zero, suc, ◌+◌, ◌≤◌, Bool, true, false, cond, not, ◌&&◌, List, [], ◌∷◌, ◌++◌, map, filter, find, length, take, nat_le, refl, sym, ap, ◌∙◌, subst, Option, Some, None, option_map}
+use Rattle.std.proofs.lemmas.Bool.{and_parts}
+use Rattle.std.proofs.lemmas.Nat.{and_or_self}
+use Rattle.std.proofs.lemmas.Bool.{eq-eqb}
+use Rattle.std.specs.List.{flat_map, AllByRecursion}
+use Rattle.std.specs.FinMap as finite
+use Rattle.cg_cgroup.specs.Paths.{Names, inside, path_text}
+use Rattle.cg_cgroup.specs.Identity.{Identity}
+use Rattle.cg_cgroup.specs.Users.{writes, owns, has_bit, opened}
+use Rattle.cg_cgroup.specs.Files.{all_files}
+use Rattle.cg_cgroup.specs.declared.user.Entry.{Entry}
+use Rattle.cg_cgroup.proofs.UserLaws.{opened-le}
+use Rattle.cg_cgroup.proofs.Options.{some_value}
+use Rattle.cg_tree.specs.States.{State, row_at, entry_at, place_at, paths_of, pids_of}
+use Rattle.cg_tree.specs.WellFormed.{IsWellFormed, has_row}
+use Rattle.cg_ops.specs.Clauses.{present}
+use Rattle.cg_ops.specs.Steps.{after_all, HasMode, HaveModes}
+use Rattle.cg_ops.specs.declared.operation.Op.{Op}
+use Rattle.cg_ops.specs.declared.operation.Op.TheVariants.{Chmod, Move, Mkdir, Rmdir, Control, Set}
+use Rattle.cg_ops.proofs.StepFormed.{formed-after_all}
+use Rattle.cg_guards.specs.Guards.{Guarded, guarded_entries, guarded_entry}
+use Rattle.cg_guards.specs.Guarding.{IsSubtree}
+use Rattle.cg_runs.specs.Held.{by_user}
+use Rattle.cg_tries.specs.Tries.{other_value, set_tries, control_tries, move_tries, probe, numbers_from, probe_tries_at, probe_tries, plain_tries, opening_of, opening, with_opening, tries}
+use Rattle.cg_tries.specs.Escapes.{breaks, first_escape, IsUnbroken}
+use Rattle.cg_tries.specs.Finding.{allowed}
+use Rattle.cg_tries.proofs.Seen.{unbroken-alike}
+use Rattle.cg_tries.proofs.Single.{nothing_bars, free_allowed}
+use Rattle.cg_check.specs.Opened.{opened_state, is_free, unless_free}
+use Rattle.cg_check.proofs.Lists.{all-append, all-flat_map, all-present, all-both, find-same, find-all, find-passes}
+use Rattle.cg_check.proofs.Wider.{IsWider, wider-itself, wider-all, IsOpening, alike-wider, breaks-opening}
+use Rattle.cg_check.proofs.Tried.{has_effect, IsTried, IsExact, exact-plain_tries}
+use Rattle.cg_check.proofs.Monotone.{passes_at-stays, move-stays, mkdir-stays, rmdir-stays, set-stays, control-stays}
+
+-- ---- the opening
+
+-- what holds of the chmods of entries that the user owns
+pub all-opening : (st : State) (user : Identity) (subtree : Names) (P : Op → Type 0)
+    → ((guarded : Guarded) (entry : Entry) → guarded_entry st subtree guarded ≡ Some entry → P (Chmod (take guarded.len subtree) guarded.name (opened entry.mode)))
+    → AllByRecursion P (opening st user subtree)
+all-opening st user subtree P each =
+    all-flat_map P (opening_of st user subtree) (guarded_entries subtree) (λ guarded.
+    all-present P (guarded_entry st subtree guarded) _ (λ entry is.
+    elim (owns user entry && not (writes user entry)) as (λ b. AllByRecursion P (cond b (Chmod (take guarded.len subtree) guarded.name (opened entry.mode) ∷ []) [])) [
+      | true ↦ (each guarded entry is, tt)
+      | false ↦ tt
+    ]))
+
+opened-bit : (mode : ℕ) → has_bit (opened mode) 128 ≡ true
+opened-bit mode = eq-eqb _ _ (and_or_self 128 mode)
+
+have_modes : (user : Identity) (ops : List Op) → AllByRecursion HasMode ops → HaveModes (by_user user ops)
+have_modes user [] all = tt
+have_modes user (op ∷ ops) all = (all.0, have_modes user ops all.1)
+
+module _ (st : State) (user : Identity) (subtree : Names) where
+  pub opening-opens : AllByRecursion IsOpening (opening st user subtree)
+  opening-opens = all-opening st user subtree IsOpening (λ guarded entry is. opened-bit entry.mode)
+
+  pub wider-opened : IsWider user st (opened_state st user subtree)
+  wider-opened = wider-all user st st (opening st user subtree) (wider-itself user st) opening-opens
+
+  pub formed-opened : IsWellFormed st → IsWellFormed (opened_state st user subtree)
+  formed-opened formed =
+      formed-after_all st (by_user user (opening st user subtree)) formed
+      (have_modes user (opening st user subtree) (all-opening st user subtree HasMode (λ guarded entry is.
+      opened-le entry.mode (entry_mode (take guarded.len subtree) (row_at st (take guarded.len subtree)) guarded entry refl is))))
+    where
+      entry_mode : (path : Names) (found : Option _) (guarded : Guarded) (entry : Entry) → row_at st path ≡ found → entry_at st path guarded.name ≡ Some entry → entry.mode ≤ 511
+      entry_mode path found guarded entry here is = ?
+
+  pub unbroken-opened : IsUnbroken st subtree → IsUnbroken (opened_state st user subtree) subtree
+  unbroken-opened whole = unbroken-alike st (opened_state st user subtree) subtree (alike-wider user st (opened_state st user subtree) subtree wider-opened) whole
+
+  pub subtree-opened : IsSubtree st subtree → IsSubtree (opened_state st user subtree) subtree
+  subtree-opened sub = (wider-opened.here subtree ∙ sub.0, sub.1)
+
+  -- the opening in front is another start
+  pub opened-breaks : (ops : List Op) → breaks st user subtree (opening st user subtree ++ ops) ≡ breaks (opened_state st user subtree) user subtree ops
+  opened-breaks ops = breaks-opening st user subtree (opening st user subtree) ops opening-opens
+
+-- ---- a wider state has the same tries
+
+module _ (user : Identity) (st new : State) (wider : IsWider user st new) (subtree : Names) where
+  same_probes_at : (ancestor : Names) → probe_tries_at new subtree ancestor ≡ probe_tries_at st subtree ancestor
+  same_probes_at ancestor =
+      λ i. present (find (λ number. not (wider.here (probe ancestor number) i)) (numbers_from 0 (length (wider.paths i) + 1))) (λ number.
+        cond (nat_le (length (path_text (probe ancestor number))) 4095)
+        (map (λ pid. Mkdir (probe ancestor number) ∷ Move pid (probe ancestor number) ∷ [])
+          (filter (λ pid. elim (option_map (λ process. process.place) (finite.get (wider.live i) pid)) [ None ↦ false | Some place ↦ inside subtree place ]) (finite.keys (wider.live i)))) [])
+
+  same_probes : (len : ℕ) → probe_tries new subtree len ≡ probe_tries st subtree len
+  same_probes zero = refl
+  same_probes (suc len) = λ i. same_probes_at (take len subtree) i ++ same_probes len i
+
+  same_sets : set_tries new subtree ≡ set_tries st subtree
+  same_sets = λ i. flat_map (λ file. present (wider.values subtree file i) (λ value. (Set subtree file (other_value file value) ∷ []) ∷ [])) all_files
+
+  same_moves : move_tries new subtree ≡ move_tries st subtree
+  same_moves =
+      λ i. flat_map (λ pid. present (option_map (λ process. process.place) (finite.get (wider.live i) pid)) (λ place.
+        map (λ path. Move pid path ∷ []) (filter (λ path. cond (inside subtree place) (not (inside subtree path)) (inside subtree path)) (wider.paths i)))) (finite.keys (wider.live i))
+
+  pub same_tries : plain_tries new subtree ≡ plain_tries st subtree
+  same_tries = λ i. [] ∷ (same_sets i ++ control_tries subtree ++ (Rmdir subtree ∷ []) ∷ (same_moves i ++ same_probes (length subtree) i))
+
+-- ---- what is free stays free
+
+module _ (user : Identity) (st new : State) (wider : IsWider user st new) where
+  allowed-stays : (op : Op) → IsTried (op ∷ []) → allowed st user op ≡ true → allowed new user op ≡ true
+  allowed-stays (Move pid to) tried free = free_allowed new user (Move pid to) (move-stays user st new wider pid to (nothing_bars st user (Move pid to) free))
+  allowed-stays (Control at changes) tried free = free_allowed new user (Control at changes) (control-stays user st new wider at changes (nothing_bars st user (Control at changes) free))
+  allowed-stays (Mkdir path) tried free = free_allowed new user (Mkdir path) (mkdir-stays user st new wider path (nothing_bars st user (Mkdir path) free))
+  allowed-stays (Rmdir path) tried free = free_allowed new user (Rmdir path) (rmdir-stays user st new wider path (nothing_bars st user (Rmdir path) free))
+  allowed-stays (Set at file value) tried free = free_allowed new user (Set at file value) (set-stays user st new wider at file value (nothing_bars st user (Set at file value) free))
+  allowed-stays op tried free = absurd tried
+
+  free-stays : (ops : List Op) → IsTried ops → is_free st user ops ≡ true → is_free new user ops ≡ true
+  free-stays ops tried free = ?
+
+  effect-wider : (ops : List Op) → has_effect new ops ≡ has_effect st ops
+  effect-wider ops = ?
+
+-- ---- the doubled list
+
+-- where what passes passes with the opening before it too
+find-doubled : (p : List Op → Bool) (before : List Op) (xs : List (List Op)) → AllByRecursion (λ ops. p ops ≡ true → p (before ++ ops) ≡ true) xs
+    → find p (flat_map (with_opening before) xs) ≡ option_map (λ ops. unless_free (p ops) before ops) (find (λ ops. p (before ++ ops)) xs)
+find-doubled p before [] all = refl
+find-doubled p [] (ops ∷ others) all = ?
+find-doubled p (op ∷ before) (ops ∷ others) all = ?
+
+-- what the trial of a plain try finds, before the opening and after it
+record Tried (st : State) (user : Identity) (subtree : Names) (ops : List Op) : Type 0 where
+  pub still : breaks st user subtree ops ≡ true → breaks (opened_state st user subtree) user subtree ops ≡ true
+  pub by_free : breaks (opened_state st user subtree) user subtree ops ≡ true → breaks st user subtree ops ≡ is_free st user ops
+
+module _ (st : State) (user : Identity) (subtree : Names) (whole : IsUnbroken st subtree) (formed : IsWellFormed st) (sub : IsSubtree st subtree) where
+  pub first_escape-is : first_escape st user subtree
+      ≡ option_map (λ ops. unless_free (is_free st user ops) (opening st user subtree) ops) (find (breaks (opened_state st user subtree) user subtree) (plain_tries (opened_state st user subtree) subtree))
+  first_escape-is = ?
