@@ -43,7 +43,7 @@ pub record IsExact (st : State) (user : Identity) (subtree : Names) (ops : List 
   pub exact : breaks st user subtree ops ≡ (is_free st user ops && has_effect st ops)
   pub tried : IsTried ops
 
-with_true : (b c : Bool) → b ≡ c → b ≡ (c && true)
+pub with_true : (b c : Bool) → b ≡ c → b ≡ (c && true)
 with_true b true e = e
 with_true b false e = e
 
