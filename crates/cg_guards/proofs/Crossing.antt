@@ -24,10 +24,10 @@ use Rattle.cg_ops.proofs.Allowed.{allowed_fork}
 use Rattle.cg_ops.proofs.StepFormed.{after-allowed}
 use Rattle.cg_ops.proofs.StepEffects.{process_at-after}
 use Rattle.cg_guards.specs.Edge.{is_crossed, crossing}
-use Rattle.cg_guards.specs.Guards.{ancestors}
+use Rattle.cg_guards.specs.Guards.{ancestor, ancestors}
 use Rattle.cg_guards.specs.Guarding.{IsSubtree, AreUnreached}
 use Rattle.cg_guards.proofs.Sound.{IsSound, take-there}
-use Rattle.cg_guards.proofs.GuardedEntries.{at_ancestor, ancestors-has, never_written}
+use Rattle.cg_guards.proofs.GuardedEntries.{ancestors-has, never_written}
 
 -- ---- paths
 
@@ -72,7 +72,7 @@ module _ (st : State) (user : Identity) (subtree : Names) (sound : IsSound st) (
         let level = length (common from to) in
         let row = some_value (row_at st (take level subtree)) (take-there st sound subtree level sub.0) in
         let same = ap (row_at st) (is ∙ above.1) ∙ row.1 in
-        never_written st user subtree (ancestors (length subtree)) unreached (at_ancestor level) (ancestors-has (length subtree) level above.0) row.0.procs
+        never_written st user subtree (ancestors (length subtree)) unreached (ancestor level) (ancestors-has (length subtree) level above.0) row.0.procs
         (ap (option_and_then (λ r. entry_in r Procs)) row.1) (sym (ap (λ r. elim r [ None ↦ true | Some row ↦ writes user row.procs ]) same) ∙ can)
 
     move-inside : (pid : ℕ) (from to : Names) → move_bars st user pid to ≡ [] → place_at st pid ≡ Some from → inside subtree from ≡ inside subtree to

@@ -6,3 +6,4 @@ pub mod Crossing
 pub mod Counts
 pub mod Kept
 pub mod Steps
+pub mod FirstFailed
