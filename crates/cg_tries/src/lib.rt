@@ -1,4 +1,7 @@
 //! Operations that break a subtree, looked for among stated tries.
 #![tactic(auto)]
 
+mod move_tries;
 pub mod operations;
+mod probe_tries;
+mod write_tries;

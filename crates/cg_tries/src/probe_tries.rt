@@ -1,0 +1,1 @@
+//! Tries with a new cgroup above a subtree.
