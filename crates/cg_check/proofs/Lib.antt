@@ -3,3 +3,5 @@ mod Wider
 mod Tried
 mod Monotone
 mod Openings
+mod Escaping
+mod Checking

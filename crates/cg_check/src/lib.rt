@@ -3,6 +3,7 @@
 
 ghost use Rattle.std.specs.Prelude.{◌≡◌, ◌≢◌, [], IfOk, IfErr};
 ghost use Rattle.cg_ops.specs.Clauses.{first};
+ghost use Rattle.cg_tree.specs.WellFormed.{IsWellFormed};
 ghost use Rattle.cg_guards.specs.Guarding.{IsSubtree};
 ghost use Rattle.cg_guards.specs.Guards.{failures};
 ghost use Rattle.cg_check.specs.Answers.{answer};
@@ -11,7 +12,9 @@ ghost use Rattle.cg_check.specs.Checks.{subtree_faults, checked, all_checked, ta
 ghost use Rattle.cg_check.specs.Several.{AreContained};
 
 pub mod answer;
-pub mod escape;
+mod copies;
+mod escape;
+mod opening;
 mod pending;
 
 use answer::{AllAnswer, Answer};
@@ -21,7 +24,7 @@ use cg_guards::guard::Failed;
 use cg_runs::fault::CheckFault;
 use cg_tree::hierarchy::Hierarchy;
 use escape::first_escape;
-use pending::failed_guard;
+use cg_guards::failed::failed_guard;
 use std::alloc::Global;
 
 /// Whether a subtree is contained against a user: against whatever he does, operation after operation.
@@ -29,7 +32,7 @@ use std::alloc::Global;
 /// # Errors
 /// `RootSubtree` where the subtree is the root, `NoSuchSubtree` where it isn't there, and `NoMemory` where an allocation
 /// was refused, which never happens where the subtree is contained.
-pub fn check<H: Hierarchy>(
+pub fn check<H: Hierarchy + Drop>(
     alloc: Global,
     tree: &H,
     user: &User,
@@ -52,7 +55,7 @@ pub fn check<H: Hierarchy>(
 /// # Errors
 /// Those of `check` for the paths, in the order of the list, before anything else; `NoMemory` where an allocation was
 /// refused, which never happens where all is contained.
-pub fn check_all<H: Hierarchy>(
+pub fn check_all<H: Hierarchy + Drop>(
     alloc: Global,
     tree: &H,
     users: &[User],
@@ -83,7 +86,8 @@ pub fn check_all<H: Hierarchy>(
 
 /// Why a subtree isn't checked, where it isn't.
 fn fault_of<H: Hierarchy>(tree: &H, subtree: &Path) -> Option<CheckFault>
-    ensures { result ≡ first (subtree_faults (H.state tree.now) subtree.now) }
+    ensures fault { result ≡ first (subtree_faults (H.state tree.now) subtree.now) }
+    ensures formed { result ≡ None → IsWellFormed (H.state tree.now) }
 {
     if subtree.depth() == 0 {
         return Some(CheckFault::RootSubtree);
@@ -95,13 +99,14 @@ fn fault_of<H: Hierarchy>(tree: &H, subtree: &Path) -> Option<CheckFault>
 }
 
 /// The answer where a guard fails, the first of those that do.
-fn unguarded<H: Hierarchy>(
+fn unguarded<H: Hierarchy + Drop>(
     alloc: Global,
     tree: &H,
     user: &User,
     subtree: &Path,
     failed: Failed,
 ) -> Result<Answer, CheckFault>
+    requires formed { IsWellFormed (H.state tree.now) }
     requires subtree { IsSubtree (H.state tree.now) subtree.now }
     requires failed { first (failures (H.state tree.now) user.now subtree.now) ≡ Some failed }
     ensures ok { IfOk result (λ found. found ≡ answer (H.state tree.now) user.now subtree.now) }
