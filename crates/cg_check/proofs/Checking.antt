@@ -74,3 +74,18 @@ module _ (st : State) (user : Identity) (subtree : Names) where
       none_some : {x : Failed} → None ≡ Some x → ⊥
       none_some h = cc
   unguarded-uncontained failed (Err fault) some ok is = cc
+
+module _ (st : State) (user : Identity) (subtree : Names) (failed : Failed) (some : first (failures st user subtree) ≡ Some failed) where
+  by_escape : (found : Option (List Op)) → found ≡ first_escape st user subtree → answer_from (failed ∷ []) found ≡ answer st user subtree
+  by_escape found is =
+      ap (answer_from (failed ∷ [])) is
+      ∙ elim (failures st user subtree) as (λ all. first all ≡ Some failed → answer_from (failed ∷ []) (first_escape st user subtree) ≡ answer_from all (first_escape st user subtree)) [
+        | [] ↦ λ h. cc
+        | other ∷ others ↦ λ h. let same : other ≡ failed = cc in elim (first_escape st user subtree) as (λ o. answer_from (failed ∷ []) o ≡ answer_from (other ∷ others) o) [ None ↦ ap Unsettled (sym same) | Some ops ↦ refl ]
+      ] some
+
+  pub escapes-answer : (ops : List Op) → Some ops ≡ first_escape st user subtree → Escapes ops ≡ answer st user subtree
+  escapes-answer ops is = by_escape (Some ops) is
+
+  pub unsettled-answer : None ≡ first_escape st user subtree → Unsettled failed ≡ answer st user subtree
+  unsettled-answer is = by_escape None is

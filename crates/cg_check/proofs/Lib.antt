@@ -5,3 +5,4 @@ mod Monotone
 mod Openings
 mod Escaping
 mod Checking
+mod Pairs

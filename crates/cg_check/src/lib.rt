@@ -1,7 +1,7 @@
 //! Whether a subtree is contained, and operations that break it where it isn't.
 #![tactic(auto)]
 
-ghost use Rattle.std.specs.Prelude.{◌≡◌, ◌≢◌, [], IfOk, IfErr};
+ghost use Rattle.std.specs.Prelude.{◌≡◌, ◌≢◌, true, [], is_some, IfOk, IfErr, OnErr};
 ghost use Rattle.cg_ops.specs.Clauses.{first};
 ghost use Rattle.cg_tree.specs.WellFormed.{IsWellFormed};
 ghost use Rattle.cg_guards.specs.Guarding.{IsSubtree};
@@ -9,6 +9,8 @@ ghost use Rattle.cg_guards.specs.Guards.{failures};
 ghost use Rattle.cg_check.specs.Answers.{answer};
 ghost use Rattle.cg_runs.specs.Held.{IsContained};
 ghost use Rattle.cg_check.specs.Checks.{subtree_faults, checked, all_checked, takes_memory, all_take_memory, Gives};
+ghost use Rattle.std.specs.List.{flat_map};
+ghost use Rattle.cg_check.specs.AllAnswers.{pairs_of};
 ghost use Rattle.cg_check.specs.Several.{AreContained};
 
 pub mod answer;
@@ -65,23 +67,54 @@ pub fn check_all<H: Hierarchy + Drop>(
     ensures contained { result ≡ Ok AllAnswer.Contained → users.now ≢ []
         → AreContained (H.state tree.now) users.now subtrees.now }
 {
-    for subtree in subtrees {
-        if let Some(fault) = fault_of(tree, subtree) {
-            return Err(fault);
-        }
+    if let Some(fault) = first_fault(tree, subtrees) {
+        return Err(fault);
     }
     for (place, user) in users.iter().enumerate() {
-        for (from, subtree) in subtrees.iter().enumerate() {
-            if let Some(failed) = failed_guard(tree, user, subtree) {
-                return Ok(AllAnswer::Pair {
-                    user: place,
-                    subtree: from,
-                    answer: unguarded(alloc, tree, user, subtree, failed)?,
-                });
-            }
+        if let Some(pair) = first_pair_of(alloc, tree, place, user, subtrees)? {
+            return Ok(pair);
         }
     }
     Ok(AllAnswer::Contained)
+}
+
+/// The first pair of a user and a subtree that isn't contained; `place` is that of the user.
+fn first_pair_of<H: Hierarchy + Drop>(
+    alloc: Global,
+    tree: &H,
+    place: usize,
+    user: &User,
+    subtrees: &[Path],
+) -> Result<Option<AllAnswer>, CheckFault>
+    requires formed { subtrees.now ≢ [] → IsWellFormed (H.state tree.now) }
+    requires there { first (flat_map (subtree_faults (H.state tree.now)) subtrees.now) ≡ None }
+    ensures ok { IfOk result (λ found. found ≡ first (pairs_of (H.state tree.now) place user.now 0 subtrees.now)) }
+    ensures err { IfErr result (λ fault. fault ≡ CheckFault.NoMemory) }
+    ensures memory { OnErr result (is_some (first (pairs_of (H.state tree.now) place user.now 0 subtrees.now)) ≡ true) }
+{
+    for (from, subtree) in subtrees.iter().enumerate() {
+        if let Some(failed) = failed_guard(tree, user, subtree) {
+            return Ok(Some(AllAnswer::Pair {
+                user: place,
+                subtree: from,
+                answer: unguarded(alloc, tree, user, subtree, failed)?,
+            }));
+        }
+    }
+    Ok(None)
+}
+
+/// Why the first of some subtrees isn't checked, where one isn't.
+fn first_fault<H: Hierarchy>(tree: &H, subtrees: &[Path]) -> Option<CheckFault>
+    ensures fault { result ≡ first (flat_map (subtree_faults (H.state tree.now)) subtrees.now) }
+    ensures formed { result ≡ None → subtrees.now ≢ [] → IsWellFormed (H.state tree.now) }
+{
+    for subtree in subtrees {
+        if let Some(fault) = fault_of(tree, subtree) {
+            return Some(fault);
+        }
+    }
+    None
 }
 
 /// Why a subtree isn't checked, where it isn't.
