@@ -1,5 +1,5 @@
 -- A change of one controller at the parent breaks where it is allowed and changes what the parent enables.
-use Rattle.std.proofs.Common.{◌≡◌, Bool, true, false, cond, not, ◌&&◌, List, [], ◌∷◌, Some, is_some, option_map, option_and_then, refl, sym, ap, ◌∙◌, subst, true≢false}
+use Rattle.std.proofs.Common.{◌≡◌, Bool, true, false, cond, not, ◌&&◌, List, [], ◌∷◌, is_some, option_map, option_and_then, refl, sym, ap, ◌∙◌, true≢false}
 use Rattle.cg_cgroup.specs.Paths.{Names, parent, is_root}
 use Rattle.cg_cgroup.specs.Identity.{Identity}
 use Rattle.cg_cgroup.specs.Files.{enables, stands_under, no_controllers}
@@ -9,9 +9,8 @@ use Rattle.cg_cgroup.specs.declared.files.Controller.TheVariants.{Cpu, Memory, P
 use Rattle.cg_cgroup.specs.declared.files.ControllerSet.{ControllerSet}
 use Rattle.cg_cgroup.specs.declared.files.LimitFile.{LimitFile}
 use Rattle.cg_cgroup.specs.declared.files.LimitFile.TheVariants.{CpuWeight, MemoryMax, PidsMax}
-use Rattle.cg_cgroup.specs.declared.cgroup.Cgroup.{Cgroup}
 use Rattle.cg_cgroup.proofs.Options.{some_value, is_some-mapped}
-use Rattle.cg_tree.specs.States.{State, row_at, file_at, value_at, with_enabled}
+use Rattle.cg_tree.specs.States.{State, row_at, file_at}
 use Rattle.cg_tree.specs.WellFormed.{IsWellFormed, has_row, enabled_at}
 use Rattle.cg_tree.proofs.StateCounts.{paths_of-with_enabled, count_below-same_paths, depth_below-same_paths}
 use Rattle.cg_tree.proofs.StateEntries.{value_at-file, file_at-with_enabled-same}
@@ -19,7 +18,6 @@ use Rattle.cg_tree.proofs.FormedEnabled.{has_row-with_enabled, enabled_at-with_e
 use Rattle.cg_ops.specs.Bars.{bars}
 use Rattle.cg_ops.specs.Changes.{enabled_after}
 use Rattle.cg_ops.specs.Next.{next}
-use Rattle.cg_ops.proofs.ClauseLaws.{none_of_first}
 use Rattle.cg_ops.proofs.StepFormed.{formed-next}
 use Rattle.cg_ops.specs.declared.operation.Op.{Op}
 use Rattle.cg_ops.specs.declared.operation.Op.TheVariants.{Control}
@@ -30,9 +28,8 @@ use Rattle.cg_runs.specs.declared.verdict.Clause.{Clause}
 use Rattle.cg_tries.specs.Tries.{change_of}
 use Rattle.cg_tries.specs.Escapes.{breaks, IsUnbroken}
 use Rattle.cg_tries.specs.Finding.{allowed, changes_enabled}
-
-use Rattle.cg_tries.proofs.Seen.{Seen, seen, IsAlike, is_empty, step-alike}
-use Rattle.cg_tries.proofs.Single.{step_breaks, one_operation, limits_stay, nothing_bars}
+use Rattle.cg_tries.proofs.Seen.{seen, IsAlike, is_empty, step-alike}
+use Rattle.cg_tries.proofs.Single.{step_breaks, one_operation, limits_stay, nothing_bars, where_so}
 
 -- a limit file stands where the parent enables what brings it
 stands : (st : State) (path : Names) (file : LimitFile) → IsWellFormed st → has_row st path ≡ true → is_root path ≡ false → is_some (file_at st path file) ≡ stands_under (enabled_at st (parent path)) file
@@ -85,10 +82,6 @@ toggled true false h e = true≢false (sym e)
 toggled false true h e = true≢false e
 toggled false false h e = true≢false (sym h)
 
-where_so : (b p q : Bool) → (b ≡ true → p ≡ q) → (b && p) ≡ (b && q)
-where_so true p q h = h refl
-where_so false p q h = refl
-
 -- ---- the try
 
 module _ (st : State) (user : Identity) (subtree : Names) (on : Bool) (controller : Controller) (whole : IsUnbroken st subtree) (formed : IsWellFormed st) (there : IsSubtree st subtree) where
@@ -110,7 +103,7 @@ module _ (st : State) (user : Identity) (subtree : Names) (on : Bool) (controlle
       let enabled = enabled_at-with_enabled-same st (parent subtree) (enabled_by on controller above) user (formed.parents subtree there.0) in
       let before = value_stands st subtree file ∙ stands st subtree file formed there.0 there.1 ∙ stands-file_by above controller in
       let after = value_stands new subtree file ∙ stands new subtree file later here there.1 ∙ stands-file_by (enabled_at new (parent subtree)) controller
-        ∙ ap (λ (e : ControllerSet). enables e controller) enabled ∙ now_enabled on controller above in
+      ∙ ap (λ (e : ControllerSet). enables e controller) enabled ∙ now_enabled on controller above in
       toggled on (enables above controller) changes (sym before ∙ ap is_some (limits_stay st st new subtree none file) ∙ after)
 
   -- without effect it leaves the subtree as it was
@@ -119,10 +112,10 @@ module _ (st : State) (user : Identity) (subtree : Names) (on : Bool) (controlle
       let enabled = enabled_by on controller above in
       let paths = paths_of-with_enabled st (parent subtree) enabled user in
       let files : (file : LimitFile) → limits new subtree file ≡ limits st subtree file = λ file.
-        value_at-file new subtree file
-        ∙ ap (option_map (λ f. f.value)) (file_at-with_enabled-same st (parent subtree) enabled user subtree file (λ _.
-            stands st subtree file formed there.0 there.1 ∙ ap (λ (e : ControllerSet). stands_under e file) (sym (same_enabled on controller above same))))
-        ∙ sym (value_at-file st subtree file) in
+      value_at-file new subtree file
+      ∙ ap (option_map (λ f. f.value)) (file_at-with_enabled-same st (parent subtree) enabled user subtree file (λ _.
+      stands st subtree file formed there.0 there.1 ∙ ap (λ (e : ControllerSet). stands_under e file) (sym (same_enabled on controller above same))))
+      ∙ sym (value_at-file st subtree file) in
       λ i. record {
         limits = λ file. files file i;
         count = count_below-same_paths st new paths subtree i;
@@ -133,12 +126,12 @@ module _ (st : State) (user : Identity) (subtree : Names) (on : Bool) (controlle
 
   breaks_where : bars st user op ≡ [] → step_breaks st new subtree ≡ changes_enabled on controller above
   breaks_where free = elim (changes_enabled on controller above) as (λ b. changes_enabled on controller above ≡ b → step_breaks st new subtree ≡ b) [
-      | true ↦ λ changes. elim (broken st st new subtree) as (λ l. broken st st new subtree ≡ l → not (is_empty l) ≡ true) [
-        | [] ↦ λ none. absurd (changed free changes none)
-        | clause ∷ clauses ↦ λ _. refl
-      ] refl
-      | false ↦ λ same. ap (λ (l : List Clause). not (is_empty l)) (step-alike st new subtree (kept same) ∙ whole)
+    | true ↦ λ changes. elim (broken st st new subtree) as (λ l. broken st st new subtree ≡ l → not (is_empty l) ≡ true) [
+      | [] ↦ λ none. absurd (changed free changes none)
+      | clause ∷ clauses ↦ λ _. refl
     ] refl
+    | false ↦ λ same. ap (λ (l : List Clause). not (is_empty l)) (step-alike st new subtree (kept same) ∙ whole)
+  ] refl
 
   pub control_try : breaks st user subtree (op ∷ []) ≡ (allowed st user op && changes_enabled on controller above)
   control_try = one_operation st user subtree op whole ∙ where_so (allowed st user op) _ _ (λ free. breaks_where (nothing_bars st user op free))

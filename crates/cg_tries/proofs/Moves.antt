@@ -16,14 +16,13 @@ use Rattle.cg_cgroup.proofs.PathLaws.{common_comm}
 use Rattle.cg_tree.specs.States.{State, row_at, place_at, paths_of, pids_of}
 use Rattle.cg_ops.specs.Clauses.{unless, absent, present, first}
 use Rattle.cg_ops.specs.Bars.{passes}
-use Rattle.cg_ops.specs.declared.operation.Op.{Op}
 use Rattle.cg_ops.specs.declared.operation.Op.TheVariants.{Move}
 use Rattle.cg_ops.specs.declared.outcome.Refusal.{Refusal}
 use Rattle.cg_ops.specs.declared.outcome.Refusal.TheVariants.{NoSuchCgroup, NoAccess, NoSuchProcess, InternalProcess}
 use Rattle.cg_tries.specs.Tries.{across, move_tries}
 use Rattle.cg_tries.specs.Escapes.{breaks, IsUnbroken}
 use Rattle.cg_tries.specs.Finding.{allowed, passes_at, receives, can_leave_to, can_enter_at, goes_from, move_of, first_given, first_move}
-use Rattle.cg_tries.proofs.Single.{move_try}
+use Rattle.cg_tries.proofs.Single.{move_try, where_so}
 
 -- ---- whether a move is allowed
 
@@ -44,10 +43,10 @@ move_clauses (Some row) may holds pass r s t u =
 pub move_allowed : (st : State) (user : Identity) (pid : ℕ) (place path : Names) → place_at st pid ≡ Some place → allowed st user (Move pid path) ≡ (receives st user path && passes st user place path)
 move_allowed st user pid place path at =
     (λ i. not (is_some (first (absent (row_at st path) (NoSuchCgroup (length path))
-        ++ present (row_at st path) (λ row. unless (writes user row.procs) (NoAccess (length path) Procs))
-        ++ absent (at i) (NoSuchProcess pid)
-        ++ present (at i) (λ place. unless (passes st user place path) (NoAccess (length (common place path)) Procs))
-        ++ present (row_at st path) (λ row. unless (is_root path || enables_nothing row.enabled) (InternalProcess (length path)))))))
+    ++ present (row_at st path) (λ row. unless (writes user row.procs) (NoAccess (length path) Procs))
+    ++ absent (at i) (NoSuchProcess pid)
+    ++ present (at i) (λ place. unless (passes st user place path) (NoAccess (length (common place path)) Procs))
+    ++ present (row_at st path) (λ row. unless (is_root path || enables_nothing row.enabled) (InternalProcess (length path)))))))
     ∙ move_clauses (row_at st path) (λ row. writes user row.procs) (λ row. is_root path || enables_nothing row.enabled) (passes st user place path) _ _ _ _
 
 -- on the other side of the edge, what lies above a place inside is what lies above the subtree
@@ -74,9 +73,9 @@ find-flat_map p g (x ∷ xs) = find-append p (g x) (flat_map g xs) ∙ ap (optio
 pub find-map_filter : {A B : Type 0} (p : B → Bool) (f : A → B) (t : A → Bool) (xs : List A) → find p (map f (filter t xs)) ≡ option_map f (find (λ x. t x && p (f x)) xs)
 find-map_filter p f t [] = refl
 find-map_filter p f t (x ∷ xs) = elim (t x) as (λ b. find p (map f (cond b (x ∷ filter t xs) (filter t xs))) ≡ option_map f (cond (b && p (f x)) (Some x) (find (λ y. t y && p (f y)) xs))) [
-    | true ↦ elim (p (f x)) as (λ c. cond c (Some (f x)) (find p (map f (filter t xs))) ≡ option_map f (cond c (Some x) (find (λ y. t y && p (f y)) xs))) [ true ↦ refl | false ↦ find-map_filter p f t xs ]
-    | false ↦ find-map_filter p f t xs
-  ]
+  | true ↦ elim (p (f x)) as (λ c. cond c (Some (f x)) (find p (map f (filter t xs))) ≡ option_map f (cond c (Some x) (find (λ y. t y && p (f y)) xs))) [ true ↦ refl | false ↦ find-map_filter p f t xs ]
+  | false ↦ find-map_filter p f t xs
+]
 
 pub find-same : {A : Type 0} (p q : A → Bool) (xs : List A) → ((x : A) → p x ≡ q x) → find p xs ≡ find q xs
 find-same p q [] same = refl
@@ -88,14 +87,10 @@ first_given-same f g (x ∷ xs) same = λ i. option_or (same x i) (first_given-s
 
 -- ---- the first move
 
-find-guarded : {A : Type 0} (p : A → Bool) (guard : Bool) (xs : List A) → find (λ x. p x && guard) xs ≡ cond guard (find p xs) None
+pub find-guarded : {A : Type 0} (p : A → Bool) (guard : Bool) (xs : List A) → find (λ x. p x && guard) xs ≡ cond guard (find p xs) None
 find-guarded p true xs = find-same (λ x. p x && true) p xs (λ x. and-true (p x))
 find-guarded p false [] = refl
 find-guarded p false (x ∷ xs) = ap (λ b. cond b (Some x) (find (λ y. p y && false) xs)) (and-false (p x)) ∙ find-guarded p false xs
-
-where_so : (b p q : Bool) → (b ≡ true → p ≡ q) → (b && p) ≡ (b && q)
-where_so true p q h = h refl
-where_so false p q h = refl
 
 module _ (st : State) (user : Identity) (subtree : Names) (whole : IsUnbroken st subtree) where
   -- the path is on the other side of the edge, and moving the process there breaks
@@ -131,7 +126,7 @@ module _ (st : State) (user : Identity) (subtree : Names) (whole : IsUnbroken st
   one_process pid (Some place) at =
       find-map_filter (breaks st user subtree) (λ path. Move pid path ∷ []) (λ path. cond (inside subtree place) (not (inside subtree path)) (inside subtree path)) (paths_of st)
       ∙ elim (inside subtree place) as (λ b. inside subtree place ≡ b → option_map (λ path. Move pid path ∷ []) (find (tried pid place) (paths_of st))
-          ≡ option_map (λ path. Move pid path ∷ []) (cond b (find (can_leave_to st user subtree) (paths_of st)) (cond (passes st user place subtree) (find (can_enter_at st user subtree) (paths_of st)) None))) [
+      ≡ option_map (λ path. Move pid path ∷ []) (cond b (find (can_leave_to st user subtree) (paths_of st)) (cond (passes st user place subtree) (find (can_enter_at st user subtree) (paths_of st)) None))) [
         | true ↦ λ within. ap (option_map (λ path. Move pid path ∷ [])) (find-same (tried pid place) (can_leave_to st user subtree) (paths_of st) (from_inside pid place at within))
         | false ↦ λ out. ap (option_map (λ path. Move pid path ∷ []))
             (find-same (tried pid place) (λ path. can_enter_at st user subtree path && passes st user place subtree) (paths_of st) (from_outside pid place at out)
@@ -142,4 +137,4 @@ module _ (st : State) (user : Identity) (subtree : Names) (whole : IsUnbroken st
   first_move-is =
       find-flat_map (breaks st user subtree) (λ pid. present (place_at st pid) (λ place. map (λ path. Move pid path ∷ []) (across st subtree place))) (pids_of st)
       ∙ first_given-same _ (move_of st user subtree (find (can_leave_to st user subtree) (paths_of st)) (find (can_enter_at st user subtree) (paths_of st))) (pids_of st)
-        (λ pid. one_process pid (place_at st pid) refl)
+      (λ pid. one_process pid (place_at st pid) refl)

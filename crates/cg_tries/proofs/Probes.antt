@@ -1,5 +1,5 @@
 -- A new cgroup above the subtree and a process from inside moved there: whether this breaks depends on the ancestor alone.
-use Rattle.std.proofs.Common.{◌≡◌, ◌≢◌, ℕ, zero, suc, ◌+◌, ◌-◌, ◌<◌, max, Bool, true, false, cond, not, ◌&&◌, ◌||◌, List, [], ◌∷◌, ◌++◌, length, take, Some, None, is_some, nat_lt, refl, sym, ap, ◌∙◌, subst, arith, true≢false, take_all}
+use Rattle.std.proofs.Common.{◌≡◌, ◌≢◌, ℕ, zero, suc, ◌+◌, ◌-◌, ◌<◌, max, true, false, cond, not, ◌&&◌, ◌||◌, [], ◌∷◌, ◌++◌, length, take, Some, None, is_some, nat_lt, refl, sym, ap, ◌∙◌, arith, true≢false, take_all}
 use Rattle.std.proofs.lemmas.Bool.{false_from_ne_true, and_from}
 use Rattle.std.proofs.Math.Bool.{or-true}
 use Rattle.std.proofs.lemmas.List.{length-append, length-take-le}
@@ -12,7 +12,7 @@ use Rattle.cg_cgroup.specs.Cgroups.{cgroup_made_by, value_in}
 use Rattle.cg_cgroup.specs.declared.files.LimitFile.{LimitFile}
 use Rattle.cg_cgroup.specs.declared.cgroup.Cgroup.{Cgroup}
 use Rattle.cg_cgroup.proofs.Options.{none_value}
-use Rattle.cg_cgroup.proofs.PathLaws.{inside-length, inside_refl}
+use Rattle.cg_cgroup.proofs.PathLaws.{inside-length}
 use Rattle.cg_cgroup.proofs.PathOrder.{same_path-not, same_path_refl}
 use Rattle.cg_cgroup.proofs.PathParents.{inside-is}
 use Rattle.cg_cgroup.proofs.UserLaws.{writes-made_by}
@@ -24,9 +24,7 @@ use Rattle.cg_tree.proofs.StateEntries.{value_at-with_row}
 use Rattle.cg_tree.proofs.TreeLaws.{take-there}
 use Rattle.cg_ops.specs.Clauses.{first}
 use Rattle.cg_ops.specs.Bars.{bars}
-use Rattle.cg_ops.specs.Next.{next}
 use Rattle.cg_ops.specs.Steps.{after}
-use Rattle.cg_ops.specs.declared.operation.Op.{Op}
 use Rattle.cg_ops.specs.declared.operation.Op.TheVariants.{Move, Mkdir}
 use Rattle.cg_guards.specs.Limits.{limits}
 use Rattle.cg_tries.specs.Escapes.{breaks, IsUnbroken}
@@ -85,7 +83,7 @@ module _ (st : State) (user : Identity) (subtree : Names) (len : ℕ) (name : Na
   alike : IsAlike st made subtree
   alike =
       let files : (file : LimitFile) → limits made subtree file ≡ limits st subtree file = λ file.
-        value_at-with_row st path row subtree file ∙ ap (λ b. cond b (value_in row file) (limits st subtree file)) not_subtree in
+      value_at-with_row st path row subtree file ∙ ap (λ b. cond b (value_in row file) (limits st subtree file)) not_subtree in
       let count = count_below-with_row st path row free subtree ∙ ap (λ b. cond b (1 + count_below st subtree) (count_below st subtree)) no_child_of in
       let depth = depth_below-with_row st path row free subtree ∙ ap (λ b. cond b (max (depth_below st subtree) (length path - length subtree)) (depth_below st subtree)) no_child_of in
       λ i. record {
@@ -113,22 +111,22 @@ module _ (st : State) (user : Identity) (subtree : Names) (len : ℕ) (name : Na
 
     probe_try_by : breaks st user subtree (Mkdir path ∷ Move pid path ∷ []) ≡ (allowed st user (Mkdir path) && passes_at st user ancestor)
     probe_try_by = elim (bars st user (Mkdir path)) as (λ l. bars st user (Mkdir path) ≡ l → breaks st user subtree (Mkdir path ∷ Move pid path ∷ []) ≡ (not (is_some (first l)) && passes_at st user ancestor)) [
-        | [] ↦ λ e.
-            let to : after st user (Mkdir path) ≡ made = ap (λ l. elim l [ [] ↦ made | bar ∷ others ↦ st ]) e in
-            breaks-alike_first st user subtree (Mkdir path) (ap (λ (s : State). seen s subtree) to ∙ alike) (Move pid path ∷ [])
-            ∙ ap (λ (s : State). breaks s user subtree (Move pid path ∷ [])) to
-            ∙ move_try made user subtree pid place path (unbroken-alike st made subtree alike whole) at over
-            ∙ move_allowed made user pid place path at
-            ∙ (λ i. made_receives i && passes_at made user ((common_inside subtree place path is outside ∙ shared) i))
-            ∙ passes_same
-        | bar ∷ others ↦ λ e.
-            let to : after st user (Mkdir path) ≡ st = ap (λ l. elim l [ [] ↦ made | bar ∷ others ↦ st ]) e in
-            breaks-alike_first st user subtree (Mkdir path) (ap (λ (s : State). seen s subtree) to) (Move pid path ∷ [])
-            ∙ ap (λ (s : State). breaks s user subtree (Move pid path ∷ [])) to
-            ∙ move_try st user subtree pid place path whole at over
-            ∙ move_allowed st user pid place path at
-            ∙ ap (λ r. elim r [ None ↦ false | Some row ↦ writes user row.procs && (is_root path || enables_nothing row.enabled) ] && passes_at st user (common place path)) (none_value (row_at st path) free)
-      ] refl
+      | [] ↦ λ e.
+          let to : after st user (Mkdir path) ≡ made = ap (λ l. elim l [ [] ↦ made | bar ∷ others ↦ st ]) e in
+          breaks-alike_first st user subtree (Mkdir path) (ap (λ (s : State). seen s subtree) to ∙ alike) (Move pid path ∷ [])
+          ∙ ap (λ (s : State). breaks s user subtree (Move pid path ∷ [])) to
+          ∙ move_try made user subtree pid place path (unbroken-alike st made subtree alike whole) at over
+          ∙ move_allowed made user pid place path at
+          ∙ (λ i. made_receives i && passes_at made user ((common_inside subtree place path is outside ∙ shared) i))
+          ∙ passes_same
+      | bar ∷ others ↦ λ e.
+          let to : after st user (Mkdir path) ≡ st = ap (λ l. elim l [ [] ↦ made | bar ∷ others ↦ st ]) e in
+          breaks-alike_first st user subtree (Mkdir path) (ap (λ (s : State). seen s subtree) to) (Move pid path ∷ [])
+          ∙ ap (λ (s : State). breaks s user subtree (Move pid path ∷ [])) to
+          ∙ move_try st user subtree pid place path whole at over
+          ∙ move_allowed st user pid place path at
+          ∙ ap (λ r. elim r [ None ↦ false | Some row ↦ writes user row.procs && (is_root path || enables_nothing row.enabled) ] && passes_at st user (common place path)) (none_value (row_at st path) free)
+    ] refl
 
 pub probe_try : (st : State) (user : Identity) (subtree : Names) (len : ℕ) (name : Name) (pid : ℕ) (place : Names) → IsUnbroken st subtree → IsWellFormed st → has_row st subtree ≡ true → len < length subtree
     → has_row st (take len subtree ++ name ∷ []) ≡ false → place_at st pid ≡ Some place → inside subtree place ≡ true

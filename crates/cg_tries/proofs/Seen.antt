@@ -1,21 +1,19 @@
 -- What a verdict sees of a subtree, and that states which are alike in it are broken alike.
-use Rattle.std.proofs.Common.{◌≡◌, ℕ, suc, Bool, true, false, not, ◌&&◌, List, [], ◌∷◌, ◌++◌, map, filter, Option, Some, None, is_some, option_and_then, refl, sym, ap, ◌∙◌, subst, true≢false}
+use Rattle.std.proofs.Common.{◌≡◌, ℕ, suc, Bool, true, false, not, ◌&&◌, List, [], ◌∷◌, ◌++◌, map, filter, Option, Some, None, is_some, option_and_then, refl, sym, ap, ◌∙◌, true≢false}
 use Rattle.cg_cgroup.specs.Paths.{Names}
 use Rattle.cg_cgroup.specs.Identity.{Identity}
 use Rattle.cg_cgroup.specs.Cgroups.{value_in}
 use Rattle.cg_cgroup.specs.declared.cgroup.Cgroup.{Cgroup}
 use Rattle.cg_cgroup.specs.declared.files.Limit.{Limit}
-use Rattle.cg_cgroup.specs.declared.files.LimitFile.{LimitFile}
 use Rattle.cg_cgroup.specs.declared.files.LimitFile.TheVariants.{MaxDescendants, MaxDepth}
-use Rattle.cg_tree.specs.States.{State, row_at, value_at, place_at, pids_of, count_below, depth_below}
-use Rattle.cg_tree.specs.WellFormed.{has_row}
+use Rattle.cg_tree.specs.States.{State, row_at, place_at, pids_of, count_below, depth_below}
 use Rattle.cg_ops.specs.Clauses.{unless}
 use Rattle.cg_ops.specs.Steps.{after, Deed}
 use Rattle.cg_ops.specs.declared.operation.Op.{Op}
-use Rattle.cg_guards.specs.Limits.{Limits, limits, same_limits, is_within_limit, fits_descendants, fits_depth}
+use Rattle.cg_guards.specs.Limits.{Limits, limits, same_limits, is_within_limit}
 use Rattle.cg_guards.specs.Edge.{is_crossed, crossing}
 use Rattle.cg_runs.specs.Held.{by_user}
-use Rattle.cg_runs.specs.Verdicts.{broken, or_later, verdict_from, verdict}
+use Rattle.cg_runs.specs.Verdicts.{broken, or_later, verdict_from}
 use Rattle.cg_runs.specs.declared.verdict.Clause.{Clause}
 use Rattle.cg_runs.specs.declared.verdict.Clause.TheVariants.{Gone, Crossed, Limits as LimitsChanged, Descendants, Depth}
 use Rattle.cg_runs.specs.declared.verdict.Verdict.{Verdict}

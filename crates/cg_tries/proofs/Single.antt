@@ -20,7 +20,7 @@ use Rattle.cg_tree.specs.States.{State, row_at, process_at, place_at, pids_of, w
 use Rattle.cg_tree.specs.WellFormed.{has_row}
 use Rattle.cg_tree.proofs.StateLaws.{row_at-without_row, process_at-with_place-same}
 use Rattle.cg_tree.proofs.StateEntries.{value_at-with_value}
-use Rattle.cg_ops.specs.Clauses.{unless, first}
+use Rattle.cg_ops.specs.Clauses.{first}
 use Rattle.cg_ops.specs.Steps.{after}
 use Rattle.cg_ops.proofs.ClauseLaws.{no_parts, no_unless}
 use Rattle.cg_ops.specs.Bars.{bars}
@@ -62,11 +62,15 @@ where_allowed st user subtree op whole step =
       | bar ∷ others ↦ λ _. refl
     ] refl
 
+pub where_so : (b p q : Bool) → (b ≡ true → p ≡ q) → (b && p) ≡ (b && q)
+where_so true p q h = h refl
+where_so false p q h = refl
+
 pub nothing_bars : (st : State) (user : Identity) (op : Op) → allowed st user op ≡ true → bars st user op ≡ []
 nothing_bars st user op h = elim (bars st user op) as (λ l. not (is_some (first l)) ≡ true → l ≡ []) [
-    | [] ↦ λ _. refl
-    | bar ∷ others ↦ λ h. absurd (true≢false (sym h))
-  ] h
+  | [] ↦ λ _. refl
+  | bar ∷ others ↦ λ h. absurd (true≢false (sym h))
+] h
 
 -- ---- rmdir
 
@@ -112,9 +116,9 @@ limits_stay start st new subtree none file =
 pub other_differs : (file : LimitFile) (value : Limit) → other_value file value ≢ value
 other_differs CpuWeight Max h = cc
 other_differs CpuWeight (At value) h = elim (nat_eq value 100) as (λ b. nat_eq value 100 ≡ b → cond b (At 1) (At 100) ≢ At value) [
-    | true ↦ λ is e. let k : 1 ≡ value = cc in omega (arith, eqb-true value 100 is, k)
-    | false ↦ λ isn't e. let k : 100 ≡ value = cc in eqb-false value 100 isn't (sym k)
-  ] refl h
+  | true ↦ λ is e. let k : 1 ≡ value = cc in omega (arith, eqb-true value 100 is, k)
+  | false ↦ λ isn't e. let k : 100 ≡ value = cc in eqb-false value 100 isn't (sym k)
+] refl h
 other_differs file Max h = cc
 other_differs file (At value) h = cc
 

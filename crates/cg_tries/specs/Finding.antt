@@ -1,10 +1,12 @@
 -- How the first plain try that breaks is found without carrying tries out. Nothing in it has to be believed.
-use Rattle.std.specs.Prelude.{ℕ, zero, suc, ◌-◌, Bool, true, false, cond, not, ◌&&◌, ◌||◌, nat_le, List, [], ◌∷◌, length, take, find, Option, Some, None, is_some, option_and_then}
+use Rattle.std.specs.Prelude.{ℕ, zero, suc, ◌+◌, ◌-◌, min, Bool, true, false, cond, not, ◌&&◌, ◌||◌, nat_le, List, [], ◌∷◌, length, take, find, Option, Some, None, is_some, option_and_then}
 use Rattle.std.specs.Option.{option_map, option_or}
 use Rattle.cg_cgroup.specs.Paths.{Names, inside, is_root, parent, path_text}
 use Rattle.cg_cgroup.specs.Identity.{Identity}
 use Rattle.cg_cgroup.specs.Users.{writes}
 use Rattle.cg_cgroup.specs.Files.{all_files, all_controllers, enables, enables_nothing}
+use Rattle.cg_cgroup.specs.declared.files.Limit.{Limit}
+use Rattle.cg_cgroup.specs.declared.files.Limit.TheVariants.{Max, At}
 use Rattle.cg_cgroup.specs.declared.files.LimitFile.{LimitFile}
 use Rattle.cg_cgroup.specs.declared.files.Controller.{Controller}
 use Rattle.cg_cgroup.specs.declared.files.ControllerSet.{ControllerSet}
@@ -13,7 +15,7 @@ use Rattle.cg_tree.specs.WellFormed.{enabled_at}
 use Rattle.cg_ops.specs.Clauses.{first}
 use Rattle.cg_ops.specs.Bars.{bars, passes, is_under}
 use Rattle.cg_ops.specs.declared.operation.Op.{Op}
-use Rattle.cg_ops.specs.declared.operation.Op.TheVariants.{Move, Control, Mkdir, Set}
+use Rattle.cg_ops.specs.declared.operation.Op.TheVariants.{Move, Control, Mkdir, Rmdir, Set}
 use Rattle.cg_guards.specs.Limits.{limits}
 use Rattle.cg_tries.specs.Tries.{other_value, change_of, probe, free_probe, is_inside}
 
@@ -50,6 +52,10 @@ control_of st user subtree controller =
 abbrev pub first_control : State → Identity → Names → Option (List Op)
 first_control st user subtree = first_given (control_of st user subtree) all_controllers
 
+-- the first of these, or the removal
+abbrev pub first_write : State → Identity → Names → Option (List Op)
+first_write st user subtree = option_or (first_set st user subtree) (option_or (first_control st user subtree) (if_allowed st user (Rmdir subtree)))
+
 -- ---- moves
 
 -- the user writes cgroup.procs there, if there is such a cgroup
@@ -82,17 +88,20 @@ first_move st user subtree =
 
 -- ---- probes
 
--- the path of the first free probe, where it is short enough
+-- the path of a probe, where it is short enough
+abbrev pub short_probe : Names → ℕ → Option Names
+short_probe ancestor number = cond (nat_le (length (path_text (probe ancestor number))) 4095) (Some (probe ancestor number)) None
+
+-- that of the first free one
 abbrev pub free_path : State → Names → Option Names
-free_path st ancestor =
-    option_and_then (λ number. cond (nat_le (length (path_text (probe ancestor number))) 4095) (Some (probe ancestor number)) None) (free_probe st ancestor)
+free_path st ancestor = option_and_then (short_probe ancestor) (free_probe st ancestor)
 
 -- the cgroup of the first `at` names lets in a new child of the ancestor of `len` names
 abbrev pub level_passes : State → Names → ℕ → ℕ → Bool
 level_passes st subtree len at = elim (row_at st (take at subtree)) [
-    | None ↦ true
-    | Some row ↦ is_under (count_below st (take at subtree)) row.max_descendants.value && is_under (len - at) row.max_depth.value
-  ]
+  | None ↦ true
+  | Some row ↦ is_under (count_below st (take at subtree)) row.max_descendants.value && is_under (len - at) row.max_depth.value
+]
 
 -- those of fewer than `count` names do
 abbrev pub levels_pass : State → Names → ℕ → ℕ → Bool
@@ -102,6 +111,11 @@ levels_pass st subtree len (suc at) = level_passes st subtree len at && levels_p
 -- whether the ancestor of `len` names and all above it let in a new child of it
 abbrev pub lets_in : State → Names → ℕ → Bool
 lets_in st subtree len = levels_pass st subtree len (suc len)
+
+-- a level, or the lower one at which the depth limit of the cgroup of `at` names is reached
+abbrev pub lowered : ℕ → ℕ → Limit → ℕ
+lowered level at Max = level
+lowered level at (At most) = min level (at + most)
 
 -- the user writes the directory and cgroup.procs of the ancestor
 abbrev pub writes_both : State → Identity → Names → Bool
@@ -123,3 +137,8 @@ first_inside st subtree = find (is_inside st subtree) (pids_of st)
 abbrev pub first_probe : State → Identity → Names → Option (List Op)
 first_probe st user subtree =
     option_and_then (λ pid. option_map (λ path. Mkdir path ∷ Move pid path ∷ []) (first_probe_path st user subtree (length subtree))) (first_inside st subtree)
+
+-- ---- what goes over the edge
+
+abbrev pub first_passage : State → Identity → Names → Option (List Op)
+first_passage st user subtree = option_or (first_move st user subtree) (first_probe st user subtree)

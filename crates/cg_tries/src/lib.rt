@@ -3,5 +3,6 @@
 
 mod move_tries;
 pub mod operations;
+pub mod plain;
 mod probe_tries;
 mod write_tries;

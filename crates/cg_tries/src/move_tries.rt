@@ -1,6 +1,5 @@
 //! Tries of one move: over the edge of a subtree.
 ghost use Rattle.std.specs.Prelude.{◌≡◌, ◌≤◌, ◌<◌, ℕ, [], ◌∷◌, false, find, length, take, option_copied, IfOk};
-ghost use Rattle.std.specs.Option.{option_map};
 ghost use Rattle.cg_tree.specs.States.{paths_of, pids_of};
 ghost use Rattle.cg_ops.specs.Bars.{passes};
 ghost use Rattle.cg_tries.specs.Finding.{passes_at, receives, can_leave_to, can_enter_at, goes_from, first_given, move_of, first_move};
@@ -130,26 +129,35 @@ fn goes_from<'a, H: Hierarchy>(
     into
 }
 
+/// The move of a process alone.
+fn only_move(alloc: Global, pid: Pid, path: &Path) -> Result<Operations, NoMemory>
+    ensures { IfOk result (λ operations. operations ≡ Op.Move pid path.now ∷ []) }
+{
+    let to = path.try_clone(alloc)?;
+    Operations::only(alloc, Op::Move { pid, to })
+}
+
 /// The first move of one of these processes over the edge, if these are the first cgroups outside and inside.
-fn first_moved<'a, H: Hierarchy>(
+fn first_moved<H: Hierarchy>(
+    alloc: Global,
     tree: &H,
     user: &User,
     subtree: &Path,
-    out: Option<&'a Path>,
-    into: Option<&'a Path>,
+    out: Option<&Path>,
+    into: Option<&Path>,
     pids: &[Pid],
-) -> Option<(Pid, &'a Path)>
-    ensures { option_map (λ r. Op.Move r.0 r.1.now ∷ []) result
-        ≡ first_given (move_of (H.state tree.now) user.now subtree.now (option_copied out.entry) (option_copied into.entry)) pids.now }
+) -> Result<Option<Operations>, NoMemory>
+    ensures { IfOk result (λ found. found
+        ≡ first_given (move_of (H.state tree.now) user.now subtree.now (option_copied out.entry) (option_copied into.entry)) pids.now) }
 {
     for pid in pids {
         if let Some(place) = tree.place(*pid) {
             if let Some(path) = goes_from(tree, user, subtree, out, into, place) {
-                return Some((*pid, path));
+                return Ok(Some(only_move(alloc, *pid, path)?));
             }
         }
     }
-    None
+    Ok(None)
 }
 
 /// The first move over the edge that is allowed.
@@ -167,9 +175,5 @@ pub fn first_move<H: Hierarchy>(
 {
     let out = first_to_leave_to(tree, user, subtree, paths);
     let into = first_to_enter_at(tree, user, subtree, paths);
-    let Some((pid, path)) = first_moved(tree, user, subtree, out, into, pids) else {
-        return Ok(None);
-    };
-    let to = path.try_clone(alloc)?;
-    Ok(Some(Operations::only(alloc, Op::Move { pid, to })?))
+    first_moved(alloc, tree, user, subtree, out, into, pids)
 }

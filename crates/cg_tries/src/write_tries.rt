@@ -1,10 +1,14 @@
 //! Tries of one write: the limits of a subtree, what its parent enables, its removal.
 ghost use Rattle.std.specs.Prelude.{◌≡◌, false, IfOk, cond, ◌∷◌, [], Some, None};
-ghost use Rattle.cg_cgroup.specs.Paths.{is_root};
+ghost use Rattle.cg_cgroup.specs.Paths.{is_root, parent};
+ghost use Rattle.cg_cgroup.specs.Files.{enables};
+ghost use Rattle.cg_tree.specs.States.{row_at};
+ghost use Rattle.cg_tree.specs.WellFormed.{enabled_at};
 ghost use Rattle.cg_tries.specs.Tries.{other_value};
-ghost use Rattle.cg_tries.specs.Finding.{if_allowed, set_of, first_set, control_of, first_control};
+ghost use Rattle.cg_tries.specs.Finding.{if_allowed, set_of, first_set, control_of, first_control, first_write};
 
 use crate::operations::Operations;
+use cg_cgroup::cgroup::Cgroup;
 use cg_cgroup::files::{Controller, Limit, LimitFile};
 use cg_cgroup::memory::NoMemory;
 use cg_cgroup::path::Path;
@@ -16,7 +20,7 @@ use cg_tree::hierarchy::Hierarchy;
 use std::alloc::Global;
 
 /// An operation alone, where nothing refuses it.
-pub fn if_allowed<H: Hierarchy>(
+fn if_allowed<H: Hierarchy>(
     alloc: Global,
     tree: &H,
     user: &User,
@@ -48,13 +52,12 @@ fn set_of<H: Hierarchy>(
     tree: &H,
     user: &User,
     subtree: &Path,
+    cgroup: &Cgroup,
     file: LimitFile,
 ) -> Result<Option<Operations>, NoMemory>
+    requires { row_at (H.state tree.now) subtree.now ≡ Some cgroup.now }
     ensures { IfOk result (λ found. found ≡ set_of (H.state tree.now) user.now subtree.now file) }
 {
-    let Some(cgroup) = tree.get(subtree, subtree.depth()) else {
-        return Ok(None);
-    };
     let Some(held) = cgroup.file(file) else {
         return Ok(None);
     };
@@ -64,24 +67,38 @@ fn set_of<H: Hierarchy>(
 }
 
 /// The first limit of the subtree that the user may set to another value.
-pub fn first_set<H: Hierarchy>(
+fn first_set<H: Hierarchy>(
     alloc: Global,
     tree: &H,
     user: &User,
     subtree: &Path,
+    cgroup: &Cgroup,
 ) -> Result<Option<Operations>, NoMemory>
+    requires { row_at (H.state tree.now) subtree.now ≡ Some cgroup.now }
     ensures { IfOk result (λ found. found ≡ first_set (H.state tree.now) user.now subtree.now) }
 {
     for file in LimitFile::ALL {
-        let found = set_of(alloc, tree, user, subtree, file)?;
-        if found.is_some() {
-            return Ok(found);
+        if let Some(found) = set_of(alloc, tree, user, subtree, cgroup, file)? {
+            return Ok(Some(found));
         }
     }
     Ok(None)
 }
 
+/// Whether the subtree's parent enables a controller.
+#[tactic(auto, using(cg_ops::proofs::Prefixes::take_parent))]
+fn is_enabled_above<H: Hierarchy>(tree: &H, subtree: &Path, controller: Controller) -> bool
+    requires { is_root subtree.now ≡ false }
+    ensures { result ≡ enables (enabled_at (H.state tree.now) (parent subtree.now)) controller }
+{
+    match tree.get(subtree, subtree.parent_len()) {
+        Some(parent) => parent.enabled.contains(controller),
+        None => false,
+    }
+}
+
 /// The change of a controller that has an effect at the subtree's parent, where the user may make it.
+#[tactic(auto, using(cg_ops::proofs::Prefixes::take_parent))]
 fn control_of<H: Hierarchy>(
     alloc: Global,
     tree: &H,
@@ -92,22 +109,15 @@ fn control_of<H: Hierarchy>(
     requires { is_root subtree.now ≡ false }
     ensures { IfOk result (λ found. found ≡ control_of (H.state tree.now) user.now subtree.now controller) }
 {
-    let len = subtree.parent_len();
-    let enabled = match tree.get(subtree, len) {
-        Some(parent) => parent.enabled.contains(controller),
-        None => false,
-    };
-    let at = subtree.try_prefix(alloc, len)?;
+    let on = !is_enabled_above(tree, subtree, controller);
     let mut changes = Changes::new(alloc);
-    changes.push(Change {
-        on: !enabled,
-        controller,
-    })?;
+    changes.push(Change { on, controller })?;
+    let at = subtree.try_prefix(alloc, subtree.parent_len())?;
     if_allowed(alloc, tree, user, Op::Control { at, changes })
 }
 
 /// The first change of one controller, at the subtree's parent, that the user may make and that has an effect.
-pub fn first_control<H: Hierarchy>(
+fn first_control<H: Hierarchy>(
     alloc: Global,
     tree: &H,
     user: &User,
@@ -117,10 +127,31 @@ pub fn first_control<H: Hierarchy>(
     ensures { IfOk result (λ found. found ≡ first_control (H.state tree.now) user.now subtree.now) }
 {
     for controller in Controller::ALL {
-        let found = control_of(alloc, tree, user, subtree, controller)?;
-        if found.is_some() {
-            return Ok(found);
+        if let Some(found) = control_of(alloc, tree, user, subtree, controller)? {
+            return Ok(Some(found));
         }
     }
     Ok(None)
+}
+
+/// The first write that breaks the subtree: to one of its limits, to its parent's `cgroup.subtree_control`, or its removal.
+pub fn first_write<H: Hierarchy>(
+    alloc: Global,
+    tree: &H,
+    user: &User,
+    subtree: &Path,
+    cgroup: &Cgroup,
+) -> Result<Option<Operations>, NoMemory>
+    requires row { row_at (H.state tree.now) subtree.now ≡ Some cgroup.now }
+    requires not_root { is_root subtree.now ≡ false }
+    ensures { IfOk result (λ found. found ≡ first_write (H.state tree.now) user.now subtree.now) }
+{
+    if let Some(set) = first_set(alloc, tree, user, subtree, cgroup)? {
+        return Ok(Some(set));
+    }
+    if let Some(control) = first_control(alloc, tree, user, subtree)? {
+        return Ok(Some(control));
+    }
+    let path = subtree.try_clone(alloc)?;
+    if_allowed(alloc, tree, user, Op::Rmdir { path })
 }
