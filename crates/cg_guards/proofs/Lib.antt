@@ -7,3 +7,4 @@ pub mod Counts
 pub mod Kept
 pub mod Steps
 pub mod FirstFailed
+pub mod OperationLaws

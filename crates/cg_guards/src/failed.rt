@@ -9,7 +9,7 @@ ghost use Rattle.cg_tree.specs.States.{row_at};
 ghost use Rattle.cg_tree.specs.WellFormed.{has_row};
 ghost use Rattle.cg_ops.specs.Clauses.{unless, present, first};
 ghost use Rattle.cg_guards.specs.Limits.{is_within_limit, fits_descendants, fits_depth};
-ghost use Rattle.cg_guards.specs.Guards.{ancestor, ancestors, limit_file, parent_control, parent_dir, guarded_entries, entry_failures, failures};
+ghost use Rattle.cg_guards.specs.Guards.{ancestor, ancestors, limit_file, limit_files, parent_control, parent_dir, guarded_entries, entry_failures, failures};
 ghost use Rattle.cg_guards.specs.Guarding.{IsSubtree};
 
 use crate::guard::{Failed, Guard};
@@ -49,7 +49,7 @@ pub fn is_over<H: Hierarchy>(tree: &H, subtree: &Path) -> bool
 }
 
 /// Whether a cgroup has no more descendants than it says.
-fn fits_descendants<H: Hierarchy>(tree: &H, subtree: &Path, cgroup: &Cgroup) -> bool
+pub fn fits_descendants<H: Hierarchy>(tree: &H, subtree: &Path, cgroup: &Cgroup) -> bool
     requires { row_at (H.state tree.now) subtree.now ≡ Some cgroup.now }
     ensures { result ≡ fits_descendants (H.state tree.now) subtree.now }
 {
@@ -58,7 +58,7 @@ fn fits_descendants<H: Hierarchy>(tree: &H, subtree: &Path, cgroup: &Cgroup) -> 
 }
 
 /// Whether a cgroup has no descendant further down than it says.
-fn fits_depth<H: Hierarchy>(tree: &H, subtree: &Path, cgroup: &Cgroup) -> bool
+pub fn fits_depth<H: Hierarchy>(tree: &H, subtree: &Path, cgroup: &Cgroup) -> bool
     requires { row_at (H.state tree.now) subtree.now ≡ Some cgroup.now }
     ensures { result ≡ fits_depth (H.state tree.now) subtree.now }
 {
@@ -74,7 +74,7 @@ pub fn failed_entry<H: Hierarchy>(tree: &H, user: &User, subtree: &Path) -> Opti
     if let Some(failed) = failed_ancestor(tree, user, subtree) {
         return Some(failed);
     }
-    if let Some(failed) = failed_file(tree, user, subtree, &LimitFile::ALL) {
+    if let Some(failed) = failed_file(tree, user, subtree) {
         return Some(failed);
     }
     failed_parent(tree, user, subtree)
@@ -101,9 +101,16 @@ fn failed_at<H: Hierarchy>(tree: &H, user: &User, subtree: &Path, len: usize) ->
     failed_in(cgroup, user, Guard::CommonAncestor, len, EntryName::Procs)
 }
 
+/// The first limit file of the subtree that the user reaches.
+fn failed_file<H: Hierarchy>(tree: &H, user: &User, subtree: &Path) -> Option<Failed>
+    ensures { result ≡ first (flat_map (entry_failures (H.state tree.now) user.now subtree.now) (limit_files (length subtree.now))) }
+{
+    failed_of_files(tree, user, subtree, &LimitFile::ALL)
+}
+
 /// The first of these limit files of the subtree that the user reaches.
 #[tactic(auto, using(crate::proofs::FirstFailed::files_absent))]
-fn failed_file<H: Hierarchy>(
+fn failed_of_files<H: Hierarchy>(
     tree: &H,
     user: &User,
     subtree: &Path,

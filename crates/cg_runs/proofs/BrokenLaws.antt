@@ -1,13 +1,11 @@
 -- What it takes for nothing to be broken, and what it tells.
-use Rattle.std.proofs.Common.{◌≡◌, ℕ, Bool, true, List, [], ◌∷◌, ◌++◌, map, length, take, Some, None, is_some, refl, sym, ap, ◌∙◌}
+use Rattle.std.proofs.Common.{◌≡◌, ℕ, Bool, true, List, [], ◌∷◌, ◌++◌, map, refl, sym, ap, ◌∙◌}
 use Rattle.cg_cgroup.specs.Paths.{Names}
-use Rattle.cg_tree.specs.States.{State, row_at, count_below, depth_below}
+use Rattle.cg_tree.specs.States.{State}
 use Rattle.cg_tree.specs.WellFormed.{has_row}
 use Rattle.cg_ops.specs.Clauses.{unless, first}
-use Rattle.cg_cgroup.specs.declared.cgroup.Cgroup.{Cgroup}
-use Rattle.cg_ops.proofs.Prefixes.{take_whole}
 use Rattle.cg_ops.proofs.ClauseLaws.{no_parts, no_unless}
-use Rattle.cg_guards.specs.Limits.{Limits as LimitMap, limits, same_limits, fits_descendants, fits_depth, is_within_limit}
+use Rattle.cg_guards.specs.Limits.{Limits as LimitMap, limits, same_limits, fits_descendants, fits_depth}
 use Rattle.cg_guards.specs.Edge.{crossing}
 use Rattle.cg_guards.proofs.Crossing.{none-crosses-same}
 use Rattle.cg_runs.specs.Verdicts.{broken_since, broken}
@@ -28,24 +26,14 @@ no_map f (x ∷ xs) h = cc
 -- ---- at the start
 
 -- the clauses by what they ask
-abbrev clauses_of : Bool → List ℕ → Bool → Bool → Bool → List Clause
+abbrev pub clauses_of : Bool → List ℕ → Bool → Bool → Bool → List Clause
 clauses_of there crossed same descendants depth =
     unless there Gone ++ map Crossed crossed ++ unless same Limits ++ unless descendants Descendants ++ unless depth Depth
 
-module _ (st : State) (subtree : Names) (row : Cgroup) (is : row_at st subtree ≡ Some row) where
-  broken-there : broken st st st subtree ≡ clauses_of true [] true (is_within_limit (count_below st subtree) row.max_descendants.value) (is_within_limit (depth_below st subtree) row.max_depth.value)
-  broken-there = λ i. clauses_of (is_some (is i)) (none-crosses-same st subtree i) (same_limits-itself (limits st subtree) i)
-      (elim (is i) [ None ↦ true | Some row ↦ is_within_limit (count_below st subtree) row.max_descendants.value ])
-      (elim (is i) [ None ↦ true | Some row ↦ is_within_limit (depth_below st subtree) row.max_depth.value ])
-
-  -- what is asked there of both counts, as the code asks it
-  pub start-broken : (len count depth : ℕ) (many deep : Bool) → len ≡ length subtree → count ≡ count_below st (take len subtree) → many ≡ is_within_limit count row.max_descendants.value
-      → depth ≡ depth_below st (take len subtree) → deep ≡ is_within_limit depth row.max_depth.value → first (clauses_of true [] true many deep) ≡ first (broken st st st subtree)
-  start-broken len count depth many deep whole is_count is_many is_depth is_deep =
-      let same : take len subtree ≡ subtree = take_whole subtree len whole in
-      let many_is = is_many ∙ ap (λ n. is_within_limit n row.max_descendants.value) (is_count ∙ ap (count_below st) same) in
-      let deep_is = is_deep ∙ ap (λ n. is_within_limit n row.max_depth.value) (is_depth ∙ ap (depth_below st) same) in
-      ap first (λ i. clauses_of true [] true (many_is i) (deep_is i)) ∙ sym (ap first broken-there)
+pub start-broken : (st : State) (subtree : Names) (descendants depth : Bool) → has_row st subtree ≡ true → descendants ≡ fits_descendants st subtree → depth ≡ fits_depth st subtree
+    → first (clauses_of true [] true descendants depth) ≡ first (broken st st st subtree)
+start-broken st subtree descendants depth there fits fits_too =
+    sym (λ i. first (clauses_of (there i) (none-crosses-same st subtree i) (same_limits-itself (limits st subtree) i) (sym fits i) (sym fits_too i)))
 
 -- ---- nothing is broken
 

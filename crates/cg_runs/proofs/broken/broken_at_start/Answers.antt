@@ -1,18 +1,17 @@
-use Rattle.std.proofs.Common.{true, false, refl, sym, ◌∙◌}
+use Rattle.std.proofs.Common.{true, false, is_some, refl, sym, ap, ◌∙◌}
 use Rattle.cg_runs.proofs.BrokenLaws.{start-broken}
 use Rattle.cg_runs.proofs.broken.broken_at_start.Goals as goal
 
-pub returns-then-not-fits : goal.returns-then-not-fits
-returns-then-not-fits g c =
-    start-broken (g.H.Hierarchy.state c.args.tree.now) c.args.subtree.now c.args.cgroup.now c.requires _ _ _ false _ c.depth-len.ensures.depth
-    c.count_below.ensures (sym c.if-not-fits.true ∙ c.fits.ensures) refl refl
+pub returns-then-not-fits_descendants : goal.returns-then-not-fits_descendants
+returns-then-not-fits_descendants g c =
+    start-broken (g.H.Hierarchy.state c.args.tree.now) c.args.subtree.now false _ (ap is_some c.requires) (sym c.if-not-fits_descendants.true ∙ c.fits_descendants.ensures) refl
 
-pub returns-then-not-fits-2 : goal.returns-then-not-fits-2
-returns-then-not-fits-2 g c =
-    start-broken (g.H.Hierarchy.state c.args.tree.now) c.args.subtree.now c.args.cgroup.now c.requires _ _ _ true false c.depth-len.ensures.depth
-    c.count_below.ensures (sym c.if-not-fits.false ∙ c.fits.ensures) c.depth_below.ensures (sym c.if-not-fits-2.true ∙ c.fits-2.ensures)
+pub returns-then-not-fits_depth : goal.returns-then-not-fits_depth
+returns-then-not-fits_depth g c =
+    start-broken (g.H.Hierarchy.state c.args.tree.now) c.args.subtree.now true false (ap is_some c.requires)
+    (sym c.if-not-fits_descendants.false ∙ c.fits_descendants.ensures) (sym c.if-not-fits_depth.true ∙ c.fits_depth.ensures)
 
 pub returns : goal.returns
 returns g c =
-    start-broken (g.H.Hierarchy.state c.args.tree.now) c.args.subtree.now c.args.cgroup.now c.requires _ _ _ true true c.depth-len.ensures.depth
-    c.count_below.ensures (sym c.if-not-fits.false ∙ c.fits.ensures) c.depth_below.ensures (sym c.if-not-fits-2.false ∙ c.fits-2.ensures)
+    start-broken (g.H.Hierarchy.state c.args.tree.now) c.args.subtree.now true true (ap is_some c.requires)
+    (sym c.if-not-fits_descendants.false ∙ c.fits_descendants.ensures) (sym c.if-not-fits_depth.false ∙ c.fits_depth.ensures)

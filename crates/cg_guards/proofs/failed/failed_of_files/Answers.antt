@@ -1,6 +1,6 @@
 use Rattle.std.proofs.Common.{◌∙◌}
 use Rattle.cg_guards.proofs.FirstFailed.{file_some, file_none}
-use Rattle.cg_guards.proofs.failed.failed_file.Goals as goal
+use Rattle.cg_guards.proofs.failed.failed_of_files.Goals as goal
 
 pub returns-in-Some-failed_in : goal.returns-in-Some-failed_in
 returns-in-Some-failed_in g c =
