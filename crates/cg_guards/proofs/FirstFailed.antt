@@ -17,12 +17,13 @@ use Rattle.cg_guards.specs.Limits.{is_within_limit, fits_descendants}
 use Rattle.cg_guards.specs.declared.guard.Failed.{Failed}
 use Rattle.cg_guards.specs.declared.guard.Guard.TheVariants.{LimitFile as LimitFileGuard}
 
-module _ (f : Guarded → List Failed) where
-  pub ancestor_some : (len : ℕ) (failed : Failed) → 0 < len → Some failed ≡ first (f (ancestor (len - 1))) → Some failed ≡ first (flat_map f (ancestors len))
+module _ (st : State) (user : Identity) (subtree : Names) where
+  pub ancestor_some : (len : ℕ) (failed : Failed) → 0 < len → Some failed ≡ first (entry_failures st user subtree (ancestor (len - 1))) → Some failed ≡ first (flat_map (entry_failures st user subtree) (ancestors len))
   ancestor_some zero failed low h = absurd (omega arith)
   ancestor_some (suc len) failed low h = let e : suc len - 1 ≡ len = omega arith in sym (first_some _ _ failed (sym (rw e at h)))
 
-  pub ancestor_none : (len : ℕ) → 0 < len → None ≡ first (f (ancestor (len - 1))) → first (flat_map f (ancestors (len - 1))) ≡ first (flat_map f (ancestors len))
+  pub ancestor_none : (len : ℕ) → 0 < len → None ≡ first (entry_failures st user subtree (ancestor (len - 1)))
+      → first (flat_map (entry_failures st user subtree) (ancestors (len - 1))) ≡ first (flat_map (entry_failures st user subtree) (ancestors len))
   ancestor_none zero low h = absurd (omega arith)
   ancestor_none (suc len) low h = let e : suc len - 1 ≡ len = omega arith in rw e (sym (first_none _ _ (sym (rw e at h))))
 

@@ -81,6 +81,7 @@ pub fn failed_entry<H: Hierarchy>(tree: &H, user: &User, subtree: &Path) -> Opti
 }
 
 /// The nearest proper ancestor whose `cgroup.procs` the user reaches.
+#[tactic(auto, using(crate::proofs::FirstFailed::ancestor_some, crate::proofs::FirstFailed::ancestor_none))]
 fn failed_ancestor<H: Hierarchy>(tree: &H, user: &User, subtree: &Path) -> Option<Failed>
     ensures { result ≡ first (flat_map (entry_failures (H.state tree.now) user.now subtree.now) (ancestors (length subtree.now))) }
 {
