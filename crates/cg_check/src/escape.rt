@@ -11,7 +11,6 @@ ghost use Rattle.cg_tries.specs.Finding.{passes_at};
 
 use crate::copies::copied;
 use crate::opening::opening;
-use crate::pending::first_plain_try;
 use cg_cgroup::memory::NoMemory;
 use cg_cgroup::path::Path;
 use cg_cgroup::user::User;
@@ -20,6 +19,7 @@ use cg_ops::operation::Op;
 use cg_ops::{apply, refusal};
 use cg_tree::hierarchy::Hierarchy;
 use cg_tries::operations::Operations;
+use cg_tries::plain::first_plain_try;
 use std::alloc::Global;
 
 /// The first of the tries that breaks the subtree, where there is one.

@@ -17,7 +17,6 @@ pub mod answer;
 mod copies;
 mod escape;
 mod opening;
-mod pending;
 
 use answer::{AllAnswer, Answer};
 use cg_cgroup::path::Path;
