@@ -6,3 +6,4 @@ mod Openings
 mod Escaping
 mod Checking
 mod Pairs
+mod AllContained

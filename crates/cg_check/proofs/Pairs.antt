@@ -18,7 +18,7 @@ use Rattle.cg_check.specs.declared.answer.Answer.{Answer}
 use Rattle.cg_check.specs.declared.answer.Answer.TheVariants.{Contained, Escapes, Unsettled}
 use Rattle.cg_check.specs.declared.answer.AllAnswer.{AllAnswer}
 use Rattle.cg_check.specs.declared.answer.AllAnswer.TheVariants as all
-use Rattle.cg_check.proofs.Checking.{guarded-answer, answer-guarded, fails-memory}
+use Rattle.cg_check.proofs.Checking.{no_fault, guarded-answer, answer-guarded, fails-memory}
 
 -- ---- one after another
 
@@ -78,3 +78,7 @@ module _ (st : State) (users : List Identity) (subtrees : List Names) (i : ℕ) 
 
   pub users-found : (pair : AllAnswer) → Some pair ≡ first (pairs_of st i user 0 subtrees) → Some pair ≡ first (pairs_from st i (drop i users) subtrees)
   users-found pair some = sym (ap first users_here ∙ first_some _ _ pair (sym some))
+
+pub subtree-at : (st : State) (subtrees : List Names) (i : ℕ) (subtree : Names) → i < length subtrees → subtree ≡ get_or subtrees i subtree → first (flat_map (subtree_faults st) subtrees) ≡ None → IsSubtree st subtree
+subtree-at st subtrees i subtree within at none =
+    no_fault st subtree (sym (ap (λ path. first (subtree_faults st path)) at ∙ none-element (subtree_faults st) subtrees i subtree within none))

@@ -70,8 +70,10 @@ pub fn check_all<H: Hierarchy + Drop>(
         return Err(fault);
     }
     for (place, user) in users.iter().enumerate() {
-        if let Some(pair) = first_pair_of(alloc, tree, place, user, subtrees)? {
-            return Ok(pair);
+        match first_pair_of(alloc, tree, place, user, subtrees) {
+            Ok(None) => {}
+            Ok(Some(pair)) => return Ok(pair),
+            Err(_) => return Err(CheckFault::NoMemory),
         }
     }
     Ok(AllAnswer::Contained)
