@@ -1,0 +1,5 @@
+//! The lines of verdicts and answers.
+#![tactic(auto)]
+
+pub mod answer;
+pub mod verdict;
