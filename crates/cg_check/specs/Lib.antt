@@ -1,1 +1,4 @@
 pub mod Answers
+pub mod AllAnswers
+pub mod Checks
+pub mod Several

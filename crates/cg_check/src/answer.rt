@@ -1,4 +1,4 @@
-//! The answer for a user and a subtree.
+//! The answer for a user and a subtree, and for several of both.
 use cg_guards::guard::Failed;
 use cg_tries::operations::Operations;
 
@@ -11,4 +11,17 @@ pub enum Answer {
     Escapes(Operations),
     /// This guard fails, and none of the tries breaks anything.
     Unsettled(Failed),
+}
+
+/// Whether each subtree of a list is contained against each user of a list.
+#[derive(Debug, Drop)]
+pub enum AllAnswer {
+    /// Every user with every subtree.
+    Contained,
+    /// The first pair that isn't, by user and then subtree, each named by its place in its list.
+    Pair {
+        user: usize,
+        subtree: usize,
+        answer: Answer,
+    },
 }

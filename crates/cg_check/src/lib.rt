@@ -1,4 +1,115 @@
 //! Whether a subtree is contained, and operations that break it where it isn't.
 #![tactic(auto)]
 
+ghost use Rattle.std.specs.Prelude.{◌≡◌, ◌≢◌, [], IfOk, IfErr};
+ghost use Rattle.cg_ops.specs.Clauses.{first};
+ghost use Rattle.cg_guards.specs.Guarding.{IsSubtree};
+ghost use Rattle.cg_guards.specs.Guards.{failures};
+ghost use Rattle.cg_check.specs.Answers.{answer};
+ghost use Rattle.cg_runs.specs.Held.{IsContained};
+ghost use Rattle.cg_check.specs.Checks.{subtree_faults, checked, all_checked, takes_memory, all_take_memory, Gives};
+ghost use Rattle.cg_check.specs.Several.{AreContained};
+
 pub mod answer;
+pub mod escape;
+mod pending;
+
+use answer::{AllAnswer, Answer};
+use cg_cgroup::path::Path;
+use cg_cgroup::user::User;
+use cg_guards::guard::Failed;
+use cg_runs::fault::CheckFault;
+use cg_tree::hierarchy::Hierarchy;
+use escape::first_escape;
+use pending::failed_guard;
+use std::alloc::Global;
+
+/// Whether a subtree is contained against a user: against whatever he does, operation after operation.
+///
+/// # Errors
+/// `RootSubtree` where the subtree is the root, `NoSuchSubtree` where it isn't there, and `NoMemory` where an allocation
+/// was refused, which never happens where the subtree is contained.
+pub fn check<H: Hierarchy>(
+    alloc: Global,
+    tree: &H,
+    user: &User,
+    subtree: &Path,
+) -> Result<Answer, CheckFault>
+    ensures answer { Gives takes_memory (checked (H.state tree.now) user.now subtree.now) result }
+    ensures contained { result ≡ Ok Answer.Contained → IsContained (H.state tree.now) user.now subtree.now }
+{
+    if let Some(fault) = fault_of(tree, subtree) {
+        return Err(fault);
+    }
+    match failed_guard(tree, user, subtree) {
+        None => Ok(Answer::Contained),
+        Some(failed) => unguarded(alloc, tree, user, subtree, failed),
+    }
+}
+
+/// Whether every subtree of a list is contained against every user of a list.
+///
+/// # Errors
+/// Those of `check` for the paths, in the order of the list, before anything else; `NoMemory` where an allocation was
+/// refused, which never happens where all is contained.
+pub fn check_all<H: Hierarchy>(
+    alloc: Global,
+    tree: &H,
+    users: &[User],
+    subtrees: &[Path],
+) -> Result<AllAnswer, CheckFault>
+    ensures answer { Gives all_take_memory (all_checked (H.state tree.now) users.now subtrees.now) result }
+    ensures contained { result ≡ Ok AllAnswer.Contained → users.now ≢ []
+        → AreContained (H.state tree.now) users.now subtrees.now }
+{
+    for subtree in subtrees {
+        if let Some(fault) = fault_of(tree, subtree) {
+            return Err(fault);
+        }
+    }
+    for (place, user) in users.iter().enumerate() {
+        for (from, subtree) in subtrees.iter().enumerate() {
+            if let Some(failed) = failed_guard(tree, user, subtree) {
+                return Ok(AllAnswer::Pair {
+                    user: place,
+                    subtree: from,
+                    answer: unguarded(alloc, tree, user, subtree, failed)?,
+                });
+            }
+        }
+    }
+    Ok(AllAnswer::Contained)
+}
+
+/// Why a subtree isn't checked, where it isn't.
+fn fault_of<H: Hierarchy>(tree: &H, subtree: &Path) -> Option<CheckFault>
+    ensures { result ≡ first (subtree_faults (H.state tree.now) subtree.now) }
+{
+    if subtree.depth() == 0 {
+        return Some(CheckFault::RootSubtree);
+    }
+    if tree.get(subtree, subtree.depth()).is_none() {
+        return Some(CheckFault::NoSuchSubtree);
+    }
+    None
+}
+
+/// The answer where a guard fails, the first of those that do.
+fn unguarded<H: Hierarchy>(
+    alloc: Global,
+    tree: &H,
+    user: &User,
+    subtree: &Path,
+    failed: Failed,
+) -> Result<Answer, CheckFault>
+    requires subtree { IsSubtree (H.state tree.now) subtree.now }
+    requires failed { first (failures (H.state tree.now) user.now subtree.now) ≡ Some failed }
+    ensures ok { IfOk result (λ found. found ≡ answer (H.state tree.now) user.now subtree.now) }
+    ensures err { IfErr result (λ fault. fault ≡ CheckFault.NoMemory) }
+{
+    match first_escape(alloc, tree, user, subtree) {
+        Err(_) => Err(CheckFault::NoMemory),
+        Ok(Some(ops)) => Ok(Answer::Escapes(ops)),
+        Ok(None) => Ok(Answer::Unsettled(failed)),
+    }
+}
