@@ -4,3 +4,4 @@ mod ReplayRuns
 mod ReplayEnds
 mod ReplayCalls
 mod ReplayReads
+mod CheckReports

@@ -29,10 +29,13 @@ answer_status (Unsettled failed) = 2
 abbrev pub answer_report : Names → Answer → Report
 answer_report subtree found = record { text = answer_text subtree found; ending = Ok (answer_status found) }
 
+-- The fault of the subtree, or the answer.
+abbrev pub subtree_report : State → Identity → Names → Report
+subtree_report st user subtree = report_on (in_call (checked st user subtree)) (answer_report subtree)
+
 -- The user is looked at first, then the path, the tree's text, and whether the subtree is one that can be checked.
 abbrev pub check_report : List ℕ → ℕ → List ℕ → List ℕ → Report
 check_report text uid gids subtree =
     report_on (user_read uid gids) (λ user.
     report_on (path_read subtree) (λ path.
-    report_on (tree_read text) (λ st.
-    report_on (in_call (checked st user path)) (answer_report path))))
+    report_on (tree_read text) (λ st. subtree_report st user path)))

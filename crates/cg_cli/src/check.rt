@@ -1,21 +1,27 @@
 //! Whether a subtree is contained against a user.
-ghost use Rattle.std.specs.Prelude.{◌≡◌, Ok, Some};
+ghost use Rattle.std.specs.Prelude.{◌≡◌, ◌≢◌, Ok, Err, Some, IfOk, MatchResult};
 ghost use Rattle.cg_cgroup.specs.Identity.{Identity};
 ghost use Rattle.cg_cgroup.specs.Paths.{Names, path_at};
 ghost use Rattle.cg_cgroup.specs.Users.{user_of};
 ghost use Rattle.cg_tree.specs.States.{State};
 ghost use Rattle.cg_text.specs.TreeTexts.{tree_of};
 ghost use Rattle.cg_runs.specs.Held.{IsContained};
-ghost use Rattle.cg_cli.specs.Containment.{answer_status, check_report};
+ghost use Rattle.cg_check.specs.Checks.{checked};
+ghost use Rattle.cg_cli.specs.Containment.{answer_status, check_report, subtree_report};
 ghost use Rattle.cg_cli.specs.Reports.{Reports};
 
 use crate::arguments::{UserIds, read_path, read_user};
 use crate::fault::CliFault;
 use crate::write::write_whole;
+use cg_cgroup::memory::NoMemory;
+use cg_cgroup::path::Path;
+use cg_cgroup::user::User;
 use cg_check::answer::Answer;
 use cg_check::check;
 use cg_report::answer::answer_text;
+use cg_runs::fault::CheckFault;
 use cg_text::tree::read_tree;
+use cg_tree::hierarchy::Hierarchy;
 use std::alloc::Global;
 use std::io::Write;
 
@@ -41,10 +47,28 @@ pub fn check_bytes<W: Write>(
     let user = read_user(user)?;
     let subtree = read_path(alloc, subtree)?;
     let tree = read_tree(alloc, tree)?;
-    let answer = check(alloc, &tree, &user, &subtree)?;
-    let text = answer_text(alloc, &subtree, &answer)?;
+    let (text, status) = answered(alloc, &tree, &user, &subtree)?;
     write_whole(out, text.as_slice())?;
-    Ok(status(&answer))
+    Ok(status)
+}
+
+/// What is said of a subtree, and the status.
+fn answered<H: Hierarchy>(
+    alloc: Global,
+    tree: &H,
+    user: &User,
+    subtree: &Path,
+) -> Result<(Vec<u8>, u8), CheckFault>
+    ensures said { MatchResult result
+        (λ said. subtree_report (H.state tree.now) user.now subtree.now ≡ record { text = said.0.items; ending = Ok said.1 })
+        (λ fault. fault ≢ CheckFault.NoMemory → checked (H.state tree.now) user.now subtree.now ≡ Err fault) }
+    ensures contained { IfOk result (λ said. said.1 ≡ 0 → IsContained (H.state tree.now) user.now subtree.now) }
+{
+    let answer = check(alloc, tree, user, subtree)?;
+    match answer_text(alloc, subtree, &answer) {
+        Ok(text) => Ok((text, status(&answer))),
+        Err(NoMemory) => Err(CheckFault::NoMemory),
+    }
 }
 
 /// The status of an answer.

@@ -5,11 +5,11 @@ ghost use Rattle.cg_cli.specs.Faults.{lifted, lifted_path, lifted_line, lifted_c
 ghost use Rattle.cg_cli.specs.declared.fault.CliFault.TheVariants.{Write as WriteFault, NoMemory as MemoryFault};
 
 use crate::write::WriteFailed;
+use cg_cgroup::memory::NoMemory;
+use cg_cgroup::path::PathFault;
 use cg_lines::lines::LineFault;
 use cg_runs::fault::CheckFault;
 use cg_text::tree::{Place, TreeFault};
-use cg_cgroup::memory::NoMemory;
-use cg_cgroup::path::PathFault;
 use std::alloc::{AllocError, AllocFailed, Global};
 use std::io;
 use std::io::ErrorKind;

@@ -1,5 +1,5 @@
 -- The guard that an answer names can be shown: it fails at one of the cgroups of the subtree's path.
-use Rattle.std.proofs.Common.{ℕ, zero, suc, ◌≤◌, Bool, true, false, not, List, [], ◌∷◌, ◌++◌, length, map, flat_map, Option, Some, None, arith}
+use Rattle.std.proofs.Common.{◌≡◌, Ok, subst, ℕ, zero, suc, ◌≤◌, Bool, true, false, not, List, [], ◌∷◌, ◌++◌, length, map, flat_map, Option, Some, None, Ok, arith}
 use Rattle.std.specs.List.{AllByRecursion}
 use Rattle.cg_cgroup.specs.Paths.{Names}
 use Rattle.cg_cgroup.specs.Identity.{Identity}
@@ -13,7 +13,11 @@ use Rattle.cg_ops.specs.declared.operation.Op.{Op}
 use Rattle.cg_guards.specs.Guards.{Guarded, ancestors, limit_files, guarded_entries, guarded_entry, entry_failures, over_failures, failures}
 use Rattle.cg_guards.specs.declared.guard.Failed.{Failed}
 use Rattle.cg_tries.specs.Escapes.{first_escape}
+use Rattle.cg_check.specs.declared.answer.Answer.{Answer}
 use Rattle.cg_check.specs.Answers.{answer_from, answer}
+use Rattle.cg_runs.specs.declared.fault.CheckFault.{CheckFault}
+use Rattle.cg_check.specs.Checks.{subtree_faults, unless_fault, checked}
+use Rattle.cg_ops.specs.Clauses.{first}
 use Rattle.cg_report.specs.AnswerLines.{IsShown}
 
 all_append : {A : Type 0} (P : A → Type 0) (xs ys : List A) → AllByRecursion P xs → AllByRecursion P ys → AllByRecursion P (xs ++ ys)
@@ -66,5 +70,13 @@ shown_from subtree [] escape all = tt
 shown_from subtree (failed ∷ others) (Some ops) all = tt
 shown_from subtree (failed ∷ others) None all = all.0
 
-pub answers_are_shown : (st : State) (user : Identity) (subtree : Names) → IsShown subtree (answer st user subtree)
-answers_are_shown st user subtree = shown_from subtree (failures st user subtree) (first_escape st user subtree) (failures_within st user subtree)
+answer_is_shown : (st : State) (user : Identity) (subtree : Names) → IsShown subtree (answer st user subtree)
+answer_is_shown st user subtree = shown_from subtree (failures st user subtree) (first_escape st user subtree) (failures_within st user subtree)
+
+found_is_shown : (subtree : Names) (fault : Option CheckFault) (answer found : Answer) → IsShown subtree answer → unless_fault fault answer ≡ Ok found → IsShown subtree found
+found_is_shown subtree None answer found shown is = let same : answer ≡ found = cc in subst (IsShown subtree) same shown
+found_is_shown subtree (Some fault) answer found shown is = let never : ⊥ = cc in absurd never
+
+pub answers_are_shown : (st : State) (user : Identity) (subtree : Names) (found : Answer) → checked st user subtree ≡ Ok found → IsShown subtree found
+answers_are_shown st user subtree found is =
+    found_is_shown subtree (first (subtree_faults st subtree)) (answer st user subtree) found (answer_is_shown st user subtree) is

@@ -1,9 +1,10 @@
 //! The lines of an answer.
-ghost use Rattle.std.specs.Prelude.{◌≡◌, ◌≤◌, ◌++◌, length, IfOk, OnOk, string_bytes};
+ghost use Rattle.std.specs.Prelude.{◌≡◌, ◌≤◌, ◌++◌, length, Ok, IfOk, OnOk, string_bytes};
 ghost use Rattle.cg_cgroup.specs.Paths.{Names};
 ghost use Rattle.cg_cgroup.specs.Identity.{Identity};
 ghost use Rattle.cg_tree.specs.States.{State};
-ghost use Rattle.cg_check.specs.Answers.{answer};
+ghost use Rattle.cg_check.specs.Checks.{checked};
+ghost use Rattle.cg_check.specs.declared.answer.Answer.{Answer};
 ghost use Rattle.cg_report.specs.AnswerLines.{answer_text, failed_text, op_lines, IsShown};
 
 use cg_cgroup::memory::NoMemory;
@@ -59,7 +60,8 @@ fn failed_text(alloc: Global, subtree: &Path, failed: &Failed) -> Result<String,
     }
 }
 
-/// An answer can be shown: the guard that it names fails at one of the cgroups of the subtree's path.
+/// The answer of a check can be shown: the guard that it names fails at one of the cgroups of the subtree's path.
 pub fn answers_are_shown()
-    ensures { (st : State) (user : Identity) (subtree : Names) → IsShown subtree (answer st user subtree) }
+    ensures { (st : State) (user : Identity) (subtree : Names) (found : Answer)
+        → checked st user subtree ≡ Ok found → IsShown subtree found }
 {}
