@@ -20,7 +20,7 @@ use Rattle.cg_check.specs.Checks.{subtree_faults, unless_fault, checked}
 use Rattle.cg_ops.specs.Clauses.{first}
 use Rattle.cg_report.specs.AnswerLines.{IsShown}
 
-all_append : {A : Type 0} (P : A → Type 0) (xs ys : List A) → AllByRecursion P xs → AllByRecursion P ys → AllByRecursion P (xs ++ ys)
+pub all_append : {A : Type 0} (P : A → Type 0) (xs ys : List A) → AllByRecursion P xs → AllByRecursion P ys → AllByRecursion P (xs ++ ys)
 all_append P [] ys of_xs of_ys = of_ys
 all_append P (x ∷ xs) ys of_xs of_ys = (of_xs.0, all_append P xs ys of_xs.1 of_ys)
 
@@ -70,7 +70,7 @@ shown_from subtree [] escape all = tt
 shown_from subtree (failed ∷ others) (Some ops) all = tt
 shown_from subtree (failed ∷ others) None all = all.0
 
-answer_is_shown : (st : State) (user : Identity) (subtree : Names) → IsShown subtree (answer st user subtree)
+pub answer_is_shown : (st : State) (user : Identity) (subtree : Names) → IsShown subtree (answer st user subtree)
 answer_is_shown st user subtree = shown_from subtree (failures st user subtree) (first_escape st user subtree) (failures_within st user subtree)
 
 found_is_shown : (subtree : Names) (fault : Option CheckFault) (answer found : Answer) → IsShown subtree answer → unless_fault fault answer ≡ Ok found → IsShown subtree found
