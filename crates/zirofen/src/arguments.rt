@@ -3,10 +3,38 @@ use crate::fault::Fault;
 use clap::{Arg, ArgAction, ArgMatches, Command, value_parser};
 use std::alloc::{AllocError, Global};
 
+const VERSION: &str = "0.1.0";
+
+const HELP: &str = "\
+Status: 3 where the answer is a fault, whose one line goes to standard error; else each command's --help tells.
+`fault: usage` means that the command line isn't as --help says.
+docs/FORMATS.md of the repository has the formats of trees and operations, and every line that is written.";
+
+const MAY_HELP: &str = "\
+Status: 0 granted, 1 refused, 3 a fault
+`fault: usage` means that the command line isn't as it says above; a PID that is a number and no PID is `fault: pid`.
+docs/FORMATS.md of the repository has the tree's format, and every line that is written.
+
+Example:
+  zirofen may --tree examples/delegation.toml --uid 1000 --pid 11 --to /c0/c01
+  granted";
+
+const REPLAY_HELP: &str = "\
+Status: 0 where the operations came to their end, 3 a fault
+`fault: usage` means that the command line isn't as it says above.
+docs/FORMATS.md of the repository has the formats of the tree and of operations, and every line that is written.
+
+Example:
+  zirofen replay --tree examples/host-service-chown.toml --uid 890 --gid 890 --ops examples/host-service-chown.ops
+  ok
+  ok";
+
 /// The command line of the program.
 pub fn command<'a>(alloc: Global) -> Result<Command<'a>, AllocError> {
     Command::new(alloc, "zirofen")
         .about("Checks what a user may do in a tree of cgroups")
+        .version(VERSION)
+        .after_help(HELP)
         .subcommand_required(true)
         .subcommand(may_command(alloc)?)?
         .subcommand(replay_command(alloc)?)
@@ -15,13 +43,14 @@ pub fn command<'a>(alloc: Global) -> Result<Command<'a>, AllocError> {
 fn may_command<'a>(alloc: Global) -> Result<Command<'a>, AllocError> {
     Command::new(alloc, "may")
         .about("Says whether a user may move a process to a cgroup")
+        .after_help(MAY_HELP)
         .arg(tree_argument(alloc))?
         .arg(uid_argument(alloc))?
         .arg(gid_argument(alloc))?
         .arg(
             Arg::new(alloc, "pid")
                 .long("pid")
-                .value_name("N")
+                .value_name("PID")
                 .value_parser(value_parser!(u32))
                 .required(true)
                 .help("The process to be moved"),
@@ -38,6 +67,7 @@ fn may_command<'a>(alloc: Global) -> Result<Command<'a>, AllocError> {
 fn replay_command<'a>(alloc: Global) -> Result<Command<'a>, AllocError> {
     Command::new(alloc, "replay")
         .about("Says of each of a user's operations whether it is carried out")
+        .after_help(REPLAY_HELP)
         .arg(tree_argument(alloc))?
         .arg(uid_argument(alloc))?
         .arg(gid_argument(alloc))?
@@ -60,7 +90,7 @@ fn tree_argument<'a>(alloc: Global) -> Arg<'a> {
 fn uid_argument<'a>(alloc: Global) -> Arg<'a> {
     Arg::new(alloc, "uid")
         .long("uid")
-        .value_name("N")
+        .value_name("UID")
         .value_parser(value_parser!(u32))
         .required(true)
         .help("The user")
@@ -69,10 +99,10 @@ fn uid_argument<'a>(alloc: Global) -> Arg<'a> {
 fn gid_argument<'a>(alloc: Global) -> Arg<'a> {
     Arg::new(alloc, "gid")
         .long("gid")
-        .value_name("N")
+        .value_name("GID")
         .value_parser(value_parser!(u32))
         .action(ArgAction::Append)
-        .help("A group of the user; the first is the primary one")
+        .help("A group of the user, up to 32 times; the first is the primary one")
 }
 
 /// One migration: whether a user may move a process to a cgroup.

@@ -1,0 +1,184 @@
+"""Tests of finding delegations, and of who stands behind a uid or a gid."""
+import subprocess
+import sys
+import tempfile
+import unittest
+
+from made_up import DELEGATED, TOP, MadeUpTest
+from zirofen_host.accounts import Account, Accounts, Group, Range
+from zirofen_host.delegations import Delegations
+from zirofen_host.processes import Process
+from zirofen_host.tree import Row, Tree, read_tree
+from zirofen_host.users import Entry, User
+
+PASSWD = """root:x:0:0::/root:/bin/sh
+alice:x:1000:1000::/home/alice:/bin/sh
+bob:x:1001:1001::/home/bob:/bin/sh
+"""
+GROUP = """root:x:0:
+team:x:50:alice,bob
+alice:x:1000:
+bob:x:1001:
+"""
+SUBORDINATE = "alice:100000:65536\nbob:165536:65536\n"
+
+
+def handed(uid, gid=0, mode=0o644, directory_mode=0o755):
+    """Entries that were handed over."""
+    return {"directory": Entry(uid, gid, directory_mode),
+            "files": {file: Entry(uid, gid, mode) for file in ("cgroup.procs", "cgroup.subtree_control")}}
+
+
+def tree(*rows, enabled=()):
+    return Tree(("memory",), {row.path: row for row in (Row("/", enabled=enabled), *rows)})
+
+
+def found(of, accounts=Accounts()):
+    return [(each.user.uid, each.user.gids, each.path) for each in Delegations(of, accounts).find()]
+
+
+class DelegationsTest(unittest.TestCase):
+    def test_the_top_of_what_is_handed_over(self):
+        of = tree(Row("/a"), Row("/a/b", **handed(1000)), Row("/a/b/c", **handed(1000)), Row("/a/bb", **handed(1001)))
+        self.assertEqual(found(of), [(1000, (), "/a/b"), (1001, (), "/a/bb")])
+
+    def test_nothing_is_found_where_root_has_all(self):
+        self.assertEqual(found(tree(Row("/a"), Row("/a/b"))), [])
+
+    def test_another_user_within(self):
+        of = tree(Row("/a", **handed(1000)), Row("/a/b", **handed(100000)), Row("/a/b/c", **handed(100000)))
+        self.assertEqual(found(of), [(1000, (), "/a"), (100000, (), "/a/b")])
+
+    def test_a_parent_directory_hides_no_delegation(self):
+        of = tree(Row("/a", directory=Entry(1000, 0, 0o755)), Row("/a/b", **handed(1000)))
+        self.assertEqual(found(of), [(1000, (), "/a"), (1000, (), "/a/b")])
+
+    def test_a_limit_alone(self):
+        of = tree(Row("/a", files={"memory.max": Entry(1000, 0, 0o444)}), Row("/b"), enabled=("memory",))
+        self.assertEqual(found(of), [(1000, (), "/a")])
+
+    def test_a_limit_of_his_own_making_is_none(self):
+        limit = {"memory.max": Entry(1000, 0, 0o644)}
+        inner = Row("/a/b", **handed(1000))
+        inner.files.update(limit)
+        of = tree(Row("/a", enabled=("memory",), **handed(1000)), inner, enabled=("memory",))
+        self.assertEqual(found(of), [(1000, (), "/a")])
+
+    def test_what_is_his_at_the_root(self):
+        of = tree(Row("/a", **handed(1000)), Row("/a/b", **handed(1000)))
+        of.rows["/"] = Row("/", **handed(1000))
+        self.assertEqual(found(of), [(1000, (), "/a")])
+
+    def test_by_a_group(self):
+        accounts = Accounts([Account("alice", 1000, 1000), Account("bob", 1001, 50)],
+                            [Group(50, ["alice"]), Group(7, ["alice"])])
+        of = tree(Row("/a", **handed(0, 50, 0o664, 0o775)))
+        self.assertEqual(found(of, accounts), [(1000, (1000, 7, 50), "/a"), (1001, (50,), "/a")])
+
+    def test_a_group_that_may_not_write_counts_for_nothing(self):
+        self.assertEqual(found(tree(Row("/a", **handed(0, 50))), Accounts([Account("bob", 1001, 50)])), [])
+
+    def test_a_group_without_known_members(self):
+        self.assertEqual(found(tree(Row("/a", **handed(0, 50, 0o664)))), [(65534, (50,), "/a")])
+        self.assertEqual(found(tree(Row("/a", **handed(0, 0, 0o664)))), [])
+
+    def test_everybody(self):
+        self.assertEqual(found(tree(Row("/a", **handed(0, 0, 0o646)))), [(65534, (), "/a")])
+
+    def test_more_groups_than_a_user_may_have(self):
+        many = Accounts([Account("alice", 1000, 9)], [Group(gid, ["alice"]) for gid in range(100, 140)])
+        of = tree(Row("/a", **handed(1000, 139, 0o664)))
+        (uid, gids, _), = found(of, many)
+        self.assertEqual((uid, gids[0], len(gids), 139 in gids), (1000, 9, 32, True))
+
+
+class RealTreesTest(unittest.TestCase):
+    """The delegations of trees that were taken from running hosts."""
+
+    ACCOUNTS = Accounts([Account("alice", 1000, 1000), Account("bob", 1001, 1001), Account("builder", 890, 890)],
+                        [Group(2000, ["alice", "bob"])], [Range("alice", 100000, 65536)], [Range("alice", 100000, 65536)])
+    MANAGER = "/user.slice/user-1000.slice/user@1000.service"
+    CONTAINER = "libpod-0ef3b471c021517a3a177f12a695ad2792476642ea54fa128344eaebddc28d93.scope/container"
+    ALICE, BOB = (1000, (1000, 2000)), (1001, (1001, 2000))
+
+    def found(self, name):
+        with open(f"{TOP}/examples/{name}", encoding="ascii") as text:
+            return found(read_tree(text.read()), self.ACCOUNTS)
+
+    def test_user_managers(self):
+        self.assertEqual(self.found("host-user-managers.toml"), [
+            (*self.ALICE, "/system.slice/alicesvc.service"), (*self.ALICE, self.MANAGER),
+            (*self.BOB, "/user.slice/user-1001.slice/user@1001.service")])
+
+    def test_a_rootless_container(self):
+        self.assertEqual(self.found("host-rootless-containers.toml"), [
+            (*self.ALICE, self.MANAGER), (100000, (100000,), f"{self.MANAGER}/user.slice/{self.CONTAINER}")])
+
+    def test_a_service_that_was_given_away_whole(self):
+        self.assertEqual(self.found("host-service-chown.toml"), [(890, (890,), "/system.slice/builder.service")])
+
+
+class AccountsTest(unittest.TestCase):
+    def test_subordinate_ids(self):
+        accounts = Accounts([Account("alice", 1000, 1000)], [], [Range("alice", 100000, 10), Range("bob", 7, 1),
+                                                                 Range("alice", 300000, 10)],
+                            [Range("alice", 200000, 20)])
+        self.assertEqual(accounts.users_of(100003), [User(100003, (200003,))])
+        self.assertEqual(accounts.users_of(300002), [User(300002, (200012,))])
+        self.assertEqual(accounts.users_of(7), [User(7, ())])
+        self.assertEqual(accounts.users_of(8), [User(8, ())])
+        self.assertEqual(accounts.members_of(200012), [User(300002, (200012,))])
+        self.assertEqual(accounts.subordinate_to(1000), [Range("alice", 100000, 10), Range("alice", 300000, 10)])
+
+    def test_running_processes(self):
+        running = [Process(9, 62264, User(62264, (62264, 50)), False), Process(10, 1000, User(1000, (1000, 27)), False),
+                   Process(11, 1000, User(0, (0,)), False)]
+        accounts = Accounts([Account("alice", 1000, 1000)], [Group(27, ["alice"])], processes=running)
+        self.assertEqual(accounts.users_of(62264), [User(62264, (62264, 50))])
+        self.assertEqual(accounts.members_of(50), [User(62264, (62264, 50))])
+        self.assertEqual(accounts.users_of(1000), [User(1000, (1000, 27))])
+        accounts.groups.append(Group(4, ["alice"]))
+        self.assertEqual(accounts.users_of(1000), [User(1000, (1000, 4, 27)), User(1000, (1000, 27))])
+
+    def test_account_files(self):
+        with tempfile.TemporaryDirectory() as folder:
+            self.assertEqual(Accounts.of_folder(folder).users_of(5), [User(5, ())])
+            for name, text in (("passwd", PASSWD + "+nis\nbroken:x:y:z::\n"), ("group", GROUP), ("subuid", SUBORDINATE)):
+                with open(f"{folder}/{name}", "w", encoding="ascii") as out:
+                    out.write(text)
+            accounts = Accounts.of_folder(folder)
+        self.assertEqual(accounts.users_of(1000), [User(1000, (1000, 50))])
+        self.assertEqual(accounts.members_of(50), [User(1000, (1000, 50)), User(1001, (1001, 50))])
+
+
+class ScriptTest(MadeUpTest):
+    def script(self, *words, given=""):
+        return subprocess.run([sys.executable, f"{TOP}/host/delegations", "--accounts", self.host.etc, *words],
+                              input=given, capture_output=True, text=True)
+
+    def test_lines(self):
+        self.host.accounts(passwd=PASSWD, group=GROUP, subuid=SUBORDINATE, subgid=SUBORDINATE)
+        with open(f"{TOP}/examples/delegation.toml", encoding="ascii") as text:
+            given = text.read()
+        wanted = "1000\t1000,50\t/c0\n1000\t1000,50\t/c1\n"
+        self.assertEqual(self.script(given=given).stdout, wanted)
+        self.assertEqual(self.script("--tree", f"{TOP}/examples/delegation.toml").stdout, wanted)
+
+    def test_faults(self):
+        for words, given in ((("--tree", f"{TOP}/none"), ""), ((), "no text of a tree"), ((), "format = 2\n")):
+            with self.subTest(words):
+                ended = self.script(*words, given=given)
+                self.assertEqual((ended.stdout, ended.returncode, ended.stderr.count("\n")), ("", 3, 1), ended.stderr)
+
+    def test_a_snapshot_has_its_delegations(self):
+        self.host.cgroup("/")
+        self.host.cgroup("/a", owners=DELEGATED)
+        self.host.accounts(passwd=PASSWD, group=GROUP)
+        taken = self.host.snapshot()
+        accounts = self.host.read_accounts()
+        self.assertEqual(found(read_tree(taken.text()), accounts), [(1000, (1000, 50), "/a")])
+        self.assertEqual(found(taken.tree, accounts), [(1000, (1000, 50), "/a")])
+
+
+if __name__ == "__main__":
+    unittest.main()

@@ -1,0 +1,126 @@
+"""A hierarchy of plain files and folders, with a /proc and account files, to hold the helpers against."""
+import os
+import sys
+import tempfile
+import unittest
+from unittest import mock
+
+HERE = os.path.dirname(os.path.abspath(__file__))
+TOP = os.path.dirname(os.path.dirname(HERE))
+sys.path.insert(0, os.path.join(TOP, "host"))
+
+from zirofen_host import mount  # noqa: E402
+from zirofen_host.accounts import Accounts  # noqa: E402
+from zirofen_host.processes import read_processes  # noqa: E402
+from zirofen_host.profile import LIMIT_FILES, parent_of  # noqa: E402
+from zirofen_host.snapshot import Snapshot  # noqa: E402
+from zirofen_host.users import Entry  # noqa: E402
+
+STATUS = "Name:\tmade up\nUid:\t{uid}\t{uid}\t{uid}\t{uid}\nGid:\t{gid}\t{gid}\t{gid}\t{gid}\nGroups:\t{groups}\n"
+STAT = "{pid} (made) up) S 1 1 1 0 -1 {flags} 0 0 0\n"
+KERNEL_THREAD = 0x00200040
+DELEGATED = {"dir": 1000, "cgroup.procs": 1000, "cgroup.subtree_control": 1000}
+
+
+class MadeUp:
+    """Writes cgroups, processes and accounts into a folder. As root it sets owners too; they are always kept beside."""
+
+    def __init__(self, folder):
+        self.folder = folder
+        self.mount = os.path.join(folder, "mount")
+        self.proc = os.path.join(folder, "proc")
+        self.etc = os.path.join(folder, "etc")
+        self.enabled = {}
+        self.owners = {}
+        for each in (self.mount, self.proc, self.etc):
+            os.makedirs(each)
+
+    def cgroup(self, path, owners=None, modes=None, values=None, enabled="", pids=(), kind="domain", more=(), without=()):
+        """A cgroup. Owners are a uid or a pair of uid and gid by file; the directory's name is dir."""
+        place = self.mount if path == "/" else self.mount + path
+        os.makedirs(place, exist_ok=True)
+        self.enabled[path] = enabled.split()
+        above = self.enabled[parent_of(path)] if path != "/" else []
+        texts = {"cgroup.procs": "".join(f"{pid}\n" for pid in pids), "cgroup.subtree_control": enabled + "\n",
+                 "cgroup.controllers": (enabled + " io" if path == "/" else " ".join(above)) + "\n"}
+        if path != "/":
+            texts["cgroup.type"] = kind + "\n"
+        texts.update({file: f"{default}\n" for file, (controller, default) in LIMIT_FILES.items()
+                      if controller is None or controller in above})
+        texts.update({file: f"{value}\n" for file, value in (values or {}).items()})
+        texts.update({file: "" for file in more})
+        for file in set(texts) - set(without):
+            with open(f"{place}/{file}", "w", encoding="ascii") as out:
+                out.write(texts[file])
+            self.own(f"{place}/{file}", (owners or {}).get(file, 0), (modes or {}).get(file, 0o644))
+        self.own(place, (owners or {}).get("dir", 0), (modes or {}).get("dir", 0o755))
+
+    def own(self, path, owner, mode):
+        uid, gid = owner if isinstance(owner, tuple) else (owner, 0)
+        if os.geteuid() == 0:
+            os.chown(path, uid, gid)
+        os.chmod(path, mode)
+        self.owners[os.lstat(path).st_ino] = Entry(uid, gid, mode)
+
+    def process(self, pid, uid=0, gid=0, groups=(), flags=0x400000):
+        os.makedirs(f"{self.proc}/{pid}")
+        with open(f"{self.proc}/{pid}/status", "w", encoding="ascii") as out:
+            out.write(STATUS.format(uid=uid, gid=gid, groups=" ".join(map(str, groups))))
+        with open(f"{self.proc}/{pid}/stat", "w", encoding="ascii") as out:
+            out.write(STAT.format(pid=pid, flags=flags))
+
+    def opens(self, pid, number, path, flags):
+        for folder in ("fd", "fdinfo"):
+            os.makedirs(f"{self.proc}/{pid}/{folder}", exist_ok=True)
+        os.symlink(self.mount + path, f"{self.proc}/{pid}/fd/{number}")
+        with open(f"{self.proc}/{pid}/fdinfo/{number}", "w", encoding="ascii") as out:
+            out.write(f"pos:\t0\nflags:\t0{flags:o}\nmnt_id:\t3\n")
+
+    def accounts(self, **files):
+        for name, text in files.items():
+            with open(f"{self.etc}/{name}", "w", encoding="ascii") as out:
+                out.write(text)
+
+    def tree(self, tree):
+        """The cgroups and processes of a tree text, as plain files."""
+        at = {}
+        for pid, uid, path in tree.processes:
+            at.setdefault(path, []).append(pid)
+            self.process(pid, uid)
+        for path in sorted(tree.rows, key=len):
+            row = tree.rows[path]
+            names = ("dir", "cgroup.procs", "cgroup.subtree_control", *tree.limit_files(path))
+            self.cgroup(path, owners={name: row.entry(name)[:2] for name in names},
+                        modes={name: row.entry(name).mode for name in names}, values=row.values,
+                        enabled=" ".join(tree.controllers if path == "/" and not row.enabled else row.enabled),
+                        pids=at.get(path, ()))
+            if path == "/":
+                self.root(tree, row)
+
+    def root(self, tree, row):
+        """The root has its controllers whether it enables them or not."""
+        for file, names in (("cgroup.controllers", tree.controllers), ("cgroup.subtree_control", row.enabled)):
+            with open(f"{self.mount}/{file}", "w", encoding="ascii") as out:
+                out.write(" ".join(names) + "\n")
+        self.enabled["/"] = list(row.enabled)
+
+    def entry_of(self, status):
+        return self.owners[status.st_ino]
+
+    def snapshot(self, only=None):
+        with mock.patch.object(mount, "entry_of", self.entry_of):
+            return Snapshot(mount.steady_walk(self.mount, only), read_processes(self.proc))
+
+    def read_accounts(self):
+        return Accounts.of_folder(self.etc, read_processes(self.proc).values())
+
+
+class MadeUpTest(unittest.TestCase):
+    """A test with a made-up host of its own."""
+
+    maxDiff = None
+
+    def setUp(self):
+        folder = tempfile.TemporaryDirectory()
+        self.addCleanup(folder.cleanup)
+        self.host = MadeUp(folder.name)

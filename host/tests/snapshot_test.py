@@ -1,0 +1,281 @@
+"""Tests of the snapshot: what is written, and what is bent or left out with a line for each."""
+import glob
+import inspect
+import os
+import sys
+import unittest
+from unittest import mock
+
+from made_up import DELEGATED, KERNEL_THREAD, TOP, MadeUpTest
+from zirofen_host import mount, snapshot
+from zirofen_host.fault import Fault
+from zirofen_host.mount import Mounts
+from zirofen_host.tree import read_tree, tree_text
+
+WRITTEN = r"""
+format = 2
+controllers = ["cpu", "memory", "pids"]
+
+[[cgroup]]
+path = '/'
+enabled = ["memory", "pids"]
+dir = { mode = 0o555 }
+
+[[cgroup]]
+path = '/a-b'
+
+[[cgroup]]
+path = '/a.slice'
+enabled = ["memory"]
+dir = { uid = 1000 }
+[cgroup.files]
+"cgroup.procs" = { uid = 1000 }
+"cgroup.subtree_control" = { uid = 1000, gid = 50, mode = 0o664 }
+"cgroup.max.depth" = { value = 3 }
+"memory.low" = { value = "max" }
+"pids.max" = { value = 50 }
+
+[[cgroup]]
+path = '/a.slice/with\x20space\x2d.service'
+
+[[cgroup]]
+path = "/it's\\x20"
+
+[[process]]
+pid = 7
+uid = 1000
+at = '/a.slice/with\x20space\x2d.service'
+
+[[process]]
+pid = 9
+uid = 0
+at = '/'
+"""
+
+
+class SnapshotTest(MadeUpTest):
+    def body(self, snapshot):
+        """The text without the comment at its head."""
+        return snapshot.text().split("\n", 2)[2]
+
+    def kinds(self, snapshot):
+        return [(note.kind, note.place) for note in snapshot.notes]
+
+    def test_text(self):
+        host = self.host
+        host.cgroup("/", enabled="memory pids", pids=(2, 9), values={"cgroup.controllers": "cpu memory pids"})
+        host.cgroup("/a.slice", owners={**DELEGATED, "cgroup.subtree_control": (1000, 50)}, enabled="memory",
+                    modes={"cgroup.subtree_control": 0o664},
+                    values={"pids.max": 50, "memory.low": "max", "cgroup.max.depth": 3})
+        host.cgroup("/a.slice/with\\x20space\\x2d.service", pids=(7, 8))
+        host.cgroup("/a-b")
+        host.cgroup("/it's\\x20")
+        host.own(host.mount, 0, 0o555)
+        host.process(7, uid=1000)
+        host.process(9)
+        host.process(2, flags=KERNEL_THREAD)
+        taken = host.snapshot()
+        self.assertEqual(self.body(taken), WRITTEN)
+        self.assertEqual(taken.note_lines(), [])
+        self.assertIn("left out 1 kernel threads", taken.text())
+
+    def test_example_trees_come_back(self):
+        for file in sorted(glob.glob(f"{TOP}/examples/*.toml")):
+            if os.path.basename(file).startswith("fault-"):
+                continue
+            with self.subTest(os.path.basename(file)), open(file, encoding="ascii") as text:
+                self.setUp()
+                tree = read_tree(text.read())
+                self.host.tree(tree)
+                taken = self.host.snapshot()
+                self.assertEqual(tree_text(taken.tree, []), tree_text(tree, []))
+                self.assertEqual(set(self.kinds(taken)) - {("controller", "/")}, set())
+
+    def test_odd_names(self):
+        host = self.host
+        host.cgroup("/")
+        host.cgroup("/plain", owners=DELEGATED)
+        odd = ["a b", "tab\there", "line\n[[cgroup]]", "\x1b[31m", "caf\xe9", "memory.max", "cgroup.procs.d", "..."]
+        os.makedirs(os.fsencode(host.mount) + b"/plain/\xff\xfe/inside/more")
+        for name in odd:
+            if name in ("cgroup.procs.d", "..."):
+                host.cgroup(f"/plain/{name}")
+            else:
+                os.makedirs(f"{host.mount}/plain/{name}")
+        for folder, _, _ in os.walk(os.fsencode(host.mount)):
+            host.owners.setdefault(os.lstat(folder).st_ino, host.owners[os.lstat(host.mount).st_ino])
+        taken = host.snapshot()
+        self.assertEqual(sorted(taken.tree.rows), ["/", "/plain", "/plain/...", "/plain/cgroup.procs.d"])
+        lines = [line for line in taken.note_lines() if line.startswith("name: ")]
+        self.assertEqual(len(lines), 7)
+        why = "no name of the format, or too long a path"
+        self.assertIn(rf"name: b'/plain/\xff\xfe': left out, and 2 cgroups inside: {why}", lines)
+        self.assertIn(rf"name: b'/plain/\x1b[31m': left out: {why}", lines)
+        self.assertIn("file-name: /plain/memory.max: named as a file: a controller with that file can't be enabled above",
+                      taken.note_lines())
+        self.assertTrue(all(line.isprintable() and line.isascii() for line in lines))
+
+    def test_long_paths(self):
+        host = self.host
+        host.cgroup("/")
+        path = ""
+        for _ in range(13):
+            path += "/" + "n" * 255
+            host.cgroup(path)
+        self.assertEqual(len(host.snapshot().tree.rows), 14)
+        with mock.patch.object(mount, "LONGEST_FOLDER", 2000):
+            taken = host.snapshot()
+        self.assertLess(len(taken.tree.rows), 9)
+        self.assertRegex(taken.note_lines()[0], "left out, and [0-9]+ cgroups inside: .* too long a path")
+
+    def test_deep_paths_take_no_deep_calls(self):
+        host = self.host
+        host.cgroup("/")
+        path = ""
+        for _ in range(200):
+            path += "/d"
+            host.cgroup(path)
+        os.rename(f"{host.mount}/d", f"{host.mount}/d d")
+        host.cgroup("/e")
+        usual = sys.getrecursionlimit()
+        self.addCleanup(sys.setrecursionlimit, usual)
+        sys.setrecursionlimit(len(inspect.stack()) + 100)
+        odd = host.snapshot()
+        os.rename(f"{host.mount}/d d", f"{host.mount}/d")
+        plain = host.snapshot()
+        sys.setrecursionlimit(usual)
+        self.assertEqual((len(odd.tree.rows), len(plain.tree.rows)), (2, 202))
+        self.assertIn("and 199 cgroups inside", odd.note_lines()[0])
+
+    def test_what_is_bent(self):
+        host = self.host
+        host.cgroup("/", enabled="cpu memory pids cpuset", pids=(0, 12))
+        host.cgroup("/set", modes={"dir": 0o2755, "cgroup.procs": 0o1644})
+        host.cgroup("/idle", values={"cpu.weight": 0})
+        host.cgroup("/worker", enabled="cpu pids cpuset", pids=(5, 6))
+        host.cgroup("/worker/thread", kind="threaded", without=("cgroup.max.depth",))
+        host.cgroup("/extra", more=("memory.stat",))
+        host.cgroup("/extra/below", values={"memory.max": 4096})
+        host.cgroup("/extra/memory.stat.d")
+        host.cgroup("/idle/memory.stat")
+        for pid in (5, 6, 12):
+            host.process(pid)
+        taken = host.snapshot()
+        self.assertEqual(taken.tree.rows["/set"].directory.mode, 0o755)
+        self.assertEqual(taken.tree.rows["/set"].files["cgroup.procs"].mode, 0o644)
+        self.assertEqual(taken.tree.rows["/idle"].values["cpu.weight"], 1)
+        self.assertEqual(taken.tree.rows["/worker"].enabled, ("cpu", "pids"))
+        self.assertEqual(taken.tree.processes, [(12, 0, "/")])
+        self.assertNotIn("memory.max", taken.tree.rows["/extra/below"].files)
+        self.assertEqual(sorted(taken.note_lines()), [
+            "controller: /: cpuset left out, which 2 cgroups enable",
+            "controller: /: io left out, which 0 cgroups enable",
+            "file-name: /idle/memory.stat: named as a file: a controller with that file can't be enabled above",
+            "file: /extra/below: memory.max left out: the parent doesn't enable memory",
+            "mode: /set: cgroup.procs has mode 0o1644, written as 0o644",
+            "mode: /set: dir has mode 0o2755, written as 0o755",
+            "no-file: /worker/thread: cgroup.max.depth isn't there, and is written with its default, max",
+            "pid: /: 0 left out: a process of another PID namespace, or no PID of the format",
+            "processes: /worker: 2 left out: the cgroup enables cpu pids",
+            "type: /worker/thread: threaded: threaded mode is left out",
+            "value: /idle: cpu.weight is '0', written as 1",
+        ])
+
+    def test_only_a_part(self):
+        host = self.host
+        host.cgroup("/", pids=(3,))
+        for path, pid in (("/a", 4), ("/a/b", 5), ("/a/b/c", 6), ("/a/bb", 7), ("/d", 8)):
+            host.cgroup(path, pids=(pid,))
+            host.process(pid)
+        host.process(3)
+        taken = host.snapshot(only=b"/a/b")
+        self.assertEqual(sorted(taken.tree.rows), ["/", "/a", "/a/b", "/a/b/c"])
+        self.assertEqual([pid for pid, _, _ in sorted(taken.tree.processes)], [3, 4, 5, 6])
+        with self.assertRaisesRegex(Fault, "there is no cgroup /a/x"):
+            host.snapshot(only=b"/a/x")
+
+    def test_walks_go_on_until_two_agree(self):
+        host = self.host
+        host.cgroup("/")
+        host.cgroup("/a")
+        walks = []
+        walk = mount.Walk
+
+        def changing(*words):
+            walks.append(len(walks))
+            if len(walks) in (2, 3):
+                host.cgroup(f"/new{len(walks)}")
+            return walk(*words)
+
+        with mock.patch.object(mount, "Walk", changing):
+            taken = host.snapshot()
+        self.assertEqual(len(walks), 4)
+        self.assertEqual(sorted(taken.tree.rows), ["/", "/a", "/new2", "/new3"])
+
+    def test_what_never_settles_is_a_fault(self):
+        self.host.cgroup("/")
+        with mock.patch.object(mount.Walk, "agrees_with", lambda *_: False):
+            with self.assertRaisesRegex(Fault, "changed through 20 walks"):
+                self.host.snapshot()
+
+    def test_a_cgroup_that_goes_while_it_is_read(self):
+        host = self.host
+        host.cgroup("/")
+        host.cgroup("/a")
+        os.remove(f"{host.mount}/a/cgroup.controllers")
+        with mock.patch.object(mount, "entry_of", host.entry_of):
+            walk = mount.Walk(host.mount)
+        self.assertEqual((sorted(walk.found), walk.is_whole), ([b"/"], False))
+
+    def test_no_cgroup_at_all(self):
+        with self.assertRaisesRegex(Fault, "isn't a cgroup"):
+            mount.steady_walk(f"{self.host.mount}/none")
+        open(f"{self.host.mount}/file", "w", encoding="ascii").close()
+        with self.assertRaisesRegex(Fault, "isn't a cgroup"):
+            mount.steady_walk(self.host.mount)
+
+    def test_too_many_processes(self):
+        self.host.cgroup("/", pids=range(1, 5))
+        for pid in range(1, 5):
+            self.host.process(pid)
+        with mock.patch.object(snapshot, "MOST_PROCESSES", 3), self.assertRaisesRegex(Fault, "4 processes.*--only"):
+            self.host.snapshot()
+
+    def test_a_process_that_ended(self):
+        self.host.cgroup("/", pids=(3, 4))
+        self.host.process(4)
+        self.assertEqual(self.host.snapshot().tree.processes, [(4, 0, "/")])
+
+
+MOUNTS = Mounts(r"""22 1 0:20 / / rw - ext4 /dev/sda1 rw
+31 22 0:29 / /sys/fs/cgroup rw,relatime - cgroup2 cgroup2 rw,nsdelegate,memory_recursiveprot
+32 22 0:29 /a.slice /srv/with\040space ro,relatime - cgroup2 cgroup2 rw
+33 22 0:30 / /sys/fs/cgroup1 rw,relatime - cgroup cgroup rw,cpu,cpuacct
+""")
+
+
+class MountsTest(unittest.TestCase):
+    def test_the_whole_hierarchy(self):
+        MOUNTS.refuse("/sys/fs/cgroup")
+        MOUNTS.refuse("/sys/fs/cgroup/")
+        self.assertIn("nsdelegate", MOUNTS.options("/sys/fs/cgroup"))
+
+    def test_refusals(self):
+        for mount_point, line in (("/srv/with space", "a part of the hierarchy, /a.slice"),
+                                  ("/sys/fs/cgroup1", "isn't a cgroup v2 mount; one is at /srv/with space"),
+                                  ("/", "isn't a cgroup v2 mount")):
+            with self.subTest(mount_point), self.assertRaisesRegex(Fault, line):
+                MOUNTS.refuse(mount_point)
+        with self.assertRaisesRegex(Fault, "isn't a cgroup v2 mount$"):
+            Mounts("").refuse("/sys/fs/cgroup")
+
+    def test_who_may_take_one(self):
+        with mock.patch("os.geteuid", lambda: 1000), self.assertRaisesRegex(Fault, "as root"):
+            mount.refuse_what_is_no_host("/sys/fs/cgroup")
+        with mock.patch("os.geteuid", lambda: 0), mock.patch("os.readlink", lambda _: "cgroup:[4026532444]"), \
+                mock.patch.object(mount, "WHOLE_UID_MAP", open("/proc/self/uid_map", encoding="ascii").read().split()), \
+                self.assertRaisesRegex(Fault, "inside a cgroup namespace"):
+            mount.refuse_what_is_no_host("/sys/fs/cgroup")
+        with mock.patch("os.geteuid", lambda: 0), mock.patch.object(mount, "WHOLE_UID_MAP", ["0", "0", "1"]), \
+                self.assertRaisesRegex(Fault, "inside a user namespace"):
+            mount.refuse_what_is_no_host("/sys/fs/cgroup")
