@@ -1,5 +1,5 @@
 -- What a check over bytes says, by what the check answered.
-use Rattle.std.proofs.Common.{◌≡◌, ◌≢◌, ℕ, Bool, true, false, cond, nat_eq, List, [], Option, Some, None, Result, Ok, Err, refl, ap, sym, ◌∙◌, subst}
+use Rattle.std.proofs.Common.{◌≡◌, ◌≢◌, ℕ, Bool, true, false, cond, nat_eq, List, Option, Some, None, Result, Ok, Err, refl, ap, sym, ◌∙◌, subst}
 use Rattle.std.specs.Io.KnownBytes.{Keeps}
 use Rattle.cg_cgroup.specs.Paths.{Names, path_at}
 use Rattle.cg_cgroup.specs.Users.{user_of}
@@ -27,7 +27,7 @@ same_user true found user who is found_is = let never : ⊥ = cc in absurd never
 same_user false None user who is found_is = let never : ⊥ = cc in absurd never
 same_user false (Some one) user who is found_is = let a : one ≡ user = cc in let b : one ≡ who = cc in sym a ∙ b
 
-keeps : (known : Option (List ℕ)) → Keeps known known
+pub keeps : (known : Option (List ℕ)) → Keeps known known
 keeps None = tt
 keeps (Some bytes) = refl
 

@@ -5,3 +5,6 @@ mod ReplayEnds
 mod ReplayCalls
 mod ReplayReads
 mod CheckReports
+mod EachRead
+mod AuditReports
+mod AuditStatus

@@ -1,10 +1,8 @@
--- The reports on whether subtrees are contained: of one user and one subtree, and of several of both. Own.
-use Rattle.std.specs.Prelude.{ℕ, List, [], ◌∷◌, ◌++◌, codes, Result, Ok, Err}
-use Rattle.std.specs.Fmt.{decimal}
-use Rattle.cg_cgroup.specs.Paths.{Names, path_text}
+-- The report on whether a subtree is contained against a user. Own.
+use Rattle.std.specs.Prelude.{ℕ, List, Result, Ok, Err}
+use Rattle.cg_cgroup.specs.Paths.{Names}
 use Rattle.cg_cgroup.specs.Identity.{Identity}
 use Rattle.cg_tree.specs.States.{State}
-use Rattle.cg_lines.specs.Outcomes.{spaced}
 use Rattle.cg_runs.specs.declared.fault.CheckFault.{CheckFault}
 use Rattle.cg_check.specs.Checks.{checked}
 use Rattle.cg_check.specs.declared.answer.Answer.{Answer}

@@ -7,3 +7,4 @@ pub mod May
 pub mod Replays
 pub mod Replaying
 pub mod Containment
+pub mod Audits

@@ -1,10 +1,6 @@
-use Rattle.std.proofs.Common.{◌≡◌, ℕ, List, Ok, Some, sym, subst, ◌∙◌, ap}
+use Rattle.std.proofs.Common.{◌≡◌, Ok, sym}
 use Rattle.std.proofs.lemmas.Result.{err_from_is_err_and}
-use Rattle.cg_cgroup.specs.Identity.{Identity}
-use Rattle.cg_cgroup.specs.Paths.{Names}
-use Rattle.cg_tree.specs.States.{State}
-use Rattle.cg_runs.specs.Held.{IsContained}
-use Rattle.cg_cli.specs.Arguments.{user_read, path_read}
+use Rattle.cg_cli.specs.Arguments.{user_read}
 use Rattle.cg_cli.proofs.CheckReports.{fault_reports, contained_bytes}
 use Rattle.cg_cli.proofs.check.check_bytes.Goals as goal
 
