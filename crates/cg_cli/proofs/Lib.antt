@@ -4,3 +4,7 @@ mod ReplayRuns
 mod ReplayEnds
 mod ReplayCalls
 mod ReplayReads
+mod CheckReports
+mod EachRead
+mod AuditReports
+mod AuditStatus

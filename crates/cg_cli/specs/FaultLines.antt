@@ -8,8 +8,10 @@ use Rattle.cg_text.specs.declared.tree.fault.TreeFault.{TreeFault}
 use Rattle.cg_text.specs.declared.tree.fault.TreeFault.TheVariants as tree
 use Rattle.cg_lines.specs.declared.lines.fault.LineFault.{LineFault}
 use Rattle.cg_lines.specs.declared.lines.fault.LineFault.TheVariants as lines
+use Rattle.cg_runs.specs.declared.fault.CheckFault.{CheckFault}
+use Rattle.cg_runs.specs.declared.fault.CheckFault.TheVariants as check
 use Rattle.cg_cli.specs.declared.fault.CliFault.{CliFault}
-use Rattle.cg_cli.specs.declared.fault.CliFault.TheVariants.{Uid, Gids, Pid, BadPath, Tree, Line, TooManySteps, Read, Write, NoMemory}
+use Rattle.cg_cli.specs.declared.fault.CliFault.TheVariants.{Uid, Gids, Pid, BadPath, Tree, Subtree, Line, TooManySteps, Read, Write, NoMemory}
 
 -- the words of a tree's fault, and its place
 abbrev pub tree_fault_parts : TreeFault → List ℕ × Option Place
@@ -55,12 +57,19 @@ line_word lines.NoMemory = codes "memory"
 abbrev pub operation_fault_line : ℕ → List ℕ → List ℕ
 operation_fault_line number word = codes "fault: line " ++ spaced (decimal number) word ++ codes "\n"
 
+-- the words of a subtree's fault
+abbrev pub subtree_words : CheckFault → List ℕ
+subtree_words check.RootSubtree = codes "subtree root"
+subtree_words check.NoSuchSubtree = codes "subtree missing"
+subtree_words check.NoMemory = codes "memory"
+
 abbrev pub fault_line : CliFault → List ℕ
 fault_line Uid = plain_line (codes "uid")
 fault_line Gids = plain_line (codes "gid")
 fault_line Pid = plain_line (codes "pid")
 fault_line BadPath = plain_line (codes "path")
 fault_line (Tree fault) = tree_fault_line fault
+fault_line (Subtree fault) = plain_line (subtree_words fault)
 fault_line (Line number fault) = operation_fault_line number (line_word fault)
 fault_line TooManySteps = plain_line (codes "too-many-steps")
 fault_line Read = plain_line (codes "read")

@@ -6,8 +6,10 @@ use Rattle.cg_text.specs.declared.tree.fault.TreeFault.{TreeFault}
 use Rattle.cg_text.specs.declared.tree.fault.TreeFault.TheVariants.{NoMemory as TreeNoMemory}
 use Rattle.cg_lines.specs.declared.lines.fault.LineFault.{LineFault}
 use Rattle.cg_lines.specs.declared.lines.fault.LineFault.TheVariants.{NoMemory as LineNoMemory}
+use Rattle.cg_runs.specs.declared.fault.CheckFault.{CheckFault}
+use Rattle.cg_runs.specs.declared.fault.CheckFault.TheVariants.{NoMemory as CheckNoMemory}
 use Rattle.cg_cli.specs.declared.fault.CliFault.{CliFault}
-use Rattle.cg_cli.specs.declared.fault.CliFault.TheVariants.{BadPath, Tree, Line, NoMemory}
+use Rattle.cg_cli.specs.declared.fault.CliFault.TheVariants.{BadPath, Tree, Subtree, Line, NoMemory}
 
 abbrev pub lifted : TreeFault → CliFault
 lifted TreeNoMemory = NoMemory
@@ -21,3 +23,7 @@ lifted_path PathNoMemory = NoMemory
 abbrev pub lifted_line : ℕ → LineFault → CliFault
 lifted_line number LineNoMemory = NoMemory
 lifted_line number fault = Line number fault
+
+abbrev pub lifted_check : CheckFault → CliFault
+lifted_check CheckNoMemory = NoMemory
+lifted_check fault = Subtree fault

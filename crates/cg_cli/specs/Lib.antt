@@ -6,3 +6,5 @@ pub mod Reports
 pub mod May
 pub mod Replays
 pub mod Replaying
+pub mod Containment
+pub mod Audits

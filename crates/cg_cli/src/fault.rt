@@ -1,14 +1,15 @@
 //! Why a call of this crate gives no status, and the line that says so.
 ghost use Rattle.std.specs.Prelude.{◌≡◌, ◌⊎◌, IfOk, string_bytes};
-ghost use Rattle.cg_cli.specs.FaultLines.{fault_line, plain_line, tree_fault_line, tree_fault_parts, operation_fault_line, line_word};
-ghost use Rattle.cg_cli.specs.Faults.{lifted, lifted_path, lifted_line};
+ghost use Rattle.cg_cli.specs.FaultLines.{fault_line, plain_line, tree_fault_line, tree_fault_parts, subtree_words, operation_fault_line, line_word};
+ghost use Rattle.cg_cli.specs.Faults.{lifted, lifted_path, lifted_line, lifted_check};
 ghost use Rattle.cg_cli.specs.declared.fault.CliFault.TheVariants.{Write as WriteFault, NoMemory as MemoryFault};
 
 use crate::write::WriteFailed;
-use cg_lines::lines::LineFault;
-use cg_text::tree::{Place, TreeFault};
 use cg_cgroup::memory::NoMemory;
 use cg_cgroup::path::PathFault;
+use cg_lines::lines::LineFault;
+use cg_runs::fault::CheckFault;
+use cg_text::tree::{Place, TreeFault};
 use std::alloc::{AllocError, AllocFailed, Global};
 use std::io;
 use std::io::ErrorKind;
@@ -27,6 +28,8 @@ pub enum CliFault {
     BadPath,
     #[error("the tree's text has a fault: {0:?}")]
     Tree(TreeFault),
+    #[error("the subtree has a fault: {0:?}")]
+    Subtree(CheckFault),
     #[error("operation line {number} has a fault: {fault:?}")]
     Line { number: u32, fault: LineFault },
     #[error("there are more than 65536 operations")]
@@ -93,6 +96,17 @@ impl From<TreeFault> for CliFault {
     }
 }
 
+impl From<CheckFault> for CliFault {
+    ghost from_gives = { λ inner fault. fault ≡ lifted_check inner };
+
+    fn from(inner: CheckFault) -> CliFault {
+        match inner {
+            CheckFault::NoMemory => CliFault::NoMemory,
+            fault => CliFault::Subtree(fault),
+        }
+    }
+}
+
 impl CliFault {
     /// What a fault of the operation line of that number is to a call.
     pub(crate) fn of_line(number: u32, fault: LineFault) -> CliFault
@@ -132,6 +146,7 @@ fn fault_line(alloc: Global, fault: &CliFault) -> Result<String, AllocError>
         CliFault::Pid => plain_line(alloc, "pid"),
         CliFault::BadPath => plain_line(alloc, "path"),
         CliFault::Tree(inner) => tree_fault_line(alloc, *inner),
+        CliFault::Subtree(inner) => plain_line(alloc, subtree_words(*inner)),
         CliFault::Line { number, fault } => {
             operation_fault_line(alloc, *number, line_word(*fault))
         }
@@ -154,6 +169,17 @@ fn operation_fault_line(alloc: Global, number: u32, word: &str) -> Result<String
     ensures { IfOk result (λ line. string_bytes line ≡ operation_fault_line number word.now) }
 {
     format!(in alloc; "fault: line {number} {word}\n")
+}
+
+/// The words of a subtree's fault.
+fn subtree_words(fault: CheckFault) -> &'static str
+    ensures { result.now ≡ subtree_words fault }
+{
+    match fault {
+        CheckFault::RootSubtree => "subtree root",
+        CheckFault::NoSuchSubtree => "subtree missing",
+        CheckFault::NoMemory => "memory",
+    }
 }
 
 fn line_word(fault: LineFault) -> &'static str

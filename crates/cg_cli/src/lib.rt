@@ -2,6 +2,8 @@
 #![tactic(auto)]
 
 pub mod arguments;
+pub mod audit;
+pub mod check;
 pub mod fault;
 pub mod input;
 pub mod may;

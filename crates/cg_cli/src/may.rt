@@ -8,14 +8,14 @@ ghost use Rattle.cg_cli.specs.Reports.{Reports};
 use crate::arguments::{UserIds, read_path, read_pid, read_user};
 use crate::fault::CliFault;
 use crate::write::write_whole;
+use cg_cgroup::memory::NoMemory;
+use cg_cgroup::user::User;
+use cg_lines::outcome::outcome_text;
 use cg_ops::operation::Op;
 use cg_ops::outcome::Outcome;
 use cg_ops::refusal;
-use cg_lines::outcome::outcome_text;
 use cg_text::tree::read_tree;
 use cg_tree::hierarchy::Hierarchy;
-use cg_cgroup::memory::NoMemory;
-use cg_cgroup::user::User;
 use std::alloc::Global;
 use std::io::Write;
 

@@ -6,11 +6,11 @@ ghost use Rattle.cg_cli.specs.Replaying.{Answered};
 
 use crate::fault::CliFault;
 use crate::write::write_whole;
-use cg_ops::apply;
+use cg_cgroup::user::User;
 use cg_lines::lines::read_op;
 use cg_lines::outcome::outcome_text;
+use cg_ops::apply;
 use cg_tree::hierarchy::Hierarchy;
-use cg_cgroup::user::User;
 use std::alloc::Global;
 use std::io::Write;
 

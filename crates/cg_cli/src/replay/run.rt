@@ -6,9 +6,9 @@ ghost use Rattle.cg_cli.specs.Replaying.{coming, most_taken, IsWaiting, Fed};
 
 use crate::fault::CliFault;
 use crate::replay::line::{MOST_OPERATIONS, answer, line_end};
+use cg_cgroup::user::User;
 use cg_lines::lines::{LONGEST_LINE, LineFault};
 use cg_tree::hierarchy::Hierarchy;
-use cg_cgroup::user::User;
 use std::alloc::Global;
 use std::io::Write;
 

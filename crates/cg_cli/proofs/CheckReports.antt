@@ -1,0 +1,66 @@
+-- What a check over bytes says, by what the check answered.
+use Rattle.std.proofs.Common.{◌≡◌, ◌≢◌, ℕ, Bool, true, false, cond, nat_eq, List, Option, Some, None, Result, Ok, Err, refl, ap, sym, ◌∙◌, subst}
+use Rattle.std.specs.Io.KnownBytes.{Keeps}
+use Rattle.cg_cgroup.specs.Paths.{Names, path_at}
+use Rattle.cg_cgroup.specs.Users.{user_of}
+use Rattle.cg_cgroup.specs.Identity.{Identity}
+use Rattle.cg_tree.specs.States.{State}
+use Rattle.cg_text.specs.TreeTexts.{tree_of}
+use Rattle.cg_text.specs.declared.tree.fault.TreeFault.{TreeFault}
+use Rattle.cg_runs.specs.declared.fault.CheckFault.{CheckFault}
+use Rattle.cg_runs.specs.declared.fault.CheckFault.TheVariants.{RootSubtree, NoSuchSubtree, NoMemory as CheckNoMemory}
+use Rattle.cg_runs.specs.Held.{IsContained}
+use Rattle.cg_check.specs.Checks.{checked}
+use Rattle.cg_check.specs.declared.answer.Answer.{Answer}
+use Rattle.cg_cli.specs.Faults.{lifted, lifted_check}
+use Rattle.cg_cli.specs.Arguments.{or_fault, user_read, path_read}
+use Rattle.cg_cli.specs.Reports.{Report, Reports, fault_report, report_on, takes_memory}
+use Rattle.cg_cli.specs.Containment.{in_call, answer_report, subtree_report, check_report}
+use Rattle.cg_cli.specs.declared.fault.CliFault.{CliFault}
+use Rattle.cg_cli.specs.declared.fault.CliFault.TheVariants.{Uid, Gids, BadPath}
+
+same_Ok : {A E : Type 0} (x y : A) → let r : Result A E = Ok x in let s : Result A E = Ok y in r ≡ s → x ≡ y
+same_Ok x y same = cc
+
+same_user : (root : Bool) (found : Option Identity) (user who : Identity) → cond root (Err Uid) (or_fault found Gids) ≡ Ok user → found ≡ Some who → user ≡ who
+same_user true found user who is found_is = let never : ⊥ = cc in absurd never
+same_user false None user who is found_is = let never : ⊥ = cc in absurd never
+same_user false (Some one) user who is found_is = let a : one ≡ user = cc in let b : one ≡ who = cc in sym a ∙ b
+
+pub keeps : (known : Option (List ℕ)) → Keeps known known
+keeps None = tt
+keeps (Some bytes) = refl
+
+abbrev report_by : Result Identity CliFault → Result Names CliFault → Result State TreeFault → Report
+report_by user path tree =
+    report_on user (λ user. report_on path (λ path. report_on (elim tree [ Ok st ↦ Ok st | Err fault ↦ Err (lifted fault) ]) (λ st. subtree_report st user path)))
+
+module _ (text : List ℕ) (uid : ℕ) (gids subtree : List ℕ) (user : Identity) (path : Names) (st : State) (of_user : user_read uid gids ≡ Ok user) (of_path : path_read subtree ≡ Ok path) (of_text : tree_of text ≡ Ok st) where
+  pub report_is : check_report text uid gids subtree ≡ subtree_report st user path
+  report_is =
+      ap (λ u. report_by u (path_read subtree) (tree_of text)) of_user ∙ ap (λ p. report_by (Ok user) p (tree_of text)) of_path ∙ ap (report_by (Ok user) (Ok path)) of_text
+
+  needs_memory : (found : Result Answer CheckFault) → takes_memory (report_on (in_call found) (answer_report path)).ending ≡ true
+  needs_memory (Ok answer) = refl
+  needs_memory (Err RootSubtree) = refl
+  needs_memory (Err NoSuchSubtree) = refl
+  needs_memory (Err CheckNoMemory) = refl
+
+  nothing_written : (fault : CliFault) (known : Option (List ℕ)) → (subtree_report st user path ≡ fault_report fault) → (check_report text uid gids subtree).ending ≡ Err fault
+  nothing_written fault known same = ap (λ (r : Report). r.ending) (report_is ∙ same)
+
+  pub fault_reports : (fault : CheckFault) (known : Option (List ℕ)) → (fault ≢ CheckNoMemory → checked st user path ≡ Err fault) → Reports (check_report text uid gids subtree) known known (Err (lifted_check fault))
+  fault_reports RootSubtree known is =
+      (nothing_written (lifted_check RootSubtree) known (ap (λ f. report_on (in_call f) (answer_report path)) (is (λ other. cc))), keeps known)
+  fault_reports NoSuchSubtree known is =
+      (nothing_written (lifted_check NoSuchSubtree) known (ap (λ f. report_on (in_call f) (answer_report path)) (is (λ other. cc))), keeps known)
+  fault_reports CheckNoMemory known is =
+      (ap (λ (r : Report). takes_memory r.ending) report_is ∙ needs_memory (checked st user path), keeps known)
+
+  -- what is contained in the state, and for the user and the path, that were read
+  pub contained_bytes : IsContained st user path → (other : State) (who : Identity) (named : Names) → tree_of text ≡ Ok other → user_of uid gids ≡ Some who → path_at subtree ≡ Some named → IsContained other who named
+  contained_bytes holds other who named of_other of_who of_named =
+      let a : st ≡ other = same_Ok _ _ (sym of_text ∙ of_other) in
+      let b : user ≡ who = same_user (nat_eq uid 0) (user_of uid gids) user who of_user of_who in
+      let c : path ≡ named = same_Ok _ _ (sym of_path ∙ ap (λ o. or_fault o BadPath) of_named) in
+      subst (λ s. IsContained s who named) a (subst (λ u. IsContained st u named) b (subst (IsContained st user) c holds))

@@ -1,0 +1,39 @@
+-- The report on whether a subtree is contained against a user. Own.
+use Rattle.std.specs.Prelude.{ℕ, List, Result, Ok, Err}
+use Rattle.cg_cgroup.specs.Paths.{Names}
+use Rattle.cg_cgroup.specs.Identity.{Identity}
+use Rattle.cg_tree.specs.States.{State}
+use Rattle.cg_runs.specs.declared.fault.CheckFault.{CheckFault}
+use Rattle.cg_check.specs.Checks.{checked}
+use Rattle.cg_check.specs.declared.answer.Answer.{Answer}
+use Rattle.cg_check.specs.declared.answer.Answer.TheVariants.{Contained, Escapes, Unsettled}
+use Rattle.cg_report.specs.AnswerLines.{answer_text}
+use Rattle.cg_cli.specs.Faults.{lifted_check}
+use Rattle.cg_cli.specs.Arguments.{user_read, path_read}
+use Rattle.cg_cli.specs.Reports.{Report, report_on}
+use Rattle.cg_cli.specs.May.{tree_read}
+use Rattle.cg_cli.specs.declared.fault.CliFault.{CliFault}
+
+-- what a check answers, with its fault as that of a call
+abbrev pub in_call : {A : Type 0} → Result A CheckFault → Result A CliFault
+in_call (Ok found) = Ok found
+in_call (Err fault) = Err (lifted_check fault)
+
+abbrev pub answer_status : Answer → ℕ
+answer_status Contained = 0
+answer_status (Escapes ops) = 1
+answer_status (Unsettled failed) = 2
+
+abbrev pub answer_report : Names → Answer → Report
+answer_report subtree found = record { text = answer_text subtree found; ending = Ok (answer_status found) }
+
+-- The fault of the subtree, or the answer.
+abbrev pub subtree_report : State → Identity → Names → Report
+subtree_report st user subtree = report_on (in_call (checked st user subtree)) (answer_report subtree)
+
+-- The user is looked at first, then the path, the tree's text, and whether the subtree is one that can be checked.
+abbrev pub check_report : List ℕ → ℕ → List ℕ → List ℕ → Report
+check_report text uid gids subtree =
+    report_on (user_read uid gids) (λ user.
+    report_on (path_read subtree) (λ path.
+    report_on (tree_read text) (λ st. subtree_report st user path)))

@@ -1,0 +1,125 @@
+//! Whether several subtrees are contained against several users.
+ghost use Rattle.std.specs.Prelude.{◌≡◌, ◌≢◌, ℕ, List, [], map, Ok, Err, IfOk, IfErr, MatchResult};
+ghost use Rattle.cg_cgroup.specs.Identity.{Identity};
+ghost use Rattle.cg_cgroup.specs.Paths.{Names};
+ghost use Rattle.cg_tree.specs.States.{State};
+ghost use Rattle.cg_text.specs.TreeTexts.{tree_of};
+ghost use Rattle.cg_check.specs.Checks.{all_checked};
+ghost use Rattle.cg_check.specs.Several.{AreContained};
+ghost use Rattle.cg_cli.specs.Audits.{users_read, paths_read, audit_status, pairs_report, audit_report};
+ghost use Rattle.cg_cli.specs.Reports.{Reports};
+ghost use Rattle.cg_cli.specs.declared.fault.CliFault.{CliFault};
+
+use crate::arguments::{UserIds, read_path, read_user};
+use crate::check::status;
+use crate::fault::CliFault;
+use crate::write::write_whole;
+use cg_cgroup::memory::NoMemory;
+use cg_cgroup::path::Path;
+use cg_cgroup::user::User;
+use cg_check::answer::AllAnswer;
+use cg_check::check_all;
+use cg_report::audit::audit_text;
+use cg_runs::fault::CheckFault;
+use cg_text::tree::read_tree;
+use cg_tree::hierarchy::Hierarchy;
+use std::alloc::Global;
+use std::io::Write;
+
+/// Writes whether every subtree is contained against every user: `contained` with status 0, or the line of the first pair
+/// that isn't, by user and then subtree, and what `check_bytes` writes of it, with its status.
+///
+/// # Errors
+/// The first that holds of `Uid` and `Gids` for each user in turn, `BadPath`, `Tree` and `Subtree`, and then nothing is
+/// written; `Write` where a write failed or took nothing; `NoMemory` where an allocation was refused.
+pub fn audit_bytes<W: Write>(
+    alloc: Global,
+    tree: &[u8],
+    users: &[UserIds<'_>],
+    subtrees: &[&str],
+    out: &mut W,
+) -> Result<u8, CliFault>
+    ensures report { Reports
+        (audit_report tree.now (map (λ user. (user.uid, user.gids.now)) users.now) (map (λ subtree. subtree.now) subtrees.now))
+        (W.contents out.old) (W.contents out.new) result }
+    ensures contained { result ≡ Ok 0 → (st : State) (who : List Identity) (paths : List Names)
+        → tree_of tree.now ≡ Ok st → users_read (map (λ user. (user.uid, user.gids.now)) users.now) ≡ Ok who
+        → paths_read (map (λ subtree. subtree.now) subtrees.now) ≡ Ok paths → who ≢ [] → AreContained st who paths }
+{
+    let users = read_users(alloc, users)?;
+    let subtrees = read_paths(alloc, subtrees)?;
+    let tree = read_tree(alloc, tree)?;
+    let (text, status) = audited(alloc, &tree, users.as_slice(), subtrees.as_slice())?;
+    write_whole(out, text.as_slice())?;
+    Ok(status)
+}
+
+/// The users, or the first fault of one, which takes no memory to find.
+fn read_users(alloc: Global, users: &[UserIds<'_>]) -> Result<Vec<User>, CliFault>
+    ensures read { MatchResult result
+        (λ read. users_read (map (λ user. (user.uid, user.gids.now)) users.now) ≡ Ok read.items)
+        (λ fault. fault ≢ CliFault.NoMemory → users_read (map (λ user. (user.uid, user.gids.now)) users.now) ≡ Err fault) }
+    ensures faults { (fault : CliFault)
+        → users_read (map (λ user. (user.uid, user.gids.now)) users.now) ≡ Err fault → result ≡ Err fault }
+{
+    test_users(users)?;
+    let mut read = Vec::new(alloc);
+    for user in users {
+        read.push(read_user(*user)?)?;
+    }
+    Ok(read)
+}
+
+/// Whether every user can be one.
+fn test_users(users: &[UserIds<'_>]) -> Result<(), CliFault>
+    ensures faults { (fault : CliFault)
+        → users_read (map (λ user. (user.uid, user.gids.now)) users.now) ≡ Err fault → result ≡ Err fault }
+    ensures fault { IfErr result (λ fault. users_read (map (λ user. (user.uid, user.gids.now)) users.now) ≡ Err fault) }
+{
+    for user in users {
+        read_user(*user)?;
+    }
+    Ok(())
+}
+
+fn read_paths(alloc: Global, texts: &[&str]) -> Result<Vec<Path>, CliFault>
+    ensures { MatchResult result
+        (λ read. paths_read (map (λ text. text.now) texts.now) ≡ Ok read.items)
+        (λ fault. fault ≢ CliFault.NoMemory → paths_read (map (λ text. text.now) texts.now) ≡ Err fault) }
+{
+    let mut read = Vec::new(alloc);
+    for text in texts {
+        read.push(read_path(alloc, text)?)?;
+    }
+    Ok(read)
+}
+
+/// What is said of users and subtrees, and the status.
+fn audited<H: Hierarchy>(
+    alloc: Global,
+    tree: &H,
+    users: &[User],
+    subtrees: &[Path],
+) -> Result<(Vec<u8>, u8), CheckFault>
+    ensures said { MatchResult result
+        (λ said. pairs_report (H.state tree.now) users.now subtrees.now ≡ record { text = said.0.items; ending = Ok said.1 })
+        (λ fault. fault ≢ CheckFault.NoMemory → all_checked (H.state tree.now) users.now subtrees.now ≡ Err fault) }
+    ensures contained { IfOk result (λ said. said.1 ≡ 0 → users.now ≢ []
+        → AreContained (H.state tree.now) users.now subtrees.now) }
+{
+    let answer = check_all(alloc, tree, users, subtrees)?;
+    match audit_text(alloc, users, subtrees, &answer) {
+        Ok(text) => Ok((text, audit_status(&answer))),
+        Err(NoMemory) => Err(CheckFault::NoMemory),
+    }
+}
+
+/// The status of an answer for several users and subtrees.
+fn audit_status(answer: &AllAnswer) -> u8
+    ensures { result ≡ audit_status answer.now }
+{
+    match answer {
+        AllAnswer::Contained => 0,
+        AllAnswer::Pair { answer, .. } => status(answer),
+    }
+}

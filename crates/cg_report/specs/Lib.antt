@@ -1,0 +1,3 @@
+pub mod VerdictLines
+pub mod AnswerLines
+pub mod AuditLines

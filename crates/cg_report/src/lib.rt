@@ -1,0 +1,6 @@
+//! The lines of verdicts, of answers and of audits.
+#![tactic(auto)]
+
+pub mod answer;
+pub mod audit;
+pub mod verdict;
