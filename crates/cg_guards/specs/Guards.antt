@@ -33,15 +33,17 @@ ancestors (suc len) = record { guard = CommonAncestor; len = len; name = Procs }
 abbrev pub limit_files : ℕ → List Guarded
 limit_files len = map (λ file. record { guard = LimitFile file; len = len; name = File file }) all_files
 
--- The entries on which a guard of the subtree stands, in the order of the guards. Enabling and Disabling: the parent's
--- cgroup.subtree_control brings and takes limit files. Organizing Processes: its directory is where the subtree is removed.
+-- Enabling and Disabling: the parent's cgroup.subtree_control brings and takes limit files.
+abbrev pub parent_control : Names → Guarded
+parent_control subtree = record { guard = ParentControl; len = length subtree - 1; name = SubtreeControl }
+
+-- Organizing Processes: the parent's directory is where the subtree is removed.
+abbrev pub parent_dir : Names → Guarded
+parent_dir subtree = record { guard = ParentDir; len = length subtree - 1; name = Dir }
+
+-- The entries on which a guard of the subtree stands, in the order of the guards.
 abbrev pub guarded_entries : Names → List Guarded
-guarded_entries subtree =
-    ancestors (length subtree)
-    ++ limit_files (length subtree)
-    ++ record { guard = ParentControl; len = length subtree - 1; name = SubtreeControl }
-    ∷ record { guard = ParentDir; len = length subtree - 1; name = Dir }
-    ∷ []
+guarded_entries subtree = ancestors (length subtree) ++ limit_files (length subtree) ++ parent_control subtree ∷ parent_dir subtree ∷ []
 
 abbrev pub guarded_entry : State → Names → Guarded → Option Entry
 guarded_entry st subtree guarded = entry_at st (take guarded.len subtree) guarded.name

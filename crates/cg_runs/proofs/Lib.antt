@@ -1,0 +1,4 @@
+pub mod LimitLaws
+pub mod BrokenLaws
+pub mod RunLaws
+pub mod StrangerLaws

@@ -1,0 +1,103 @@
+//! What is broken of a subtree at the start, and what a step may break of it.
+ghost use Rattle.std.specs.Prelude.{◌≡◌, [], true, Some};
+ghost use Rattle.cg_cgroup.specs.Paths.{is_child};
+ghost use Rattle.cg_cgroup.specs.Cgroups.{value_in};
+ghost use Rattle.cg_tree.specs.States.{row_at};
+ghost use Rattle.cg_ops.specs.Clauses.{first, unless};
+ghost use Rattle.cg_guards.specs.Limits.{limits, same_limits, is_within_limit};
+ghost use Rattle.cg_runs.specs.Verdicts.{broken};
+ghost use Rattle.cg_runs.specs.Shortcuts.{moves_over, broken_by};
+
+use crate::verdict::Clause;
+use cg_cgroup::cgroup::Cgroup;
+use cg_cgroup::files::{Limit, LimitFile};
+use cg_cgroup::path::Path;
+use cg_ops::operation::Op;
+use cg_tree::hierarchy::Hierarchy;
+
+/// What is broken of a subtree before any step: it may be over its own limits.
+pub fn broken_at_start<H: Hierarchy>(tree: &H, subtree: &Path, cgroup: &Cgroup) -> Option<Clause>
+    requires { row_at (H.state tree.now) subtree.now ≡ Some cgroup.now }
+    ensures { result ≡ first (broken (H.state tree.now) (H.state tree.now) (H.state tree.now) subtree.now) }
+{
+    let len = subtree.depth();
+    if !fits(tree.count_below(subtree, len), cgroup.max_descendants.value) {
+        return Some(Clause::Descendants);
+    }
+    if !fits(tree.depth_below(subtree, len), cgroup.max_depth.value) {
+        return Some(Clause::Depth);
+    }
+    None
+}
+
+/// Whether so many are within a limit.
+fn fits(count: u64, limit: Limit) -> bool
+    ensures { result ≡ is_within_limit count limit }
+{
+    match limit {
+        Limit::Max => true,
+        Limit::At(most) => count <= most,
+    }
+}
+
+/// Whether an operation, carried out, moves a process over the edge of a subtree.
+pub fn moves_over<H: Hierarchy>(tree: &H, subtree: &Path, op: &Op) -> bool
+    ensures { result ≡ moves_over (H.state tree.now) subtree.now op.now }
+{
+    let Op::Move { pid, to } = op else {
+        return false;
+    };
+    match tree.place(*pid) {
+        Some(place) => subtree.is_prefix_of(place) != subtree.is_prefix_of(to),
+        None => false,
+    }
+}
+
+/// What an operation that has just been carried out broke of a subtree that was whole before it, where the subtree's
+/// cgroup at the start is known, and whether a process was moved over the edge.
+pub fn broken_by<H: Hierarchy>(
+    tree: &H,
+    subtree: &Path,
+    original: &Cgroup,
+    op: &Op,
+    moves: bool,
+) -> Option<Clause>
+    ensures { result ≡ first (broken_by (value_in original.now) moves (H.state tree.now) subtree.now op.now) }
+{
+    match op {
+        Op::Move { pid, .. } if moves => Some(Clause::Crossed(*pid)),
+        Op::Rmdir { path } if path == subtree => Some(Clause::Gone),
+        Op::Control { at, .. } if is_child(at, subtree) => changed(tree, subtree, original),
+        Op::Set { at, .. } if at == subtree => changed(tree, subtree, original),
+        _ => None,
+    }
+}
+
+/// Whether `path` is a child of `top`.
+fn is_child(top: &Path, path: &Path) -> bool
+    ensures { result ≡ is_child top.now path.now }
+{
+    if !top.is_prefix_of(path) {
+        return false;
+    }
+    path.depth() - top.depth() == 1
+}
+
+/// That the limits of a subtree aren't those that it had, where they aren't.
+fn changed<H: Hierarchy>(tree: &H, subtree: &Path, original: &Cgroup) -> Option<Clause>
+    ensures { result ≡ first (unless (same_limits (value_in original.now) (limits (H.state tree.now) subtree.now)) Clause.Limits) }
+{
+    match tree.get(subtree, subtree.depth()) {
+        Some(cgroup) if same_limits(original, cgroup) => None,
+        _ => Some(Clause::Limits),
+    }
+}
+
+/// Whether the same limit files stand at two cgroups, with the same values.
+fn same_limits(cgroup: &Cgroup, other: &Cgroup) -> bool
+    ensures { result ≡ same_limits (value_in cgroup.now) (value_in other.now) }
+{
+    LimitFile::ALL
+        .iter()
+        .all(|file| cgroup.limit(*file) == other.limit(*file))
+}
