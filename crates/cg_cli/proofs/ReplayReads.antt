@@ -6,7 +6,8 @@ use Rattle.std.specs.Io.KnownBytes.{Keeps, Consumes, IsAtEnd}
 use Rattle.std.specs.Io.BufRead.{DropsConsumable}
 use Rattle.std.proofs.BufReadLemmas.{Consumes_shown}
 use Rattle.std.proofs.KnownBytes.{Keeps-refl, Consumes-nil, Consumes-kept, Consumes-trans, Appends-kept, starts_with_rest}
-use Rattle.cg_cli.specs.Replays.{end_read, end_report}
+use Rattle.cg_cli.specs.Courses.{Course}
+use Rattle.cg_cli.specs.Replays.{end_read, end_said}
 use Rattle.cg_cli.specs.Replaying.{Reporting, AreOf, Replays, ReplaysFrom, goes_on, IsWaiting, Leads, Fed, ReadOn}
 use Rattle.cg_cli.specs.declared.fault.CliFault.{CliFault}
 use Rattle.cg_cli.specs.declared.fault.CliFault.TheVariants.{Read, NoMemory}
@@ -17,7 +18,7 @@ no_piece None = tt
 no_piece (Some xs) = refl
 
 -- nothing was read
-pub read_failed : (before after : Reporting) (had left old : Option (List ℕ)) (fault : CliFault) → (fault ≡ Read) ⊎ (fault ≡ NoMemory) → Keeps had left → ReadOn before after had left old old (Err fault)
+pub read_failed : (before after : Reporting Course) (had left old : Option (List ℕ)) (fault : CliFault) → (fault ≡ Read) ⊎ (fault ≡ NoMemory) → Keeps had left → ReadOn before after had left old old (Err fault)
 read_failed before after had left old fault (inl e) kept = subst (λ f. ReadOn before after had left old old (Err f)) (sym e) (kept, Keeps-refl old)
 read_failed before after had left old fault (inr e) kept = subst (λ f. ReadOn before after had left old old (Err f)) (sym e) ([], no_piece had, Keeps-refl old)
 
@@ -27,7 +28,7 @@ at_end (Some xs) None n none end kept = absurd kept
 at_end (Some xs) (Some ys) n none end kept = kept ∙ end none
 
 -- nothing is left
-pub read_end : (report : Reporting) (had left old : Option (List ℕ)) (n : ℕ) → n ≡ 0 → IfSome had (λ xs. n ≡ 0 → xs ≡ []) → Keeps had left → ReadOn report report had left old old (Ok 0)
+pub read_end : (report : Reporting Course) (had left old : Option (List ℕ)) (n : ℕ) → n ≡ 0 → IfSome had (λ xs. n ≡ 0 → xs ≡ []) → Keeps had left → ReadOn report report had left old old (Ok 0)
 read_end report had left old n none end kept = (
   [],
   refl,
@@ -37,13 +38,13 @@ read_end report had left old n none end kept = (
 )
 
 -- a piece has a fault
-pub read_fault : (before after : Reporting) (had left old new : Option (List ℕ)) (piece : List ℕ) (fault : CliFault) → IfSome had (λ xs. StartsWith xs piece)
+pub read_fault : (before after : Reporting Course) (had left old new : Option (List ℕ)) (piece : List ℕ) (fault : CliFault) → IfSome had (λ xs. StartsWith xs piece)
     → Fed before after piece old new (Err fault) → ReadOn before after had left old new (Err fault)
 read_fault before after had left old new piece Read front fed = absurd fed
 read_fault before after had left old new piece fault front fed = (piece, front, fed)
 
 -- a piece of which bytes were taken
-pub read_some : (before after : Reporting) (had shown left old new : Option (List ℕ)) (buffered : Option ℕ) (piece : List ℕ) (n : ℕ) → 0 < n
+pub read_some : (before after : Reporting Course) (had shown left old new : Option (List ℕ)) (buffered : Option ℕ) (piece : List ℕ) (n : ℕ) → 0 < n
     → IfSome had (λ xs. StartsWith xs piece) → IfSome had (λ xs. length piece ≡ 0 → xs ≡ []) → Keeps had shown → IfSome had (λ _. IfSome buffered (λ k. length piece ≤ k))
     → DropsConsumable shown left buffered n → Fed before after piece old new (Ok n) → ReadOn before after had left old new (Ok n)
 read_some before after had shown left old new buffered piece n some front end kept fits drops fed =
@@ -53,9 +54,9 @@ read_some before after had shown left old new buffered piece n some front end ke
 -- ---- at the end
 
 -- what is a replay of the reader's bytes
-pub from_replays : (report : Reporting) (before left old new : Option (List ℕ)) (ops : List ℕ) (ended : Result ℕ CliFault) → AreOf before ops → Replays report ops old new ended
+pub from_replays : {A : Type 0} (report : Reporting A) (before left old new : Option (List ℕ)) (ops : List ℕ) (ended : Result A CliFault) → AreOf before ops → Replays report ops old new ended
     → ReplaysFrom report before left old new ended
-from_replays report before left old new ops (Ok status) are replays = (ops, are, replays)
+from_replays report before left old new ops (Ok came) are replays = (ops, are, replays)
 from_replays report before left old new ops (Err Read) are replays = absurd replays
 from_replays report before left old new ops (Err fault) are replays = (ops, are, replays)
 
@@ -81,38 +82,38 @@ end_passed (Some xs) None left given gave end = absurd gave
 end_passed (Some xs) (Some ys) left given gave end = end
 
 -- the input goes on, as far as it was read
-begun_goes_on : (done : ℕ) (line : List ℕ) → IsWaiting done line → goes_on (end_read done line) ≡ true
-begun_goes_on done [] waiting = refl
-begun_goes_on done (b ∷ bs) waiting =
+begun_goes_on : (course : Course) (done : ℕ) (line : List ℕ) → IsWaiting done line → goes_on (end_read course done line) ≡ true
+begun_goes_on course done [] waiting = refl
+begun_goes_on course done (b ∷ bs) waiting =
     let few : done < 65536 = omega (arith, waiting.few) in
     let allowed : nat_lt done 65536 ≡ true = grind (arith, nat_tests) in
     let within : length (b ∷ bs) ≤ 8192 = waiting.short in
     let short : nat_lt 8192 (length (b ∷ bs)) ≡ false = grind (arith, nat_tests) in
     rw (allowed, short) refl
 
-module _ (report there : Reporting) (done : ℕ) (line : List ℕ) (waiting : IsWaiting done line) (none : there [] ≡ end_report (end_read done line))
+module _ (report there : Reporting Course) (course : Course) (done : ℕ) (line : List ℕ) (waiting : IsWaiting done line) (none : there [] ≡ end_said (end_read course done line))
     (before had : Option (List ℕ)) (given : List ℕ) (gave : Consumes before had given)
     (old mid : Option (List ℕ)) (way : Leads report there given old mid) where
   -- at a fault
-  pub from_fault : (after : Reporting) (left new : Option (List ℕ)) (fault : CliFault) → ReadOn there after had left mid new (Err fault) → ReplaysFrom report before left old new (Err fault)
+  pub from_fault : (after : Reporting Course) (left new : Option (List ℕ)) (fault : CliFault) → ReadOn there after had left mid new (Err fault) → ReplaysFrom report before left old new (Err fault)
   from_fault after left new Read read =
-      let said = whole_text report there given old mid (end_read done line) way none in (
+      let said = whole_text report there given old mid (end_read course done line) way none in (
         given,
         Consumes-kept before had left given gave read.0,
         Appends-kept old mid new (report given).text said.1 read.1,
-        ap goes_on said.0 ∙ begun_goes_on done line waiting,
+        ap goes_on said.0 ∙ begun_goes_on course done line waiting,
       )
   from_fault after left new fault read =
       let known = split_known before had given read.0 gave read.1 in
       from_replays report before left old new (given ++ (read.0 ++ known.0)) (Err fault) known.1
-      (replays_fault report there after given read.0 known.0 old mid new (end_read done line) fault way none read.2)
+      (replays_fault report there after given read.0 known.0 old mid new (end_read course done line) fault way none read.2)
 
 -- at the end of the input
-pub from_end : (report there after : Reporting) (done : ℕ) (line : List ℕ) → IsWaiting done line → after [] ≡ end_report (end_read done line)
+pub from_end : (report there after : Reporting Course) (course : Course) (done : ℕ) (line : List ℕ) → IsWaiting done line → after [] ≡ end_said (end_read course done line)
     → (before had left : Option (List ℕ)) (given : List ℕ) → Consumes before had given → (old mid new : Option (List ℕ)) → Leads report there given old mid
-    → ReadOn there after had left mid new (Ok 0) → ReplaysFrom report before left old new (end_read done line)
-from_end report there after done line waiting none before had left given gave old mid new way read =
+    → ReadOn there after had left mid new (Ok 0) → ReplaysFrom report before left old new (end_read course done line)
+from_end report there after course done line waiting none before had left given gave old mid new way read =
     let all = given ++ read.0 in
     let led = leads_on report there after given read.0 old mid new way read.3 in
     let known = all_known before left all (Consumes-trans before had left given read.0 gave read.2) (end_passed before had left given gave (read.4 refl)) in
-    from_replays report before left old new all (end_read done line) known (replays_end report after all old new done line waiting led none)
+    from_replays report before left old new all (end_read course done line) known (replays_end report after all old new course done line waiting led none)

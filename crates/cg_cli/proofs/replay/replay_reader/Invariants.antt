@@ -12,8 +12,8 @@ invariant-loop-asked g l = record {
   gave : Consumes (g.R.Read.remaining l.initial.ops) (g.R.Read.remaining l.ops) given;
   way :
       Leads
-      (coming (g.H.Hierarchy.state l.initial.run.tree) l.initial.run.user l.initial.run.done l.initial.run.line.items)
-      (coming (g.H.Hierarchy.state l.run.tree) l.run.user l.run.done l.run.line.items)
+      (coming (g.C.OnCourse.course l.initial.run.course) l.initial.run.user l.initial.run.done l.initial.run.line.items)
+      (coming (g.C.OnCourse.course l.run.course) l.run.user l.run.done l.run.line.items)
       given
       (g.W.Write.contents l.initial.out)
       (g.W.Write.contents l.out);

@@ -10,8 +10,8 @@ invariant-loop-rest g l = record {
   split : l.ops ≡ given ++ l.rest;
   way :
       Leads
-      (coming (g.H.Hierarchy.state l.initial.run.tree) l.initial.run.user l.initial.run.done l.initial.run.line.items)
-      (coming (g.H.Hierarchy.state l.run.tree) l.run.user l.run.done l.run.line.items)
+      (coming (g.C.OnCourse.course l.initial.run.course) l.initial.run.user l.initial.run.done l.initial.run.line.items)
+      (coming (g.C.OnCourse.course l.run.course) l.run.user l.run.done l.run.line.items)
       given
       (g.W.Write.contents l.initial.out)
       (g.W.Write.contents l.out);
