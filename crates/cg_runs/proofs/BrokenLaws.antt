@@ -28,7 +28,7 @@ no_map f (x ∷ xs) h = cc
 -- ---- at the start
 
 -- the clauses by what they ask
-abbrev clauses_of : Bool → List ℕ → Bool → Bool → Bool → List Clause
+abbrev pub clauses_of : Bool → List ℕ → Bool → Bool → Bool → List Clause
 clauses_of there crossed same descendants depth =
     unless there Gone ++ map Crossed crossed ++ unless same Limits ++ unless descendants Descendants ++ unless depth Depth
 

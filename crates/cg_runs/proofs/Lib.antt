@@ -2,3 +2,5 @@ pub mod LimitLaws
 pub mod BrokenLaws
 pub mod RunLaws
 pub mod StrangerLaws
+pub mod ShortcutLaws
+pub mod ReplayLaws

@@ -1,18 +1,19 @@
 //! What is broken of a subtree at the start, and what a step may break of it.
-ghost use Rattle.std.specs.Prelude.{◌≡◌, [], true, Some};
+ghost use Rattle.std.specs.Prelude.{◌≡◌, [], List, true, Some};
 ghost use Rattle.cg_cgroup.specs.Paths.{is_child};
 ghost use Rattle.cg_cgroup.specs.Cgroups.{value_in};
 ghost use Rattle.cg_tree.specs.States.{row_at};
 ghost use Rattle.cg_ops.specs.Clauses.{first, unless};
 ghost use Rattle.cg_guards.specs.Limits.{limits, same_limits, is_within_limit};
-ghost use Rattle.cg_runs.specs.Verdicts.{broken};
-ghost use Rattle.cg_runs.specs.Shortcuts.{moves_over, broken_by};
+ghost use Rattle.cg_runs.specs.Verdicts.{broken, or_later};
+ghost use Rattle.cg_runs.specs.Shortcuts.{moves_over, may_break, broken_by};
 
-use crate::verdict::Clause;
+use crate::verdict::{Clause, Verdict};
 use cg_cgroup::cgroup::Cgroup;
 use cg_cgroup::files::{Limit, LimitFile};
 use cg_cgroup::path::Path;
 use cg_ops::operation::Op;
+use cg_ops::outcome::Outcome;
 use cg_tree::hierarchy::Hierarchy;
 
 /// What is broken of a subtree before any step: it may be over its own limits.
@@ -28,6 +29,19 @@ pub fn broken_at_start<H: Hierarchy>(tree: &H, subtree: &Path, cgroup: &Cgroup) 
         return Some(Clause::Depth);
     }
     None
+}
+
+/// The verdict by what was broken after so many steps, where nothing was broken before.
+pub fn verdict_by(broken: Option<Clause>, steps: usize) -> Verdict
+    ensures { (clauses : List Clause) → broken ≡ first clauses → result ≡ or_later clauses steps Verdict.Kept }
+{
+    match broken {
+        None => Verdict::Kept,
+        Some(clause) => Verdict::Broken {
+            after: steps,
+            clause,
+        },
+    }
 }
 
 /// Whether so many are within a limit.
@@ -50,6 +64,16 @@ pub fn moves_over<H: Hierarchy>(tree: &H, subtree: &Path, op: &Op) -> bool
     match tree.place(*pid) {
         Some(place) => subtree.is_prefix_of(place) != subtree.is_prefix_of(to),
         None => false,
+    }
+}
+
+/// Whether a step may have broken anything: it was carried out, and nothing was broken before it.
+pub fn may_break(verdict: Verdict, outcome: &Outcome) -> bool
+    ensures { result ≡ may_break verdict outcome.now }
+{
+    match (verdict, outcome) {
+        (Verdict::Kept, Outcome::Done) => true,
+        _ => false,
     }
 }
 

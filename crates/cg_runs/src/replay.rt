@@ -1,24 +1,17 @@
 //! Replaying operations on a tree, with the verdict on a subtree.
-ghost use Rattle.std.specs.Prelude.{◌≡◌, ◌↔◌, ℕ, suc, true, false, [], MatchResult, IfOk, OnOk, OnErr, Some, length};
-ghost use Rattle.cg_cgroup.specs.Paths.{is_root, is_child};
-ghost use Rattle.cg_cgroup.specs.Cgroups.{value_in};
-ghost use Rattle.cg_tree.specs.States.{row_at};
+ghost use Rattle.std.specs.Prelude.{◌≡◌, ◌↔◌, true, [], IfOk, IfErr, OnOk, OnErr};
 ghost use Rattle.cg_ops.specs.Clauses.{first};
 ghost use Rattle.cg_ops.specs.Bars.{bars};
 ghost use Rattle.cg_ops.specs.Memory.{takes_memory};
 ghost use Rattle.cg_ops.specs.Outcomes.{RefusedBy};
-ghost use Rattle.cg_guards.specs.Limits.{limits, same_limits, is_within_limit};
 ghost use Rattle.cg_guards.specs.Guarding.{IsSubtree};
-ghost use Rattle.cg_runs.specs.Verdicts.{verdict};
 ghost use Rattle.cg_runs.specs.Replays.{stepped, IsRunOf};
 ghost use Rattle.cg_runs.specs.Faults.{IsFaultOf};
-ghost use Rattle.cg_runs.specs.Shortcuts.{moves_over, broken_by};
 
+use crate::broken::{broken_at_start, broken_by, may_break, moves_over, verdict_by};
 use crate::fault::{CheckFault, StepFault};
-use crate::verdict::{Clause, Verdict};
+use crate::verdict::Verdict;
 use cg_cgroup::cgroup::Cgroup;
-use cg_cgroup::files::{Limit, LimitFile};
-use cg_cgroup::memory::NoMemory;
 use cg_cgroup::path::Path;
 use cg_cgroup::user::User;
 use cg_ops::apply;
@@ -59,7 +52,56 @@ impl<H: Hierarchy> Model for Replay<H> {
     ghost invariant = { λ r. IsReplay (record { subtree = r.subtree; original = r.original; state = H.state r.tree; steps = r.steps; verdict = r.verdict }) };
 }
 
+impl<H: Hierarchy + Drop> Replay<H> {
+    /// A replay that begins with this tree, in which the subtree is there and isn't the root.
+    pub fn start(tree: H, subtree: Path) -> Result<Replay<H>, CheckFault>
+        ensures ok { IfOk result (λ replay. (replay.subtree ≡ subtree) × (IsSubtree (H.state tree) subtree × IsRunOf replay (H.state tree) [])) }
+        ensures err { IfErr result (λ fault. IsFaultOf fault (H.state tree) subtree) }
+    {
+        let len = subtree.depth();
+        if len == 0 {
+            return Err(CheckFault::RootSubtree);
+        }
+        let Some(cgroup) = tree.get(&subtree, len) else {
+            return Err(CheckFault::NoSuchSubtree);
+        };
+        let original = *cgroup;
+        let broken = broken_at_start(&tree, &subtree, &original);
+        Ok(Replay {
+            tree,
+            subtree,
+            original,
+            steps: 0,
+            verdict: verdict_by(broken, 0),
+        })
+    }
+}
+
 impl<H: Hierarchy> Replay<H> {
+    /// Carries out an operation of a user where nothing refuses it; a refused one counts as a step.
+    ///
+    /// `TooManySteps` comes before all else. After either fault the replay is what it was.
+    pub fn step(&mut self, alloc: Global, user: &User, op: &Op) -> Result<Outcome, StepFault>
+        ensures ok { OnOk result (self.new ≡ stepped self.old user.now op.now) }
+        ensures outcome { IfOk result (λ outcome. RefusedBy outcome (first (bars self.old.state user.now op.now))) }
+        ensures err { OnErr result (self.new ≡ self.old) }
+        ensures full { (result ≡ Err StepFault.TooManySteps) ↔ (self.old.steps ≡ MAX_STEPS) }
+        ensures memory { result ≡ Err StepFault.NoMemory
+            → (bars self.old.state user.now op.now ≡ []) × (takes_memory op.now ≡ true) }
+    {
+        if self.steps == MAX_STEPS {
+            return Err(StepFault::TooManySteps);
+        }
+        let moves = moves_over(&self.tree, &self.subtree, op);
+        let outcome = apply(alloc, &mut self.tree, user, op)?;
+        self.steps += 1;
+        if may_break(self.verdict, &outcome) {
+            let broken = broken_by(&self.tree, &self.subtree, &self.original, op, moves);
+            self.verdict = verdict_by(broken, self.steps);
+        }
+        Ok(outcome)
+    }
+
     /// The verdict on the steps so far.
     pub fn verdict(&self) -> Verdict
         ensures { result ≡ self.now.verdict }
