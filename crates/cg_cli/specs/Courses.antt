@@ -55,3 +55,8 @@ verdict_status (Broken steps clause) = 1
 abbrev pub closing : Course → Report
 closing (Unwatched st) = record { text = []; ending = Ok 0 }
 closing (Watched run) = record { text = verdict_text run.verdict; ending = Ok (verdict_status run.verdict) }
+
+-- what a call came to, as the model sees it
+abbrev pub came_to : {A B : Type 0} → (A → B) → Result A CliFault → Result B CliFault
+came_to view (Ok x) = Ok (view x)
+came_to view (Err fault) = Err fault

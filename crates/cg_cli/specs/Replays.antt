@@ -1,7 +1,6 @@
 -- The report on operation lines, each answered before the next is read. Own.
 use Rattle.std.specs.Prelude.{ℕ, ◌+◌, Bool, List, [], ◌∷◌, ◌++◌, length, nat_lt, ◌==◌, cond, Option, Some, None, Result, Ok, Err}
 use Rattle.std.specs.List.{slice_split}
-use Rattle.cg_cgroup.specs.Paths.{Names}
 use Rattle.cg_cgroup.specs.Identity.{Identity}
 use Rattle.cg_tree.specs.States.{State}
 use Rattle.cg_ops.specs.Clauses.{first}
@@ -81,19 +80,18 @@ lines_said course user done bytes = replayed course user done (slice_split is_ne
 abbrev pub closed : Said Course → Report
 closed said = elim said.ending [ Ok course ↦ with_front said.text (closing course) | Err fault ↦ record { text = said.text; ending = Err fault } ]
 
--- the path of a subtree, where one is named
-abbrev pub subtree_read : Option (List ℕ) → Result (Option Names) CliFault
-subtree_read None = Ok None
-subtree_read (Some text) = elim (path_read text) [ Ok path ↦ Ok (Some path) | Err fault ↦ Err fault ]
-
--- what operations are carried out on, by the arguments and the tree's text
-abbrev pub course_read : Option Names → List ℕ → Result Course CliFault
-course_read subtree text = elim (tree_read text) [ Ok st ↦ course_from st subtree | Err fault ↦ Err fault ]
+-- what operations are carried out on, by the path of a subtree, where one is named, and the tree's text
+abbrev pub course_read : Option (List ℕ) → List ℕ → Result Course CliFault
+course_read None text = elim (tree_read text) [ Ok st ↦ course_from st None | Err fault ↦ Err fault ]
+course_read (Some subtree) text =
+    elim (path_read subtree) [
+      | Ok path ↦ elim (tree_read text) [ Ok st ↦ course_from st (Some path) | Err fault ↦ Err fault ]
+      | Err fault ↦ Err fault
+    ]
 
 -- The user is looked at first, then the subtree's path, the tree's text, whether the subtree is one that can be watched,
 -- and then the operations line by line.
 abbrev pub replay_report : List ℕ → ℕ → List ℕ → Option (List ℕ) → List ℕ → Report
 replay_report text uid gids subtree ops =
     report_on (user_read uid gids) (λ user.
-    report_on (subtree_read subtree) (λ path.
-    report_on (course_read path text) (λ course. closed (lines_said course user 0 ops))))
+    report_on (course_read subtree text) (λ course. closed (lines_said course user 0 ops)))
