@@ -26,10 +26,10 @@ use Rattle.cg_ops.specs.declared.changes.Change.{Change}
 use Rattle.cg_ops.specs.declared.operation.Op.TheVariants.{Chmod}
 use Rattle.cg_ops.specs.declared.outcome.Refusal.TheVariants.{NoSuchCgroup, NoSuchFile, NoAccess, NotOwner}
 use Rattle.cg_ops.proofs.ClauseLaws.{no_parts, no_unless, no_absent, no_present}
-use Rattle.cg_guards.specs.Guards.{limit_files, parent_control, parent_dir, guarded_entries, guarded_entry, is_chmod_of, sets_guarded_mode}
+use Rattle.cg_guards.specs.Guards.{limit_file, limit_files, parent_control, parent_dir, guarded_entries, guarded_entry, is_chmod_of, sets_guarded_mode}
 use Rattle.cg_guards.specs.Guarding.{IsSubtree, AreUnreached}
 use Rattle.cg_guards.proofs.Sound.{IsSound}
-use Rattle.cg_guards.proofs.GuardedEntries.{at_file, contains-alone, limit_files-has, never_written, never_owned}
+use Rattle.cg_guards.proofs.GuardedEntries.{contains-alone, limit_files-has, never_written, never_owned}
 
 module _ (st : State) (user : Identity) (subtree : Names) (sound : IsSound st) (sub : IsSubtree st subtree) where
   row_here : (row : Cgroup) × (row_at st subtree ≡ Some row)
@@ -67,7 +67,7 @@ module _ (st : State) (user : Identity) (subtree : Names) (sound : IsSound st) (
       let stands = no_absent (file_of row.0 file) _ (no_present (row_at st at) (λ r. absent (file_of r file) (NoSuchFile file)) (no_parts _ _ access.0).1 row.0 at_row) in
       let held = some_value (file_of row.0 file) stands in
       let can = no_unless _ _ (no_present (file_at st at file) (λ f. unless (writes user f.entry) (NoAccess (length at) (File file))) access.1 held.0 (ap (option_and_then (λ r. file_of r file)) at_row ∙ held.1)) in
-      never_written st user subtree (limit_files (length subtree)) unreached (at_file subtree file) (limit_files-has subtree file) held.0.entry
+      never_written st user subtree (limit_files (length subtree)) unreached (limit_file (length subtree) file) (limit_files-has subtree file) held.0.entry
       (ap (λ p. entry_at st p (File file)) whole ∙ entry_at-file st subtree file
       ∙ ap (λ r. option_map (λ f. f.entry) (option_and_then (λ r. file_of r file) r)) row.1 ∙ ap (option_map (λ f. f.entry)) held.1) can)
 

@@ -24,10 +24,10 @@ use Rattle.cg_ops.proofs.Allowed.{allowed_fork}
 use Rattle.cg_ops.proofs.StepFormed.{after-allowed}
 use Rattle.cg_ops.proofs.StepEffects.{process_at-after}
 use Rattle.cg_guards.specs.Edge.{is_crossed, crossing}
-use Rattle.cg_guards.specs.Guards.{ancestors}
+use Rattle.cg_guards.specs.Guards.{ancestor, ancestors}
 use Rattle.cg_guards.specs.Guarding.{IsSubtree, AreUnreached}
 use Rattle.cg_guards.proofs.Sound.{IsSound, take-there}
-use Rattle.cg_guards.proofs.GuardedEntries.{at_ancestor, ancestors-has, never_written}
+use Rattle.cg_guards.proofs.GuardedEntries.{ancestors-has, never_written}
 
 -- ---- paths
 
@@ -62,6 +62,28 @@ placed : (to : Names) (process : Option Process) → option_map (λ p. p.place) 
 placed to None = refl
 placed to (Some process) = refl
 
+-- ---- a process that isn't named, is made or ends
+
+module _ (st : State) (user : Identity) (subtree : Names) where
+  kept : (op : Op) (q : ℕ) → alters_process op q ≡ false → is_crossed subtree (place_at st q) (place_at (after st user op) q) ≡ false
+  kept op q same = ap (λ process. is_crossed subtree (place_at st q) (option_map (λ p. p.place) process)) (process_at-after st user op q same) ∙ stays-there subtree (place_at st q)
+
+  -- a process that is made was nowhere
+  pub fork-crosses : IsSound st → (parent child q : ℕ) → bars st user (Fork parent child) ≡ [] → is_crossed subtree (place_at st q) (place_at (after st user (Fork parent child)) q) ≡ false
+  fork-crosses sound parent child q free =
+      elim (nat_eq child q) as (λ b. nat_eq child q ≡ b → is_crossed subtree (place_at st q) (place_at (after st user (Fork parent child)) q) ≡ false) [
+        | true ↦ λ same.
+            let gone : process_at st q ≡ None = none_value (process_at st q) (false_from_ne_true (is_some (process_at st q)) (λ live.
+            true≢false (sym (sound.used q live) ∙ ap (is_used st) (sym (eqb-true child q same)) ∙ allowed_fork st user parent child free))) in
+            ap (λ process. is_crossed subtree (option_map (λ p. p.place) process) (place_at (after st user (Fork parent child)) q)) gone
+        | false ↦ kept (Fork parent child) q
+      ] refl
+
+  pub exit-crosses : (pid q : ℕ) → is_crossed subtree (place_at st q) (place_at (without_process st pid) q) ≡ false
+  exit-crosses pid q =
+      ap (λ process. is_crossed subtree (place_at st q) (option_map (λ p. p.place) process)) (process_at-without_process st pid q)
+      ∙ elim (nat_eq pid q) as (λ b. is_crossed subtree (place_at st q) (option_map (λ p. p.place) (cond b None (process_at st q))) ≡ false) [ true ↦ ends subtree (place_at st q) | false ↦ stays-there subtree (place_at st q) ]
+
 -- ---- a move
 
 module _ (st : State) (user : Identity) (subtree : Names) (sound : IsSound st) (sub : IsSubtree st subtree) where
@@ -72,7 +94,7 @@ module _ (st : State) (user : Identity) (subtree : Names) (sound : IsSound st) (
         let level = length (common from to) in
         let row = some_value (row_at st (take level subtree)) (take-there st sound subtree level sub.0) in
         let same = ap (row_at st) (is ∙ above.1) ∙ row.1 in
-        never_written st user subtree (ancestors (length subtree)) unreached (at_ancestor level) (ancestors-has (length subtree) level above.0) row.0.procs
+        never_written st user subtree (ancestors (length subtree)) unreached (ancestor level) (ancestors-has (length subtree) level above.0) row.0.procs
         (ap (option_and_then (λ r. entry_in r Procs)) row.1) (sym (ap (λ r. elim r [ None ↦ true | Some row ↦ writes user row.procs ]) same) ∙ can)
 
     move-inside : (pid : ℕ) (from to : Names) → move_bars st user pid to ≡ [] → place_at st pid ≡ Some from → inside subtree from ≡ inside subtree to
@@ -93,37 +115,16 @@ module _ (st : State) (user : Identity) (subtree : Names) (sound : IsSound st) (
           | false ↦ λ _. stays-there subtree (place_at st q)
         ] refl
 
-  -- ---- each operation
-
-  kept : (op : Op) (q : ℕ) → alters_process op q ≡ false → is_crossed subtree (place_at st q) (place_at (after st user op) q) ≡ false
-  kept op q same = ap (λ process. is_crossed subtree (place_at st q) (option_map (λ p. p.place) process)) (process_at-after st user op q same) ∙ stays-there subtree (place_at st q)
-
-  -- a process that is made was nowhere
-  fork-crosses : (parent child q : ℕ) → bars st user (Fork parent child) ≡ [] → is_crossed subtree (place_at st q) (place_at (after st user (Fork parent child)) q) ≡ false
-  fork-crosses parent child q free =
-      elim (nat_eq child q) as (λ b. nat_eq child q ≡ b → is_crossed subtree (place_at st q) (place_at (after st user (Fork parent child)) q) ≡ false) [
-        | true ↦ λ same.
-            let gone : process_at st q ≡ None = none_value (process_at st q) (false_from_ne_true (is_some (process_at st q)) (λ live.
-            true≢false (sym (sound.used q live) ∙ ap (is_used st) (sym (eqb-true child q same)) ∙ allowed_fork st user parent child free))) in
-            ap (λ process. is_crossed subtree (option_map (λ p. p.place) process) (place_at (after st user (Fork parent child)) q)) gone
-        | false ↦ kept (Fork parent child) q
-      ] refl
-
-  exit-crosses : (pid q : ℕ) → is_crossed subtree (place_at st q) (place_at (without_process st pid) q) ≡ false
-  exit-crosses pid q =
-      ap (λ process. is_crossed subtree (place_at st q) (option_map (λ p. p.place) process)) (process_at-without_process st pid q)
-      ∙ elim (nat_eq pid q) as (λ b. is_crossed subtree (place_at st q) (option_map (λ p. p.place) (cond b None (process_at st q))) ≡ false) [ true ↦ ends subtree (place_at st q) | false ↦ stays-there subtree (place_at st q) ]
-
   -- where nothing bars it
   pub crosses : (op : Op) → AreUnreached st user subtree (ancestors (length subtree)) → bars st user op ≡ [] → (q : ℕ) → is_crossed subtree (place_at st q) (place_at (after st user op) q) ≡ false
   crosses (Move pid to) unreached free q = ap (λ new. is_crossed subtree (place_at st q) (place_at new q)) (after-allowed st user (Move pid to) free) ∙ move-crosses unreached pid to free q
-  crosses (Control at changes) unreached free q = kept (Control at changes) q refl
-  crosses (Mkdir path) unreached free q = kept (Mkdir path) q refl
-  crosses (Rmdir path) unreached free q = kept (Rmdir path) q refl
-  crosses (Set at file value) unreached free q = kept (Set at file value) q refl
-  crosses (Fork parent child) unreached free q = fork-crosses parent child q free
-  crosses (Exit pid) unreached free q = ap (λ new. is_crossed subtree (place_at st q) (place_at new q)) (after-allowed st user (Exit pid) free) ∙ exit-crosses pid q
-  crosses (Chmod at name mode) unreached free q = kept (Chmod at name mode) q refl
+  crosses (Control at changes) unreached free q = kept st user subtree (Control at changes) q refl
+  crosses (Mkdir path) unreached free q = kept st user subtree (Mkdir path) q refl
+  crosses (Rmdir path) unreached free q = kept st user subtree (Rmdir path) q refl
+  crosses (Set at file value) unreached free q = kept st user subtree (Set at file value) q refl
+  crosses (Fork parent child) unreached free q = fork-crosses st user subtree sound parent child q free
+  crosses (Exit pid) unreached free q = ap (λ new. is_crossed subtree (place_at st q) (place_at new q)) (after-allowed st user (Exit pid) free) ∙ exit-crosses st user subtree pid q
+  crosses (Chmod at name mode) unreached free q = kept st user subtree (Chmod at name mode) q refl
 
 filter_none : {A : Type 0} (test : A → Bool) (xs : List A) → ((x : A) → test x ≡ false) → filter test xs ≡ []
 filter_none test [] h = refl

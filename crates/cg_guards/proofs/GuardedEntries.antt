@@ -11,33 +11,25 @@ use Rattle.cg_cgroup.specs.Files.{all_files}
 use Rattle.cg_cgroup.specs.declared.user.Entry.{Entry}
 use Rattle.cg_cgroup.specs.declared.files.LimitFile.{LimitFile}
 use Rattle.cg_cgroup.specs.declared.files.LimitFile.TheVariants.{MaxDescendants, MaxDepth, CpuWeight, MemoryMin, MemoryLow, MemoryHigh, MemoryMax, PidsMax}
-use Rattle.cg_cgroup.specs.declared.files.EntryName.TheVariants.{Procs, File}
 use Rattle.cg_tree.specs.States.{State}
 use Rattle.cg_ops.specs.Clauses.{unless, present}
 use Rattle.cg_ops.proofs.ClauseLaws.{no_parts, no_unless, no_present}
 use Rattle.cg_guards.specs.Limits.{fits_descendants, fits_depth}
-use Rattle.cg_guards.specs.Guards.{Guarded, ancestors, limit_files, parent_control, parent_dir, guarded_entries, guarded_entry, entry_failures, over_failures, GuardsHold}
+use Rattle.cg_guards.specs.Guards.{Guarded, ancestor, ancestors, limit_file, limit_files, parent_control, parent_dir, guarded_entries, guarded_entry, entry_failures, over_failures, GuardsHold}
 use Rattle.cg_guards.specs.Guarding.{AreUnreached, AreUntouched}
-use Rattle.cg_guards.specs.declared.guard.Guard.TheVariants.{CommonAncestor, LimitFile as LimitFileGuard}
 
 -- ---- the guarded entries by kind
-
-abbrev pub at_ancestor : ℕ → Guarded
-at_ancestor len = record { guard = CommonAncestor; len = len; name = Procs }
-
-abbrev pub at_file : Names → LimitFile → Guarded
-at_file subtree file = record { guard = LimitFileGuard file; len = length subtree; name = File file }
 
 pub contains-alone : {A : Type 0} (x : A) → Contains (x ∷ []) x
 contains-alone x = (0, omega arith, refl)
 
-pub ancestors-has : (m n : ℕ) → n < m → Contains (ancestors m) (at_ancestor n)
+pub ancestors-has : (m n : ℕ) → n < m → Contains (ancestors m) (ancestor n)
 ancestors-has zero n h = absurd (omega arith)
 ancestors-has (suc m) n h =
-    ⊎_elim (λ less. Contains-append_right (at_ancestor m ∷ []) (ancestors m) (at_ancestor n) (ancestors-has m n less))
-    (λ le. let same : m ≡ n = omega arith in subst (λ k. Contains (ancestors (suc m)) (at_ancestor k)) same (0, omega arith, refl)) (cases_lt n m)
+    ⊎_elim (λ less. Contains-append_right (ancestor m ∷ []) (ancestors m) (ancestor n) (ancestors-has m n less))
+    (λ le. let same : m ≡ n = omega arith in subst (λ k. Contains (ancestors (suc m)) (ancestor k)) same (0, omega arith, refl)) (cases_lt n m)
 
-pub limit_files-has : (subtree : Names) (file : LimitFile) → Contains (limit_files (length subtree)) (at_file subtree file)
+pub limit_files-has : (subtree : Names) (file : LimitFile) → Contains (limit_files (length subtree)) (limit_file (length subtree) file)
 limit_files-has subtree MaxDescendants = (0, omega arith, refl)
 limit_files-has subtree MaxDepth = (1, omega arith, refl)
 limit_files-has subtree CpuWeight = (2, omega arith, refl)
@@ -49,16 +41,16 @@ limit_files-has subtree PidsMax = (7, omega arith, refl)
 
 -- what holds of each kind holds of all
 module _ (subtree : Names) (P : Guarded → Type 0) where
-  all_ancestors : (m : ℕ) → ((n : ℕ) → P (at_ancestor n)) → AllByRecursion P (ancestors m)
+  all_ancestors : (m : ℕ) → ((n : ℕ) → P (ancestor n)) → AllByRecursion P (ancestors m)
   all_ancestors zero each = tt
   all_ancestors (suc m) each = (each m, all_ancestors m each)
 
-  pub all_guarded : ((n : ℕ) → P (at_ancestor n)) → ((file : LimitFile) → P (at_file subtree file)) → P (parent_control subtree) → P (parent_dir subtree) → All P (guarded_entries subtree)
+  pub all_guarded : ((n : ℕ) → P (ancestor n)) → ((file : LimitFile) → P (limit_file (length subtree) file)) → P (parent_control subtree) → P (parent_dir subtree) → All P (guarded_entries subtree)
   all_guarded ancestor file control dir =
       All-append P (ancestors (length subtree) ++ limit_files (length subtree)) (parent_control subtree ∷ parent_dir subtree ∷ [])
       (All-append P (ancestors (length subtree)) (limit_files (length subtree))
       (All-from_recursion P (ancestors (length subtree)) (all_ancestors (length subtree) ancestor))
-      (All-map P (at_file subtree) all_files (λ k d _. file (get_or all_files k d))))
+      (All-map P (limit_file (length subtree)) all_files (λ k d _. file (get_or all_files k d))))
       (All-from_recursion P (parent_control subtree ∷ parent_dir subtree ∷ []) (control, (dir, tt)))
 
 -- ---- entries that a user doesn't reach

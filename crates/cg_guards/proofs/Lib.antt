@@ -6,3 +6,5 @@ pub mod Crossing
 pub mod Counts
 pub mod Kept
 pub mod Steps
+pub mod FirstFailed
+pub mod OperationLaws

@@ -1,4 +1,6 @@
-//! Laws of a step, whoever makes it, over the definitions alone. Each function's contract is its law.
+//! Laws of a step, over the definitions alone. The contract of each function is the law; none does anything.
+pub mod operations;
+
 ghost use Rattle.std.specs.Prelude.{◌≡◌, true, false};
 ghost use Rattle.cg_cgroup.specs.Paths.{Names};
 ghost use Rattle.cg_cgroup.specs.Identity.{Identity};

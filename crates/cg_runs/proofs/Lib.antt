@@ -4,3 +4,4 @@ pub mod RunLaws
 pub mod StrangerLaws
 pub mod ShortcutLaws
 pub mod ReplayLaws
+pub mod CountLaws

@@ -1,11 +1,11 @@
 -- What a replay keeps at each step, and that it comes to the verdict of the definition.
-use Rattle.std.proofs.Common.{◌≡◌, ℕ, zero, suc, ◌+◌, ◌<◌, ◌≤◌, Bool, true, false, not, ◌||◌, List, [], ◌∷◌, ◌++◌, length, Option, Some, None, option_and_then, refl, sym, ap, ◌∙◌, subst, true≢false, arith, add-one, length-append}
+use Rattle.std.proofs.Common.{◌≡◌, ℕ, suc, ◌+◌, ◌<◌, true, false, List, [], ◌∷◌, ◌++◌, length, take, Option, Some, option_and_then, refl, sym, ap, ◌∙◌, subst, true≢false, arith, add-one, length-append}
 use Rattle.cg_cgroup.specs.Paths.{Names, is_root}
 use Rattle.cg_cgroup.specs.Identity.{Identity}
 use Rattle.cg_cgroup.specs.Cgroups.{value_in}
 use Rattle.cg_cgroup.specs.declared.cgroup.Cgroup.{Cgroup}
 use Rattle.cg_tree.specs.States.{State, row_at}
-use Rattle.cg_tree.specs.WellFormed.{IsWellFormed, has_row}
+use Rattle.cg_tree.specs.WellFormed.{IsWellFormed}
 use Rattle.cg_ops.specs.Steps.{after, after_all, Deed}
 use Rattle.cg_ops.specs.declared.operation.Op.{Op}
 use Rattle.cg_ops.specs.declared.outcome.Refusal.{Refusal}
@@ -15,11 +15,12 @@ use Rattle.cg_ops.specs.Clauses.{first}
 use Rattle.cg_ops.specs.Bars.{bars}
 use Rattle.cg_ops.specs.Next.{next}
 use Rattle.cg_ops.specs.Outcomes.{RefusedBy, IsRefused}
+use Rattle.cg_ops.proofs.Prefixes.{take_whole, no_root_of_length}
 use Rattle.cg_ops.proofs.StepFormed.{after-allowed, after-barred}
 use Rattle.cg_guards.specs.Limits.{Limits as LimitMap, limits, same_limits}
-use Rattle.cg_guards.proofs.Sound.{IsSound, sound-formed, sound-after}
+use Rattle.cg_guards.proofs.Sound.{sound-formed, sound-after}
 use Rattle.cg_guards.proofs.Crossing.{none-crosses-same}
-use Rattle.cg_runs.specs.Verdicts.{broken, broken_since, or_later, verdict_from, verdict}
+use Rattle.cg_runs.specs.Verdicts.{broken, broken_since, or_later, verdict_from}
 use Rattle.cg_runs.specs.Replays.{Progress, or_broken, stepped, IsRunOf}
 use Rattle.cg_runs.specs.Shortcuts.{may_break, moves_over, broken_by, IsIntact, IsReplay}
 use Rattle.cg_runs.specs.declared.verdict.Clause.{Clause}
@@ -51,6 +52,13 @@ still_kept Kept clauses steps h = (refl, none_later clauses steps h)
 still_kept (Broken earlier clause) clauses steps h = cc
 
 -- ---- the start
+
+-- what is asked of the subtree, by its depth
+pub row-asked : (st : State) (subtree : Names) (len : ℕ) (row : Cgroup) → len ≡ length subtree → Some row ≡ row_at st (take len subtree) → row_at st subtree ≡ Some row
+row-asked st subtree len row whole is = ap (row_at st) (sym (take_whole subtree len whole)) ∙ sym is
+
+pub not_root-asked : (subtree : Names) (len : ℕ) → len ≡ length subtree → (len ≡ 0 → ⊥) → is_root subtree ≡ false
+not_root-asked subtree len whole some = no_root_of_length subtree (omega (arith, some))
 
 module _ (st : State) (subtree : Names) (row : Cgroup) (start : Verdict) (formed : IsWellFormed st) (not_root : is_root subtree ≡ false) (is : row_at st subtree ≡ Some row) (found : start ≡ or_later (broken st st st subtree) 0 Kept) where
   abbrev begun : Progress

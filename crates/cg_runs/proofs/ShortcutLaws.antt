@@ -1,23 +1,22 @@
 -- What an operation broke is found by asking no more than it may change.
-use Rattle.std.proofs.Common.{◌≡◌, ℕ, Bool, true, false, not, ◌||◌, ◌&&◌, cond, List, [], ◌∷◌, ◌++◌, map, filter, nat_eq, Option, Some, None, is_some, option_map, refl, sym, ap, ◌∙◌, subst, true≢false, eqb-true}
+use Rattle.std.proofs.Common.{◌≡◌, ℕ, Bool, true, false, not, ◌||◌, ◌&&◌, cond, List, [], ◌∷◌, map, filter, nat_eq, Option, Some, None, is_some, option_map, refl, sym, ap, ◌∙◌, true≢false, eqb-true}
 use Rattle.std.proofs.lemmas.Bool.{false≢true, false_from_ne_true, eq-eqb}
 use Rattle.std.specs.List.{list_any}
 use Rattle.std.specs.FinMap as finite
-use Rattle.cg_cgroup.specs.Paths.{Names, is_root, same_path, is_child, inside}
+use Rattle.cg_cgroup.specs.Paths.{Names, is_root, same_path, is_child}
 use Rattle.cg_cgroup.specs.Identity.{Identity}
 use Rattle.cg_cgroup.specs.Files.{controller_of, same_file}
 use Rattle.cg_cgroup.specs.declared.files.LimitFile.{LimitFile}
 use Rattle.cg_cgroup.specs.declared.process.Process.{Process}
 use Rattle.cg_cgroup.proofs.Options.{mapped_from}
 use Rattle.cg_cgroup.proofs.PathOrder.{same_path-is}
-use Rattle.cg_tree.specs.States.{State, row_at, place_at, process_at, placed_at, pids_of, with_place, without_row, value_at}
+use Rattle.cg_tree.specs.States.{State, place_at, process_at, placed_at, pids_of, without_row}
 use Rattle.cg_tree.specs.WellFormed.{has_row}
 use Rattle.cg_tree.proofs.MapLaws.{list_any-map, entry_any}
 use Rattle.cg_tree.proofs.StateLaws.{process_at-with_place-same, row_at-without_row-same}
 use Rattle.cg_ops.specs.Bars.{bars}
 use Rattle.cg_ops.specs.Clauses.{unless, first}
 use Rattle.cg_ops.specs.Effects.{alters_row, alters_value, alters_process}
-use Rattle.cg_ops.specs.Next.{next}
 use Rattle.cg_ops.specs.Steps.{after}
 use Rattle.cg_ops.specs.declared.operation.Op.{Op}
 use Rattle.cg_ops.specs.declared.operation.Op.TheVariants.{Move, Control, Mkdir, Rmdir, Set, Fork, Exit, Chmod}
@@ -33,8 +32,7 @@ use Rattle.cg_guards.proofs.Counts.{fits-after}
 use Rattle.cg_guards.proofs.Crossing.{kept, fork-crosses, exit-crosses, none-crosses}
 use Rattle.cg_runs.specs.Verdicts.{broken_since}
 use Rattle.cg_runs.specs.Shortcuts.{moves_over, broken_by, IsIntact}
-use Rattle.cg_runs.specs.declared.verdict.Clause.{Clause}
-use Rattle.cg_runs.specs.declared.verdict.Clause.TheVariants.{Gone, Crossed, Limits, Descendants, Depth}
+use Rattle.cg_runs.specs.declared.verdict.Clause.TheVariants.{Gone, Crossed, Limits}
 use Rattle.cg_runs.proofs.LimitLaws.{same_limits-is}
 use Rattle.cg_runs.proofs.BrokenLaws.{clauses_of}
 

@@ -54,9 +54,9 @@ module _ (users : List Identity) (start : State) (subtree : Names) where
       let new = after st deed.0 deed.1 in
       elim (broken start st new subtree) as (λ found. broken start st new subtree ≡ found → or_later found (suc made) (verdict_from start (suc made) new deeds subtree) ≡ Broken steps clause → IsOfStrangerAfter users (deed ∷ deeds) made steps) [
         | [] ↦ λ none more. later deed deeds made steps
-          (of_stranger-from (suc made) new (guarded-any st at deed.0 deed.1 opens.0 (broken-whole (limits start subtree) st new subtree none)) deeds opens.1 steps clause more)
+            (of_stranger-from (suc made) new (guarded-any st at deed.0 deed.1 opens.0 (broken-whole (limits start subtree) st new subtree none)) deeds opens.1 steps clause more)
         | found ∷ others ↦ λ is h.
-          (0, deed, omega (arith, same_steps _ _ _ _ h), refl, λ named. not_empty found others (sym is ∙ whole-broken (limits start subtree) st new subtree (whole-own users start subtree st at deed.0 named deed.1)))
+            (0, deed, omega (arith, same_steps _ _ _ _ h), refl, λ named. not_empty found others (sym is ∙ whole-broken (limits start subtree) st new subtree (whole-own users start subtree st at deed.0 named deed.1)))
       ] refl h
 
 pub broken-of_stranger : (st : State) (users : List Identity) (subtree : Names) (deeds : List Deed) (steps : ℕ) (clause : Clause) → IsWellFormed st → IsSubtree st subtree → users ≢ [] → GuardsHoldForAll st users subtree

@@ -1,16 +1,19 @@
 //! Laws of runs, over the definitions alone. The contract of each function is the law; none does anything.
-ghost use Rattle.std.specs.Prelude.{◌≡◌, ◌≢◌, ℕ, List, []};
+ghost use Rattle.std.specs.Prelude.{◌≡◌, ◌≢◌, ◌⊎◌, ℕ, true, List, [], ◌∷◌, ◌++◌};
 ghost use Rattle.cg_cgroup.specs.Paths.{Names};
 ghost use Rattle.cg_cgroup.specs.Identity.{Identity};
 ghost use Rattle.cg_tree.specs.States.{State};
-ghost use Rattle.cg_tree.specs.WellFormed.{IsWellFormed};
+ghost use Rattle.cg_tree.specs.WellFormed.{IsWellFormed, has_row};
 ghost use Rattle.cg_ops.specs.Steps.{Deed, after_all};
+ghost use Rattle.cg_ops.specs.declared.operation.Op.{Op};
 ghost use Rattle.cg_guards.specs.Guards.{GuardsHold};
 ghost use Rattle.cg_guards.specs.Guarding.{IsSubtree};
 ghost use Rattle.cg_runs.specs.Verdicts.{verdict};
 ghost use Rattle.cg_runs.specs.Held.{IsHeld, IsContained, AreBy};
+ghost use Rattle.cg_runs.specs.Replays.{Progress, stepped, IsRunOf};
 ghost use Rattle.cg_runs.specs.Strangers.{GuardsHoldForAll, OnlyTheseOpen, IsOfStranger};
 ghost use Rattle.cg_runs.specs.declared.verdict.Clause.{Clause};
+ghost use Rattle.cg_runs.specs.declared.verdict.Clause.TheVariants.{Descendants, Depth};
 ghost use Rattle.cg_runs.specs.declared.verdict.Verdict.TheVariants.{Broken};
 
 /// Where the guards of a subtree hold for a user, it is contained against him: whatever he does, in whatever order, no
@@ -38,4 +41,22 @@ pub fn first_break_is_of_stranger()
         → IsWellFormed st → IsSubtree st subtree → users ≢ [] → GuardsHoldForAll st users subtree
         → OnlyTheseOpen users st deeds subtree → verdict st deeds subtree ≡ Broken steps clause
         → IsOfStranger users deeds steps }
+{}
+
+/// More descendants, or levels of them, than a subtree's own limits allow break it at the start alone: a mkdir meets
+/// those limits, and another value of one breaks the limits first. At the start nothing else breaks one that is there.
+pub fn counts_break_at_start()
+    ensures descendants { (st : State) (subtree : Names) (deeds : List Deed) (steps : ℕ)
+        → verdict st deeds subtree ≡ Broken steps Descendants → steps ≡ 0 }
+    ensures depth { (st : State) (subtree : Names) (deeds : List Deed) (steps : ℕ)
+        → verdict st deeds subtree ≡ Broken steps Depth → steps ≡ 0 }
+    ensures alone { (st : State) (subtree : Names) (deeds : List Deed) (clause : Clause)
+        → has_row st subtree ≡ true → verdict st deeds subtree ≡ Broken 0 clause
+        → (clause ≡ Descendants) ⊎ (clause ≡ Depth) }
+{}
+
+/// A step of a replay comes to where the run with that deed more comes to, and to the verdict on it.
+pub fn replay_follows_its_run()
+    ensures { (run : Progress) (start : State) (deeds : List Deed) (user : Identity) (op : Op)
+        → IsRunOf run start deeds → IsRunOf (stepped run user op) start (deeds ++ (user, op) ∷ []) }
 {}

@@ -55,7 +55,9 @@ impl<H: Hierarchy> Model for Replay<H> {
 impl<H: Hierarchy + Drop> Replay<H> {
     /// A replay that begins with this tree, in which the subtree is there and isn't the root.
     pub fn start(tree: H, subtree: Path) -> Result<Replay<H>, CheckFault>
-        ensures ok { IfOk result (λ replay. (replay.subtree ≡ subtree) × (IsSubtree (H.state tree) subtree × IsRunOf replay (H.state tree) [])) }
+        ensures ok { IfOk result (λ replay. IsRunOf replay (H.state tree) []) }
+        ensures of { IfOk result (λ replay. replay.subtree ≡ subtree) }
+        ensures asked { OnOk result (IsSubtree (H.state tree) subtree) }
         ensures err { IfErr result (λ fault. IsFaultOf fault (H.state tree) subtree) }
     {
         let len = subtree.depth();

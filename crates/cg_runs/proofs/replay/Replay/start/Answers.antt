@@ -1,21 +1,22 @@
-use Rattle.std.proofs.Common.{◌≡◌, ◌<◌, false, Some, is_some, length, refl, sym, ap, ◌∙◌, arith}
-use Rattle.cg_cgroup.specs.Paths.{is_root}
-use Rattle.cg_tree.specs.States.{row_at}
-use Rattle.cg_ops.proofs.Prefixes.{take_whole, no_root_of_length}
-use Rattle.cg_runs.proofs.ReplayLaws.{replay-start, run-start}
+use Rattle.std.proofs.Common.{is_some, ap}
+use Rattle.cg_runs.proofs.ReplayLaws.{row-asked, not_root-asked, replay-start, run-start}
 use Rattle.cg_runs.proofs.replay.Replay.start.Goals as goal
 
 pub invariant_of-result : goal.invariant_of-result
 invariant_of-result g c =
     let st = g.H.Hierarchy.state c.args.tree in
-    let deep : 0 < length c.args.subtree = omega (arith, c.if-len-eq0.false, c.depth-len.ensures.depth) in
-    let is : row_at st c.args.subtree ≡ Some c.in-Some.cgroup.now = ap (row_at st) (sym (take_whole c.args.subtree c.depth-len.result c.depth-len.ensures.depth)) ∙ sym c.in-Some.ensures.row in
-    replay-start st c.args.subtree c.in-Some.cgroup.now c.verdict_by.result c.in-Some.ensures.formed (no_root_of_length c.args.subtree deep) is (c.verdict_by.ensures _ c.broken_at_start-broken.ensures)
+    let not_root = not_root-asked c.args.subtree _ c.depth-len.ensures.depth c.if-len-eq0.false in
+    let is = row-asked st c.args.subtree _ c.in-Some.cgroup.now c.depth-len.ensures.depth c.in-Some.ensures.row in
+    replay-start st c.args.subtree c.in-Some.cgroup.now c.verdict_by.result c.in-Some.ensures.formed not_root is (c.verdict_by.ensures _ c.broken_at_start-broken.ensures)
 
 pub returns-clause-ok : goal.returns-clause-ok
 returns-clause-ok g c =
     let st = g.H.Hierarchy.state c.args.tree in
-    let deep : 0 < length c.args.subtree = omega (arith, c.if-len-eq0.false, c.depth-len.ensures.depth) in
-    let is : row_at st c.args.subtree ≡ Some c.in-Some.cgroup.now = ap (row_at st) (sym (take_whole c.args.subtree c.depth-len.result c.depth-len.ensures.depth)) ∙ sym c.in-Some.ensures.row in
-    let not_root = no_root_of_length c.args.subtree deep in
-    (refl, ((ap is_some is, not_root), run-start st c.args.subtree c.in-Some.cgroup.now c.verdict_by.result c.in-Some.ensures.formed not_root is (c.verdict_by.ensures _ c.broken_at_start-broken.ensures)))
+    let not_root = not_root-asked c.args.subtree _ c.depth-len.ensures.depth c.if-len-eq0.false in
+    let is = row-asked st c.args.subtree _ c.in-Some.cgroup.now c.depth-len.ensures.depth c.in-Some.ensures.row in
+    run-start st c.args.subtree c.in-Some.cgroup.now c.verdict_by.result c.in-Some.ensures.formed not_root is (c.verdict_by.ensures _ c.broken_at_start-broken.ensures)
+
+pub returns-clause-asked : goal.returns-clause-asked
+returns-clause-asked g c =
+    let is = row-asked (g.H.Hierarchy.state c.args.tree) c.args.subtree _ c.in-Some.cgroup.now c.depth-len.ensures.depth c.in-Some.ensures.row in
+    (ap is_some is, not_root-asked c.args.subtree _ c.depth-len.ensures.depth c.if-len-eq0.false)

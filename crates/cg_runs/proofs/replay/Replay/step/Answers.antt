@@ -1,4 +1,4 @@
-use Rattle.std.proofs.Common.{◌≡◌, ◌<◌, Ok, ap, sym, ◌∙◌, arith}
+use Rattle.std.proofs.Common.{◌<◌, Ok, ap, sym, ◌∙◌, arith}
 use Rattle.cg_cgroup.specs.Cgroups.{value_in}
 use Rattle.cg_ops.specs.Clauses.{first}
 use Rattle.cg_runs.specs.Replays.{Progress, stepped}
@@ -13,7 +13,7 @@ invariant_of-self-then-may_break g c =
     let new = g.H.Hierarchy.state c.apply.new.tree in
     let promised = c.in_ok-outcome.ensures in
     let is : IsApplied run.state c.args.user.now c.args.op.now new c.in_ok-outcome.outcome =
-        record { done = λ done. promised.done (ap Ok done); refused = promised.refused; unchanged = promised.unchanged } in
+    record { done = λ done. promised.done (ap Ok done); refused = promised.refused; unchanged = promised.unchanged } in
     let few : run.steps < 65536 = omega (arith, c.if-self-eq-MAX_STEPS.false, c.self.invariant.bound) in
     let by = ap (λ moves. first (broken_by (value_in run.original) moves new run.subtree c.args.op.now)) c.moves_over-moves.ensures in
     replay-done run c.args.user.now c.args.op.now c.self.invariant new c.in_ok-outcome.outcome is few (sym c.may_break.ensures ∙ c.if-may_break.true)
@@ -25,7 +25,7 @@ invariant_of-self-else-may_break g c =
     let new = g.H.Hierarchy.state c.apply.new.tree in
     let promised = c.in_ok-outcome.ensures in
     let is : IsApplied run.state c.args.user.now c.args.op.now new c.in_ok-outcome.outcome =
-        record { done = λ done. promised.done (ap Ok done); refused = promised.refused; unchanged = promised.unchanged } in
+    record { done = λ done. promised.done (ap Ok done); refused = promised.refused; unchanged = promised.unchanged } in
     let few : run.steps < 65536 = omega (arith, c.if-self-eq-MAX_STEPS.false, c.self.invariant.bound) in
     replay-still run c.args.user.now c.args.op.now c.self.invariant new c.in_ok-outcome.outcome is few (sym c.may_break.ensures ∙ c.if-may_break.false)
 
@@ -35,7 +35,7 @@ returns-clause-ok g c =
     let new = g.H.Hierarchy.state c.apply.new.tree in
     let promised = c.in_ok-outcome.ensures in
     let is : IsApplied run.state c.args.user.now c.args.op.now new c.in_ok-outcome.outcome =
-        record { done = λ done. promised.done (ap Ok done); refused = promised.refused; unchanged = promised.unchanged } in
+    record { done = λ done. promised.done (ap Ok done); refused = promised.refused; unchanged = promised.unchanged } in
     let by = ap (λ moves. first (broken_by (value_in run.original) moves new run.subtree c.args.op.now)) c.moves_over-moves.ensures in
     let old = ap (λ r. stepped r c.args.user.now c.args.op.now) c.self.view_is in
     elim c.if-may_break.branch [
