@@ -2,6 +2,7 @@ mod ReplayLines
 mod ReplayReports
 mod ReplayRuns
 mod ReplayEnds
-mod ReplayCalls
 mod ReplayReads
 mod CheckReports
+mod Closings
+mod ReplayCalls

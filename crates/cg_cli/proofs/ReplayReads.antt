@@ -6,9 +6,10 @@ use Rattle.std.specs.Io.KnownBytes.{Keeps, Consumes, IsAtEnd}
 use Rattle.std.specs.Io.BufRead.{DropsConsumable}
 use Rattle.std.proofs.BufReadLemmas.{Consumes_shown}
 use Rattle.std.proofs.KnownBytes.{Keeps-refl, Consumes-nil, Consumes-kept, Consumes-trans, Appends-kept, starts_with_rest}
+use Rattle.cg_cli.specs.Reports.{Said}
 use Rattle.cg_cli.specs.Courses.{Course}
 use Rattle.cg_cli.specs.Replays.{end_read, end_said}
-use Rattle.cg_cli.specs.Replaying.{Reporting, AreOf, Replays, ReplaysFrom, goes_on, IsWaiting, Leads, Fed, ReadOn}
+use Rattle.cg_cli.specs.Replaying.{Reporting, whole, AreOf, Replays, ReplaysFrom, goes_on, IsWaiting, Leads, Fed, ReadOn}
 use Rattle.cg_cli.specs.declared.fault.CliFault.{CliFault}
 use Rattle.cg_cli.specs.declared.fault.CliFault.TheVariants.{Read, NoMemory}
 use Rattle.cg_cli.proofs.ReplayEnds.{leads_nowhere, leads_on, whole_text, replays_end, replays_fault}
@@ -18,7 +19,7 @@ no_piece None = tt
 no_piece (Some xs) = refl
 
 -- nothing was read
-pub read_failed : (before after : Reporting Course) (had left old : Option (List ℕ)) (fault : CliFault) → (fault ≡ Read) ⊎ (fault ≡ NoMemory) → Keeps had left → ReadOn before after had left old old (Err fault)
+pub read_failed : (before after : Reporting) (had left old : Option (List ℕ)) (fault : CliFault) → (fault ≡ Read) ⊎ (fault ≡ NoMemory) → Keeps had left → ReadOn before after had left old old (Err fault)
 read_failed before after had left old fault (inl e) kept = subst (λ f. ReadOn before after had left old old (Err f)) (sym e) (kept, Keeps-refl old)
 read_failed before after had left old fault (inr e) kept = subst (λ f. ReadOn before after had left old old (Err f)) (sym e) ([], no_piece had, Keeps-refl old)
 
@@ -28,7 +29,7 @@ at_end (Some xs) None n none end kept = absurd kept
 at_end (Some xs) (Some ys) n none end kept = kept ∙ end none
 
 -- nothing is left
-pub read_end : (report : Reporting Course) (had left old : Option (List ℕ)) (n : ℕ) → n ≡ 0 → IfSome had (λ xs. n ≡ 0 → xs ≡ []) → Keeps had left → ReadOn report report had left old old (Ok 0)
+pub read_end : (report : Reporting) (had left old : Option (List ℕ)) (n : ℕ) → n ≡ 0 → IfSome had (λ xs. n ≡ 0 → xs ≡ []) → Keeps had left → ReadOn report report had left old old (Ok 0)
 read_end report had left old n none end kept = (
   [],
   refl,
@@ -38,13 +39,13 @@ read_end report had left old n none end kept = (
 )
 
 -- a piece has a fault
-pub read_fault : (before after : Reporting Course) (had left old new : Option (List ℕ)) (piece : List ℕ) (fault : CliFault) → IfSome had (λ xs. StartsWith xs piece)
+pub read_fault : (before after : Reporting) (had left old new : Option (List ℕ)) (piece : List ℕ) (fault : CliFault) → IfSome had (λ xs. StartsWith xs piece)
     → Fed before after piece old new (Err fault) → ReadOn before after had left old new (Err fault)
 read_fault before after had left old new piece Read front fed = absurd fed
 read_fault before after had left old new piece fault front fed = (piece, front, fed)
 
 -- a piece of which bytes were taken
-pub read_some : (before after : Reporting Course) (had shown left old new : Option (List ℕ)) (buffered : Option ℕ) (piece : List ℕ) (n : ℕ) → 0 < n
+pub read_some : (before after : Reporting) (had shown left old new : Option (List ℕ)) (buffered : Option ℕ) (piece : List ℕ) (n : ℕ) → 0 < n
     → IfSome had (λ xs. StartsWith xs piece) → IfSome had (λ xs. length piece ≡ 0 → xs ≡ []) → Keeps had shown → IfSome had (λ _. IfSome buffered (λ k. length piece ≤ k))
     → DropsConsumable shown left buffered n → Fed before after piece old new (Ok n) → ReadOn before after had left old new (Ok n)
 read_some before after had shown left old new buffered piece n some front end kept fits drops fed =
@@ -54,11 +55,11 @@ read_some before after had shown left old new buffered piece n some front end ke
 -- ---- at the end
 
 -- what is a replay of the reader's bytes
-pub from_replays : {A : Type 0} (report : Reporting A) (before left old new : Option (List ℕ)) (ops : List ℕ) (ended : Result A CliFault) → AreOf before ops → Replays report ops old new ended
-    → ReplaysFrom report before left old new ended
-from_replays report before left old new ops (Ok came) are replays = (ops, are, replays)
-from_replays report before left old new ops (Err Read) are replays = absurd replays
-from_replays report before left old new ops (Err fault) are replays = (ops, are, replays)
+pub from_replays : {A : Type 0} (close : Said Course → Said A) (report : Reporting) (before left old new : Option (List ℕ)) (ops : List ℕ) (ended : Result A CliFault) → AreOf before ops → Replays close report ops old new ended
+    → ReplaysFrom close report before left old new ended
+from_replays close report before left old new ops (Ok came) are replays = (ops, are, replays)
+from_replays close report before left old new ops (Err Read) are replays = absurd replays
+from_replays close report before left old new ops (Err fault) are replays = (ops, are, replays)
 
 -- the bytes of a reader, some of which it gave and some it showed
 split_known : (before had : Option (List ℕ)) (given piece : List ℕ) → Consumes before had given → IfSome had (λ xs. StartsWith xs piece)
@@ -91,11 +92,11 @@ begun_goes_on course done (b ∷ bs) waiting =
     let short : nat_lt 8192 (length (b ∷ bs)) ≡ false = grind (arith, nat_tests) in
     rw (allowed, short) refl
 
-module _ (report there : Reporting Course) (course : Course) (done : ℕ) (line : List ℕ) (waiting : IsWaiting done line) (none : there [] ≡ end_said (end_read course done line))
+module _ (report there : Reporting) (course : Course) (done : ℕ) (line : List ℕ) (waiting : IsWaiting done line) (none : there [] ≡ end_said (end_read course done line))
     (before had : Option (List ℕ)) (given : List ℕ) (gave : Consumes before had given)
     (old mid : Option (List ℕ)) (way : Leads report there given old mid) where
   -- at a fault
-  pub from_fault : (after : Reporting Course) (left new : Option (List ℕ)) (fault : CliFault) → ReadOn there after had left mid new (Err fault) → ReplaysFrom report before left old new (Err fault)
+  pub from_fault : (after : Reporting) (left new : Option (List ℕ)) (fault : CliFault) → ReadOn there after had left mid new (Err fault) → ReplaysFrom whole report before left old new (Err fault)
   from_fault after left new Read read =
       let said = whole_text report there given old mid (end_read course done line) way none in (
         given,
@@ -105,15 +106,15 @@ module _ (report there : Reporting Course) (course : Course) (done : ℕ) (line 
       )
   from_fault after left new fault read =
       let known = split_known before had given read.0 gave read.1 in
-      from_replays report before left old new (given ++ (read.0 ++ known.0)) (Err fault) known.1
+      from_replays whole report before left old new (given ++ (read.0 ++ known.0)) (Err fault) known.1
       (replays_fault report there after given read.0 known.0 old mid new (end_read course done line) fault way none read.2)
 
 -- at the end of the input
-pub from_end : (report there after : Reporting Course) (course : Course) (done : ℕ) (line : List ℕ) → IsWaiting done line → after [] ≡ end_said (end_read course done line)
+pub from_end : (report there after : Reporting) (course : Course) (done : ℕ) (line : List ℕ) → IsWaiting done line → after [] ≡ end_said (end_read course done line)
     → (before had left : Option (List ℕ)) (given : List ℕ) → Consumes before had given → (old mid new : Option (List ℕ)) → Leads report there given old mid
-    → ReadOn there after had left mid new (Ok 0) → ReplaysFrom report before left old new (end_read course done line)
+    → ReadOn there after had left mid new (Ok 0) → ReplaysFrom whole report before left old new (end_read course done line)
 from_end report there after course done line waiting none before had left given gave old mid new way read =
     let all = given ++ read.0 in
     let led = leads_on report there after given read.0 old mid new way read.3 in
     let known = all_known before left all (Consumes-trans before had left given read.0 gave read.2) (end_passed before had left given gave (read.4 refl)) in
-    from_replays report before left old new all (end_read course done line) known (replays_end report after all old new course done line waiting led none)
+    from_replays whole report before left old new all (end_read course done line) known (replays_end report after all old new course done line waiting led none)

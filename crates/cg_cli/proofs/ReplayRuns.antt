@@ -78,7 +78,7 @@ module _ (course : Course) (user : Identity) (done : ℕ) (line piece : List ℕ
       ∙ ap (λ r. report_on r (λ op. with_front (outcome_text op (outcome_of (state_of course) user op)) (lines_said (on_course course user op) user (done + 1) (drop (end + 1) piece ++ rest)))) read
 
   pub fed_fault : All (λ b. is_newline b ≡ false) whole → end < length piece → get_or piece end 0 ≡ 10
-      → (now : Course) (old new : Option (List ℕ)) (then : Reporting Course) (fault : CliFault) → Answered (operation_read done whole) course now user old new (Err fault)
+      → (now : Course) (old new : Option (List ℕ)) (then : Reporting) (fault : CliFault) → Answered (operation_read done whole) course now user old new (Err fault)
       → Fed (coming course user done line) then piece old new (Err fault)
   fed_fault none within newline now old new then Write answered =
       λ rest.

@@ -16,44 +16,48 @@ use Rattle.cg_cli.specs.declared.fault.CliFault.TheVariants.{Line, Read, Write, 
 
 -- ---- at the end
 
--- what is said of each text of operations
-abbrev pub Reporting : Type 0 → Type 0
-Reporting A = List ℕ → Said A
+-- what is said of each text of operations, line by line
+abbrev pub Reporting : Type 0
+Reporting = List ℕ → Said Course
+
+-- nothing is said behind the lines
+abbrev pub whole : Said Course → Said Course
+whole said = said
 
 -- What was written is the report's text on a front of the operations: whole lines.
-abbrev pub HasFront : {A : Type 0} → Reporting A → List ℕ → Option (List ℕ) → Option (List ℕ) → Type 0
+abbrev pub HasFront : Reporting → List ℕ → Option (List ℕ) → Option (List ℕ) → Type 0
 HasFront report ops old new = (front : List ℕ) × (rest : List ℕ) × (ops ≡ front ++ rest) × Appends old new (report front).text
 
--- What a replay answers, and has written by then. What it came to, or a fault of the lines, is the report's, whose text is
--- written: the lines of the operations before the fault. A failed write leaves a part of the text, want of memory whole
--- lines.
-abbrev pub Replays : {A : Type 0} → Reporting A → List ℕ → Option (List ℕ) → Option (List ℕ) → Result A CliFault → Type 0
-Replays report ops old new (Err Write) = AppendsPart old new (report ops).text
-Replays report ops old new (Err NoMemory) = HasFront report ops old new
-Replays report ops old new (Err Read) = ⊥
-Replays report ops old new ended = ((report ops).ending ≡ ended) × Appends old new (report ops).text
+-- What a replay answers, and has written by then, where something may be said behind all lines. What it came to, or a fault
+-- of the lines, is the report's, whose text is written: the lines of the operations before the fault. A failed write leaves
+-- a part of the text, want of memory whole lines.
+abbrev pub Replays : {A : Type 0} → (Said Course → Said A) → Reporting → List ℕ → Option (List ℕ) → Option (List ℕ) → Result A CliFault → Type 0
+Replays close lines ops old new (Err Write) = AppendsPart old new (close (lines ops)).text
+Replays close lines ops old new (Err NoMemory) = HasFront lines ops old new
+Replays close lines ops old new (Err Read) = ⊥
+Replays close lines ops old new ended = ((close (lines ops)).ending ≡ ended) × Appends old new (close (lines ops)).text
 
 -- the bytes are a reader's, where those are known
 abbrev pub AreOf : Option (List ℕ) → List ℕ → Type 0
 AreOf known bytes = IfSome known (λ xs. bytes ≡ xs)
 
 -- no fault stands in what was read: it ends behind a line, or in one
-abbrev pub goes_on : {A : Type 0} → Result A CliFault → Bool
+abbrev pub goes_on : Result Course CliFault → Bool
 goes_on (Ok came) = true
 goes_on (Err (Line number Cut)) = true
 goes_on (Err fault) = false
 
 -- The same over a reader that had `before` to give, and has `left`. Where a read failed, what was written are the lines of
 -- the operations among the bytes that it gave.
-abbrev pub ReplaysFrom : {A : Type 0} → Reporting A → Option (List ℕ) → Option (List ℕ) → Option (List ℕ) → Option (List ℕ) → Result A CliFault → Type 0
-ReplaysFrom report before left old new (Err Read) =
-    (given : List ℕ) × Consumes before left given × Appends old new (report given).text × (goes_on (report given).ending ≡ true)
-ReplaysFrom report before left old new ended = (ops : List ℕ) × AreOf before ops × Replays report ops old new ended
+abbrev pub ReplaysFrom : {A : Type 0} → (Said Course → Said A) → Reporting → Option (List ℕ) → Option (List ℕ) → Option (List ℕ) → Option (List ℕ) → Result A CliFault → Type 0
+ReplaysFrom close lines before left old new (Err Read) =
+    (given : List ℕ) × Consumes before left given × Appends old new (lines given).text × (goes_on (lines given).ending ≡ true)
+ReplaysFrom close lines before left old new ended = (ops : List ℕ) × AreOf before ops × Replays close lines ops old new ended
 
 -- ---- on the way
 
 -- what will be said of further bytes, behind `done` lines and the begun one
-abbrev pub coming : Course → Identity → ℕ → List ℕ → Reporting Course
+abbrev pub coming : Course → Identity → ℕ → List ℕ → Reporting
 coming course user done line bytes = lines_said course user done (line ++ bytes)
 
 -- how many bytes were taken at most
@@ -68,13 +72,13 @@ pub record IsWaiting (done : ℕ) (line : List ℕ) : Type 0 where
 
 -- Bytes led from one point of a replay to another, and something was written meanwhile: whatever follows, the report is
 -- what was written, and then the report from there on.
-pub record Leads (before after : Reporting Course) (bytes : List ℕ) (old new : Option (List ℕ)) : Type 0 where
+pub record Leads (before after : Reporting) (bytes : List ℕ) (old new : Option (List ℕ)) : Type 0 where
   pub written : List ℕ
   pub appended : Appends old new written
   pub whole : (rest : List ℕ) → before (bytes ++ rest) ≡ with_front written (after rest)
 
 -- what a piece of the input led to, of which a number of bytes was taken
-abbrev pub Fed : Reporting Course → Reporting Course → List ℕ → Option (List ℕ) → Option (List ℕ) → Result ℕ CliFault → Type 0
+abbrev pub Fed : Reporting → Reporting → List ℕ → Option (List ℕ) → Option (List ℕ) → Result ℕ CliFault → Type 0
 Fed before after piece old new (Ok n) = (n ≤ length piece) × Leads before after (take n piece) old new
 Fed before after piece old new (Err Write) = (rest : List ℕ) → AppendsPart old new (before (piece ++ rest)).text
 Fed before after piece old new (Err NoMemory) = Keeps old new
@@ -82,7 +86,7 @@ Fed before after piece old new (Err Read) = ⊥
 Fed before after piece old new (Err fault) = ((rest : List ℕ) → before (piece ++ rest) ≡ fault_report fault) × Keeps old new
 
 -- the same of a piece that a reader showed, of which it gave the bytes that were taken; none at its end
-abbrev pub ReadOn : Reporting Course → Reporting Course → Option (List ℕ) → Option (List ℕ) → Option (List ℕ) → Option (List ℕ) → Result ℕ CliFault → Type 0
+abbrev pub ReadOn : Reporting → Reporting → Option (List ℕ) → Option (List ℕ) → Option (List ℕ) → Option (List ℕ) → Result ℕ CliFault → Type 0
 ReadOn before after had left old new (Ok n) =
     (bytes : List ℕ) × (length bytes ≡ n) × Consumes had left bytes × Leads before after bytes old new × (n ≡ 0 → OnSome had (IsAtEnd left))
 ReadOn before after had left old new (Err Read) = Keeps had left × Keeps old new

@@ -3,8 +3,8 @@ ghost use Rattle.std.specs.Prelude.{◌≡◌, ◌≢◌, ◌+◌, ◌≤◌, []
 ghost use Rattle.std.specs.Option.{option_map};
 ghost use Rattle.cg_cli.specs.Arguments.{user_read};
 ghost use Rattle.cg_cli.specs.Courses.{HasMade, Unwatched as Plain, Watched, came_to};
-ghost use Rattle.cg_cli.specs.Replays.{closed, course_read, lines_said, replay_report};
-ghost use Rattle.cg_cli.specs.Replaying.{coming, most_taken, IsWaiting, Replays, ReplaysFrom, ReadOn};
+ghost use Rattle.cg_cli.specs.Replays.{closed, course_read, lines_report, lines_said};
+ghost use Rattle.cg_cli.specs.Replaying.{coming, most_taken, whole, IsWaiting, Replays, ReplaysFrom, ReadOn};
 
 use crate::arguments::{UserIds, read_path, read_user};
 use crate::fault::CliFault;
@@ -40,7 +40,7 @@ pub fn replay_bytes<W: Write>(
     ops: &[u8],
     out: &mut W,
 ) -> Result<u8, CliFault>
-    ensures replays { Replays (replay_report tree.now user.entry.uid user.entry.gids.now (option_map (λ text. text.now) subtree.entry)) ops.now
+    ensures replays { Replays closed (lines_report tree.now user.entry.uid user.entry.gids.now (option_map (λ text. text.now) subtree.entry)) ops.now
         (W.contents out.old) (W.contents out.new) result }
     ensures user { IfErr (user_read user.entry.uid user.entry.gids.now) (λ fault. result ≡ Err fault) }
 {
@@ -64,7 +64,7 @@ pub fn replay_from<R: BufRead, W: Write>(
     ops: &mut R,
     out: &mut W,
 ) -> Result<u8, CliFault>
-    ensures replays { ReplaysFrom (replay_report tree.now user.entry.uid user.entry.gids.now (option_map (λ text. text.now) subtree.entry))
+    ensures replays { ReplaysFrom closed (lines_report tree.now user.entry.uid user.entry.gids.now (option_map (λ text. text.now) subtree.entry))
         (R.remaining ops.old) (R.remaining ops.new) (W.contents out.old) (W.contents out.new) result }
     ensures user { IfErr (user_read user.entry.uid user.entry.gids.now) (λ fault. result ≡ Err fault) }
 {
@@ -85,7 +85,8 @@ fn unwatched(alloc: Global, tree: &[u8]) -> Result<Unwatched<Rows>, CliFault>
 
 /// The tree of a text, with a subtree that is watched.
 fn watched(alloc: Global, tree: &[u8], subtree: &str) -> Result<Replay<Rows>, CliFault>
-    ensures { MatchResult result (λ replay. course_read (Some subtree.now) tree.now ≡ Ok (Watched replay))
+    ensures made { IfOk result (λ replay. replay.steps ≡ 0) }
+    ensures read { MatchResult result (λ replay. course_read (Some subtree.now) tree.now ≡ Ok (Watched replay))
         (λ fault. fault ≢ CliFault.NoMemory → course_read (Some subtree.now) tree.now ≡ Err fault) }
 {
     let subtree = read_path(alloc, subtree)?;
@@ -102,7 +103,7 @@ fn slice_closed<C: OnCourse, W: Write>(
     out: &mut W,
 ) -> Result<u8, CliFault>
     requires { HasMade 0 (C.course course) }
-    ensures { Replays (λ bytes. closed (lines_said (C.course course) user 0 bytes)) ops.now
+    ensures { Replays closed (λ bytes. lines_said (C.course course) user 0 bytes) ops.now
         (W.contents out.old) (W.contents out.new) result }
 {
     let course = replay_slice(alloc, Run::new(alloc, course, user), ops, out)?;
@@ -120,7 +121,7 @@ fn reader_closed<C: OnCourse, R: BufRead, W: Write>(
     out: &mut W,
 ) -> Result<u8, CliFault>
     requires { HasMade 0 (C.course course) }
-    ensures { ReplaysFrom (λ bytes. closed (lines_said (C.course course) user 0 bytes))
+    ensures { ReplaysFrom closed (λ bytes. lines_said (C.course course) user 0 bytes)
         (R.remaining ops.old) (R.remaining ops.new) (W.contents out.old) (W.contents out.new) result }
 {
     let course = replay_reader(alloc, Run::new(alloc, course, user), ops, out)?;
@@ -138,7 +139,7 @@ fn replay_slice<C: OnCourse, W: Write>(
 ) -> Result<C, CliFault>
     requires waiting { IsWaiting run.done run.line.items }
     requires made { HasMade run.done (C.course run.course) }
-    ensures { Replays (coming (C.course run.course) run.user run.done run.line.items) ops.now
+    ensures { Replays whole (coming (C.course run.course) run.user run.done run.line.items) ops.now
         (W.contents out.old) (W.contents out.new) (came_to C.course result) }
 {
     let mut rest = ops;
@@ -160,7 +161,7 @@ fn replay_reader<C: OnCourse, R: BufRead, W: Write>(
     requires waiting { IsWaiting run.done run.line.items }
     requires first { run.done ≡ 0 }
     requires fresh { run.line.items ≡ [] }
-    ensures { ReplaysFrom (coming (C.course run.course) run.user run.done run.line.items)
+    ensures { ReplaysFrom whole (coming (C.course run.course) run.user run.done run.line.items)
         (R.remaining ops.old) (R.remaining ops.new) (W.contents out.old) (W.contents out.new) (came_to C.course result) }
 {
     for _asked in 0..MOST_ASKS {

@@ -9,6 +9,7 @@ use Rattle.cg_cli.proofs.replay.replay_reader.Goals as goal
 pub loop-asked-init : goal.loop-asked-init
 loop-asked-init g c = record {
   waiting = c.requires.waiting;
+  made = c.requires.made;
   asked = omega arith;
   given = [];
   gave = Consumes-nil (g.R.Read.remaining c.args.ops.now);
@@ -27,6 +28,7 @@ loop-asked-preserved g c =
     let read = c.in_ok-read_on.ensures in
     record {
       waiting = read.waiting;
+      made = read.made;
       asked = omega (arith, told.asked, read.taken, c.if-branch-eq0.false);
       given = told.given ++ read.read.0;
       gave = Consumes-trans (g.R.Read.remaining c.args.ops.now) (g.R.Read.remaining c.loop-asked.ops) (g.R.Read.remaining c.read_on.new.ops) told.given read.read.0 told.gave read.read.2;
@@ -67,3 +69,6 @@ returns-then-branch-eq0 g c =
     rw c.end.ensures
     (from_end report there after (g.C.OnCourse.course on.course) on.done on.line.items waiting (quiet (g.C.OnCourse.course on.course) on.user on.done on.line.items waiting)
     (g.R.Read.remaining c.args.ops.now) had left told.given told.gave (g.W.Write.contents c.args.out.now) mid new told.way read)
+
+pub read_on-requires-clause-made : goal.read_on-requires-clause-made
+read_on-requires-clause-made g c = c.loop-asked.invariant.made

@@ -1,5 +1,6 @@
 use Rattle.std.proofs.Common.{ℕ, ◌≤◌, List}
 use Rattle.std.specs.Io.KnownBytes.{Consumes}
+use Rattle.cg_cli.specs.Courses.{HasMade}
 use Rattle.cg_cli.specs.Replaying.{coming, most_taken, IsWaiting, Leads}
 use Rattle.cg_cli.proofs.replay.replay_reader.Given as goal
 
@@ -7,6 +8,7 @@ use Rattle.cg_cli.proofs.replay.replay_reader.Given as goal
 abbrev pub invariant-loop-asked : goal.invariant-loop-asked
 invariant-loop-asked g l = record {
   waiting : IsWaiting l.run.done l.run.line.items;
+  made : HasMade l.run.done (g.C.OnCourse.course l.run.course);
   asked : l._asked ≤ most_taken l.run.done l.run.line.items;
   given : List ℕ;
   gave : Consumes (g.R.Read.remaining l.initial.ops) (g.R.Read.remaining l.ops) given;

@@ -3,13 +3,14 @@ use Rattle.std.proofs.lemmas.Bool.Decides.{nat_tests}
 use Rattle.std.proofs.lemmas.Result.{err_from_is_err_and}
 use Rattle.std.proofs.lemmas.List.{nil_from_length}
 use Rattle.cg_cli.specs.Replays.{end_read}
-use Rattle.cg_cli.specs.Replaying.{coming, Replays}
+use Rattle.cg_cli.specs.Replaying.{coming, whole, Replays}
 use Rattle.cg_cli.proofs.ReplayEnds.{leads_nowhere, leads_on, quiet, replays_end, replays_fault}
 use Rattle.cg_cli.proofs.replay.replay_slice.Goals as goal
 
 pub loop-rest-init : goal.loop-rest-init
 loop-rest-init g c = record {
-  waiting = c.requires;
+  waiting = c.requires.waiting;
+  made = c.requires.made;
   given = [];
   split = refl;
   way = leads_nowhere _ _;
@@ -32,7 +33,7 @@ returns-in_err-taken g c =
     (quiet (g.C.OnCourse.course run.course) run.user run.done run.line.items told.waiting) c.in_err-taken.ensures.fed in
     let all : told.given ++ (piece ++ []) ≡ c.args.ops.now = ap (λ l. told.given ++ l) (append-nil piece) ∙ sym told.split in
     let p = err_from_is_err_and c.from_residual.result c.from_residual.ensures.1 in
-    rw (p.1, p.2) (subst (λ ops. Replays before ops old new (Err fault)) all ended)
+    rw (p.1, p.2) (subst (λ ops. Replays whole before ops old new (Err fault)) all ended)
 
 -- what is left behind the bytes that were taken
 rest_is : (ops given rest : List ℕ) (n : ℕ) → ops ≡ given ++ rest → ops ≡ (given ++ take n rest) ++ take (length rest - n) (drop n rest)
@@ -55,6 +56,7 @@ loop-rest-preserved g c =
     let fed = c.in_ok-taken.ensures.fed in
     record {
       waiting = c.in_ok-taken.ensures.waiting;
+      made = c.in_ok-taken.ensures.made;
       given = told.given ++ take n rest;
       split = rest_is c.args.ops.now told.given rest n told.split;
       way =
@@ -76,4 +78,7 @@ returns g c =
     let zero : length rest ≡ 0 = grind (arith, nat_tests) in
     let none : rest ≡ [] = nil_from_length rest zero in
     let all : told.given ≡ c.args.ops.now = sym (told.split ∙ ap (λ l. told.given ++ l) none ∙ append-nil told.given) in
-    rw c.end.ensures (subst (λ ops. Replays before ops old new (end_read (g.C.OnCourse.course run.course) run.done run.line.items)) all ended)
+    rw c.end.ensures (subst (λ ops. Replays whole before ops old new (end_read (g.C.OnCourse.course run.course) run.done run.line.items)) all ended)
+
+pub feed-requires-clause-made : goal.feed-requires-clause-made
+feed-requires-clause-made g c = c.loop-rest.invariant.made

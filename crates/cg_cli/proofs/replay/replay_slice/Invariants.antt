@@ -1,4 +1,5 @@
 use Rattle.std.proofs.Common.{◌≡◌, ℕ, List, ◌++◌, length}
+use Rattle.cg_cli.specs.Courses.{HasMade}
 use Rattle.cg_cli.specs.Replaying.{coming, IsWaiting, Leads}
 use Rattle.cg_cli.proofs.replay.replay_slice.Given as goal
 
@@ -6,6 +7,7 @@ use Rattle.cg_cli.proofs.replay.replay_slice.Given as goal
 abbrev pub invariant-loop-rest : goal.invariant-loop-rest
 invariant-loop-rest g l = record {
   waiting : IsWaiting l.run.done l.run.line.items;
+  made : HasMade l.run.done (g.C.OnCourse.course l.run.course);
   given : List ℕ;
   split : l.ops ≡ given ++ l.rest;
   way :
