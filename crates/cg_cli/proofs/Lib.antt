@@ -2,9 +2,10 @@ mod ReplayLines
 mod ReplayReports
 mod ReplayRuns
 mod ReplayEnds
-mod ReplayCalls
 mod ReplayReads
 mod CheckReports
 mod EachRead
 mod AuditReports
 mod AuditStatus
+mod Closings
+mod ReplayCalls

@@ -3,88 +3,129 @@ use Rattle.std.proofs.Common.{◌≡◌, ◌≢◌, ℕ, nat_eq, Bool, true, fal
 use Rattle.std.specs.Io.KnownBytes.{Appends}
 use Rattle.std.proofs.KnownBytes.{Appends-nil}
 use Rattle.cg_cgroup.specs.Identity.{Identity}
-use Rattle.cg_tree.specs.States.{State}
 use Rattle.cg_cgroup.specs.Users.{user_of}
+use Rattle.cg_cgroup.specs.Paths.{Names, is_root, path_at}
+use Rattle.cg_cgroup.specs.declared.cgroup.Cgroup.{Cgroup}
+use Rattle.cg_tree.specs.States.{State, row_at}
 use Rattle.cg_text.specs.TreeTexts.{tree_of}
 use Rattle.cg_text.specs.declared.tree.fault.TreeFault.{TreeFault}
 use Rattle.cg_text.specs.declared.tree.fault.TreeFault.TheVariants.{NoMemory as TreeNoMemory}
 use Rattle.cg_cli.specs.Faults.{lifted}
 use Rattle.cg_cli.specs.Arguments.{or_fault, user_read}
-use Rattle.cg_cli.specs.Reports.{Report, fault_report, report_on}
-use Rattle.cg_cli.specs.Replays.{lines_report, replay_report, replayed}
-use Rattle.cg_cli.specs.Replaying.{Reporting, AreOf, HasFront, Replays, ReplaysFrom, coming}
+use Rattle.cg_cli.specs.Reports.{Said, Report, fault_report, report_on}
+use Rattle.cg_cli.specs.Courses.{Course, Unwatched, Watched, course_from}
+use Rattle.cg_cli.specs.Replays.{closed, course_read, lines_said, lines_report, replayed}
+use Rattle.cg_cli.specs.Replaying.{Reporting, AreOf, HasFront, Replays, ReplaysFrom}
 use Rattle.cg_cli.specs.declared.fault.CliFault.{CliFault}
-use Rattle.cg_cli.specs.declared.fault.CliFault.TheVariants.{Uid, Gids}
+use Rattle.cg_cli.specs.declared.fault.CliFault.TheVariants.{Uid, Gids, Read, Write, NoMemory, BadPath}
 use Rattle.cg_cli.proofs.ReplayReads.{from_replays}
 
--- the report, by what the user and the tree's text are
-abbrev report_by : Result Identity CliFault → Result State TreeFault → Reporting
-report_by user tree ops = report_on user (λ user. report_on (elim tree [ Ok st ↦ Ok st | Err fault ↦ Err (lifted fault) ]) (λ st. lines_report st user 0 ops))
-
-pub report_begun : (text : List ℕ) (uid : ℕ) (gids : List ℕ) (user : Identity) (st : State) → user_read uid gids ≡ Ok user → tree_of text ≡ Ok st
-    → replay_report text uid gids ≡ (λ ops. lines_report st user 0 ops)
-report_begun text uid gids user st e f = ap (λ u. report_by u (tree_of text)) e ∙ ap (report_by (Ok user)) f
+-- the lines, by what the user and the course are
+abbrev lines_by : Result Identity CliFault → Result Course CliFault → Reporting
+lines_by user course ops = report_on user (λ user. report_on course (λ course. lines_said course user 0 ops))
 
 -- nothing is said of no operations
-silent : (user : Result Identity CliFault) (tree : Result State TreeFault) → (report_by user tree []).text ≡ []
-unfolding lines_report replayed
-silent (Err fault) tree = refl
+silent : (user : Result Identity CliFault) (course : Result Course CliFault) → (lines_by user course []).text ≡ []
+unfolding lines_said replayed
+silent (Err fault) course = refl
 silent (Ok user) (Err fault) = refl
-silent (Ok user) (Ok st) = refl
+silent (Ok user) (Ok course) = refl
 
-pub nothing_said : (text : List ℕ) (uid : ℕ) (gids ops : List ℕ) (known : Option (List ℕ)) → HasFront (replay_report text uid gids) ops known known
-nothing_said text uid gids ops known = (
-  [],
-  ops,
-  refl,
-  subst (Appends known known) (sym (silent (user_read uid gids) (tree_of text))) (Appends-nil known),
-)
+-- the faults before the operations
+abbrev is_before : CliFault → Bool
+is_before Read = false
+is_before Write = false
+is_before fault = true
 
--- a fault before the operations
-pub fault_first : (text : List ℕ) (uid : ℕ) (gids ops : List ℕ) (user : Identity) (fault : TreeFault) → user_read uid gids ≡ Ok user → tree_of text ≡ Err fault
-    → replay_report text uid gids ops ≡ fault_report (lifted fault)
-fault_first text uid gids ops user fault e f = ap (λ u. report_by u (tree_of text) ops) e ∙ ap (λ t. report_by (Ok user) t ops) f
+abbrev FaultIsBefore : Result Course CliFault → Type 0
+FaultIsBefore (Ok course) = Unit {0}
+FaultIsBefore (Err fault) = is_before fault ≡ true
 
-pub tree_fault : (text : List ℕ) (uid : ℕ) (gids ops : List ℕ) (known : Option (List ℕ)) (user : Identity) (fault : TreeFault) → user_read uid gids ≡ Ok user
-    → (fault ≢ TreeNoMemory → tree_of text ≡ Err fault) → Replays (replay_report text uid gids) ops known known (Err (lifted fault))
-tree_fault text uid gids ops known user TreeNoMemory e read = nothing_said text uid gids ops known
-tree_fault text uid gids ops known user fault e read =
-    let same = fault_first text uid gids ops user fault e (read (λ other. cc)) in (
-      ap (λ (r : Report). r.ending) same,
-      subst (Appends known known) (sym (ap (λ (r : Report). r.text) same)) (Appends-nil known),
-    )
+lifted_before : (fault : TreeFault) → is_before (lifted fault) ≡ true
+lifted_before TreeNoMemory = refl
+lifted_before fault = refl
 
--- a replay that was made has the report's words to come
-pub begun_is : (text : List ℕ) (uid : ℕ) (gids : List ℕ) (user : Identity) (st : State) → user_read uid gids ≡ Ok user → tree_of text ≡ Ok st
-    → (tree : State) (who : Identity) (done : ℕ) (line : List ℕ) → tree ≡ st → who ≡ user → done ≡ 0 → line ≡ [] → coming tree who done line ≡ replay_report text uid gids
-begun_is text uid gids user st e f tree who done line a b c d =
-    ap (λ s. coming s who done line) a ∙ ap (λ u. coming st u done line) b ∙ ap (λ n. coming st user n line) c ∙ ap (coming st user 0) d
-    ∙ sym (report_begun text uid gids user st e f)
+row_before : (st : State) (subtree : Names) (found : Option Cgroup) → FaultIsBefore (elim found [ None ↦ Err (Rattle.cg_cli.specs.declared.fault.CliFault.TheVariants.Subtree Rattle.cg_runs.specs.declared.fault.CheckFault.TheVariants.NoSuchSubtree) | Some row ↦ Ok (Watched (record { subtree = subtree; original = row; state = st; steps = 0; verdict = Rattle.cg_runs.specs.Verdicts.verdict st [] subtree })) ])
+row_before st subtree None = refl
+row_before st subtree (Some row) = tt
 
--- a fault of the user
-user_fault_by : (text : List ℕ) (uid : ℕ) (gids ops : List ℕ) (known : Option (List ℕ)) (fault : CliFault) (root : Bool) (user : Option Identity)
-    → user_read uid gids ≡ cond root (Err Uid) (or_fault user Gids) → cond root (Err Uid) (or_fault user Gids) ≡ Err fault → Replays (replay_report text uid gids) ops known known (Err fault)
-user_fault_by text uid gids ops known fault true user e h =
-    let same : replay_report text uid gids ops ≡ fault_report Uid = ap (λ u. report_by u (tree_of text) ops) e in
-    let is : Uid ≡ fault = cc in
-    subst (λ f. Replays (replay_report text uid gids) ops known known (Err f)) is
-    (ap (λ (r : Report). r.ending) same, subst (Appends known known) (sym (ap (λ (r : Report). r.text) same)) (Appends-nil known))
-user_fault_by text uid gids ops known fault false None e h =
-    let same : replay_report text uid gids ops ≡ fault_report Gids = ap (λ u. report_by u (tree_of text) ops) e in
-    let is : Gids ≡ fault = cc in
-    subst (λ f. Replays (replay_report text uid gids) ops known known (Err f)) is
-    (ap (λ (r : Report). r.ending) same, subst (Appends known known) (sym (ap (λ (r : Report). r.text) same)) (Appends-nil known))
-user_fault_by text uid gids ops known fault false (Some user) e h = let never : ⊥ = cc in absurd never
+root_before : (st : State) (subtree : Names) (root : Bool) (other : Result Course CliFault) → FaultIsBefore other → FaultIsBefore (cond root (Err (Rattle.cg_cli.specs.declared.fault.CliFault.TheVariants.Subtree Rattle.cg_runs.specs.declared.fault.CheckFault.TheVariants.RootSubtree)) other)
+root_before st subtree true other before = refl
+root_before st subtree false other before = before
 
-pub user_fault : (text : List ℕ) (uid : ℕ) (gids ops : List ℕ) (known : Option (List ℕ)) (fault : CliFault) → user_read uid gids ≡ Err fault → Replays (replay_report text uid gids) ops known known (Err fault)
-user_fault text uid gids ops known fault h = user_fault_by text uid gids ops known fault (nat_eq uid 0) (user_of uid gids) refl h
+course_before : (st : State) (subtree : Option Names) → FaultIsBefore (course_from st subtree)
+course_before st None = tt
+course_before st (Some subtree) = root_before st subtree (is_root subtree) _ (row_before st subtree (row_at st subtree))
+
+tree_before : (subtree : Option Names) (tree : Result State TreeFault) → FaultIsBefore (elim (elim tree as (λ _. Result State CliFault) [ Ok st ↦ Ok st | Err fault ↦ Err (lifted fault) ]) [ Ok st ↦ course_from st subtree | Err fault ↦ Err fault ])
+tree_before subtree (Ok st) = course_before st subtree
+tree_before subtree (Err fault) = lifted_before fault
+
+path_before : (text : List ℕ) (path : Option Names) → FaultIsBefore (elim (or_fault path BadPath) [ Ok named ↦ elim (elim (tree_of text) as (λ _. Result State CliFault) [ Ok st ↦ Ok st | Err fault ↦ Err (lifted fault) ]) [ Ok st ↦ course_from st (Some named) | Err fault ↦ Err fault ] | Err fault ↦ Err fault ])
+path_before text None = refl
+path_before text (Some named) = tree_before (Some named) (tree_of text)
+
+read_before : (subtree : Option (List ℕ)) (text : List ℕ) → FaultIsBefore (course_read subtree text)
+read_before None text = tree_before None (tree_of text)
+read_before (Some subtree) text = path_before text (path_at subtree)
+
+never_after : (read : Result Course CliFault) (fault : CliFault) → FaultIsBefore read → read ≡ Err fault → is_before fault ≡ true
+never_after (Ok course) fault before is = let never : ⊥ = cc in absurd never
+never_after (Err other) fault before is = let same : other ≡ fault = cc in subst (λ f. is_before f ≡ true) same before
+
+module _ (text : List ℕ) (uid : ℕ) (gids : List ℕ) (subtree : Option (List ℕ)) where
+  abbrev lines : Reporting
+  lines = lines_report text uid gids subtree
+
+  pub nothing_said : (ops : List ℕ) (known : Option (List ℕ)) → HasFront lines ops known known
+  nothing_said ops known = ([], ops, refl, subst (Appends known known) (sym (silent (user_read uid gids) (course_read subtree text))) (Appends-nil known))
+
+  -- what is said where the user and the course were read
+  pub lines_are : (user : Identity) (course : Course) → user_read uid gids ≡ Ok user → course_read subtree text ≡ Ok course → lines ≡ (λ ops. lines_said course user 0 ops)
+  lines_are user course of_user of_course = ap (λ u. lines_by u (course_read subtree text)) of_user ∙ ap (lines_by (Ok user)) of_course
+
+  -- a fault before the operations
+  said_fault : (ops : List ℕ) (known : Option (List ℕ)) (fault : CliFault) → lines ops ≡ fault_report fault → ((closed (lines ops)).ending ≡ Err fault) × Appends known known (closed (lines ops)).text
+  said_fault ops known fault same =
+      let is = ap closed same in
+      (ap (λ (r : Report). r.ending) is, subst (Appends known known) (sym (ap (λ (r : Report). r.text) is)) (Appends-nil known))
+
+  module _ (user : Identity) (of_user : user_read uid gids ≡ Ok user) where
+    course_faults : (ops : List ℕ) (fault : CliFault) → course_read subtree text ≡ Err fault → lines ops ≡ fault_report fault
+    course_faults ops fault is = ap (λ u. lines_by u (course_read subtree text) ops) of_user ∙ ap (λ c. lines_by (Ok user) c ops) is
+
+    pub course_fault : (ops : List ℕ) (known : Option (List ℕ)) (fault : CliFault) → (fault ≢ NoMemory → course_read subtree text ≡ Err fault) → Replays closed lines ops known known (Err fault)
+    course_fault ops known NoMemory is = nothing_said ops known
+    course_fault ops known Read is = let never : false ≡ true = never_after (course_read subtree text) Read (read_before subtree text) (is (λ same. cc)) in cc
+    course_fault ops known Write is = let never : false ≡ true = never_after (course_read subtree text) Write (read_before subtree text) (is (λ same. cc)) in cc
+    course_fault ops known fault is = said_fault ops known fault (course_faults ops fault (is (λ same. cc)))
+
+  -- a fault of the user
+  user_fault_by : (ops : List ℕ) (known : Option (List ℕ)) (fault : CliFault) (root : Bool) (found : Option Identity)
+      → user_read uid gids ≡ cond root (Err Uid) (or_fault found Gids) → cond root (Err Uid) (or_fault found Gids) ≡ Err fault → Replays closed lines ops known known (Err fault)
+  user_fault_by ops known fault true found e h =
+      let is : Uid ≡ fault = cc in
+      subst (λ f. Replays closed lines ops known known (Err f)) is (said_fault ops known Uid (ap (λ u. lines_by u (course_read subtree text) ops) e))
+  user_fault_by ops known fault false None e h =
+      let is : Gids ≡ fault = cc in
+      subst (λ f. Replays closed lines ops known known (Err f)) is (said_fault ops known Gids (ap (λ u. lines_by u (course_read subtree text) ops) e))
+  user_fault_by ops known fault false (Some user) e h = let never : ⊥ = cc in absurd never
+
+  pub user_fault : (ops : List ℕ) (known : Option (List ℕ)) (fault : CliFault) → user_read uid gids ≡ Err fault → Replays closed lines ops known known (Err fault)
+  user_fault ops known fault h = user_fault_by ops known fault (nat_eq uid 0) (user_of uid gids) refl h
 
 -- a reader that wasn't asked
 some_bytes : (known : Option (List ℕ)) → (ops : List ℕ) × AreOf known ops
 some_bytes None = ([], tt)
 some_bytes (Some xs) = (xs, refl)
 
-pub not_asked : (report : Reporting) (given old new : Option (List ℕ)) (ended : Result ℕ CliFault) → ((ops : List ℕ) → Replays report ops old new ended) → ReplaysFrom report given given old new ended
-not_asked report given old new ended replays =
+pub not_asked : (lines : Reporting) (given old new : Option (List ℕ)) (ended : Result ℕ CliFault) → ((ops : List ℕ) → Replays closed lines ops old new ended) → ReplaysFrom closed lines given given old new ended
+not_asked lines given old new ended replays =
     let some = some_bytes given in
-    from_replays report given given old new some.0 ended some.1 (replays some.0)
+    from_replays closed lines given given old new some.0 ended some.1 (replays some.0)
+
+-- a watched run has made no step at its start
+steps_of : Result Course CliFault → ℕ
+steps_of (Ok (Unwatched st)) = 0
+steps_of (Ok (Watched run)) = run.steps
+steps_of (Err fault) = 0

@@ -5,12 +5,12 @@ use Rattle.std.proofs.lemmas.Bool.Decides.{nat_tests}
 use Rattle.std.specs.Io.KnownBytes.{Appends}
 use Rattle.std.proofs.KnownBytes.{Appends-nil, Appends-trans, Appends-kept}
 use Rattle.cg_cgroup.specs.Identity.{Identity}
-use Rattle.cg_tree.specs.States.{State}
+use Rattle.cg_cli.specs.Courses.{Course}
 use Rattle.cg_lines.specs.declared.lines.fault.LineFault.TheVariants.{TooLong, Cut}
 use Rattle.cg_cli.specs.Written.{AppendsPart}
-use Rattle.cg_cli.specs.Reports.{Report}
-use Rattle.cg_cli.specs.Replays.{end_read, end_report, with_front, lines_report}
-use Rattle.cg_cli.specs.Replaying.{Reporting, Replays, coming, IsWaiting, Leads, Fed}
+use Rattle.cg_cli.specs.Reports.{Said}
+use Rattle.cg_cli.specs.Replays.{end_read, end_said, with_front, lines_said}
+use Rattle.cg_cli.specs.Replaying.{Reporting, whole, Replays, coming, IsWaiting, Leads, Fed}
 use Rattle.cg_cli.specs.declared.fault.CliFault.{CliFault}
 use Rattle.cg_cli.specs.declared.fault.CliFault.TheVariants.{Line, Write, Read, NoMemory}
 use Rattle.cg_cli.proofs.ReplayReports.{report_of_end}
@@ -20,8 +20,8 @@ use Rattle.cg_cli.proofs.ReplayReports.{report_of_end}
 pub leads_nowhere : (report : Reporting) (known : Option (List ℕ)) → Leads report report [] known known
 leads_nowhere report known = record { written = []; appended = Appends-nil known; whole = λ rest. refl }
 
-fronts : (front next : List ℕ) (report : Report) → with_front front (with_front next report) ≡ with_front (front ++ next) report
-fronts front next report = ap (λ (text : List ℕ). let r : Report = record { text = text; ending = report.ending } in r) (sym (append_assoc front next report.text))
+fronts : (front next : List ℕ) (report : Said Course) → with_front front (with_front next report) ≡ with_front (front ++ next) report
+fronts front next report = ap (λ (text : List ℕ). let r : Said Course = record { text = text; ending = report.ending } in r) (sym (append_assoc front next report.text))
 
 pub leads_on : (before there after : Reporting) (first second : List ℕ) (old mid new : Option (List ℕ)) → Leads before there first old mid → Leads there after second mid new
     → Leads before after (first ++ second) old new
@@ -36,48 +36,48 @@ leads_on before there after first second old mid new p q = record {
 -- ---- at the end of the input
 
 -- what is said where nothing follows
-pub quiet : (st : State) (user : Identity) (done : ℕ) (line : List ℕ) → IsWaiting done line → coming st user done line [] ≡ end_report (end_read done line)
-quiet st user done line waiting = ap (lines_report st user done) (append-nil line) ∙ report_of_end st user done line waiting.one_line
+pub quiet : (course : Course) (user : Identity) (done : ℕ) (line : List ℕ) → IsWaiting done line → coming course user done line [] ≡ end_said (end_read course done line)
+quiet course user done line waiting = ap (lines_said course user done) (append-nil line) ∙ report_of_end course user done line waiting.one_line
 
 -- all was written, and the ending is the report's
-pub whole_text : (before after : Reporting) (given : List ℕ) (old new : Option (List ℕ)) (ending : Result ℕ CliFault) → Leads before after given old new → after [] ≡ end_report ending
+pub whole_text : (before after : Reporting) (given : List ℕ) (old new : Option (List ℕ)) (ending : Result Course CliFault) → Leads before after given old new → after [] ≡ end_said ending
     → ((before given).ending ≡ ending) × Appends old new (before given).text
 whole_text before after given old new ending way none =
-    let e : before given ≡ with_front way.written (end_report ending) = ap before (sym (append-nil given)) ∙ way.whole [] ∙ ap (with_front way.written) none in (
-      ap (λ (r : Report). r.ending) e,
-      subst (Appends old new) (sym (ap (λ (r : Report). r.text) e ∙ append-nil way.written)) way.appended,
+    let e : before given ≡ with_front way.written (end_said ending) = ap before (sym (append-nil given)) ∙ way.whole [] ∙ ap (with_front way.written) none in (
+      ap (λ (r : Said Course). r.ending) e,
+      subst (Appends old new) (sym (ap (λ (r : Said Course). r.text) e ∙ append-nil way.written)) way.appended,
     )
 
-pub replays_end : (before after : Reporting) (given : List ℕ) (old new : Option (List ℕ)) (done : ℕ) (line : List ℕ) → IsWaiting done line → Leads before after given old new
-    → after [] ≡ end_report (end_read done line) → Replays before given old new (end_read done line)
-replays_end before after given old new done [] waiting way none = whole_text before after given old new (Ok 0) way none
-replays_end before after given old new done (b ∷ bs) waiting way none =
+pub replays_end : (before after : Reporting) (given : List ℕ) (old new : Option (List ℕ)) (course : Course) (done : ℕ) (line : List ℕ) → IsWaiting done line → Leads before after given old new
+    → after [] ≡ end_said (end_read course done line) → Replays whole before given old new (end_read course done line)
+replays_end before after given old new course done [] waiting way none = whole_text before after given old new (Ok course) way none
+replays_end before after given old new course done (b ∷ bs) waiting way none =
     let few : done < 65536 = omega (arith, waiting.few) in
     let allowed : nat_lt done 65536 ≡ true = grind (arith, nat_tests) in
     let ending = Err (Line (done + 1) (cond (nat_lt 8192 (length (b ∷ bs))) TooLong Cut)) in
-    let e : end_read done (b ∷ bs) ≡ ending = rw allowed refl in
-    subst (Replays before given old new) (sym {A = Result ℕ CliFault} e) (whole_text before after given old new ending way (none ∙ ap end_report e))
+    let e : end_read course done (b ∷ bs) ≡ ending = rw allowed refl in
+    subst (Replays whole before given old new) (sym {A = Result Course CliFault} e) (whole_text before after given old new ending way (none ∙ ap end_said e))
 
 -- ---- at a fault
 
 -- a text that was written, and a part of the next
-part_behind : (old mid new : Option (List ℕ)) (front text : List ℕ) → Appends old mid front → AppendsPart mid new text → AppendsPart old new (front ++ text)
+pub part_behind : (old mid new : Option (List ℕ)) (front text : List ℕ) → Appends old mid front → AppendsPart mid new text → AppendsPart old new (front ++ text)
 part_behind old mid new front text first part = (
   length front + part.0,
   omega (arith, part.1, length-append front text),
   subst (Appends old new) (sym (take-append-add front text part.0)) (Appends-trans old mid new front (take part.0 text) first part.2),
 )
 
-pub replays_fault : (before after then : Reporting) (given piece rest : List ℕ) (old mid new : Option (List ℕ)) (ending : Result ℕ CliFault) (fault : CliFault)
-    → Leads before after given old mid → after [] ≡ end_report ending → Fed after then piece mid new (Err fault) → Replays before (given ++ (piece ++ rest)) old new (Err fault)
+pub replays_fault : (before after then : Reporting) (given piece rest : List ℕ) (old mid new : Option (List ℕ)) (ending : Result Course CliFault) (fault : CliFault)
+    → Leads before after given old mid → after [] ≡ end_said ending → Fed after then piece mid new (Err fault) → Replays whole before (given ++ (piece ++ rest)) old new (Err fault)
 replays_fault before after then given piece rest old mid new ending Write way none fed =
-    subst (AppendsPart old new) (sym (ap (λ (r : Report). r.text) (way.whole (piece ++ rest))))
+    subst (AppendsPart old new) (sym (ap (λ (r : Said Course). r.text) (way.whole (piece ++ rest))))
     (part_behind old mid new way.written (after (piece ++ rest)).text way.appended (fed rest))
 replays_fault before after then given piece rest old mid new ending NoMemory way none fed =
     (given, piece ++ rest, refl, Appends-kept old mid new (before given).text (whole_text before after given old mid ending way none).1 fed)
 replays_fault before after then given piece rest old mid new ending Read way none fed = absurd fed
 replays_fault before after then given piece rest old mid new ending fault way none fed =
     let e = way.whole (piece ++ rest) ∙ ap (with_front way.written) (fed.0 rest) in (
-      ap (λ (r : Report). r.ending) e,
-      subst (Appends old new) (sym (ap (λ (r : Report). r.text) e ∙ append-nil way.written)) (Appends-kept old mid new way.written way.appended fed.1),
+      ap (λ (r : Said Course). r.ending) e,
+      subst (Appends old new) (sym (ap (λ (r : Said Course). r.text) e ∙ append-nil way.written)) (Appends-kept old mid new way.written way.appended fed.1),
     )

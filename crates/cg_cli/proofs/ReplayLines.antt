@@ -5,11 +5,8 @@ use Rattle.cg_cgroup.specs.Identity.{Identity}
 use Rattle.cg_tree.specs.States.{State}
 use Rattle.cg_ops.specs.Clauses.{first}
 use Rattle.cg_ops.specs.Bars.{bars}
-use Rattle.cg_ops.specs.Next.{next}
-use Rattle.cg_ops.specs.Steps.{after}
-use Rattle.cg_ops.specs.Outcomes.{IsRefused, RefusedBy}
+use Rattle.cg_ops.specs.Outcomes.{RefusedBy}
 use Rattle.cg_ops.specs.declared.operation.Op.{Op}
-use Rattle.cg_ops.specs.declared.outcome.Refusal.{Refusal}
 use Rattle.cg_ops.specs.declared.outcome.Outcome.{Outcome}
 use Rattle.cg_ops.specs.declared.outcome.Outcome.TheVariants.{Done, Refused}
 use Rattle.cg_lines.specs.OperationLines.{spelling, IsHeld}
@@ -46,17 +43,3 @@ operation_read_long done line few long =
 pub outcome_is : (st : State) (user : Identity) (op : Op) (outcome : Outcome) → RefusedBy outcome (first (bars st user op)) → outcome ≡ outcome_of st user op
 outcome_is st user op Done none = ap outcome_by (sym none)
 outcome_is st user op (Refused bar) barred = ap outcome_by (sym barred)
-
--- the state behind an operation, by what bars it
-abbrev after_by : State → Identity → Op → List Refusal → State
-after_by st user op found = elim found [ [] ↦ next st user op | bar ∷ others ↦ st ]
-
-refused_stays : (st now : State) (user : Identity) (op : Op) (found : List Refusal) (bar : Refusal) → first found ≡ Some bar → now ≡ st → now ≡ after_by st user op found
-refused_stays st now user op [] bar barred same = let never : ⊥ = cc in absurd never
-refused_stays st now user op (x ∷ xs) bar barred same = same
-
-pub state_is : (st now : State) (user : Identity) (op : Op) (outcome : Outcome) → RefusedBy outcome (first (bars st user op))
-    → (outcome ≡ Done → (bars st user op ≡ []) × (now ≡ next st user op)) → (IsRefused outcome → now ≡ st) → now ≡ after st user op
-state_is st now user op Done none done refused =
-    let made = done refl in made.1 ∙ ap (after_by st user op) (sym made.0)
-state_is st now user op (Refused bar) barred done refused = refused_stays st now user op (bars st user op) bar barred (refused tt)

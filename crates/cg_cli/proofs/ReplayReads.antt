@@ -6,8 +6,10 @@ use Rattle.std.specs.Io.KnownBytes.{Keeps, Consumes, IsAtEnd}
 use Rattle.std.specs.Io.BufRead.{DropsConsumable}
 use Rattle.std.proofs.BufReadLemmas.{Consumes_shown}
 use Rattle.std.proofs.KnownBytes.{Keeps-refl, Consumes-nil, Consumes-kept, Consumes-trans, Appends-kept, starts_with_rest}
-use Rattle.cg_cli.specs.Replays.{end_read, end_report}
-use Rattle.cg_cli.specs.Replaying.{Reporting, AreOf, Replays, ReplaysFrom, goes_on, IsWaiting, Leads, Fed, ReadOn}
+use Rattle.cg_cli.specs.Reports.{Said}
+use Rattle.cg_cli.specs.Courses.{Course}
+use Rattle.cg_cli.specs.Replays.{end_read, end_said}
+use Rattle.cg_cli.specs.Replaying.{Reporting, whole, AreOf, Replays, ReplaysFrom, goes_on, IsWaiting, Leads, Fed, ReadOn}
 use Rattle.cg_cli.specs.declared.fault.CliFault.{CliFault}
 use Rattle.cg_cli.specs.declared.fault.CliFault.TheVariants.{Read, NoMemory}
 use Rattle.cg_cli.proofs.ReplayEnds.{leads_nowhere, leads_on, whole_text, replays_end, replays_fault}
@@ -53,11 +55,11 @@ read_some before after had shown left old new buffered piece n some front end ke
 -- ---- at the end
 
 -- what is a replay of the reader's bytes
-pub from_replays : (report : Reporting) (before left old new : Option (List ℕ)) (ops : List ℕ) (ended : Result ℕ CliFault) → AreOf before ops → Replays report ops old new ended
-    → ReplaysFrom report before left old new ended
-from_replays report before left old new ops (Ok status) are replays = (ops, are, replays)
-from_replays report before left old new ops (Err Read) are replays = absurd replays
-from_replays report before left old new ops (Err fault) are replays = (ops, are, replays)
+pub from_replays : {A : Type 0} (close : Said Course → Said A) (report : Reporting) (before left old new : Option (List ℕ)) (ops : List ℕ) (ended : Result A CliFault) → AreOf before ops → Replays close report ops old new ended
+    → ReplaysFrom close report before left old new ended
+from_replays close report before left old new ops (Ok came) are replays = (ops, are, replays)
+from_replays close report before left old new ops (Err Read) are replays = absurd replays
+from_replays close report before left old new ops (Err fault) are replays = (ops, are, replays)
 
 -- the bytes of a reader, some of which it gave and some it showed
 split_known : (before had : Option (List ℕ)) (given piece : List ℕ) → Consumes before had given → IfSome had (λ xs. StartsWith xs piece)
@@ -81,38 +83,38 @@ end_passed (Some xs) None left given gave end = absurd gave
 end_passed (Some xs) (Some ys) left given gave end = end
 
 -- the input goes on, as far as it was read
-begun_goes_on : (done : ℕ) (line : List ℕ) → IsWaiting done line → goes_on (end_read done line) ≡ true
-begun_goes_on done [] waiting = refl
-begun_goes_on done (b ∷ bs) waiting =
+begun_goes_on : (course : Course) (done : ℕ) (line : List ℕ) → IsWaiting done line → goes_on (end_read course done line) ≡ true
+begun_goes_on course done [] waiting = refl
+begun_goes_on course done (b ∷ bs) waiting =
     let few : done < 65536 = omega (arith, waiting.few) in
     let allowed : nat_lt done 65536 ≡ true = grind (arith, nat_tests) in
     let within : length (b ∷ bs) ≤ 8192 = waiting.short in
     let short : nat_lt 8192 (length (b ∷ bs)) ≡ false = grind (arith, nat_tests) in
     rw (allowed, short) refl
 
-module _ (report there : Reporting) (done : ℕ) (line : List ℕ) (waiting : IsWaiting done line) (none : there [] ≡ end_report (end_read done line))
+module _ (report there : Reporting) (course : Course) (done : ℕ) (line : List ℕ) (waiting : IsWaiting done line) (none : there [] ≡ end_said (end_read course done line))
     (before had : Option (List ℕ)) (given : List ℕ) (gave : Consumes before had given)
     (old mid : Option (List ℕ)) (way : Leads report there given old mid) where
   -- at a fault
-  pub from_fault : (after : Reporting) (left new : Option (List ℕ)) (fault : CliFault) → ReadOn there after had left mid new (Err fault) → ReplaysFrom report before left old new (Err fault)
+  pub from_fault : (after : Reporting) (left new : Option (List ℕ)) (fault : CliFault) → ReadOn there after had left mid new (Err fault) → ReplaysFrom whole report before left old new (Err fault)
   from_fault after left new Read read =
-      let said = whole_text report there given old mid (end_read done line) way none in (
+      let said = whole_text report there given old mid (end_read course done line) way none in (
         given,
         Consumes-kept before had left given gave read.0,
         Appends-kept old mid new (report given).text said.1 read.1,
-        ap goes_on said.0 ∙ begun_goes_on done line waiting,
+        ap goes_on said.0 ∙ begun_goes_on course done line waiting,
       )
   from_fault after left new fault read =
       let known = split_known before had given read.0 gave read.1 in
-      from_replays report before left old new (given ++ (read.0 ++ known.0)) (Err fault) known.1
-      (replays_fault report there after given read.0 known.0 old mid new (end_read done line) fault way none read.2)
+      from_replays whole report before left old new (given ++ (read.0 ++ known.0)) (Err fault) known.1
+      (replays_fault report there after given read.0 known.0 old mid new (end_read course done line) fault way none read.2)
 
 -- at the end of the input
-pub from_end : (report there after : Reporting) (done : ℕ) (line : List ℕ) → IsWaiting done line → after [] ≡ end_report (end_read done line)
+pub from_end : (report there after : Reporting) (course : Course) (done : ℕ) (line : List ℕ) → IsWaiting done line → after [] ≡ end_said (end_read course done line)
     → (before had left : Option (List ℕ)) (given : List ℕ) → Consumes before had given → (old mid new : Option (List ℕ)) → Leads report there given old mid
-    → ReadOn there after had left mid new (Ok 0) → ReplaysFrom report before left old new (end_read done line)
-from_end report there after done line waiting none before had left given gave old mid new way read =
+    → ReadOn there after had left mid new (Ok 0) → ReplaysFrom whole report before left old new (end_read course done line)
+from_end report there after course done line waiting none before had left given gave old mid new way read =
     let all = given ++ read.0 in
     let led = leads_on report there after given read.0 old mid new way read.3 in
     let known = all_known before left all (Consumes-trans before had left given read.0 gave read.2) (end_passed before had left given gave (read.4 refl)) in
-    from_replays report before left old new all (end_read done line) known (replays_end report after all old new done line waiting led none)
+    from_replays whole report before left old new all (end_read course done line) known (replays_end report after all old new course done line waiting led none)

@@ -5,12 +5,11 @@ use Rattle.std.proofs.lemmas.List.Elements.{All-head, All-tail}
 use Rattle.std.proofs.lemmas.List.Splits.{slice_split_none, slice_split_at}
 use Rattle.std.specs.List.{slice_split, onto_first}
 use Rattle.cg_cgroup.specs.Identity.{Identity}
-use Rattle.cg_tree.specs.States.{State}
-use Rattle.cg_ops.specs.Steps.{after}
+use Rattle.cg_cli.specs.Courses.{Course, state_of, on_course}
 use Rattle.cg_lines.specs.Outcomes.{outcome_text}
 use Rattle.cg_lines.specs.declared.lines.fault.LineFault.TheVariants.{TooLong}
 use Rattle.cg_cli.specs.Reports.{fault_report, report_on}
-use Rattle.cg_cli.specs.Replays.{is_newline, outcome_of, operation_read, end_read, end_report, with_front, replayed, lines_report}
+use Rattle.cg_cli.specs.Replays.{is_newline, outcome_of, operation_read, end_read, end_said, with_front, replayed, lines_said}
 use Rattle.cg_cli.specs.declared.fault.CliFault.TheVariants.{Line, TooManySteps}
 
 -- the pieces are one and maybe more
@@ -36,65 +35,65 @@ front_of_first (b ∷ front) rest first others none e =
     ∙ ap (onto_first b) (front_of_first front rest first others (All-tail (λ x. is_newline x ≡ false) b front none) e)
 
 -- a line: its operation's outcome, and then what is said of the rest; or its fault
-pub report_of_line : (st : State) (user : Identity) (done : ℕ) (line rest : List ℕ) → All (λ b. is_newline b ≡ false) line
-    → lines_report st user done (line ++ 10 ∷ rest)
-    ≡ report_on (operation_read done line) (λ op. with_front (outcome_text op (outcome_of st user op)) (lines_report (after st user op) user (done + 1) rest))
-unfolding lines_report replayed
-report_of_line st user done line rest none =
+pub report_of_line : (course : Course) (user : Identity) (done : ℕ) (line rest : List ℕ) → All (λ b. is_newline b ≡ false) line
+    → lines_said course user done (line ++ 10 ∷ rest)
+    ≡ report_on (operation_read done line) (λ op. with_front (outcome_text op (outcome_of (state_of course) user op)) (lines_said (on_course course user op) user (done + 1) rest))
+unfolding lines_said replayed
+report_of_line course user done line rest none =
     let more = pieces_of rest in
-    ap (replayed st user done) (slice_split_at is_newline line 10 rest none refl ∙ ap (λ ps. line ∷ ps) more.are)
-    ∙ ap (λ ps. report_on (operation_read done line) (λ op. with_front (outcome_text op (outcome_of st user op)) (replayed (after st user op) user (done + 1) ps))) (sym more.are)
+    ap (replayed course user done) (slice_split_at is_newline line 10 rest none refl ∙ ap (λ ps. line ∷ ps) more.are)
+    ∙ ap (λ ps. report_on (operation_read done line) (λ op. with_front (outcome_text op (outcome_of (state_of course) user op)) (replayed (on_course course user op) user (done + 1) ps))) (sym more.are)
 
 -- the end of the input
-pub report_of_end : (st : State) (user : Identity) (done : ℕ) (rest : List ℕ) → All (λ b. is_newline b ≡ false) rest → lines_report st user done rest ≡ end_report (end_read done rest)
-unfolding lines_report replayed
-report_of_end st user done rest none = ap (replayed st user done) (slice_split_none is_newline rest none)
+pub report_of_end : (course : Course) (user : Identity) (done : ℕ) (rest : List ℕ) → All (λ b. is_newline b ≡ false) rest → lines_said course user done rest ≡ end_said (end_read course done rest)
+unfolding lines_said replayed
+report_of_end course user done rest none = ap (replayed course user done) (slice_split_none is_newline rest none)
 
-long_first : (st : State) (user : Identity) (done : ℕ) (first : List ℕ) (others : List (List ℕ)) → 8192 < length first → done < 65536
-    → replayed st user done (first ∷ others) ≡ fault_report (Line (done + 1) TooLong)
+long_first : (course : Course) (user : Identity) (done : ℕ) (first : List ℕ) (others : List (List ℕ)) → 8192 < length first → done < 65536
+    → replayed course user done (first ∷ others) ≡ fault_report (Line (done + 1) TooLong)
 unfolding replayed
-long_first st user done [] others long few = absurd (omega arith)
-long_first st user done (b ∷ bs) [] long few =
+long_first course user done [] others long few = absurd (omega arith)
+long_first course user done (b ∷ bs) [] long few =
     let a : nat_lt done 65536 ≡ true = grind (arith, nat_tests) in
     let e : nat_lt 8192 (length (b ∷ bs)) ≡ true = grind (arith, nat_tests) in
     rw (a, e) refl
-long_first st user done (b ∷ bs) (next ∷ others) long few =
+long_first course user done (b ∷ bs) (next ∷ others) long few =
     let a : nat_lt done 65536 ≡ true = grind (arith, nat_tests) in
     let e : nat_lt 8192 (length (b ∷ bs)) ≡ true = grind (arith, nat_tests) in
     rw (a, e) refl
 
 -- a line that is too long, whatever follows
-pub report_of_long : (st : State) (user : Identity) (done : ℕ) (line rest : List ℕ) → All (λ b. is_newline b ≡ false) line → 8192 < length line → done < 65536
-    → lines_report st user done (line ++ rest) ≡ fault_report (Line (done + 1) TooLong)
-unfolding lines_report
-report_of_long st user done line rest none long few =
+pub report_of_long : (course : Course) (user : Identity) (done : ℕ) (line rest : List ℕ) → All (λ b. is_newline b ≡ false) line → 8192 < length line → done < 65536
+    → lines_said course user done (line ++ rest) ≡ fault_report (Line (done + 1) TooLong)
+unfolding lines_said
+report_of_long course user done line rest none long few =
     let more = pieces_of rest in
-    ap (replayed st user done) (front_of_first line rest more.piece more.pieces none more.are)
-    ∙ long_first st user done (line ++ more.piece) more.pieces (omega (arith, length-append line more.piece)) few
+    ap (replayed course user done) (front_of_first line rest more.piece more.pieces none more.are)
+    ∙ long_first course user done (line ++ more.piece) more.pieces (omega (arith, length-append line more.piece)) few
 
 -- behind the last line that is answered: a further one, or bytes of one
-one_more : (st : State) (user : Identity) (done : ℕ) (first next : List ℕ) (others : List (List ℕ)) → 65536 ≤ done → replayed st user done (first ∷ next ∷ others) ≡ fault_report TooManySteps
+one_more : (course : Course) (user : Identity) (done : ℕ) (first next : List ℕ) (others : List (List ℕ)) → 65536 ≤ done → replayed course user done (first ∷ next ∷ others) ≡ fault_report TooManySteps
 unfolding replayed
-one_more st user done first next others many =
+one_more course user done first next others many =
     let a : nat_lt done 65536 ≡ false = grind (arith, nat_tests) in
     rw a refl
 
-bytes_more : (st : State) (user : Identity) (done b : ℕ) (bs : List ℕ) (others : List (List ℕ)) → 65536 ≤ done → replayed st user done ((b ∷ bs) ∷ others) ≡ fault_report TooManySteps
+bytes_more : (course : Course) (user : Identity) (done b : ℕ) (bs : List ℕ) (others : List (List ℕ)) → 65536 ≤ done → replayed course user done ((b ∷ bs) ∷ others) ≡ fault_report TooManySteps
 unfolding replayed
-bytes_more st user done b bs [] many =
+bytes_more course user done b bs [] many =
     let a : nat_lt done 65536 ≡ false = grind (arith, nat_tests) in
     rw a refl
-bytes_more st user done b bs (next ∷ others) many = one_more st user done (b ∷ bs) next others many
+bytes_more course user done b bs (next ∷ others) many = one_more course user done (b ∷ bs) next others many
 
-many_at : (st : State) (user : Identity) (done b : ℕ) (bytes : List ℕ) → 65536 ≤ done → Pieces bytes → (c : Bool)
-    → replayed st user done (cond c ([] ∷ slice_split is_newline bytes) (onto_first b (slice_split is_newline bytes))) ≡ fault_report TooManySteps
-many_at st user done b bytes many rest true =
-    ap (λ ps. replayed st user done ([] ∷ ps)) rest.are ∙ one_more st user done [] rest.piece rest.pieces many
-many_at st user done b bytes many rest false =
-    ap (λ ps. replayed st user done (onto_first b ps)) rest.are ∙ bytes_more st user done b rest.piece rest.pieces many
+many_at : (course : Course) (user : Identity) (done b : ℕ) (bytes : List ℕ) → 65536 ≤ done → Pieces bytes → (c : Bool)
+    → replayed course user done (cond c ([] ∷ slice_split is_newline bytes) (onto_first b (slice_split is_newline bytes))) ≡ fault_report TooManySteps
+many_at course user done b bytes many rest true =
+    ap (λ ps. replayed course user done ([] ∷ ps)) rest.are ∙ one_more course user done [] rest.piece rest.pieces many
+many_at course user done b bytes many rest false =
+    ap (λ ps. replayed course user done (onto_first b ps)) rest.are ∙ bytes_more course user done b rest.piece rest.pieces many
 
 -- more than may be answered
-pub report_of_many : (st : State) (user : Identity) (done : ℕ) (rest : List ℕ) → 65536 ≤ done → 0 < length rest → lines_report st user done rest ≡ fault_report TooManySteps
-unfolding lines_report
-report_of_many st user done [] many some = absurd (omega arith)
-report_of_many st user done (b ∷ bytes) many some = many_at st user done b bytes many (pieces_of bytes) (is_newline b)
+pub report_of_many : (course : Course) (user : Identity) (done : ℕ) (rest : List ℕ) → 65536 ≤ done → 0 < length rest → lines_said course user done rest ≡ fault_report TooManySteps
+unfolding lines_said
+report_of_many course user done [] many some = absurd (omega arith)
+report_of_many course user done (b ∷ bytes) many some = many_at course user done b bytes many (pieces_of bytes) (is_newline b)

@@ -3,13 +3,12 @@ use Rattle.std.proofs.Common.{◌≡◌, ℕ, ◌+◌, ◌<◌, ◌≤◌, false
 use Rattle.std.proofs.lemmas.List.{take_more, take-append-le}
 use Rattle.std.specs.Io.KnownBytes.{Appends}
 use Rattle.cg_cgroup.specs.Identity.{Identity}
-use Rattle.cg_tree.specs.States.{State}
-use Rattle.cg_ops.specs.Steps.{after}
+use Rattle.cg_cli.specs.Courses.{Course, state_of, on_course}
 use Rattle.cg_lines.specs.Outcomes.{outcome_text}
 use Rattle.cg_lines.specs.declared.lines.fault.LineFault.TheVariants.{TooLong}
 use Rattle.cg_cli.specs.Written.{AppendsPart}
-use Rattle.cg_cli.specs.Reports.{Report, fault_report, report_on}
-use Rattle.cg_cli.specs.Replays.{is_newline, outcome_of, operation_read, with_front, lines_report}
+use Rattle.cg_cli.specs.Reports.{Said, fault_report, report_on}
+use Rattle.cg_cli.specs.Replays.{is_newline, outcome_of, operation_read, with_front, lines_said}
 use Rattle.cg_cli.specs.Replaying.{Reporting, coming, Leads, Fed, Answered}
 use Rattle.cg_cli.specs.declared.fault.CliFault.{CliFault}
 use Rattle.cg_cli.specs.declared.fault.CliFault.TheVariants.{Line, TooManySteps, Write, Read, NoMemory}
@@ -39,66 +38,66 @@ line_goes_on line piece rest end =
     ap (λ l. line ++ (l ++ rest)) (sym (take-append-drop end piece)) ∙ ap (λ l. line ++ l) (append_assoc (take end piece) (drop end piece) rest)
     ∙ sym (append_assoc line (take end piece) (drop end piece ++ rest))
 
-module _ (st : State) (user : Identity) (done : ℕ) (line piece : List ℕ) (end : ℕ) where
+module _ (course : Course) (user : Identity) (done : ℕ) (line piece : List ℕ) (end : ℕ) where
   abbrev whole : List ℕ
   whole = line ++ take end piece
 
   -- what is said where the line is whole
   there : All (λ b. is_newline b ≡ false) whole → end < length piece → get_or piece end 0 ≡ 10 → (rest : List ℕ)
-      → coming st user done line (take (end + 1) piece ++ rest)
-      ≡ report_on (operation_read done whole) (λ op. with_front (outcome_text op (outcome_of st user op)) (lines_report (after st user op) user (done + 1) rest))
-  there none within newline rest = ap (lines_report st user done) (line_ends line piece rest end within newline) ∙ report_of_line st user done whole rest none
+      → coming course user done line (take (end + 1) piece ++ rest)
+      ≡ report_on (operation_read done whole) (λ op. with_front (outcome_text op (outcome_of (state_of course) user op)) (lines_said (on_course course user op) user (done + 1) rest))
+  there none within newline rest = ap (lines_said course user done) (line_ends line piece rest end within newline) ∙ report_of_line course user done whole rest none
 
   pub fed_answer : All (λ b. is_newline b ≡ false) whole → end < length piece → get_or piece end 0 ≡ 10
-      → (now : State) (old new : Option (List ℕ)) → Answered (operation_read done whole) st now user old new (Ok tt)
-      → Leads (coming st user done line) (coming now user (done + 1) []) (take (end + 1) piece) old new
+      → (now : Course) (old new : Option (List ℕ)) → Answered (operation_read done whole) course now user old new (Ok tt)
+      → Leads (coming course user done line) (coming now user (done + 1) []) (take (end + 1) piece) old new
   fed_answer none within newline now old new answered =
       let op = answered.0 in
-      let said = outcome_text op (outcome_of st user op) in
+      let said = outcome_text op (outcome_of (state_of course) user op) in
       record {
         written = said;
         appended = answered.3;
         whole = λ rest.
             there none within newline rest
-            ∙ ap (λ read. report_on read (λ op. with_front (outcome_text op (outcome_of st user op)) (lines_report (after st user op) user (done + 1) rest))) answered.1
-            ∙ ap (λ s. with_front said (lines_report s user (done + 1) rest)) (sym answered.2);
+            ∙ ap (λ read. report_on read (λ op. with_front (outcome_text op (outcome_of (state_of course) user op)) (lines_said (on_course course user op) user (done + 1) rest))) answered.1
+            ∙ ap (λ s. with_front said (lines_said s user (done + 1) rest)) (sym answered.2);
       }
 
   -- the same where the piece goes on
   further : All (λ b. is_newline b ≡ false) whole → end < length piece → get_or piece end 0 ≡ 10 → (rest : List ℕ)
-      → coming st user done line (piece ++ rest)
-      ≡ report_on (operation_read done whole) (λ op. with_front (outcome_text op (outcome_of st user op)) (lines_report (after st user op) user (done + 1) (drop (end + 1) piece ++ rest)))
+      → coming course user done line (piece ++ rest)
+      ≡ report_on (operation_read done whole) (λ op. with_front (outcome_text op (outcome_of (state_of course) user op)) (lines_said (on_course course user op) user (done + 1) (drop (end + 1) piece ++ rest)))
   further none within newline rest =
-      ap (λ l. coming st user done line l) (ap (λ l. l ++ rest) (sym (take-append-drop (end + 1) piece)) ∙ append_assoc (take (end + 1) piece) (drop (end + 1) piece) rest)
+      ap (λ l. coming course user done line l) (ap (λ l. l ++ rest) (sym (take-append-drop (end + 1) piece)) ∙ append_assoc (take (end + 1) piece) (drop (end + 1) piece) rest)
       ∙ there none within newline (drop (end + 1) piece ++ rest)
 
   fault_further : All (λ b. is_newline b ≡ false) whole → end < length piece → get_or piece end 0 ≡ 10
-      → (fault : CliFault) → operation_read done whole ≡ Err fault → (rest : List ℕ) → coming st user done line (piece ++ rest) ≡ fault_report fault
+      → (fault : CliFault) → operation_read done whole ≡ Err fault → (rest : List ℕ) → coming course user done line (piece ++ rest) ≡ fault_report fault
   fault_further none within newline fault read rest =
       further none within newline rest
-      ∙ ap (λ r. report_on r (λ op. with_front (outcome_text op (outcome_of st user op)) (lines_report (after st user op) user (done + 1) (drop (end + 1) piece ++ rest)))) read
+      ∙ ap (λ r. report_on r (λ op. with_front (outcome_text op (outcome_of (state_of course) user op)) (lines_said (on_course course user op) user (done + 1) (drop (end + 1) piece ++ rest)))) read
 
   pub fed_fault : All (λ b. is_newline b ≡ false) whole → end < length piece → get_or piece end 0 ≡ 10
-      → (now : State) (old new : Option (List ℕ)) (then : Reporting) (fault : CliFault) → Answered (operation_read done whole) st now user old new (Err fault)
-      → Fed (coming st user done line) then piece old new (Err fault)
+      → (now : Course) (old new : Option (List ℕ)) (then : Reporting) (fault : CliFault) → Answered (operation_read done whole) course now user old new (Err fault)
+      → Fed (coming course user done line) then piece old new (Err fault)
   fed_fault none within newline now old new then Write answered =
       λ rest.
-      let said = outcome_text answered.0 (outcome_of st user answered.0) in
+      let said = outcome_text answered.0 (outcome_of (state_of course) user answered.0) in
       let e = further none within newline rest
-      ∙ ap (λ r. report_on r (λ op. with_front (outcome_text op (outcome_of st user op)) (lines_report (after st user op) user (done + 1) (drop (end + 1) piece ++ rest)))) answered.1 in
-      subst (AppendsPart old new) (sym (ap (λ (r : Report). r.text) e))
-      (part_of_front old new said (lines_report (after st user answered.0) user (done + 1) (drop (end + 1) piece ++ rest)).text answered.2)
+      ∙ ap (λ r. report_on r (λ op. with_front (outcome_text op (outcome_of (state_of course) user op)) (lines_said (on_course course user op) user (done + 1) (drop (end + 1) piece ++ rest)))) answered.1 in
+      subst (AppendsPart old new) (sym (ap (λ (r : Said Course). r.text) e))
+      (part_of_front old new said (lines_said (on_course course user answered.0) user (done + 1) (drop (end + 1) piece ++ rest)).text answered.2)
   fed_fault none within newline now old new then NoMemory answered = answered
   fed_fault none within newline now old new then Read answered = answered
   fed_fault none within newline now old new then fault answered = (fault_further none within newline fault answered.0, answered.1)
 
   -- the line is too long
   pub fed_long : All (λ b. is_newline b ≡ false) whole → 8192 < length whole → done < 65536 → (rest : List ℕ)
-      → coming st user done line (piece ++ rest) ≡ fault_report (Line (done + 1) TooLong)
-  fed_long none long few rest = ap (lines_report st user done) (line_goes_on line piece rest end) ∙ report_of_long st user done whole (drop end piece ++ rest) none long few
+      → coming course user done line (piece ++ rest) ≡ fault_report (Line (done + 1) TooLong)
+  fed_long none long few rest = ap (lines_said course user done) (line_goes_on line piece rest end) ∙ report_of_long course user done whole (drop end piece ++ rest) none long few
 
 -- a line too many
-pub fed_many : (st : State) (user : Identity) (done : ℕ) (line piece : List ℕ) → 65536 ≤ done → 0 < length piece → (rest : List ℕ)
-    → coming st user done line (piece ++ rest) ≡ fault_report TooManySteps
-fed_many st user done line piece many some rest =
-    report_of_many st user done (line ++ (piece ++ rest)) many (omega (arith, length-append line (piece ++ rest), length-append piece rest))
+pub fed_many : (course : Course) (user : Identity) (done : ℕ) (line piece : List ℕ) → 65536 ≤ done → 0 < length piece → (rest : List ℕ)
+    → coming course user done line (piece ++ rest) ≡ fault_report TooManySteps
+fed_many course user done line piece many some rest =
+    report_of_many course user done (line ++ (piece ++ rest)) many (omega (arith, length-append line (piece ++ rest), length-append piece rest))

@@ -4,6 +4,7 @@ pub mod FaultLines
 pub mod Arguments
 pub mod Reports
 pub mod May
+pub mod Courses
 pub mod Replays
 pub mod Replaying
 pub mod Containment

@@ -4,57 +4,61 @@ use Rattle.std.specs.List.{All}
 use Rattle.std.specs.Io.{StartsWith}
 use Rattle.std.specs.Io.KnownBytes.{Appends, Keeps, Consumes, IsAtEnd}
 use Rattle.cg_cgroup.specs.Identity.{Identity}
-use Rattle.cg_tree.specs.States.{State}
-use Rattle.cg_ops.specs.Steps.{after}
 use Rattle.cg_ops.specs.declared.operation.Op.{Op}
 use Rattle.cg_lines.specs.Outcomes.{outcome_text}
 use Rattle.cg_lines.specs.declared.lines.fault.LineFault.TheVariants.{Cut}
 use Rattle.cg_cli.specs.Written.{AppendsPart}
-use Rattle.cg_cli.specs.Reports.{Report, fault_report}
-use Rattle.cg_cli.specs.Replays.{most_operations, longest_line, is_newline, outcome_of, with_front, lines_report}
+use Rattle.cg_cli.specs.Reports.{Said, fault_report}
+use Rattle.cg_cli.specs.Courses.{Course, state_of, on_course}
+use Rattle.cg_cli.specs.Replays.{most_operations, longest_line, is_newline, outcome_of, with_front, lines_said}
 use Rattle.cg_cli.specs.declared.fault.CliFault.{CliFault}
 use Rattle.cg_cli.specs.declared.fault.CliFault.TheVariants.{Line, Read, Write, NoMemory}
 
 -- ---- at the end
 
--- a report for each text of operations
+-- what is said of each text of operations, line by line
 abbrev pub Reporting : Type 0
-Reporting = List ℕ → Report
+Reporting = List ℕ → Said Course
+
+-- nothing is said behind the lines
+abbrev pub whole : Said Course → Said Course
+whole said = said
 
 -- What was written is the report's text on a front of the operations: whole lines.
 abbrev pub HasFront : Reporting → List ℕ → Option (List ℕ) → Option (List ℕ) → Type 0
 HasFront report ops old new = (front : List ℕ) × (rest : List ℕ) × (ops ≡ front ++ rest) × Appends old new (report front).text
 
--- What a replay answers, and has written by then. A status or a fault of the lines is the report's, whose text is written:
--- the lines of the operations before the fault. A failed write leaves a part of the text, want of memory whole lines.
-abbrev pub Replays : Reporting → List ℕ → Option (List ℕ) → Option (List ℕ) → Result ℕ CliFault → Type 0
-Replays report ops old new (Err Write) = AppendsPart old new (report ops).text
-Replays report ops old new (Err NoMemory) = HasFront report ops old new
-Replays report ops old new (Err Read) = ⊥
-Replays report ops old new ended = ((report ops).ending ≡ ended) × Appends old new (report ops).text
+-- What a replay answers, and has written by then, where something may be said behind all lines. What it came to, or a fault
+-- of the lines, is the report's, whose text is written: the lines of the operations before the fault. A failed write leaves
+-- a part of the text, want of memory whole lines.
+abbrev pub Replays : {A : Type 0} → (Said Course → Said A) → Reporting → List ℕ → Option (List ℕ) → Option (List ℕ) → Result A CliFault → Type 0
+Replays close lines ops old new (Err Write) = AppendsPart old new (close (lines ops)).text
+Replays close lines ops old new (Err NoMemory) = HasFront lines ops old new
+Replays close lines ops old new (Err Read) = ⊥
+Replays close lines ops old new ended = ((close (lines ops)).ending ≡ ended) × Appends old new (close (lines ops)).text
 
 -- the bytes are a reader's, where those are known
 abbrev pub AreOf : Option (List ℕ) → List ℕ → Type 0
 AreOf known bytes = IfSome known (λ xs. bytes ≡ xs)
 
 -- no fault stands in what was read: it ends behind a line, or in one
-abbrev pub goes_on : Result ℕ CliFault → Bool
-goes_on (Ok status) = true
+abbrev pub goes_on : Result Course CliFault → Bool
+goes_on (Ok came) = true
 goes_on (Err (Line number Cut)) = true
 goes_on (Err fault) = false
 
 -- The same over a reader that had `before` to give, and has `left`. Where a read failed, what was written are the lines of
 -- the operations among the bytes that it gave.
-abbrev pub ReplaysFrom : Reporting → Option (List ℕ) → Option (List ℕ) → Option (List ℕ) → Option (List ℕ) → Result ℕ CliFault → Type 0
-ReplaysFrom report before left old new (Err Read) =
-    (given : List ℕ) × Consumes before left given × Appends old new (report given).text × (goes_on (report given).ending ≡ true)
-ReplaysFrom report before left old new ended = (ops : List ℕ) × AreOf before ops × Replays report ops old new ended
+abbrev pub ReplaysFrom : {A : Type 0} → (Said Course → Said A) → Reporting → Option (List ℕ) → Option (List ℕ) → Option (List ℕ) → Option (List ℕ) → Result A CliFault → Type 0
+ReplaysFrom close lines before left old new (Err Read) =
+    (given : List ℕ) × Consumes before left given × Appends old new (lines given).text × (goes_on (lines given).ending ≡ true)
+ReplaysFrom close lines before left old new ended = (ops : List ℕ) × AreOf before ops × Replays close lines ops old new ended
 
 -- ---- on the way
 
 -- what will be said of further bytes, behind `done` lines and the begun one
-abbrev pub coming : State → Identity → ℕ → List ℕ → Reporting
-coming st user done line bytes = lines_report st user done (line ++ bytes)
+abbrev pub coming : Course → Identity → ℕ → List ℕ → Reporting
+coming course user done line bytes = lines_said course user done (line ++ bytes)
 
 -- how many bytes were taken at most
 abbrev pub most_taken : ℕ → List ℕ → ℕ
@@ -90,10 +94,10 @@ ReadOn before after had left old new (Err fault) =
     (piece : List ℕ) × IfSome had (λ xs. StartsWith xs piece) × Fed before after piece old new (Err fault)
 
 -- What answering a line led to: its operation was made and its outcome written, or it has a fault.
-abbrev pub Answered : Result Op CliFault → State → State → Identity → Option (List ℕ) → Option (List ℕ) → Result (Unit {0}) CliFault → Type 0
-Answered read st now user old new (Ok done) =
-    (op : Op) × (read ≡ Ok op) × (now ≡ after st user op) × Appends old new (outcome_text op (outcome_of st user op))
-Answered read st now user old new (Err Write) = (op : Op) × (read ≡ Ok op) × AppendsPart old new (outcome_text op (outcome_of st user op))
-Answered read st now user old new (Err NoMemory) = Keeps old new
-Answered read st now user old new (Err Read) = ⊥
-Answered read st now user old new (Err fault) = (read ≡ Err fault) × Keeps old new
+abbrev pub Answered : Result Op CliFault → Course → Course → Identity → Option (List ℕ) → Option (List ℕ) → Result (Unit {0}) CliFault → Type 0
+Answered read course now user old new (Ok done) =
+    (op : Op) × (read ≡ Ok op) × (now ≡ on_course course user op) × Appends old new (outcome_text op (outcome_of (state_of course) user op))
+Answered read course now user old new (Err Write) = (op : Op) × (read ≡ Ok op) × AppendsPart old new (outcome_text op (outcome_of (state_of course) user op))
+Answered read course now user old new (Err NoMemory) = Keeps old new
+Answered read course now user old new (Err Read) = ⊥
+Answered read course now user old new (Err fault) = (read ≡ Err fault) × Keeps old new

@@ -5,7 +5,6 @@ use Rattle.cg_cgroup.specs.Identity.{Identity}
 use Rattle.cg_tree.specs.States.{State}
 use Rattle.cg_ops.specs.Clauses.{first}
 use Rattle.cg_ops.specs.Bars.{bars}
-use Rattle.cg_ops.specs.Steps.{after}
 use Rattle.cg_ops.specs.declared.operation.Op.{Op}
 use Rattle.cg_ops.specs.declared.outcome.Refusal.{Refusal}
 use Rattle.cg_ops.specs.declared.outcome.Outcome.{Outcome}
@@ -13,9 +12,10 @@ use Rattle.cg_ops.specs.declared.outcome.Outcome.TheVariants.{Done, Refused}
 use Rattle.cg_lines.specs.LineReading.{operation_at}
 use Rattle.cg_lines.specs.Outcomes.{outcome_text}
 use Rattle.cg_lines.specs.declared.lines.fault.LineFault.TheVariants.{TooLong, BadWord, Cut}
-use Rattle.cg_cli.specs.Arguments.{or_fault, user_read}
+use Rattle.cg_cli.specs.Arguments.{or_fault, user_read, path_read}
+use Rattle.cg_cli.specs.Courses.{Course, state_of, on_course, course_from, closing}
 use Rattle.cg_cli.specs.May.{tree_read}
-use Rattle.cg_cli.specs.Reports.{Report, report_on}
+use Rattle.cg_cli.specs.Reports.{Said, Report, report_on}
 use Rattle.cg_cli.specs.declared.fault.CliFault.{CliFault}
 use Rattle.cg_cli.specs.declared.fault.CliFault.TheVariants.{Line, TooManySteps}
 
@@ -50,33 +50,51 @@ operation_read done line =
     (cond (nat_lt longest_line (length line)) (Err (Line (done + 1) TooLong)) (or_fault (operation_at line) (Line (done + 1) BadWord)))
 
 -- the end of the input: nothing stands behind the last newline, or a line that was cut
-abbrev pub end_read : ℕ → List ℕ → Result ℕ CliFault
-end_read done [] = Ok 0
-end_read done (b ∷ bs) =
+abbrev pub end_read : Course → ℕ → List ℕ → Result Course CliFault
+end_read course done [] = Ok course
+end_read course done (b ∷ bs) =
     within_steps done (Err (Line (done + 1) (cond (nat_lt longest_line (length (b ∷ bs))) TooLong Cut)))
 
-abbrev pub end_report : Result ℕ CliFault → Report
-end_report ending = record { text = []; ending = ending }
+abbrev pub end_said : Result Course CliFault → Said Course
+end_said ending = record { text = []; ending = ending }
 
 -- a text, and behind it that of a report
-abbrev pub with_front : List ℕ → Report → Report
+abbrev pub with_front : {A : Type 0} → List ℕ → Said A → Said A
 with_front text report = record { text = text ++ report.text; ending = report.ending }
 
--- All pieces but the last are lines. Each is answered by its outcome, and the next by the tree that it leaves.
-unfoldable pub replayed : State → Identity → ℕ → List (List ℕ) → Report
-replayed st user done [] = end_report (Ok 0)
-replayed st user done (piece ∷ pieces) =
+-- All pieces but the last are lines. Each is answered by its outcome, and the next in the tree that it leaves.
+unfoldable pub replayed : Course → Identity → ℕ → List (List ℕ) → Said Course
+replayed course user done [] = end_said (Ok course)
+replayed course user done (piece ∷ pieces) =
     elim pieces [
-      | [] ↦ end_report (end_read done piece)
+      | [] ↦ end_said (end_read course done piece)
       | next ∷ others ↦ report_on (operation_read done piece) (λ op.
-          with_front (outcome_text op (outcome_of st user op)) (replayed (after st user op) user (done + 1) pieces))
+          with_front (outcome_text op (outcome_of (state_of course) user op)) (replayed (on_course course user op) user (done + 1) pieces))
     ]
 
 -- what is said of bytes behind `done` lines
-unfoldable pub lines_report : State → Identity → ℕ → List ℕ → Report
-lines_report st user done bytes = replayed st user done (slice_split is_newline bytes)
+unfoldable pub lines_said : Course → Identity → ℕ → List ℕ → Said Course
+lines_said course user done bytes = replayed course user done (slice_split is_newline bytes)
 
--- The user is looked at first, then the tree's text, then the operations line by line.
-abbrev pub replay_report : List ℕ → ℕ → List ℕ → List ℕ → Report
-replay_report text uid gids ops =
-    report_on (user_read uid gids) (λ user. report_on (tree_read text) (λ st. lines_report st user 0 ops))
+-- behind all lines, where none has a fault, what is said at the end
+abbrev pub closed : Said Course → Report
+closed said = elim said.ending [ Ok course ↦ with_front said.text (closing course) | Err fault ↦ record { text = said.text; ending = Err fault } ]
+
+-- what operations are carried out on, by the path of a subtree, where one is named, and the tree's text
+abbrev pub course_read : Option (List ℕ) → List ℕ → Result Course CliFault
+course_read None text = elim (tree_read text) [ Ok st ↦ course_from st None | Err fault ↦ Err fault ]
+course_read (Some subtree) text =
+    elim (path_read subtree) [
+      | Ok path ↦ elim (tree_read text) [ Ok st ↦ course_from st (Some path) | Err fault ↦ Err fault ]
+      | Err fault ↦ Err fault
+    ]
+
+-- What is said line by line. The user is looked at first, then the subtree's path, the tree's text, whether the subtree is
+-- one that can be watched, and then the operations.
+abbrev pub lines_report : List ℕ → ℕ → List ℕ → Option (List ℕ) → List ℕ → Said Course
+lines_report text uid gids subtree ops =
+    report_on (user_read uid gids) (λ user. report_on (course_read subtree text) (λ course. lines_said course user 0 ops))
+
+-- The whole report: the lines, and behind them the verdict where a subtree is watched and no fault ended them.
+abbrev pub replay_report : List ℕ → ℕ → List ℕ → Option (List ℕ) → List ℕ → Report
+replay_report text uid gids subtree ops = closed (lines_report text uid gids subtree ops)

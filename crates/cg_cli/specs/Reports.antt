@@ -5,17 +5,21 @@ use Rattle.cg_cli.specs.Written.{AppendsPart}
 use Rattle.cg_cli.specs.declared.fault.CliFault.{CliFault}
 use Rattle.cg_cli.specs.declared.fault.CliFault.TheVariants.{Uid, Gids, Pid, Write, NoMemory}
 
--- The text, and a status or the first fault. Want of memory and failed writes stand outside.
-pub record Report : Type 0 where
+-- What is said, and what it came to or the first fault. Want of memory and failed writes stand outside.
+pub record Said (A : Type 0) : Type 0 where
   pub text : List ℕ
-  pub ending : Result ℕ CliFault
+  pub ending : Result A CliFault
+
+-- The text, and a status or the first fault.
+abbrev pub Report : Type 0
+Report = Said ℕ
 
 -- a fault before anything is written
-abbrev pub fault_report : CliFault → Report
+abbrev pub fault_report : {A : Type 0} → CliFault → Said A
 fault_report fault = record { text = []; ending = Err fault }
 
 -- a report on what was read, or the fault that it met
-abbrev pub report_on : {A : Type 0} → Result A CliFault → (A → Report) → Report
+abbrev pub report_on : {A B : Type 0} → Result A CliFault → (A → Said B) → Said B
 report_on (Ok x) report = report x
 report_on (Err fault) report = fault_report fault
 

@@ -1,43 +1,54 @@
 //! Operation lines that are replayed: each is answered by its outcome before the next is read.
-ghost use Rattle.std.specs.Prelude.{◌≡◌, ◌+◌, ◌≤◌, [], OnOk, IfOk, IfErr, Err};
+ghost use Rattle.std.specs.Prelude.{◌≡◌, ◌≢◌, ◌+◌, ◌≤◌, [], OnOk, IfOk, IfErr, MatchResult, Ok, Err, Some, None};
+ghost use Rattle.std.specs.Option.{option_map};
 ghost use Rattle.cg_cli.specs.Arguments.{user_read};
-ghost use Rattle.cg_cli.specs.Replays.{replay_report};
-ghost use Rattle.cg_cli.specs.Replaying.{coming, most_taken, IsWaiting, Replays, ReplaysFrom, ReadOn};
+ghost use Rattle.cg_cli.specs.Courses.{HasMade, Unwatched as Plain, Watched, came_to};
+ghost use Rattle.cg_cli.specs.Replays.{closed, course_read, lines_report, lines_said};
+ghost use Rattle.cg_cli.specs.Replaying.{coming, most_taken, whole, IsWaiting, Replays, ReplaysFrom, ReadOn};
 
-use crate::arguments::{UserIds, read_user};
+use crate::arguments::{UserIds, read_path, read_user};
 use crate::fault::CliFault;
+use crate::write::write_whole;
+use cg_cgroup::user::User;
+use cg_rows::rows::Rows;
+use cg_runs::replay::Replay;
 use cg_text::tree::read_tree;
-use cg_tree::hierarchy::Hierarchy;
+use course::{OnCourse, Unwatched};
 use run::Run;
 use std::alloc::Global;
 use std::io::{BufRead, Write};
 
+mod course;
 mod line;
 mod run;
 
 /// How often a reader is asked at most: for each byte of 65536 lines of 8193 bytes, and once more.
 const MOST_ASKS: u32 = 536_936_449;
 
-/// Replays operations and writes a line for each: its outcome. The status is 0.
+/// Replays operations and writes a line for each: its outcome. Where a subtree is named, a last line says whether it was
+/// kept, with status 0, or what was broken first and after how many steps, with status 1. Else the status is 0.
 ///
 /// # Errors
-/// The first that holds of `Uid`, `Gids` and `Tree`, and then nothing is written; then the first fault of the lines,
-/// and the lines of the operations before it are written. `Write` where a write failed or took nothing; `NoMemory` where
-/// an allocation was refused. Never `Read`.
+/// The first that holds of `Uid`, `Gids`, `BadPath`, `Tree` and `Subtree`, and then nothing is written; then the first
+/// fault of the lines, and the lines of the operations before it are written. `Write` where a write failed or took
+/// nothing; `NoMemory` where an allocation was refused. Never `Read`.
 pub fn replay_bytes<W: Write>(
     alloc: Global,
     tree: &[u8],
     user: UserIds<'_>,
+    subtree: Option<&str>,
     ops: &[u8],
     out: &mut W,
 ) -> Result<u8, CliFault>
-    ensures replays { Replays (replay_report tree.now user.entry.uid user.entry.gids.now) ops.now
+    ensures replays { Replays closed (lines_report tree.now user.entry.uid user.entry.gids.now (option_map (λ text. text.now) subtree.entry)) ops.now
         (W.contents out.old) (W.contents out.new) result }
     ensures user { IfErr (user_read user.entry.uid user.entry.gids.now) (λ fault. result ≡ Err fault) }
 {
     let user = read_user(user)?;
-    let tree = read_tree(alloc, tree)?;
-    replay_slice(alloc, Run::new(alloc, tree, user), ops, out)
+    match subtree {
+        None => slice_closed(alloc, unwatched(alloc, tree)?, user, ops, out),
+        Some(subtree) => slice_closed(alloc, watched(alloc, tree, subtree)?, user, ops, out),
+    }
 }
 
 /// Replays operations that a reader gives, as `replay_bytes` does with the same bytes. At most one line is held.
@@ -49,28 +60,87 @@ pub fn replay_from<R: BufRead, W: Write>(
     alloc: Global,
     tree: &[u8],
     user: UserIds<'_>,
+    subtree: Option<&str>,
     ops: &mut R,
     out: &mut W,
 ) -> Result<u8, CliFault>
-    ensures replays { ReplaysFrom (replay_report tree.now user.entry.uid user.entry.gids.now)
+    ensures replays { ReplaysFrom closed (lines_report tree.now user.entry.uid user.entry.gids.now (option_map (λ text. text.now) subtree.entry))
         (R.remaining ops.old) (R.remaining ops.new) (W.contents out.old) (W.contents out.new) result }
     ensures user { IfErr (user_read user.entry.uid user.entry.gids.now) (λ fault. result ≡ Err fault) }
 {
     let user = read_user(user)?;
-    let tree = read_tree(alloc, tree)?;
-    replay_reader(alloc, Run::new(alloc, tree, user), ops, out)
+    match subtree {
+        None => reader_closed(alloc, unwatched(alloc, tree)?, user, ops, out),
+        Some(subtree) => reader_closed(alloc, watched(alloc, tree, subtree)?, user, ops, out),
+    }
 }
 
-/// Goes on with a replay over bytes that are all there.
-fn replay_slice<H: Hierarchy + Drop, W: Write>(
+/// The tree of a text.
+fn unwatched(alloc: Global, tree: &[u8]) -> Result<Unwatched<Rows>, CliFault>
+    ensures { MatchResult result (λ course. course_read None tree.now ≡ Ok (Plain course.tree))
+        (λ fault. fault ≢ CliFault.NoMemory → course_read None tree.now ≡ Err fault) }
+{
+    Ok(Unwatched::new(read_tree(alloc, tree)?))
+}
+
+/// The tree of a text, with a subtree that is watched.
+fn watched(alloc: Global, tree: &[u8], subtree: &str) -> Result<Replay<Rows>, CliFault>
+    ensures made { IfOk result (λ replay. replay.steps ≡ 0) }
+    ensures read { MatchResult result (λ replay. course_read (Some subtree.now) tree.now ≡ Ok (Watched replay))
+        (λ fault. fault ≢ CliFault.NoMemory → course_read (Some subtree.now) tree.now ≡ Err fault) }
+{
+    let subtree = read_path(alloc, subtree)?;
+    let tree = read_tree(alloc, tree)?;
+    Ok(Replay::start(tree, subtree)?)
+}
+
+/// A whole replay over bytes that are all there, and what is said at its end.
+fn slice_closed<C: OnCourse, W: Write>(
     alloc: Global,
-    mut run: Run<H>,
+    course: C,
+    user: User,
     ops: &[u8],
     out: &mut W,
 ) -> Result<u8, CliFault>
-    requires { IsWaiting run.done run.line.items }
-    ensures { Replays (coming (H.state run.tree) run.user run.done run.line.items) ops.now
+    requires { HasMade 0 (C.course course) }
+    ensures { Replays closed (λ bytes. lines_said (C.course course) user 0 bytes) ops.now
         (W.contents out.old) (W.contents out.new) result }
+{
+    let course = replay_slice(alloc, Run::new(alloc, course, user), ops, out)?;
+    let (text, status) = course.closing(alloc)?;
+    write_whole(out, text.as_slice())?;
+    Ok(status)
+}
+
+/// A whole replay over the bytes of a reader, and what is said at its end.
+fn reader_closed<C: OnCourse, R: BufRead, W: Write>(
+    alloc: Global,
+    course: C,
+    user: User,
+    ops: &mut R,
+    out: &mut W,
+) -> Result<u8, CliFault>
+    requires { HasMade 0 (C.course course) }
+    ensures { ReplaysFrom closed (λ bytes. lines_said (C.course course) user 0 bytes)
+        (R.remaining ops.old) (R.remaining ops.new) (W.contents out.old) (W.contents out.new) result }
+{
+    let course = replay_reader(alloc, Run::new(alloc, course, user), ops, out)?;
+    let (text, status) = course.closing(alloc)?;
+    write_whole(out, text.as_slice())?;
+    Ok(status)
+}
+
+/// Goes on with a replay over bytes that are all there.
+fn replay_slice<C: OnCourse, W: Write>(
+    alloc: Global,
+    mut run: Run<C>,
+    ops: &[u8],
+    out: &mut W,
+) -> Result<C, CliFault>
+    requires waiting { IsWaiting run.done run.line.items }
+    requires made { HasMade run.done (C.course run.course) }
+    ensures { Replays whole (coming (C.course run.course) run.user run.done run.line.items) ops.now
+        (W.contents out.old) (W.contents out.new) (came_to C.course result) }
 {
     let mut rest = ops;
     while !rest.is_empty() {
@@ -81,17 +151,18 @@ fn replay_slice<H: Hierarchy + Drop, W: Write>(
 }
 
 /// Goes on with a replay over the bytes of a reader.
-fn replay_reader<H: Hierarchy + Drop, R: BufRead, W: Write>(
+fn replay_reader<C: OnCourse, R: BufRead, W: Write>(
     alloc: Global,
-    mut run: Run<H>,
+    mut run: Run<C>,
     ops: &mut R,
     out: &mut W,
-) -> Result<u8, CliFault>
+) -> Result<C, CliFault>
+    requires made { HasMade run.done (C.course run.course) }
     requires waiting { IsWaiting run.done run.line.items }
     requires first { run.done ≡ 0 }
     requires fresh { run.line.items ≡ [] }
-    ensures { ReplaysFrom (coming (H.state run.tree) run.user run.done run.line.items)
-        (R.remaining ops.old) (R.remaining ops.new) (W.contents out.old) (W.contents out.new) result }
+    ensures { ReplaysFrom whole (coming (C.course run.course) run.user run.done run.line.items)
+        (R.remaining ops.old) (R.remaining ops.new) (W.contents out.old) (W.contents out.new) (came_to C.course result) }
 {
     for _asked in 0..MOST_ASKS {
         if read_on(alloc, &mut run, ops, out)? == 0 {
@@ -102,17 +173,19 @@ fn replay_reader<H: Hierarchy + Drop, R: BufRead, W: Write>(
 }
 
 /// Feeds bytes of the next piece that a reader shows. Answers how many; none at the end.
-fn read_on<H: Hierarchy, R: BufRead, W: Write>(
+fn read_on<C: OnCourse, R: BufRead, W: Write>(
     alloc: Global,
-    run: &mut Run<H>,
+    run: &mut Run<C>,
     ops: &mut R,
     out: &mut W,
 ) -> Result<usize, CliFault>
-    requires { IsWaiting run.old.done run.old.line.items }
-    ensures read { ReadOn (coming (H.state run.old.tree) run.old.user run.old.done run.old.line.items)
-        (coming (H.state run.new.tree) run.new.user run.new.done run.new.line.items)
+    requires waiting { IsWaiting run.old.done run.old.line.items }
+    requires made { HasMade run.old.done (C.course run.old.course) }
+    ensures read { ReadOn (coming (C.course run.old.course) run.old.user run.old.done run.old.line.items)
+        (coming (C.course run.new.course) run.new.user run.new.done run.new.line.items)
         (R.remaining ops.old) (R.remaining ops.new) (W.contents out.old) (W.contents out.new) result }
     ensures waiting { OnOk result (IsWaiting run.new.done run.new.line.items) }
+    ensures made { OnOk result (HasMade run.new.done (C.course run.new.course)) }
     ensures taken { IfOk result (λ taken. most_taken run.old.done run.old.line.items + taken
         ≤ most_taken run.new.done run.new.line.items) }
 {

@@ -2,15 +2,15 @@
 ghost use Rattle.std.specs.Prelude.{◌≡◌, ◌<◌, ◌≤◌, false, length, take, slice_index};
 ghost use Rattle.std.specs.List.{All};
 ghost use Rattle.cg_cli.specs.Replays.{is_newline, operation_read, most_operations};
+ghost use Rattle.cg_cli.specs.Courses.{HasRoom};
 ghost use Rattle.cg_cli.specs.Replaying.{Answered};
 
 use crate::fault::CliFault;
+use crate::replay::course::OnCourse;
 use crate::write::write_whole;
 use cg_cgroup::user::User;
 use cg_lines::lines::read_op;
 use cg_lines::outcome::outcome_text;
-use cg_ops::apply;
-use cg_tree::hierarchy::Hierarchy;
 use std::alloc::Global;
 use std::io::Write;
 
@@ -32,23 +32,24 @@ pub fn line_end(bytes: &[u8]) -> usize
 }
 
 /// Carries out the operation of a line behind `done` others, which is without its newline, and writes the outcome.
-pub fn answer<H: Hierarchy, W: Write>(
+pub fn answer<C: OnCourse, W: Write>(
     alloc: Global,
-    tree: &mut H,
+    course: &mut C,
     user: &User,
     done: u32,
     line: &[u8],
     out: &mut W,
 ) -> Result<(), CliFault>
-    requires { done < most_operations }
-    ensures { Answered (operation_read done line.now) (H.state tree.old) (H.state tree.new) user.now
+    requires few { done < most_operations }
+    requires room { HasRoom (C.course course.old) }
+    ensures { Answered (operation_read done line.now) (C.course course.old) (C.course course.new) user.now
         (W.contents out.old) (W.contents out.new) result }
 {
     let op = match read_op(alloc, line) {
         Ok(op) => op,
         Err(fault) => return Err(CliFault::of_line(done + 1, fault)),
     };
-    let outcome = apply(alloc, tree, user, &op)?;
+    let outcome = course.step(alloc, user, &op)?;
     let text = outcome_text(alloc, &op, &outcome)?;
     write_whole(out, text.as_slice())?;
     Ok(())

@@ -2,21 +2,22 @@
 ghost use Rattle.std.specs.Prelude.{◌≡◌, ◌+◌, ◌<◌, ◌≤◌, ◌++◌, OnOk, IfOk, length};
 ghost use Rattle.std.specs.Prelude.{[], ◌*◌};
 ghost use Rattle.cg_cli.specs.Replays.{end_read, most_operations, longest_line};
+ghost use Rattle.cg_cli.specs.Courses.{HasMade, came_to};
 ghost use Rattle.cg_cli.specs.Replaying.{coming, most_taken, IsWaiting, Fed};
 
 use crate::fault::CliFault;
+use crate::replay::course::OnCourse;
 use crate::replay::line::{MOST_OPERATIONS, answer, line_end};
 use cg_cgroup::user::User;
 use cg_lines::lines::{LONGEST_LINE, LineFault};
-use cg_tree::hierarchy::Hierarchy;
 use std::alloc::Global;
 use std::io::Write;
 
 /// A replay between two pieces of its input.
 #[derive(Drop)]
-pub struct Run<H> {
-    /// The tree that the operations so far leave.
-    tree: H,
+pub struct Run<C> {
+    /// What the operations so far have led to.
+    course: C,
     user: User,
     /// The bytes of the line that is begun.
     line: Vec<u8>,
@@ -24,16 +25,16 @@ pub struct Run<H> {
     done: u32,
 }
 
-impl<H: Hierarchy> Run<H> {
+impl<C: OnCourse> Run<C> {
     /// The replay before its first byte.
-    pub fn new(alloc: Global, tree: H, user: User) -> Run<H>
-        ensures tree { H.state result.tree ≡ H.state tree }
+    pub fn new(alloc: Global, course: C, user: User) -> Run<C>
+        ensures course { C.course result.course ≡ C.course course }
         ensures user { result.user ≡ user }
         ensures line { result.line.items ≡ [] }
         ensures done { result.done ≡ 0 }
     {
         Run {
-            tree,
+            course,
             user,
             line: Vec::new(alloc),
             done: 0,
@@ -49,11 +50,13 @@ impl<H: Hierarchy> Run<H> {
         out: &mut W,
     ) -> Result<usize, CliFault>
         requires waiting { IsWaiting self.old.done self.old.line.items }
+        requires made { HasMade self.old.done (C.course self.old.course) }
         requires some { 0 < length piece.now }
-        ensures fed { Fed (coming (H.state self.old.tree) self.old.user self.old.done self.old.line.items)
-            (coming (H.state self.new.tree) self.new.user self.new.done self.new.line.items)
+        ensures fed { Fed (coming (C.course self.old.course) self.old.user self.old.done self.old.line.items)
+            (coming (C.course self.new.course) self.new.user self.new.done self.new.line.items)
             piece.now (W.contents out.old) (W.contents out.new) result }
         ensures waiting { OnOk result (IsWaiting self.new.done self.new.line.items) }
+        ensures made { OnOk result (HasMade self.new.done (C.course self.new.course)) }
         ensures some { IfOk result (λ taken. 0 < taken) }
         ensures taken { IfOk result (λ taken. most_taken self.old.done self.old.line.items + taken
             ≤ most_taken self.new.done self.new.line.items) }
@@ -71,7 +74,7 @@ impl<H: Hierarchy> Run<H> {
         }
         answer(
             alloc,
-            &mut self.tree,
+            &mut self.course,
             &self.user,
             self.done,
             self.line.as_slice(),
@@ -82,13 +85,13 @@ impl<H: Hierarchy> Run<H> {
         Ok(end + 1)
     }
 
-    /// The status, or the fault of a line without its newline.
-    pub fn end(&self) -> Result<u8, CliFault>
-        requires { IsWaiting self.now.done self.now.line.items }
-        ensures { result ≡ end_read self.now.done self.now.line.items }
+    /// What the operations led to, or the fault of a line without its newline.
+    pub fn end(self) -> Result<C, CliFault>
+        requires { IsWaiting self.done self.line.items }
+        ensures { came_to C.course result ≡ end_read (C.course self.course) self.done self.line.items }
     {
         if self.line.is_empty() {
-            return Ok(0);
+            return Ok(self.course);
         }
         Err(CliFault::of_line(self.done + 1, LineFault::Cut))
     }

@@ -9,7 +9,7 @@ use Rattle.cg_cli.proofs.replay.read_on.Goals as goal
 pub returns-in-Err-clause-read : goal.returns-in-Err-clause-read
 returns-in-Err-clause-read g c =
     let run = c.args.run.now in
-    let before = coming (g.H.Hierarchy.state run.tree) run.user run.done run.line.items in
+    let before = coming (g.C.OnCourse.course run.course) run.user run.done run.line.items in
     read_failed before before (g.R.Read.remaining c.args.ops.now) (g.R.Read.remaining c.fill_buf.follows.lender-at-none) (g.W.Write.contents c.args.out.now) c.of_read.result
     c.of_read.ensures c.fill_buf.follows.holds-at-none.0
 
@@ -22,8 +22,8 @@ pub returns-in_err-taken-clause-read : goal.returns-in_err-taken-clause-read
 returns-in_err-taken-clause-read g c =
     let run = c.args.run.now in
     let fed = c.feed.new.self in
-    let before = coming (g.H.Hierarchy.state run.tree) run.user run.done run.line.items in
-    let after = coming (g.H.Hierarchy.state fed.tree) fed.user fed.done fed.line.items in
+    let before = coming (g.C.OnCourse.course run.course) run.user run.done run.line.items in
+    let after = coming (g.C.OnCourse.course fed.course) fed.user fed.done fed.line.items in
     let p = err_from_is_err_and c.from_residual.result c.from_residual.ensures.1 in
     rw (p.1, p.2)
     (read_fault before after (g.R.Read.remaining c.args.ops.now) (g.R.Read.remaining c.fill_buf.follows.lender-at-none) (g.W.Write.contents c.args.out.now)
@@ -33,8 +33,8 @@ pub returns-clause-read : goal.returns-clause-read
 returns-clause-read g c =
     let run = c.args.run.now in
     let fed = c.feed.new.self in
-    let before = coming (g.H.Hierarchy.state run.tree) run.user run.done run.line.items in
-    let after = coming (g.H.Hierarchy.state fed.tree) fed.user fed.done fed.line.items in
+    let before = coming (g.C.OnCourse.course run.course) run.user run.done run.line.items in
+    let after = coming (g.C.OnCourse.course fed.course) fed.user fed.done fed.line.items in
     let had = g.R.Read.remaining c.args.ops.now in
     let rested = c.fill_buf.follows.lender-at-none in
     let filled = subst (FillKeeps had (g.R.Read.remaining rested) (g.R.BufRead.consumable_len rested)) c.in-Ok.is c.fill_buf.follows.holds-at-none in

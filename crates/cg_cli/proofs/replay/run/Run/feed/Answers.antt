@@ -10,7 +10,7 @@ use Rattle.cg_cli.proofs.replay.run.Run.feed.Goals as goal
 
 pub returns-then-self-ge-MOST_OPERATIONS-clause-fed : goal.returns-then-self-ge-MOST_OPERATIONS-clause-fed
 returns-then-self-ge-MOST_OPERATIONS-clause-fed g c = (
-  λ rest. fed_many (g.H.Hierarchy.state c.args.self.now.tree) c.args.self.now.user c.args.self.now.done c.args.self.now.line.items c.args.piece.now (omega arith) c.requires.some rest,
+  λ rest. fed_many (g.C.OnCourse.course c.args.self.now.course) c.args.self.now.user c.args.self.now.done c.args.self.now.line.items c.args.piece.now (omega arith) c.requires.some rest,
   Keeps-refl (g.W.Write.contents c.args.out.now),
 )
 
@@ -24,14 +24,14 @@ returns-then-len-end-gt-LONGEST_LINE-clause-fed g c =
     let long : 8192 < length (line ++ take end piece) = omega (arith, length-append line (take end piece), length-take-le end piece c.line_end-end.ensures.bound) in
     let few : self.done < 65536 = omega arith in
     rw c.of_line.ensures
-    (λ rest. fed_long (g.H.Hierarchy.state self.tree) self.user self.done line piece end none long few rest, Keeps-refl (g.W.Write.contents c.args.out.now))
+    (λ rest. fed_long (g.C.OnCourse.course self.course) self.user self.done line piece end none long few rest, Keeps-refl (g.W.Write.contents c.args.out.now))
 
 -- the line is whole, and its newline is there
 pub returns-in_err-answer-clause-fed : goal.returns-in_err-answer-clause-fed
 returns-in_err-answer-clause-fed g c =
     let self = c.args.self.now in
-    let st = g.H.Hierarchy.state self.tree in
-    let now = g.H.Hierarchy.state c.answer.new.tree in
+    let st = g.C.OnCourse.course self.course in
+    let now = g.C.OnCourse.course c.answer.new.course in
     let line = self.line.items in
     let piece = c.args.piece.now in
     let end = c.line_end-end.result in
@@ -50,8 +50,8 @@ returns-in_err-answer-clause-fed g c =
 pub returns-clause-fed : goal.returns-clause-fed
 returns-clause-fed g c =
     let self = c.args.self.now in
-    let st = g.H.Hierarchy.state self.tree in
-    let now = g.H.Hierarchy.state c.answer.new.tree in
+    let st = g.C.OnCourse.course self.course in
+    let now = g.C.OnCourse.course c.answer.new.course in
     let line = self.line.items in
     let piece = c.args.piece.now in
     let end = c.line_end-end.result in
