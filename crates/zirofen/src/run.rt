@@ -90,7 +90,14 @@ fn replay<R: AllocGlobal + Files, I: Read + Drop, W: Write>(
         uid: request.uid,
         gids: request.gids.as_slice(),
     };
-    let ended = replay_from(alloc, tree.as_slice(), user, &mut ops, &mut report);
+    let ended = replay_from(
+        alloc,
+        tree.as_slice(),
+        user,
+        None,
+        &mut ops,
+        &mut report,
+    );
     Ok(flushed(ended, report)?)
 }
 
