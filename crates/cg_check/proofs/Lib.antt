@@ -7,3 +7,4 @@ mod Escaping
 mod Checking
 mod Pairs
 mod AllContained
+mod AnswerLaws

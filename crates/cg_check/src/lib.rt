@@ -16,6 +16,7 @@ ghost use Rattle.cg_check.specs.Several.{AreContained};
 pub mod answer;
 mod copies;
 mod escape;
+pub mod laws;
 mod opening;
 
 use answer::{AllAnswer, Answer};
