@@ -193,3 +193,11 @@ few_others live pid =
     most : (b : Bool) (n : ℕ) → cond b (n - 1) n ≤ n
     most true n = omega arith
     most false n = omega arith
+
+-- where no process lives
+
+pub counted_alone : (held : FinMap path_cmp Held) (p : Names) (h : Held) → h.live ≡ 0 → AreCounted (map.insert map.empty p h) map.empty
+counted_alone held p h none = counted_more_path map.empty p h map.empty (λ q k is. absurd (true≢false (sym (ap is_some (sym (map.get-empty path_cmp q) ∙ is))))) (none ∙ sym nobody)
+  where
+    nobody : count_live map.empty p ≡ 0
+    nobody = let most = few_live map.empty p in omega (arith, most, map.len-empty nat_cmp Process)

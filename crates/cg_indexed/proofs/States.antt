@@ -25,7 +25,7 @@ use Rattle.cg_cgroup.proofs.Options.{some_value, same_some, is_some-mapped}
 use Rattle.cg_tree.proofs.MapLaws.{get-changed, change_value-there}
 use Rattle.cg_tree.proofs.StateLaws.{row_at-with_row-other, row_at-with_row-same}
 use Rattle.cg_tree.proofs.FormedParts.{enabled_at-row}
-use Rattle.cg_indexed.specs.Kept.{Held, cgroups_of, change_held, change_each_held, with_row_of, enabling_held}
+use Rattle.cg_indexed.specs.Kept.{Held, cgroups_of, change_held, change_each_held, with_row_of, enabling_held, new_held}
 use Rattle.cg_indexed.proofs.Living.{get-change_held}
 use Rattle.cg_indexed.proofs.Values.{same_maps, get-mapped, values-insert, option_map-twice}
 
@@ -150,3 +150,11 @@ same_sets a b h =
     let all = not_not _ h in
     let rest = second_so (beq a.cpu b.cpu) _ all in
     λ i. record { cpu = same_flag a.cpu b.cpu (first_so _ _ all) i; memory = same_flag a.memory b.memory (first_so _ _ rest) i; pids = same_flag a.pids b.pids (second_so (beq a.memory b.memory) _ rest) i }
+
+-- ---- a root alone
+
+pub cgroups_alone : (row : Cgroup) → cgroups_of (map.insert map.empty [] (new_held row)) ≡ map.insert map.empty [] row
+cgroups_alone row =
+    values-insert (λ (h : Held). h.cgroup) map.empty [] (new_held row)
+    ∙ ap (λ (m : FinMap path_cmp Cgroup). map.insert m [] row)
+    (same_maps _ _ (λ q. get-mapped (λ (h : Held). h.cgroup) map.empty q ∙ ap (option_map (λ (h : Held). h.cgroup)) (map.get-empty path_cmp q) ∙ sym (map.get-empty path_cmp q)))

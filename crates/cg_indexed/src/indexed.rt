@@ -1,6 +1,6 @@
 //! `Indexed`: a tree kept by places, with kept counts.
 ghost use Rattle.std.specs.Prelude.{◌≡◌, IfOk};
-ghost use Rattle.cg_indexed.specs.Indexed.{state_of};
+ghost use Rattle.cg_rows.specs.RowsForm.{IsRoot, state_of_root};
 
 use crate::cgroups::Cgroups;
 use cg_cgroup::cgroup::Cgroup;
@@ -40,6 +40,24 @@ impl Model for Indexed {
     ghost view = { λ t. state_of t.cgroups t.processes t.controllers };
 
     ghost invariant = { λ t. IsIndexed t.cgroups t.processes t.controllers };
+}
+
+impl Indexed {
+    /// A tree with a root alone. Fails where memory is wanted.
+    pub fn new(
+        alloc: Global,
+        controllers: ControllerSet,
+        root: Cgroup,
+    ) -> Result<Indexed, NoMemory>
+        requires { IsRoot controllers root }
+        ensures { IfOk result (λ tree. tree ≡ state_of_root controllers root) }
+    {
+        Ok(Indexed {
+            cgroups: Cgroups::new(alloc, root)?,
+            processes: Processes::new(alloc),
+            controllers,
+        })
+    }
 }
 
 impl Hierarchy for Indexed {
