@@ -30,7 +30,7 @@ use Rattle.cg_indexed.proofs.Values.{values_each, values_put, value_there, keys-
 use Rattle.cg_indexed.proofs.Changed.{node_set}
 
 -- a child lies below
-below-is_child : (p q : Names) → is_child p q ≡ true → below p q ≡ true
+pub below-is_child : (p q : Names) → is_child p q ≡ true → below p q ≡ true
 below-is_child p q child =
     let level = eqb-true (length q) (length p + 1) (second_so (inside p q) _ child) in
     both_true (first_so (inside p q) _ child) (lt-ltb (length p) (length q) (omega arith))

@@ -10,3 +10,7 @@ pub mod Added
 pub mod Removed
 pub mod Begun
 pub mod Enabled
+pub mod Living
+pub mod States
+pub mod Listed
+pub mod Depths

@@ -1,6 +1,6 @@
 -- A table under the texts of paths is a map from paths.
 use Rattle.std.proofs.Common.{◌≡◌, ℕ, ◌+◌, ◌≤◌, length, arith, Bool, true, false, cond, List, [], ◌∷◌, map as map_list, Some, None, Option, Less, Equal, Greater, is_some, string_bytes, String, refl, sym, ap, ◌∙◌, subst, true≢false}
-use Rattle.std.specs.List.{AllByRecursion}
+use Rattle.std.specs.List.{AllByRecursion, AllZip}
 use Rattle.std.specs.Map.{remove_entry}
 use Rattle.std.specs.Str.{bytes_eq}
 use Rattle.std.specs.BTreeMap.{insert_entry}
@@ -36,7 +36,7 @@ other_key q t h is =
       | false ↦ λ e. refl
     ] refl
 
-find-texts : (q : Names) (es : List (String Global × ℕ)) → IsPath q → AllByRecursion HasText es → find path_cmp q (map_list number_of es) ≡ number_at es (path_text q)
+pub find-texts : (q : Names) (es : List (String Global × ℕ)) → IsPath q → AllByRecursion HasText es → find path_cmp q (map_list number_of es) ≡ number_at es (path_text q)
 find-texts q [] h are = refl
 find-texts q (e ∷ es) h are =
     ap (λ b. cond b (Some e.1) (find path_cmp q (map_list number_of es))) (same_key q (string_bytes e.0) h are.0 ∙ sym (is_eq-slice_cmp (path_text q) (string_bytes e.0)))
@@ -137,3 +137,23 @@ few_numbers (e ∷ es) =
     most : (b : Bool) (n : ℕ) → cond b n (n + 1) ≤ n + 1
     most true n = omega arith
     most false n = omega arith
+
+-- ---- copies of the entries
+
+abbrev Copied : List (String Global × ℕ) → List (String Global × ℕ) → Type 0
+Copied es fs = AllZip (λ (e f : String Global × ℕ). (string_bytes f.0 ≡ string_bytes e.0) × (f.1 ≡ e.1)) es fs
+
+pub numbers_copied : (es fs : List (String Global × ℕ)) → Copied es fs → map_list number_of fs ≡ map_list number_of es
+numbers_copied [] [] same = refl
+numbers_copied [] (f ∷ fs) same = absurd same
+numbers_copied (e ∷ es) [] same = absurd same
+numbers_copied (e ∷ es) (f ∷ fs) same = λ i. (names_at (same.0.0 i), same.0.1 i) ∷ numbers_copied es fs same.1 i
+
+pub texts_copied : (es fs : List (String Global × ℕ)) → Copied es fs → AreTexts es → AreTexts fs
+texts_copied es fs same are = All-from_recursion HasText fs (copied es fs same (recursion_from_All HasText es are))
+  where
+    copied : (es fs : List (String Global × ℕ)) → Copied es fs → AllByRecursion HasText es → AllByRecursion HasText fs
+    copied [] [] same are = are
+    copied [] (f ∷ fs) same are = absurd same
+    copied (e ∷ es) [] same are = absurd same
+    copied (e ∷ es) (f ∷ fs) same are = (subst IsText (sym same.0.0) are.0, copied es fs same.1 are.1)

@@ -1,4 +1,6 @@
 pub mod TextKeys
+pub mod Levels
 pub mod Links
 pub mod Nodes
 pub mod Kept
+pub mod Indexed

@@ -4,7 +4,7 @@ ghost use Rattle.std.specs.Option.{option_map};
 ghost use Rattle.std.specs.FinMap as map;
 ghost use Rattle.cg_cgroup.specs.Paths.{parent, is_root};
 ghost use Rattle.cg_cgroup.specs.Files.{enables};
-ghost use Rattle.cg_tree.specs.States.{row_at, count_below, has_child, child_enables};
+ghost use Rattle.cg_tree.specs.States.{row_at, count_below, has_child, child_enables, depth_below};
 ghost use Rattle.cg_tree.specs.WellFormed.{has_row};
 ghost use Rattle.cg_tree.specs.Limits.{NoneIsFull, IsNearestFull};
 ghost use Rattle.cg_indexed.specs.Kept.{tree_of, new_held, with_row_of, one_live_more, one_live_less, enabling_held, change_held, change_each_held};
@@ -221,5 +221,31 @@ impl Cgroups {
         self.places.remove(path);
         lower(&mut self.links, above, path.depth());
         recount(&mut self.nodes, above, enabled, ControllerSet::none());
+    }
+
+    /// How many levels the deepest cgroup below a cgroup lies below it; 0 where there is none.
+    pub fn depth_below(&self, path: &Path, len: usize) -> u64
+        requires within { len ≤ length path.now }
+        ensures { result ≡ depth_below (tree_of self.now) (take len path.now) }
+    {
+        self.places.depth_below(path, len)
+    }
+
+    /// Every path, in order. Fails where memory is wanted.
+    pub fn paths(&self, alloc: Global) -> Result<Vec<Path>, NoMemory>
+        ensures { IfOk result (λ paths. paths.items ≡ map.keys self.now) }
+    {
+        self.places.paths(alloc)
+    }
+
+    /// Equal cgroups. Fails where memory is wanted.
+    pub fn try_clone(&self, alloc: Global) -> Result<Self, NoMemory>
+        ensures { IfOk result (λ copy. copy ≡ self.now) }
+    {
+        Ok(Cgroups {
+            places: self.places.try_clone()?,
+            links: Vec::from_slice(alloc, &self.links)?,
+            nodes: Vec::from_slice(alloc, &self.nodes)?,
+        })
     }
 }

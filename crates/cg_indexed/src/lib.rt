@@ -2,6 +2,7 @@
 #![tactic(auto)]
 
 pub mod cgroups;
+pub mod indexed;
 pub mod links;
 pub mod nodes;
 pub mod path_index;

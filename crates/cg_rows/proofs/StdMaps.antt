@@ -1,12 +1,12 @@
 -- Maps and sets of std as finite maps and sets: what a look-up, a change and a walk in order give.
-use Rattle.std.proofs.Common.{◌≡◌, Bool, true, false, cond, ◌||◌, List, [], ◌∷◌, ◌++◌, refl, sym, ap, subst, ◌∙◌, append_assoc, Some, None}
+use Rattle.std.proofs.Common.{◌≡◌, ℕ, ◌+◌, ◌≤◌, length, arith, Bool, true, false, cond, ◌||◌, List, [], ◌∷◌, ◌++◌, refl, sym, ap, subst, ◌∙◌, append_assoc, Some, None}
 use Rattle.std.specs.Bool.{passes}
 use Rattle.std.specs.List.{list_any, AllByRecursion}
 use Rattle.std.specs.List.Sorted.{IsStrictlySortedBy}
 use Rattle.std.specs.declared.cmp.Ordering.{Ordering}
 use Rattle.std.specs.declared.cmp.Ordering.TheVariants.{Less, Equal, Greater}
-use Rattle.std.specs.Ordering.{eq_by_cmp, match_ordering, is_eq, ordering_reverse}
-use Rattle.std.specs.Cmp.{IsTotalOrder, eq_by_cmp_equiv}
+use Rattle.std.specs.Ordering.{nat_cmp, eq_by_cmp, match_ordering, is_eq, ordering_reverse}
+use Rattle.std.specs.Cmp.{IsTotalOrder, eq_by_cmp_equiv, nat_cmp_total}
 use Rattle.std.specs.Map.{keys_of, lookup}
 use Rattle.std.specs.BTreeMap.{is_at, insert_entry}
 use Rattle.std.specs.FinMap as map
@@ -81,3 +81,15 @@ module _ {K : Type 0} {R : K → K → Ordering} (o : IsTotalOrder R) where
         | Equal ↦ λ tied _. sym (sym (set.contains-from_list o ks q) ∙ set.contains_tied o (set.from_list {R = R} ks) k q tied ∙ absent)
         | Greater ↦ λ _ e. e
       ] refl (inserted q)
+
+-- no more keys than entries
+pub few_entries : {X : Type 0} (es : List (ℕ × X)) → map.len (map.from_entries {R = nat_cmp} es) ≤ length es
+few_entries {X} [] = omega (arith, map.len-empty nat_cmp X)
+few_entries (e ∷ es) =
+    let one = map.len-insert nat_cmp_total (map.from_entries {R = nat_cmp} es) e.0 e.1 in
+    let rest = few_entries es in
+    omega (arith, one, rest, most (map.contains_key (map.from_entries {R = nat_cmp} es) e.0) (map.len (map.from_entries {R = nat_cmp} es)))
+  where
+    most : (b : Bool) (n : ℕ) → cond b n (n + 1) ≤ n + 1
+    most true n = omega arith
+    most false n = omega arith

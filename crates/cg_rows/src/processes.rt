@@ -1,5 +1,5 @@
 //! The processes of a tree.
-ghost use Rattle.std.specs.Prelude.{◌≡◌, true, false, option_copied, is_some, OnOk, OnErr, IfOk};
+ghost use Rattle.std.specs.Prelude.{◌≡◌, ◌≤◌, ◌<◌, ◌^◌, true, false, option_copied, is_some, OnOk, OnErr, IfOk};
 ghost use Rattle.std.specs.FinMap as map;
 ghost use Rattle.std.specs.FinSet as set;
 ghost use Rattle.cg_rows.specs.Processes.{no_processes, with_new, without, with_place_of};
@@ -51,6 +51,14 @@ impl Processes {
         ensures used { result.used ≡ set.from_list used.keys }
     {
         Self { live, used }
+    }
+
+    /// A number of processes, no fewer than are live.
+    pub fn size(&self) -> usize
+        ensures bound { map.len self.now.live ≤ result }
+        ensures small { result < 2 ^ 63 }
+    {
+        self.live.len()
     }
 
     /// A live process.

@@ -81,6 +81,14 @@ impl Rows {
         }
     }
 
+    /// The processes.
+    pub fn processes(&self) -> &Processes
+        ensures live { result.now.live ≡ self.now.live }
+        ensures used { result.now.used ≡ self.now.used }
+    {
+        &self.processes
+    }
+
     /// Whether the cgroup of the first `at` names bars a child of that of the first `len` names, by its limits.
     fn is_full(&self, path: &Path, len: usize, at: usize) -> bool
         requires within { len ≤ length path.now }

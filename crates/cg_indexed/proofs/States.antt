@@ -1,0 +1,160 @@
+-- What each change of kept cgroups does to the state that they show.
+use Rattle.std.proofs.Common.{◌≡◌, ℕ, Bool, true, false, cond, refl, sym, ap, ◌∙◌, true≢false, Some, None, Option, is_some, option_map, [], ◌∷◌}
+use Rattle.std.specs.Prelude.{option_and_then, not, ◌&&◌}
+use mathlib.Core.Bool.{beq}
+use Rattle.std.specs.Cmp.{first_so, second_so}
+use Rattle.std.specs.FinMap as map
+use Rattle.std.specs.FinMap.{FinMap}
+use Rattle.cg_cgroup.specs.Paths.{Names, path_cmp, same_path, is_child, is_root, parent}
+use Rattle.cg_cgroup.specs.Identity.{Identity}
+use Rattle.cg_cgroup.specs.Files.{stands_under, no_controllers}
+use Rattle.cg_cgroup.specs.Cgroups.{with_files_of, with_value_in, with_mode_in}
+use Rattle.cg_cgroup.specs.declared.files.ControllerSet.{ControllerSet}
+use Rattle.cg_cgroup.specs.declared.files.Limit.{Limit}
+use Rattle.cg_cgroup.specs.declared.files.LimitFile.{LimitFile}
+use Rattle.cg_cgroup.specs.declared.files.LimitFile.TheVariants.{MaxDescendants, MaxDepth, CpuWeight, MemoryMin, MemoryLow, MemoryHigh, MemoryMax, PidsMax}
+use Rattle.cg_cgroup.specs.declared.files.EntryName.{EntryName}
+use Rattle.cg_cgroup.specs.declared.files.EntryName.TheVariants.{Dir, Procs, SubtreeControl, File}
+use Rattle.cg_cgroup.specs.declared.cgroup.Cgroup.{Cgroup}
+use Rattle.cg_tree.specs.States.{State, row_at, change_each, enabling, enabling_these, with_row, with_enabled}
+use Rattle.cg_tree.specs.WellFormed.{IsWellFormed, has_row, enabled_above, enabled_at}
+use Rattle.cg_cgroup.proofs.PathOrder.{path_cmp-IsAntisymmetric, same_path-is}
+use Rattle.cg_cgroup.proofs.PathParents.{parent-is_child, is_root-is_child, parent-other}
+use Rattle.cg_cgroup.proofs.CgroupLaws.{with_files_of-same}
+use Rattle.cg_cgroup.proofs.Options.{some_value, same_some, is_some-mapped}
+use Rattle.cg_tree.proofs.MapLaws.{get-changed, change_value-there}
+use Rattle.cg_tree.proofs.StateLaws.{row_at-with_row-other, row_at-with_row-same}
+use Rattle.cg_tree.proofs.FormedParts.{enabled_at-row}
+use Rattle.cg_indexed.specs.Kept.{Held, cgroups_of, change_held, change_each_held, with_row_of, enabling_held, new_held}
+use Rattle.cg_indexed.proofs.Living.{get-change_held}
+use Rattle.cg_indexed.proofs.Values.{same_maps, get-mapped, values-insert, option_map-twice}
+
+-- where the cgroup alone stays
+pub cgroups_same : (held : FinMap path_cmp Held) (p : Names) (f : Held → Held) → ((h : Held) → (f h).cgroup ≡ h.cgroup) → cgroups_of (change_held held p f) ≡ cgroups_of held
+cgroups_same held p f same = same_maps _ _ (λ q.
+    get-mapped (λ h. h.cgroup) (change_held held p f) q ∙ ap (option_map (λ (h : Held). h.cgroup)) (get-change_held held p f q)
+    ∙ elim (same_path p q) as (λ b. option_map (λ (h : Held). h.cgroup) (cond b (option_map f (map.get held q)) (map.get held q)) ≡ option_map (λ (h : Held). h.cgroup) (map.get held q)) [
+      | true ↦ elim (map.get held q) as (λ o. option_map (λ (h : Held). h.cgroup) (option_map f o) ≡ option_map (λ (h : Held). h.cgroup) o) [ None ↦ refl | Some h ↦ ap Some (same h) ]
+      | false ↦ refl
+    ]
+    ∙ sym (get-mapped (λ h. h.cgroup) held q))
+
+-- a cgroup put in the place of one is that one changed
+pub cgroups_put : (held : FinMap path_cmp Held) (p : Names) (g : Cgroup → Cgroup) (row new : Cgroup) → Some row ≡ map.get (cgroups_of held) p → new ≡ g row
+    → cgroups_of (change_held held p (with_row_of new)) ≡ elim (map.get (cgroups_of held) p) as (λ _. FinMap path_cmp Cgroup) [ None ↦ cgroups_of held | Some r ↦ map.insert (cgroups_of held) p (g r) ]
+cgroups_put held p g row new is by =
+    let there : is_some (map.get held p) ≡ true = sym (is_some-mapped (λ (h : Held). h.cgroup) (map.get held p)) ∙ ap is_some (sym (get-mapped (λ (h : Held). h.cgroup) held p) ∙ sym is) in
+    let h = some_value (map.get held p) there in
+    ap cgroups_of (change_value-there held p (with_row_of new) h.0 h.1) ∙ values-insert (λ (h : Held). h.cgroup) held p (with_row_of new h.0) ∙ ap (map.insert (cgroups_of held) p) by
+    ∙ sym (change_value-there (cgroups_of held) p g row (sym is))
+
+pub cgroups_each : (held : FinMap path_cmp Held) (p : Names) (enabled : ControllerSet) (user : Identity) → cgroups_of (change_each_held (enabling_held p enabled user) held) ≡ change_each (enabling p enabled user) (cgroups_of held)
+cgroups_each held p enabled user = same_maps _ _ (λ q.
+    get-mapped (λ h. h.cgroup) (change_each_held (enabling_held p enabled user) held) q ∙ ap (option_map (λ (h : Held). h.cgroup)) (get-changed path_cmp-IsAntisymmetric (enabling_held p enabled user) held q)
+    ∙ elim (map.get held q) as (λ o. option_map (λ (h : Held). h.cgroup) (option_map (enabling_held p enabled user q) o) ≡ option_map (enabling p enabled user q) (option_map (λ (h : Held). h.cgroup) o)) [ None ↦ refl | Some h ↦ refl ]
+    ∙ ap (option_map (enabling p enabled user q)) (sym (get-mapped (λ h. h.cgroup) held q)) ∙ sym (get-changed path_cmp-IsAntisymmetric (enabling p enabled user) (cgroups_of held) q))
+
+-- ---- what a cgroup enables stays where a value or a mode changes
+
+pub enabled-with_value_in : (file : LimitFile) (value : Limit) (row : Cgroup) → (with_value_in file value row).enabled ≡ row.enabled
+enabled-with_value_in MaxDescendants value row = refl
+enabled-with_value_in MaxDepth value row = refl
+enabled-with_value_in CpuWeight value row = refl
+enabled-with_value_in MemoryMin value row = refl
+enabled-with_value_in MemoryLow value row = refl
+enabled-with_value_in MemoryHigh value row = refl
+enabled-with_value_in MemoryMax value row = refl
+enabled-with_value_in PidsMax value row = refl
+
+pub enabled-with_mode_in : (name : EntryName) (mode : ℕ) (row : Cgroup) → (with_mode_in name mode row).enabled ≡ row.enabled
+enabled-with_mode_in Dir mode row = refl
+enabled-with_mode_in Procs mode row = refl
+enabled-with_mode_in SubtreeControl mode row = refl
+enabled-with_mode_in (File MaxDescendants) mode row = refl
+enabled-with_mode_in (File MaxDepth) mode row = refl
+enabled-with_mode_in (File CpuWeight) mode row = refl
+enabled-with_mode_in (File MemoryMin) mode row = refl
+enabled-with_mode_in (File MemoryLow) mode row = refl
+enabled-with_mode_in (File MemoryHigh) mode row = refl
+enabled-with_mode_in (File MemoryMax) mode row = refl
+enabled-with_mode_in (File PidsMax) mode row = refl
+
+-- what the cgroup that is there enables
+pub enabled_there : (held : FinMap path_cmp Held) (p : Names) (row : Cgroup) (new : Cgroup) → Some row ≡ map.get (cgroups_of held) p → new.enabled ≡ row.enabled → option_map (λ (h : Held). h.cgroup.enabled) (map.get held p) ≡ Some new.enabled
+enabled_there held p row new is same =
+    sym (option_map-twice (λ (r : Cgroup). r.enabled) (λ (h : Held). h.cgroup) (map.get held p)) ∙ ap (option_map (λ (r : Cgroup). r.enabled)) (sym (get-mapped (λ (h : Held). h.cgroup) held p) ∙ sym is)
+    ∙ ap Some (sym same)
+
+-- ---- where what a path enables stays, all stays
+
+pub nothing_enabled : (st : State) → IsWellFormed st → (p : Names) (row : Cgroup) (enabled : ControllerSet) (user : Identity) → row_at st p ≡ Some row → row.enabled ≡ enabled → with_enabled st p enabled user ≡ st
+nothing_enabled st formed p row enabled user is same =
+    ap (λ rows. record st { rows = rows }) (same_maps _ _ (λ q.
+    get-changed path_cmp-IsAntisymmetric (enabling p enabled user) st.rows q
+    ∙ elim (map.get st.rows q) as (λ o. map.get st.rows q ≡ o → option_map (enabling p enabled user q) o ≡ o) [
+      | None ↦ λ e. refl
+      | Some r ↦ λ e. ap Some (stays q r e)
+    ] refl))
+  where
+    stays : (q : Names) (r : Cgroup) → map.get st.rows q ≡ Some r → enabling p enabled user q r ≡ r
+    stays q r has =
+        elim (same_path p q) as (λ b. same_path p q ≡ b → cond b (enabling_these enabled r) (cond (is_child p q) (with_files_of enabled user r) r) ≡ r) [
+          | true ↦ λ e.
+              let own : r.enabled ≡ enabled = ap (λ (x : Cgroup). x.enabled) (same_some r row (sym has ∙ ap (map.get st.rows) (sym (same_path-is p q e)) ∙ is)) ∙ same in
+              ap (λ (set : ControllerSet). record r { enabled = set }) (sym own)
+          | false ↦ λ e.
+              elim (is_child p q) as (λ b. is_child p q ≡ b → cond b (with_files_of enabled user r) r ≡ r) [
+                | true ↦ λ child.
+                    let above : enabled_above st q ≡ enabled =
+                    ap (λ b. cond b no_controllers (enabled_at st (parent q))) (is_root-is_child p q child) ∙ ap (enabled_at st) (parent-is_child p q child) ∙ enabled_at-row st p row is ∙ same in
+                    with_files_of-same enabled user r (λ file. (formed.rows q r has).files file ∙ ap (λ set. stands_under set file) above)
+                | false ↦ λ not_child. refl
+              ] refl
+        ] refl
+
+-- ---- a cgroup more
+
+pub not_root_new : (st : State) (p : Names) → IsWellFormed st → has_row st p ≡ false → is_root p ≡ false
+not_root_new st [] formed absent = absurd (true≢false (sym formed.root ∙ absent))
+not_root_new st (name ∷ p) formed absent = refl
+
+pub parent_of_new : (st : State) (p : Names) (row : Cgroup) → is_root p ≡ false → IsWellFormed (with_row st p row) → has_row st (parent p) ≡ true
+parent_of_new st p row root formed =
+    sym (ap is_some (row_at-with_row-other p st row (parent p) (parent-other p root)))
+    ∙ formed.parents p (ap is_some (row_at-with_row-same p st row))
+
+-- ---- a cgroup in the place of another
+
+pub live_of_row : (b : Bool) (row : Cgroup) (h : Held) → (cond b (with_row_of row h) h).live ≡ h.live
+live_of_row true row h = refl
+live_of_row false row h = refl
+
+-- what has a part is there
+pub there_by_part : {A : Type 0} (st : State) (p : Names) (part : Cgroup → Option A) → is_some (option_and_then part (row_at st p)) ≡ true → is_some (row_at st p) ≡ true
+there_by_part st p part h = elim (row_at st p) as (λ o. is_some (option_and_then part o) ≡ true → is_some o ≡ true) [ None ↦ λ e. e | Some r ↦ λ e. refl ] h
+
+-- ---- sets that a comparison finds no difference in
+
+same_flag : (a b : Bool) → beq a b ≡ true → a ≡ b
+same_flag true true h = refl
+same_flag true false h = absurd (true≢false (sym h))
+same_flag false true h = absurd (true≢false (sym h))
+same_flag false false h = refl
+
+not_not : (b : Bool) → not b ≡ false → b ≡ true
+not_not true h = refl
+not_not false h = absurd (true≢false h)
+
+pub same_sets : (a b : ControllerSet) → not (beq a.cpu b.cpu && (beq a.memory b.memory && beq a.pids b.pids)) ≡ false → a ≡ b
+same_sets a b h =
+    let all = not_not _ h in
+    let rest = second_so (beq a.cpu b.cpu) _ all in
+    λ i. record { cpu = same_flag a.cpu b.cpu (first_so _ _ all) i; memory = same_flag a.memory b.memory (first_so _ _ rest) i; pids = same_flag a.pids b.pids (second_so (beq a.memory b.memory) _ rest) i }
+
+-- ---- a root alone
+
+pub cgroups_alone : (row : Cgroup) → cgroups_of (map.insert map.empty [] (new_held row)) ≡ map.insert map.empty [] row
+cgroups_alone row =
+    values-insert (λ (h : Held). h.cgroup) map.empty [] (new_held row)
+    ∙ ap (λ (m : FinMap path_cmp Cgroup). map.insert m [] row)
+    (same_maps _ _ (λ q. get-mapped (λ (h : Held). h.cgroup) map.empty q ∙ ap (option_map (λ (h : Held). h.cgroup)) (map.get-empty path_cmp q) ∙ sym (map.get-empty path_cmp q)))

@@ -1,0 +1,39 @@
+use Rattle.std.proofs.Common.{◌≡◌, ap, sym, subst, take_all, refl, is_some, true≢false, ◌∙◌, arith}
+use Rattle.std.specs.FinMap as map
+use Rattle.cg_tree.specs.States.{State, with_enabled}
+use Rattle.cg_tree.specs.WellFormed.{IsWellFormed, has_row}
+use Rattle.cg_tree.proofs.FormedLaws.{formed-with_enabled}
+use Rattle.cg_rows.specs.RowsForm.{state_of_tables}
+use Rattle.cg_indexed.specs.Kept.{cgroups_of, change_each_held, enabling_held}
+use Rattle.cg_indexed.specs.Indexed.{state_of, IsIndexed}
+use Rattle.cg_indexed.proofs.Living.{counted_each}
+use Rattle.cg_indexed.proofs.States.{cgroups_each, nothing_enabled, same_sets}
+use Rattle.cg_indexed.proofs.indexed.IndexedHierarchy.set_enabled.Goals as goal
+
+pub unreachable-requires : goal.unreachable-requires
+unreachable-requires c =
+    true≢false (sym c.requires.there ∙ ap (λ (s : State). has_row s c.args.path.now) (sym c.self.view_is) ∙ ap (λ q. is_some (map.get (cgroups_of c.self.inside.cgroups) q)) (sym (take_all c.depth.result c.args.path.now (omega arith))) ∙ ap is_some (sym c.in_default.ensures))
+
+pub enable-requires : goal.enable-requires
+enable-requires c = ap (λ (s : State). has_row s c.args.path.now) c.self.view_is ∙ c.requires.there
+
+next : (c : goal.After-enable) → state_of (change_each_held (enabling_held c.args.path.now c.args.enabled c.args.user.now) c.self.inside.cgroups) c.self.inside.processes c.self.inside.controllers ≡ with_enabled c.args.self.now c.args.path.now c.args.enabled c.args.user.now
+next c =
+    ap (λ rows. state_of_tables rows c.self.inside.processes c.self.inside.controllers) (cgroups_each c.self.inside.cgroups c.args.path.now c.args.enabled c.args.user.now)
+    ∙ ap (λ s. with_enabled s c.args.path.now c.args.enabled c.args.user.now) c.self.view_is
+
+pub invariant_of-self : goal.invariant_of-self
+invariant_of-self c =
+    subst (λ held. IsIndexed held c.self.inside.processes c.self.inside.controllers) (sym c.enable.ensures) (record {
+      formed = subst IsWellFormed (sym (next c)) (formed-with_enabled c.args.self.now c.args.path.now c.args.enabled c.args.user.now c.requires.there c.requires.keeps (subst IsWellFormed c.self.view_is c.self.invariant.formed));
+      live = counted_each c.self.inside.cgroups (enabling_held c.args.path.now c.args.enabled c.args.user.now) c.self.inside.processes.live (λ q h. refl) c.self.invariant.live;
+    })
+
+pub returns-then-ne : goal.returns-then-ne
+returns-then-ne c = ap (λ held. state_of held c.self.inside.processes c.self.inside.controllers) c.enable.ensures ∙ next c
+
+pub returns-else-ne : goal.returns-else-ne
+returns-else-ne c =
+    let same : c.in-Some.cgroup.now.enabled ≡ c.args.enabled = same_sets c.in-Some.cgroup.now.enabled c.args.enabled (sym c.ne.ensures ∙ c.if-ne.false) in
+    let there = ap (map.get (cgroups_of c.self.inside.cgroups)) (sym (take_all c.depth.result c.args.path.now (omega arith))) ∙ sym c.in-Some.ensures in
+    sym (nothing_enabled c.args.self.now (subst IsWellFormed c.self.view_is c.self.invariant.formed) c.args.path.now c.in-Some.cgroup.now c.args.enabled c.args.user.now (ap (λ (s : State). map.get s.rows c.args.path.now) (sym c.self.view_is) ∙ there) same)

@@ -1,0 +1,204 @@
+//! `Indexed`: a tree kept by places, with kept counts.
+ghost use Rattle.std.specs.Prelude.{◌≡◌, IfOk};
+ghost use Rattle.cg_rows.specs.RowsForm.{IsRoot, state_of_root};
+
+use crate::cgroups::Cgroups;
+use cg_cgroup::cgroup::Cgroup;
+use cg_cgroup::files::{Controller, ControllerSet, EntryName, Limit, LimitFile};
+use cg_cgroup::memory::NoMemory;
+use cg_cgroup::path::Path;
+use cg_cgroup::process::{Pid, Process};
+use cg_cgroup::user::{Mode, User};
+use cg_rows::processes::Processes;
+use cg_tree::hierarchy::Hierarchy;
+use std::alloc::Global;
+use std::marker::Model;
+
+/// A tree of cgroups with its processes, found through their paths' texts, with kept counts.
+///
+/// A look-up takes time in the logarithm of the tree's size, a change of the tree time in a cgroup's depth, and a change
+/// of what a cgroup enables a walk over the links of all cgroups where it has any below it. Counts are read.
+#[derive(Drop)]
+pub struct Indexed {
+    cgroups: Cgroups,
+    processes: Processes,
+    controllers: ControllerSet,
+}
+
+impl Model for Indexed {
+    ghost use Rattle.std.specs.Coded.{codes};
+    ghost use Rattle.std.specs.FinMap as map;
+    ghost use Rattle.std.specs.FinSet as set;
+    ghost use Rattle.cg_tree.specs.States.{State};
+
+    ghost Value = { State };
+
+    ghost coded = { Prim.hlevel (codes, map.code, set.code) };
+
+    ghost use Rattle.cg_indexed.specs.Indexed.{state_of, IsIndexed};
+
+    ghost view = { λ t. state_of t.cgroups t.processes t.controllers };
+
+    ghost invariant = { λ t. IsIndexed t.cgroups t.processes t.controllers };
+}
+
+impl Indexed {
+    /// A tree with a root alone. Fails where memory is wanted.
+    pub fn new(
+        alloc: Global,
+        controllers: ControllerSet,
+        root: Cgroup,
+    ) -> Result<Indexed, NoMemory>
+        requires { IsRoot controllers root }
+        ensures { IfOk result (λ tree. tree ≡ state_of_root controllers root) }
+    {
+        Ok(Indexed {
+            cgroups: Cgroups::new(alloc, root)?,
+            processes: Processes::new(alloc),
+            controllers,
+        })
+    }
+}
+
+impl Hierarchy for Indexed {
+    ghost state = { λ tree. tree };
+
+    fn get(&self, path: &Path, len: usize) -> Option<&Cgroup> {
+        self.cgroups.get(path, len)
+    }
+
+    fn place(&self, pid: Pid) -> Option<&Path> {
+        match self.processes.get(pid) {
+            Some(process) => Some(&process.place),
+            None => None,
+        }
+    }
+
+    fn owner(&self, pid: Pid) -> Option<u32> {
+        match self.processes.get(pid) {
+            Some(process) => Some(process.uid),
+            None => None,
+        }
+    }
+
+    fn is_used(&self, pid: Pid) -> bool {
+        self.processes.is_used(pid)
+    }
+
+    fn controllers(&self) -> ControllerSet {
+        self.controllers
+    }
+
+    fn has_child(&self, path: &Path, len: usize) -> bool {
+        self.cgroups.count_below(path, len) > 0
+    }
+
+    fn has_live(&self, path: &Path, len: usize) -> bool {
+        self.cgroups.live(path, len) > 0
+    }
+
+    fn child_enables(&self, path: &Path, len: usize, controller: Controller) -> bool {
+        self.cgroups.child_enables(path, len, controller)
+    }
+
+    fn count_below(&self, path: &Path, len: usize) -> u64 {
+        self.cgroups.count_below(path, len)
+    }
+
+    fn depth_below(&self, path: &Path, len: usize) -> u64 {
+        self.cgroups.depth_below(path, len)
+    }
+
+    fn nearest_full(&self, path: &Path, len: usize) -> Option<usize> {
+        self.cgroups.nearest_full(path, len)
+    }
+
+    fn set_limit(&mut self, path: &Path, file: LimitFile, value: Limit) {
+        let Some(cgroup) = self.cgroups.get(path, path.depth()) else {
+            unreachable!()
+        };
+        let mut cgroup = *cgroup;
+        cgroup.set_value(file, value);
+        self.cgroups.set(path, cgroup);
+    }
+
+    fn set_enabled(&mut self, path: &Path, enabled: ControllerSet, user: &User) {
+        let Some(cgroup) = self.cgroups.get(path, path.depth()) else {
+            unreachable!()
+        };
+        if cgroup.enabled != enabled {
+            self.cgroups.enable(path, enabled, user);
+        }
+    }
+
+    fn set_mode(&mut self, path: &Path, name: EntryName, mode: Mode) {
+        let Some(cgroup) = self.cgroups.get(path, path.depth()) else {
+            unreachable!()
+        };
+        let mut cgroup = *cgroup;
+        // What `get` says of a mode's range keeps the tree well-formed.
+        let _bits = mode.get();
+        cgroup.set_mode(name, mode);
+        self.cgroups.set(path, cgroup);
+    }
+
+    fn remove(&mut self, path: &Path) {
+        self.cgroups.remove(path);
+    }
+
+    fn end_process(&mut self, pid: Pid) {
+        let Some(process) = self.processes.get(pid) else {
+            unreachable!()
+        };
+        self.cgroups.lower_live(&process.place);
+        self.processes.end(pid);
+    }
+
+    fn paths(&self, alloc: Global) -> Result<Vec<Path>, NoMemory> {
+        self.cgroups.paths(alloc)
+    }
+
+    fn pids(&self, alloc: Global) -> Result<Vec<Pid>, NoMemory> {
+        self.processes.pids(alloc)
+    }
+
+    fn try_clone(&self, alloc: Global) -> Result<Self, NoMemory> {
+        Ok(Indexed {
+            cgroups: self.cgroups.try_clone(alloc)?,
+            processes: self.processes.try_clone(alloc)?,
+            controllers: self.controllers,
+        })
+    }
+
+    fn add(&mut self, alloc: Global, path: &Path, cgroup: Cgroup) -> Result<(), NoMemory> {
+        self.cgroups.add(alloc, path, cgroup)
+    }
+
+    fn set_place(&mut self, alloc: Global, pid: Pid, path: &Path) -> Result<(), NoMemory> {
+        let place = path.try_clone(alloc)?;
+        // What `size` says bounds the counts.
+        let _size = self.processes.size();
+        let Some(process) = self.processes.get(pid) else {
+            unreachable!()
+        };
+        self.cgroups.lower_live(&process.place);
+        self.cgroups.raise_live(path);
+        self.processes.set_place(pid, place);
+        Ok(())
+    }
+
+    fn add_process(
+        &mut self,
+        alloc: Global,
+        pid: Pid,
+        uid: u32,
+        path: &Path,
+    ) -> Result<(), NoMemory> {
+        let place = path.try_clone(alloc)?;
+        // What `size` says bounds the counts.
+        let _size = self.processes.size();
+        self.processes.insert(pid, Process { uid, place })?;
+        self.cgroups.raise_live(path);
+        Ok(())
+    }
+}
