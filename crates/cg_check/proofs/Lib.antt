@@ -1,0 +1,10 @@
+mod Lists
+mod Wider
+mod Tried
+mod Monotone
+mod Openings
+mod Escaping
+mod Checking
+mod Pairs
+mod AllContained
+mod AnswerLaws

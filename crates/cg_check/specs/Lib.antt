@@ -2,3 +2,4 @@ pub mod Answers
 pub mod AllAnswers
 pub mod Checks
 pub mod Several
+pub mod Opened

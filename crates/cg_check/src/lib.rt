@@ -1,18 +1,23 @@
 //! Whether a subtree is contained, and operations that break it where it isn't.
 #![tactic(auto)]
 
-ghost use Rattle.std.specs.Prelude.{◌≡◌, ◌≢◌, [], IfOk, IfErr};
+ghost use Rattle.std.specs.Prelude.{◌≡◌, ◌≢◌, true, [], is_some, IfOk, IfErr, OnErr};
 ghost use Rattle.cg_ops.specs.Clauses.{first};
+ghost use Rattle.cg_tree.specs.WellFormed.{IsWellFormed};
 ghost use Rattle.cg_guards.specs.Guarding.{IsSubtree};
 ghost use Rattle.cg_guards.specs.Guards.{failures};
 ghost use Rattle.cg_check.specs.Answers.{answer};
 ghost use Rattle.cg_runs.specs.Held.{IsContained};
 ghost use Rattle.cg_check.specs.Checks.{subtree_faults, checked, all_checked, takes_memory, all_take_memory, Gives};
+ghost use Rattle.std.specs.List.{flat_map};
+ghost use Rattle.cg_check.specs.AllAnswers.{pairs_of};
 ghost use Rattle.cg_check.specs.Several.{AreContained};
 
 pub mod answer;
-pub mod escape;
-mod pending;
+mod copies;
+mod escape;
+pub mod laws;
+mod opening;
 
 use answer::{AllAnswer, Answer};
 use cg_cgroup::path::Path;
@@ -21,7 +26,7 @@ use cg_guards::guard::Failed;
 use cg_runs::fault::CheckFault;
 use cg_tree::hierarchy::Hierarchy;
 use escape::first_escape;
-use pending::failed_guard;
+use cg_guards::failed::failed_guard;
 use std::alloc::Global;
 
 /// Whether a subtree is contained against a user: against whatever he does, operation after operation.
@@ -29,7 +34,7 @@ use std::alloc::Global;
 /// # Errors
 /// `RootSubtree` where the subtree is the root, `NoSuchSubtree` where it isn't there, and `NoMemory` where an allocation
 /// was refused, which never happens where the subtree is contained.
-pub fn check<H: Hierarchy>(
+pub fn check<H: Hierarchy + Drop>(
     alloc: Global,
     tree: &H,
     user: &User,
@@ -52,7 +57,7 @@ pub fn check<H: Hierarchy>(
 /// # Errors
 /// Those of `check` for the paths, in the order of the list, before anything else; `NoMemory` where an allocation was
 /// refused, which never happens where all is contained.
-pub fn check_all<H: Hierarchy>(
+pub fn check_all<H: Hierarchy + Drop>(
     alloc: Global,
     tree: &H,
     users: &[User],
@@ -62,28 +67,62 @@ pub fn check_all<H: Hierarchy>(
     ensures contained { result ≡ Ok AllAnswer.Contained → users.now ≢ []
         → AreContained (H.state tree.now) users.now subtrees.now }
 {
-    for subtree in subtrees {
-        if let Some(fault) = fault_of(tree, subtree) {
-            return Err(fault);
-        }
+    if let Some(fault) = first_fault(tree, subtrees) {
+        return Err(fault);
     }
     for (place, user) in users.iter().enumerate() {
-        for (from, subtree) in subtrees.iter().enumerate() {
-            if let Some(failed) = failed_guard(tree, user, subtree) {
-                return Ok(AllAnswer::Pair {
-                    user: place,
-                    subtree: from,
-                    answer: unguarded(alloc, tree, user, subtree, failed)?,
-                });
-            }
+        match first_pair_of(alloc, tree, place, user, subtrees) {
+            Ok(None) => {}
+            Ok(Some(pair)) => return Ok(pair),
+            Err(_) => return Err(CheckFault::NoMemory),
         }
     }
     Ok(AllAnswer::Contained)
 }
 
+/// The first pair of a user and a subtree that isn't contained; `place` is that of the user.
+fn first_pair_of<H: Hierarchy + Drop>(
+    alloc: Global,
+    tree: &H,
+    place: usize,
+    user: &User,
+    subtrees: &[Path],
+) -> Result<Option<AllAnswer>, CheckFault>
+    requires formed { subtrees.now ≢ [] → IsWellFormed (H.state tree.now) }
+    requires there { first (flat_map (subtree_faults (H.state tree.now)) subtrees.now) ≡ None }
+    ensures ok { IfOk result (λ found. found ≡ first (pairs_of (H.state tree.now) place user.now 0 subtrees.now)) }
+    ensures err { IfErr result (λ fault. fault ≡ CheckFault.NoMemory) }
+    ensures memory { OnErr result (is_some (first (pairs_of (H.state tree.now) place user.now 0 subtrees.now)) ≡ true) }
+{
+    for (from, subtree) in subtrees.iter().enumerate() {
+        if let Some(failed) = failed_guard(tree, user, subtree) {
+            return Ok(Some(AllAnswer::Pair {
+                user: place,
+                subtree: from,
+                answer: unguarded(alloc, tree, user, subtree, failed)?,
+            }));
+        }
+    }
+    Ok(None)
+}
+
+/// Why the first of some subtrees isn't checked, where one isn't.
+fn first_fault<H: Hierarchy>(tree: &H, subtrees: &[Path]) -> Option<CheckFault>
+    ensures fault { result ≡ first (flat_map (subtree_faults (H.state tree.now)) subtrees.now) }
+    ensures formed { result ≡ None → subtrees.now ≢ [] → IsWellFormed (H.state tree.now) }
+{
+    for subtree in subtrees {
+        if let Some(fault) = fault_of(tree, subtree) {
+            return Some(fault);
+        }
+    }
+    None
+}
+
 /// Why a subtree isn't checked, where it isn't.
 fn fault_of<H: Hierarchy>(tree: &H, subtree: &Path) -> Option<CheckFault>
-    ensures { result ≡ first (subtree_faults (H.state tree.now) subtree.now) }
+    ensures fault { result ≡ first (subtree_faults (H.state tree.now) subtree.now) }
+    ensures formed { result ≡ None → IsWellFormed (H.state tree.now) }
 {
     if subtree.depth() == 0 {
         return Some(CheckFault::RootSubtree);
@@ -95,13 +134,14 @@ fn fault_of<H: Hierarchy>(tree: &H, subtree: &Path) -> Option<CheckFault>
 }
 
 /// The answer where a guard fails, the first of those that do.
-fn unguarded<H: Hierarchy>(
+fn unguarded<H: Hierarchy + Drop>(
     alloc: Global,
     tree: &H,
     user: &User,
     subtree: &Path,
     failed: Failed,
 ) -> Result<Answer, CheckFault>
+    requires formed { IsWellFormed (H.state tree.now) }
     requires subtree { IsSubtree (H.state tree.now) subtree.now }
     requires failed { first (failures (H.state tree.now) user.now subtree.now) ≡ Some failed }
     ensures ok { IfOk result (λ found. found ≡ answer (H.state tree.now) user.now subtree.now) }

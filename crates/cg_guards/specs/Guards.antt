@@ -6,6 +6,7 @@ use Rattle.cg_cgroup.specs.Identity.{Identity}
 use Rattle.cg_cgroup.specs.Users.{reaches}
 use Rattle.cg_cgroup.specs.Files.{all_files, same_entry}
 use Rattle.cg_cgroup.specs.declared.user.Entry.{Entry}
+use Rattle.cg_cgroup.specs.declared.files.LimitFile.{LimitFile}
 use Rattle.cg_cgroup.specs.declared.files.EntryName.{EntryName}
 use Rattle.cg_cgroup.specs.declared.files.EntryName.TheVariants.{Dir, Procs, SubtreeControl, File}
 use Rattle.cg_tree.specs.States.{State, entry_at}
@@ -14,7 +15,7 @@ use Rattle.cg_ops.specs.declared.operation.Op.{Op}
 use Rattle.cg_ops.specs.declared.operation.Op.TheVariants.{Chmod}
 use Rattle.cg_guards.specs.Limits.{fits_descendants, fits_depth}
 use Rattle.cg_guards.specs.declared.guard.Guard.{Guard}
-use Rattle.cg_guards.specs.declared.guard.Guard.TheVariants.{CommonAncestor, LimitFile, ParentControl, ParentDir, AlreadyOver}
+use Rattle.cg_guards.specs.declared.guard.Guard.TheVariants.{CommonAncestor, LimitFile as LimitFileGuard, ParentControl, ParentDir, AlreadyOver}
 use Rattle.cg_guards.specs.declared.guard.Failed.{Failed}
 
 -- An entry on which a guard stands: the one of this name at the first `len` names of the subtree's path.
@@ -24,24 +25,33 @@ pub record Guarded : Type 0 where
   pub name : EntryName
 
 -- Delegation Containment: a move over the edge asks for the cgroup.procs of the common ancestor, which is a proper
--- ancestor of the subtree. Those of the first cgroups of a path, the nearest first.
+-- ancestor of the subtree.
+abbrev pub ancestor : ℕ → Guarded
+ancestor len = record { guard = CommonAncestor; len = len; name = Procs }
+
+-- of the first cgroups of a path, the nearest first
 abbrev pub ancestors : ℕ → List Guarded
 ancestors zero = []
-ancestors (suc len) = record { guard = CommonAncestor; len = len; name = Procs } ∷ ancestors len
+ancestors (suc len) = ancestor len ∷ ancestors len
 
 -- Model of Delegation: the resource control files of the delegated directory aren't granted.
-abbrev pub limit_files : ℕ → List Guarded
-limit_files len = map (λ file. record { guard = LimitFile file; len = len; name = File file }) all_files
+abbrev pub limit_file : ℕ → LimitFile → Guarded
+limit_file len file = record { guard = LimitFileGuard file; len = len; name = File file }
 
--- The entries on which a guard of the subtree stands, in the order of the guards. Enabling and Disabling: the parent's
--- cgroup.subtree_control brings and takes limit files. Organizing Processes: its directory is where the subtree is removed.
+abbrev pub limit_files : ℕ → List Guarded
+limit_files len = map (limit_file len) all_files
+
+-- Enabling and Disabling: the parent's cgroup.subtree_control brings and takes limit files.
+abbrev pub parent_control : Names → Guarded
+parent_control subtree = record { guard = ParentControl; len = length subtree - 1; name = SubtreeControl }
+
+-- Organizing Processes: the parent's directory is where the subtree is removed.
+abbrev pub parent_dir : Names → Guarded
+parent_dir subtree = record { guard = ParentDir; len = length subtree - 1; name = Dir }
+
+-- The entries on which a guard of the subtree stands, in the order of the guards.
 abbrev pub guarded_entries : Names → List Guarded
-guarded_entries subtree =
-    ancestors (length subtree)
-    ++ limit_files (length subtree)
-    ++ record { guard = ParentControl; len = length subtree - 1; name = SubtreeControl }
-    ∷ record { guard = ParentDir; len = length subtree - 1; name = Dir }
-    ∷ []
+guarded_entries subtree = ancestors (length subtree) ++ limit_files (length subtree) ++ parent_control subtree ∷ parent_dir subtree ∷ []
 
 abbrev pub guarded_entry : State → Names → Guarded → Option Entry
 guarded_entry st subtree guarded = entry_at st (take guarded.len subtree) guarded.name

@@ -1,4 +1,6 @@
 //! What containment of a subtree stands on, and what a step leaves of it.
 #![tactic(auto)]
 
+pub mod failed;
 pub mod guard;
+pub mod laws;

@@ -28,7 +28,7 @@ not_taken : {A : Type 0} (b : Bool) (x y : A) → b ≡ false → cond b x y ≡
 not_taken b x y h = ap (λ t. cond t x y) h
 
 -- a reading of the state after a fork, from what it is with a new process and without
-fork-by : (P : State → Type 0) (st : State) (child : ℕ) (found : Option Process) → P st → ((process : Process) → P (with_process st child process.uid process.place))
+pub fork-by : (P : State → Type 0) (st : State) (child : ℕ) (found : Option Process) → P st → ((process : Process) → P (with_process st child process.uid process.place))
     → P (elim found [ None ↦ st | Some process ↦ with_process st child process.uid process.place ])
 fork-by P st child None same made = same
 fork-by P st child (Some process) same made = made process

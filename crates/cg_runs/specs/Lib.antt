@@ -1,2 +1,6 @@
 pub mod Verdicts
 pub mod Held
+pub mod Strangers
+pub mod Replays
+pub mod Shortcuts
+pub mod Faults

@@ -5,21 +5,25 @@ use Rattle.cg_tree.specs.States.{State}
 use Rattle.cg_tree.specs.WellFormed.{has_row}
 use Rattle.cg_ops.specs.Clauses.{unless}
 use Rattle.cg_ops.specs.Steps.{after, Deed}
-use Rattle.cg_guards.specs.Limits.{limits, same_limits, fits_descendants, fits_depth}
+use Rattle.cg_guards.specs.Limits.{Limits as LimitMap, limits, same_limits, fits_descendants, fits_depth}
 use Rattle.cg_guards.specs.Edge.{crossing}
 use Rattle.cg_runs.specs.declared.verdict.Clause.{Clause}
 use Rattle.cg_runs.specs.declared.verdict.Clause.TheVariants.{Gone, Crossed, Limits, Descendants, Depth}
 use Rattle.cg_runs.specs.declared.verdict.Verdict.{Verdict}
 use Rattle.cg_runs.specs.declared.verdict.Verdict.TheVariants.{Kept, Broken}
 
--- What is broken of a subtree where a step leads from a state to a new one, in a run from a start.
-abbrev pub broken : State → State → State → Names → List Clause
-broken start st new subtree =
+-- What is broken of a subtree where a step leads from a state to a new one, in a run that began with these limits.
+abbrev pub broken_since : LimitMap → State → State → Names → List Clause
+broken_since had st new subtree =
     unless (has_row new subtree) Gone
     ++ map Crossed (crossing st new subtree)
-    ++ unless (same_limits (limits start subtree) (limits new subtree)) Limits
+    ++ unless (same_limits had (limits new subtree)) Limits
     ++ unless (fits_descendants new subtree) Descendants
     ++ unless (fits_depth new subtree) Depth
+
+-- the same in a run from a start
+abbrev pub broken : State → State → State → Names → List Clause
+broken start st new subtree = broken_since (limits start subtree) st new subtree
 
 -- broken after so many steps where a clause is, by the first one, and else what comes later
 abbrev pub or_later : List Clause → ℕ → Verdict → Verdict

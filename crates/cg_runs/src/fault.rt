@@ -1,4 +1,8 @@
 //! Why a subtree isn't checked, and why a step isn't made.
+ghost use Rattle.std.specs.Prelude.{◌≡◌};
+ghost use Rattle.cg_runs.specs.declared.fault.StepFault.{StepFault};
+
+use cg_cgroup::memory::NoMemory;
 
 /// Why a subtree isn't checked.
 #[derive(Clone, Copy, Debug, PartialEq, Eq)]
@@ -18,4 +22,12 @@ pub enum StepFault {
     TooManySteps,
     /// 2: an allocation was refused.
     NoMemory,
+}
+
+impl From<NoMemory> for StepFault {
+    ghost from_gives = { λ _ fault. fault ≡ StepFault.NoMemory };
+
+    fn from(_error: NoMemory) -> StepFault {
+        StepFault::NoMemory
+    }
 }

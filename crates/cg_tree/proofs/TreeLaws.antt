@@ -20,18 +20,22 @@ inside-parts top path h n long =
     let cut = take-take (length top) n path long ∙ inside-is top path h in
     ap (λ t. inside t (take n path)) (sym cut) ∙ inside-take (length top) (take n path)
 
-module _ (st : State) (whole : IsWellFormed st) where
+-- each cgroup above one that is there is there, where each one's parent is
+module _ (st : State) (parents : (path : Names) → has_row st path ≡ true → has_row st (parent path) ≡ true) where
   above_there : (path : Names) (k n : ℕ) → n + k ≡ length path → has_row st path ≡ true → has_row st (take n path) ≡ true
   above_there path zero n e there = ap (has_row st) (take_all n path (omega arith)) ∙ there
-  above_there path (suc k) n e there = ap (has_row st) (sym (parent-take path n (omega arith))) ∙ whole.parents (take (suc n) path) (above_there path k (suc n) (omega arith) there)
+  above_there path (suc k) n e there = ap (has_row st) (sym (parent-take path n (omega arith))) ∙ parents (take (suc n) path) (above_there path k (suc n) (omega arith) there)
 
-  -- each cgroup above one that is there is there
-  pub take-there : (path : Names) (n : ℕ) → has_row st path ≡ true → has_row st (take n path) ≡ true
-  take-there path n there =
+  pub take-there-by_parents : (path : Names) (n : ℕ) → has_row st path ≡ true → has_row st (take n path) ≡ true
+  take-there-by_parents path n there =
       elim (nat_le n (length path)) as (λ b. nat_le n (length path) ≡ b → has_row st (take n path) ≡ true) [
         | true ↦ λ h. let short = leb-true n (length path) h in above_there path (length path - n) n (omega arith) there
         | false ↦ λ h. let long = leb-false n (length path) h in ap (has_row st) (take_all n path (omega arith)) ∙ there
       ] refl
+
+module _ (st : State) (whole : IsWellFormed st) where
+  pub take-there : (path : Names) (n : ℕ) → has_row st path ≡ true → has_row st (take n path) ≡ true
+  take-there = take-there-by_parents st whole.parents
 
   pub inside-there : (top path : Names) → inside top path ≡ true → has_row st path ≡ true → has_row st top ≡ true
   inside-there top path h there = ap (has_row st) (sym (inside-is top path h)) ∙ take-there path (length top) there

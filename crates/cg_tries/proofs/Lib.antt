@@ -1,0 +1,11 @@
+pub mod Seen
+pub mod Single
+pub mod Controls
+pub mod Moves
+pub mod Probes
+pub mod Walks
+pub mod Levels
+pub mod ProbeNames
+pub mod ProbeWalk
+pub mod ProbeLaws
+pub mod PlainTries

@@ -1,4 +1,8 @@
 //! Operations that break a subtree, looked for among stated tries.
 #![tactic(auto)]
 
+mod move_tries;
 pub mod operations;
+pub mod plain;
+mod probe_tries;
+mod write_tries;

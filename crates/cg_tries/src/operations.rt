@@ -1,5 +1,5 @@
 //! Lists of operations.
-ghost use Rattle.std.specs.Prelude.{◌≡◌, ◌++◌, [], ◌∷◌, OnOk, OnErr};
+ghost use Rattle.std.specs.Prelude.{◌≡◌, ◌++◌, [], ◌∷◌, IfOk, OnOk, OnErr};
 
 use cg_cgroup::memory::NoMemory;
 use cg_ops::operation::Op;
@@ -29,6 +29,15 @@ impl Operations {
         Operations {
             items: Vec::new(alloc),
         }
+    }
+
+    /// One operation. Fails where memory is wanted.
+    pub fn only(alloc: Global, op: Op) -> Result<Operations, NoMemory>
+        ensures { IfOk result (λ operations. operations ≡ op ∷ []) }
+    {
+        let mut operations = Operations::new(alloc);
+        operations.push(op)?;
+        Ok(operations)
     }
 
     /// Adds an operation after the others. Fails where memory is wanted.

@@ -1,0 +1,138 @@
+-- What the code for the first escape stands on: the list of the opening, part by part; the first escape by what is found
+-- in the opened tree; and what an answer says.
+use Rattle.std.proofs.Common.{◌≡◌, ◌≢◌, ℕ, ◌≤◌, ◌+◌, ◌-◌, Bool, true, false, not, ◌&&◌, List, [], ◌∷◌, ◌++◌, map, filter, find, length, nat_le, refl, sym, ap, ◌∙◌, subst, Option, Some, None, is_some, option_map, true≢false, append_assoc, arith, cond, ◌==◌}
+use Rattle.std.proofs.lemmas.Bool.Decides.{nat_tests}
+use Rattle.std.proofs.lemmas.Bool.{and_parts, false_from_ne_true}
+use Rattle.std.proofs.lemmas.List.Concat.{flat_map-append}
+use Rattle.std.proofs.lemmas.List.{append-nil}
+use Rattle.std.specs.List.{flat_map}
+use Rattle.cg_cgroup.specs.Paths.{Names, inside}
+use Rattle.cg_cgroup.specs.Identity.{Identity}
+use Rattle.cg_cgroup.specs.Numbers.{mode_of}
+use Rattle.cg_cgroup.specs.Users.{opened}
+use Rattle.cg_cgroup.specs.Cgroups.{entry_in}
+use Rattle.cg_cgroup.specs.declared.user.Entry.{Entry}
+use Rattle.cg_cgroup.specs.declared.files.EntryName.{EntryName}
+use Rattle.cg_cgroup.specs.declared.files.EntryName.TheVariants.{Dir, SubtreeControl}
+use Rattle.cg_cgroup.specs.declared.cgroup.Cgroup.{Cgroup}
+use Rattle.cg_cgroup.proofs.UserLaws.{opened-le}
+use Rattle.cg_cgroup.proofs.Options.{same_some}
+use Rattle.cg_tree.specs.States.{State, row_at}
+use Rattle.cg_tree.specs.WellFormed.{IsWellFormed, has_row}
+use Rattle.cg_ops.specs.Steps.{after_all}
+use Rattle.cg_ops.specs.declared.operation.Op.{Op}
+use Rattle.cg_guards.specs.Limits.{limits, fits_descendants, fits_depth}
+use Rattle.cg_guards.specs.Edge.{is_crossed, crossing}
+use Rattle.cg_guards.specs.Guards.{Guarded, ancestors, limit_files, parent_control, parent_dir, guarded_entries}
+use Rattle.cg_guards.specs.declared.guard.Guard.TheVariants.{CommonAncestor}
+use Rattle.cg_guards.specs.Guarding.{IsSubtree}
+use Rattle.cg_guards.proofs.Crossing.{none-crosses-same}
+use Rattle.cg_runs.specs.Held.{by_user}
+use Rattle.cg_runs.specs.Verdicts.{broken}
+use Rattle.cg_runs.proofs.BrokenLaws.{IsWhole, whole-broken, broken-whole}
+use Rattle.cg_tries.specs.Tries.{opening_of, opening, with_opening, plain_tries, tries}
+use Rattle.cg_tries.specs.Escapes.{breaks, first_escape, IsUnbroken}
+use Rattle.cg_tries.proofs.Seen.{is_empty, empty_is, breaks-run}
+use Rattle.cg_check.specs.Opened.{opened_state, is_free, unless_free}
+use Rattle.cg_check.proofs.Openings.{unbroken-opened, formed-opened, subtree-opened, first_escape-is}
+
+-- ---- the opening
+
+mode_there : (bits : ℕ) → bits ≤ 511 → mode_of bits ≡ None → ⊥
+mode_there bits fits none = grind (arith, nat_tests)
+
+-- an opened mode is a mode
+pub opened-mode : (st : State) (path : Names) (row : Cgroup) (name : EntryName) (entry : Entry) → IsWellFormed st → row_at st path ≡ Some row → entry_in row name ≡ Some entry → mode_of (opened entry.mode) ≡ None → ⊥
+opened-mode st path row name entry formed here is = mode_there (opened entry.mode) (opened-le entry.mode ((formed.rows path row here).modes name entry is))
+
+pub opening-parts : (st : State) (user : Identity) (subtree : Names)
+    → ((flat_map (opening_of st user subtree) (ancestors (length subtree)) ++ flat_map (opening_of st user subtree) (limit_files (length subtree))) ++ opening_of st user subtree (parent_control subtree)) ++ opening_of st user subtree (parent_dir subtree)
+    ≡ opening st user subtree
+opening-parts st user subtree =
+    append_assoc (flat_map chmods_of (ancestors (length subtree)) ++ flat_map chmods_of (limit_files (length subtree))) (chmods_of (parent_control subtree)) (chmods_of (parent_dir subtree))
+    ∙ (λ i. (sym (flat_map-append chmods_of (ancestors (length subtree)) (limit_files (length subtree))) i) ++ (chmods_of (parent_control subtree) ++ sym (append-nil (chmods_of (parent_dir subtree))) i))
+    ∙ sym (flat_map-append chmods_of (ancestors (length subtree) ++ limit_files (length subtree)) (parent_control subtree ∷ parent_dir subtree ∷ []))
+  where
+    chmods_of : Guarded → List Op
+    chmods_of = opening_of st user subtree
+
+-- the same as it is put together, part after part
+module _ (st : State) (user : Identity) (subtree : Names) (len : ℕ) (above : len + 1 ≡ length subtree) where
+  abbrev opening_at : ℕ → EntryName → List Op
+  opening_at n name = opening_of st user subtree (record { guard = CommonAncestor; len = n; name = name })
+
+  pub opening-built : (none ancestral filed controlled all : List Op) → none ≡ [] → ancestral ≡ none ++ flat_map (opening_of st user subtree) (ancestors (length subtree))
+      → filed ≡ ancestral ++ flat_map (opening_of st user subtree) (limit_files (length subtree)) → controlled ≡ filed ++ opening_at len SubtreeControl → all ≡ controlled ++ opening_at len Dir
+      → all ≡ opening st user subtree
+  opening-built none ancestral filed controlled all a b c d e =
+      let level : len ≡ length subtree - 1 = omega (arith, above) in
+      e ∙ ap (λ ops. ops ++ opening_at len Dir) (d ∙ ap (λ ops. ops ++ opening_at len SubtreeControl) (c
+      ∙ ap (λ ops. ops ++ flat_map (opening_of st user subtree) (limit_files (length subtree))) (b ∙ ap (λ ops. ops ++ flat_map (opening_of st user subtree) (ancestors (length subtree))) a)))
+      ∙ (λ i. ((flat_map (opening_of st user subtree) (ancestors (length subtree)) ++ flat_map (opening_of st user subtree) (limit_files (length subtree))) ++ opening_at (level i) SubtreeControl) ++ opening_at (level i) Dir)
+      ∙ opening-parts st user subtree
+
+pub opened-is : (st copy new : State) (user : Identity) (subtree : Names) (chmods carried : List Op) → new ≡ after_all copy (by_user user carried) → copy ≡ st → carried ≡ chmods → chmods ≡ opening st user subtree
+    → new ≡ opened_state st user subtree
+opened-is st copy new user subtree chmods carried is copied all opens = is ∙ (λ i. after_all (copied i) (by_user user ((all ∙ opens) i)))
+
+pub no_length : (xs : List Op) → (length xs == 0) ≡ true → xs ≡ []
+no_length [] h = refl
+no_length (x ∷ xs) h = absurd (grind (arith, nat_tests))
+
+-- ---- what is found
+
+unopened : (xs : List (List Op)) → flat_map (with_opening []) xs ≡ xs
+unopened [] = refl
+unopened (ops ∷ others) = ap (λ rest. ops ∷ rest) (unopened others)
+
+pub escape-unopened : (st : State) (user : Identity) (subtree : Names) → opening st user subtree ≡ [] → first_escape st user subtree ≡ find (breaks st user subtree) (plain_tries st subtree)
+escape-unopened st user subtree none =
+    ap (λ chmods. find (breaks st user subtree) (flat_map (with_opening chmods) (plain_tries st subtree))) none
+    ∙ ap (find (breaks st user subtree)) (unopened (plain_tries st subtree))
+
+module _ (st : State) (user : Identity) (subtree : Names) (whole : IsUnbroken st subtree) (formed : IsWellFormed st) (sub : IsSubtree st subtree) where
+  module _ (new : State) (is : new ≡ opened_state st user subtree) where
+    pub opened-subtree : IsSubtree new subtree
+    opened-subtree = subst (λ s. IsSubtree s subtree) (sym is) (subtree-opened st user subtree sub)
+
+    pub opened-unbroken : IsUnbroken new subtree
+    opened-unbroken = subst (λ s. IsUnbroken s subtree) (sym is) (unbroken-opened st user subtree whole)
+
+    pub escape-found : (found : Option (List Op)) → found ≡ find (breaks new user subtree) (plain_tries new subtree)
+        → first_escape st user subtree ≡ option_map (λ ops. unless_free (is_free st user ops) (opening st user subtree) ops) found
+    escape-found found e =
+        first_escape-is st user subtree whole formed sub
+        ∙ ap (option_map (λ ops. unless_free (is_free st user ops) (opening st user subtree) ops)) (sym (e ∙ ap (λ s. find (breaks s user subtree) (plain_tries s subtree)) is))
+
+    pub escape-free : (ops : List Op) → Some ops ≡ find (breaks new user subtree) (plain_tries new subtree) → is_free st user ops ≡ true → Some ops ≡ first_escape st user subtree
+    escape-free ops e free = sym (escape-found (Some ops) e ∙ ap (λ b. Some (unless_free b (opening st user subtree) ops)) free)
+
+    pub escape-none : (found : Option (List Op)) → found ≡ find (breaks new user subtree) (plain_tries new subtree) → ((ops : List Op) → found ≡ Some ops → ⊥) → None ≡ first_escape st user subtree
+    escape-none None e none = sym (escape-found None e)
+    escape-none (Some ops) e none = absurd (none ops refl)
+
+    pub escape-joined : (ops : List Op) → Some ops ≡ find (breaks new user subtree) (plain_tries new subtree) → is_free st user ops ≡ false → Some (opening st user subtree ++ ops) ≡ first_escape st user subtree
+    escape-joined ops e free = sym (escape-found (Some ops) e ∙ ap (λ b. Some (unless_free b (opening st user subtree) ops)) free)
+
+-- ---- over its limits
+
+pub unbroken-fits : (st : State) (subtree : Names) → IsSubtree st subtree → not (fits_descendants st subtree && fits_depth st subtree) ≡ false → IsUnbroken st subtree
+unbroken-fits st subtree sub fits =
+    let parts = and_parts (fits_descendants st subtree) (fits_depth st subtree) (not_false _ fits) in
+    whole-broken (limits st subtree) st st subtree (record { there = sub.0; edge = none-crosses-same st subtree; limits = refl; descendants = parts.0; depth = parts.1 })
+  where
+    not_false : (b : Bool) → not b ≡ false → b ≡ true
+    not_false true h = refl
+    not_false false h = sym h
+
+first_one : (p : List Op → Bool) (before : List Op) (xs : List (List Op)) → p [] ≡ true → find p (flat_map (with_opening before) ([] ∷ xs)) ≡ Some []
+first_one p [] xs h = ap (λ b. cond b (Some []) (find p (flat_map (with_opening []) xs))) h
+first_one p (op ∷ before) xs h = ap (λ b. cond b (Some []) (find p (((op ∷ before) ++ []) ∷ flat_map (with_opening (op ∷ before)) xs))) h
+
+pub escape-over : (st : State) (user : Identity) (subtree : Names) → not (fits_descendants st subtree && fits_depth st subtree) ≡ true → first_escape st user subtree ≡ Some []
+escape-over st user subtree over = first_one (breaks st user subtree) (opening st user subtree) _ (breaks-run st user subtree [] ∙ ap (λ b. not (b && true)) broken_before)
+  where
+    broken_before : is_empty (broken st st st subtree) ≡ false
+    broken_before = false_from_ne_true _ (λ none.
+        let whole = broken-whole (limits st subtree) st st subtree (empty_is _ none) in
+        true≢false (sym over ∙ (λ i. not (whole.descendants i && whole.depth i))))

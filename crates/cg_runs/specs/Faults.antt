@@ -1,0 +1,13 @@
+-- Why a replay doesn't start.
+use Rattle.std.specs.Prelude.{◌≡◌, true, false}
+use Rattle.cg_cgroup.specs.Paths.{Names, is_root}
+use Rattle.cg_tree.specs.States.{State}
+use Rattle.cg_tree.specs.WellFormed.{has_row}
+use Rattle.cg_runs.specs.declared.fault.CheckFault.{CheckFault}
+use Rattle.cg_runs.specs.declared.fault.CheckFault.TheVariants.{RootSubtree, NoSuchSubtree, NoMemory}
+
+-- The first thing that is wrong with a subtree that is asked about.
+abbrev pub IsFaultOf : CheckFault → State → Names → Type 0
+IsFaultOf RootSubtree st subtree = is_root subtree ≡ true
+IsFaultOf NoSuchSubtree st subtree = (is_root subtree ≡ false) × (has_row st subtree ≡ false)
+IsFaultOf NoMemory st subtree = ⊥

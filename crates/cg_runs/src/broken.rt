@@ -1,0 +1,117 @@
+//! What is broken of a subtree at the start, and what a step may break of it.
+ghost use Rattle.std.specs.Prelude.{◌≡◌, [], List, true, Some};
+ghost use Rattle.cg_cgroup.specs.Paths.{is_child};
+ghost use Rattle.cg_cgroup.specs.Cgroups.{value_in};
+ghost use Rattle.cg_tree.specs.States.{row_at};
+ghost use Rattle.cg_ops.specs.Clauses.{first, unless};
+ghost use Rattle.cg_guards.specs.Limits.{limits, same_limits};
+ghost use Rattle.cg_runs.specs.Verdicts.{broken, or_later};
+ghost use Rattle.cg_runs.specs.Shortcuts.{moves_over, may_break, broken_by};
+
+use crate::verdict::{Clause, Verdict};
+use cg_cgroup::cgroup::Cgroup;
+use cg_cgroup::files::LimitFile;
+use cg_cgroup::path::Path;
+use cg_guards::failed::{fits_depth, fits_descendants};
+use cg_ops::operation::Op;
+use cg_ops::outcome::Outcome;
+use cg_tree::hierarchy::Hierarchy;
+
+/// What is broken of a subtree before any step: it may be over its own limits.
+pub fn broken_at_start<H: Hierarchy>(tree: &H, subtree: &Path, cgroup: &Cgroup) -> Option<Clause>
+    requires { row_at (H.state tree.now) subtree.now ≡ Some cgroup.now }
+    ensures { result ≡ first (broken (H.state tree.now) (H.state tree.now) (H.state tree.now) subtree.now) }
+{
+    if !fits_descendants(tree, subtree, cgroup) {
+        return Some(Clause::Descendants);
+    }
+    if !fits_depth(tree, subtree, cgroup) {
+        return Some(Clause::Depth);
+    }
+    None
+}
+
+/// The verdict by what was broken after so many steps, where nothing was broken before.
+pub fn verdict_by(broken: Option<Clause>, steps: usize) -> Verdict
+    ensures { (clauses : List Clause) → broken ≡ first clauses → result ≡ or_later clauses steps Verdict.Kept }
+{
+    match broken {
+        None => Verdict::Kept,
+        Some(clause) => Verdict::Broken {
+            after: steps,
+            clause,
+        },
+    }
+}
+
+/// Whether an operation, carried out, moves a process over the edge of a subtree.
+pub fn moves_over<H: Hierarchy>(tree: &H, subtree: &Path, op: &Op) -> bool
+    ensures { result ≡ moves_over (H.state tree.now) subtree.now op.now }
+{
+    let Op::Move { pid, to } = op else {
+        return false;
+    };
+    match tree.place(*pid) {
+        Some(place) => subtree.is_prefix_of(place) != subtree.is_prefix_of(to),
+        None => false,
+    }
+}
+
+/// Whether a step may have broken anything: it was carried out, and nothing was broken before it.
+pub fn may_break(verdict: Verdict, outcome: &Outcome) -> bool
+    ensures { result ≡ may_break verdict outcome.now }
+{
+    match (verdict, outcome) {
+        (Verdict::Kept, Outcome::Done) => true,
+        _ => false,
+    }
+}
+
+/// What an operation that has just been carried out broke of a subtree that was whole before it, where the subtree's
+/// cgroup at the start is known, and whether a process was moved over the edge.
+pub fn broken_by<H: Hierarchy>(
+    tree: &H,
+    subtree: &Path,
+    original: &Cgroup,
+    op: &Op,
+    moves: bool,
+) -> Option<Clause>
+    ensures { result ≡ first (broken_by (value_in original.now) moves (H.state tree.now) subtree.now op.now) }
+{
+    match op {
+        Op::Move { pid, .. } if moves => Some(Clause::Crossed(*pid)),
+        Op::Rmdir { path } if path == subtree => Some(Clause::Gone),
+        Op::Control { at, .. } if is_child(at, subtree) => changed(tree, subtree, original),
+        Op::Set { at, .. } if at == subtree => changed(tree, subtree, original),
+        _ => None,
+    }
+}
+
+/// Whether `path` is a child of `top`.
+fn is_child(top: &Path, path: &Path) -> bool
+    ensures { result ≡ is_child top.now path.now }
+{
+    if !top.is_prefix_of(path) {
+        return false;
+    }
+    path.depth() - top.depth() == 1
+}
+
+/// That the limits of a subtree aren't those that it had, where they aren't.
+fn changed<H: Hierarchy>(tree: &H, subtree: &Path, original: &Cgroup) -> Option<Clause>
+    ensures { result ≡ first (unless (same_limits (value_in original.now) (limits (H.state tree.now) subtree.now)) Clause.Limits) }
+{
+    match tree.get(subtree, subtree.depth()) {
+        Some(cgroup) if same_limits(original, cgroup) => None,
+        _ => Some(Clause::Limits),
+    }
+}
+
+/// Whether the same limit files stand at two cgroups, with the same values.
+fn same_limits(cgroup: &Cgroup, other: &Cgroup) -> bool
+    ensures { result ≡ same_limits (value_in cgroup.now) (value_in other.now) }
+{
+    LimitFile::ALL
+        .iter()
+        .all(|file| cgroup.limit(*file) == other.limit(*file))
+}

@@ -1,0 +1,137 @@
+-- A change of one controller at the parent breaks where it is allowed and changes what the parent enables.
+use Rattle.std.proofs.Common.{◌≡◌, Bool, true, false, cond, not, ◌&&◌, List, [], ◌∷◌, is_some, option_map, option_and_then, refl, sym, ap, ◌∙◌, true≢false}
+use Rattle.cg_cgroup.specs.Paths.{Names, parent, is_root}
+use Rattle.cg_cgroup.specs.Identity.{Identity}
+use Rattle.cg_cgroup.specs.Files.{enables, stands_under, no_controllers}
+use Rattle.cg_cgroup.specs.Cgroups.{file_of}
+use Rattle.cg_cgroup.specs.declared.files.Controller.{Controller}
+use Rattle.cg_cgroup.specs.declared.files.Controller.TheVariants.{Cpu, Memory, Pids}
+use Rattle.cg_cgroup.specs.declared.files.ControllerSet.{ControllerSet}
+use Rattle.cg_cgroup.specs.declared.files.LimitFile.{LimitFile}
+use Rattle.cg_cgroup.specs.declared.files.LimitFile.TheVariants.{CpuWeight, MemoryMax, PidsMax}
+use Rattle.cg_cgroup.proofs.Options.{some_value, is_some-mapped}
+use Rattle.cg_tree.specs.States.{State, row_at, file_at}
+use Rattle.cg_tree.specs.WellFormed.{IsWellFormed, has_row, enabled_at}
+use Rattle.cg_tree.proofs.StateCounts.{paths_of-with_enabled, count_below-same_paths, depth_below-same_paths}
+use Rattle.cg_tree.proofs.StateEntries.{value_at-file, file_at-with_enabled-same}
+use Rattle.cg_tree.proofs.FormedEnabled.{has_row-with_enabled, enabled_at-with_enabled-same}
+use Rattle.cg_ops.specs.Bars.{bars}
+use Rattle.cg_ops.specs.Changes.{enabled_after}
+use Rattle.cg_ops.specs.Next.{next}
+use Rattle.cg_ops.proofs.StepFormed.{formed-next}
+use Rattle.cg_ops.specs.declared.operation.Op.{Op}
+use Rattle.cg_ops.specs.declared.operation.Op.TheVariants.{Control}
+use Rattle.cg_guards.specs.Guarding.{IsSubtree}
+use Rattle.cg_guards.specs.Limits.{limits}
+use Rattle.cg_runs.specs.Verdicts.{broken}
+use Rattle.cg_runs.specs.declared.verdict.Clause.{Clause}
+use Rattle.cg_tries.specs.Tries.{change_of}
+use Rattle.cg_tries.specs.Escapes.{breaks, IsUnbroken}
+use Rattle.cg_tries.specs.Finding.{allowed, changes_enabled}
+use Rattle.cg_tries.proofs.Seen.{seen, IsAlike, is_empty, step-alike}
+use Rattle.cg_tries.proofs.Single.{step_breaks, one_operation, limits_stay, nothing_bars, where_so}
+
+-- a limit file stands where the parent enables what brings it
+stands : (st : State) (path : Names) (file : LimitFile) → IsWellFormed st → has_row st path ≡ true → is_root path ≡ false → is_some (file_at st path file) ≡ stands_under (enabled_at st (parent path)) file
+stands st path file formed there not_root =
+    let row = some_value (row_at st path) there in
+    ap (λ r. is_some (option_and_then (λ row. file_of row file) r)) row.1
+    ∙ (formed.rows path row.0 row.1).files file
+    ∙ ap (λ b. stands_under (cond b no_controllers (enabled_at st (parent path))) file) not_root
+
+value_stands : (st : State) (path : Names) (file : LimitFile) → is_some (limits st path file) ≡ is_some (file_at st path file)
+value_stands st path file = ap is_some (value_at-file st path file) ∙ is_some-mapped (λ f. f.value) (file_at st path file)
+
+-- ---- changes
+
+-- a file of the controller
+abbrev file_by : Controller → LimitFile
+file_by Cpu = CpuWeight
+file_by Memory = MemoryMax
+file_by Pids = PidsMax
+
+stands-file_by : (enabled : ControllerSet) (controller : Controller) → stands_under enabled (file_by controller) ≡ enables enabled controller
+stands-file_by enabled Cpu = refl
+stands-file_by enabled Memory = refl
+stands-file_by enabled Pids = refl
+
+abbrev enabled_by : Bool → Controller → ControllerSet → ControllerSet
+enabled_by on controller enabled = enabled_after enabled (change_of on controller ∷ [])
+
+now_enabled : (on : Bool) (controller : Controller) (enabled : ControllerSet) → enables (enabled_by on controller enabled) controller ≡ on
+now_enabled on Cpu enabled = refl
+now_enabled on Memory enabled = refl
+now_enabled on Pids enabled = refl
+
+negated : (b : Bool) → not b ≡ false → true ≡ b
+negated true h = refl
+negated false h = absurd (true≢false h)
+
+-- a change without effect leaves what is enabled
+same_enabled : (on : Bool) (controller : Controller) (enabled : ControllerSet) → changes_enabled on controller enabled ≡ false → enabled_by on controller enabled ≡ enabled
+same_enabled true Cpu enabled h = λ i. record { cpu = negated enabled.cpu h i; memory = enabled.memory; pids = enabled.pids }
+same_enabled true Memory enabled h = λ i. record { cpu = enabled.cpu; memory = negated enabled.memory h i; pids = enabled.pids }
+same_enabled true Pids enabled h = λ i. record { cpu = enabled.cpu; memory = enabled.memory; pids = negated enabled.pids h i }
+same_enabled false Cpu enabled h = λ i. record { cpu = sym h i; memory = enabled.memory; pids = enabled.pids }
+same_enabled false Memory enabled h = λ i. record { cpu = enabled.cpu; memory = sym h i; pids = enabled.pids }
+same_enabled false Pids enabled h = λ i. record { cpu = enabled.cpu; memory = enabled.memory; pids = sym h i }
+
+toggled : (on was : Bool) → cond on (not was) was ≡ true → was ≡ on → ⊥
+toggled true true h e = true≢false (sym h)
+toggled true false h e = true≢false (sym e)
+toggled false true h e = true≢false e
+toggled false false h e = true≢false (sym h)
+
+-- ---- the try
+
+module _ (st : State) (user : Identity) (subtree : Names) (on : Bool) (controller : Controller) (whole : IsUnbroken st subtree) (formed : IsWellFormed st) (there : IsSubtree st subtree) where
+  abbrev op : Op
+  op = Control (parent subtree) (change_of on controller ∷ [])
+
+  abbrev above : ControllerSet
+  above = enabled_at st (parent subtree)
+
+  abbrev new : State
+  new = next st user op
+
+  -- with effect it brings or takes a file of the subtree
+  changed : bars st user op ≡ [] → changes_enabled on controller above ≡ true → broken st st new subtree ≡ [] → ⊥
+  changed free changes none =
+      let file = file_by controller in
+      let later = formed-next st user op formed tt free in
+      let here = has_row-with_enabled st (parent subtree) (enabled_by on controller above) user subtree ∙ there.0 in
+      let enabled = enabled_at-with_enabled-same st (parent subtree) (enabled_by on controller above) user (formed.parents subtree there.0) in
+      let before = value_stands st subtree file ∙ stands st subtree file formed there.0 there.1 ∙ stands-file_by above controller in
+      let after = value_stands new subtree file ∙ stands new subtree file later here there.1 ∙ stands-file_by (enabled_at new (parent subtree)) controller
+      ∙ ap (λ (e : ControllerSet). enables e controller) enabled ∙ now_enabled on controller above in
+      toggled on (enables above controller) changes (sym before ∙ ap is_some (limits_stay st st new subtree none file) ∙ after)
+
+  -- without effect it leaves the subtree as it was
+  kept : changes_enabled on controller above ≡ false → IsAlike st new subtree
+  kept same =
+      let enabled = enabled_by on controller above in
+      let paths = paths_of-with_enabled st (parent subtree) enabled user in
+      let files : (file : LimitFile) → limits new subtree file ≡ limits st subtree file = λ file.
+      value_at-file new subtree file
+      ∙ ap (option_map (λ f. f.value)) (file_at-with_enabled-same st (parent subtree) enabled user subtree file (λ _.
+      stands st subtree file formed there.0 there.1 ∙ ap (λ (e : ControllerSet). stands_under e file) (sym (same_enabled on controller above same))))
+      ∙ sym (value_at-file st subtree file) in
+      λ i. record {
+        limits = λ file. files file i;
+        count = count_below-same_paths st new paths subtree i;
+        depth = depth_below-same_paths st new paths subtree i;
+        pids = (seen st subtree).pids;
+        place = (seen st subtree).place;
+      }
+
+  breaks_where : bars st user op ≡ [] → step_breaks st new subtree ≡ changes_enabled on controller above
+  breaks_where free = elim (changes_enabled on controller above) as (λ b. changes_enabled on controller above ≡ b → step_breaks st new subtree ≡ b) [
+    | true ↦ λ changes. elim (broken st st new subtree) as (λ l. broken st st new subtree ≡ l → not (is_empty l) ≡ true) [
+      | [] ↦ λ none. absurd (changed free changes none)
+      | clause ∷ clauses ↦ λ _. refl
+    ] refl
+    | false ↦ λ same. ap (λ (l : List Clause). not (is_empty l)) (step-alike st new subtree (kept same) ∙ whole)
+  ] refl
+
+  pub control_try : breaks st user subtree (op ∷ []) ≡ (allowed st user op && changes_enabled on controller above)
+  control_try = one_operation st user subtree op whole ∙ where_so (allowed st user op) _ _ (λ free. breaks_where (nothing_bars st user op free))

@@ -1,0 +1,96 @@
+-- How far limits let in a new child, ancestor by ancestor from the root down.
+use Rattle.std.proofs.Common.{◌≡◌, ℕ, zero, suc, ◌+◌, ◌-◌, ◌<◌, ◌≤◌, min, ⊎_elim, true, false, ◌&&◌, length, take, Some, None, nat_lt, refl, sym, ap, ◌∙◌, arith}
+use Rattle.std.proofs.lemmas.Bool.{cases_lt, lt-ltb, le-ltb}
+use Rattle.std.proofs.lemmas.Bool.Decides.{nat_tests}
+use Rattle.std.proofs.Math.Bool.{and-false}
+use Rattle.cg_cgroup.specs.Paths.{Names}
+use Rattle.cg_cgroup.specs.declared.files.Limit.{Limit}
+use Rattle.cg_cgroup.specs.declared.files.Limit.TheVariants.{Max, At}
+use Rattle.cg_cgroup.specs.declared.cgroup.Cgroup.{Cgroup}
+use Rattle.cg_tree.specs.States.{State, row_at, count_below}
+use Rattle.cg_ops.specs.Bars.{is_under}
+use Rattle.cg_tries.specs.Finding.{level_passes, levels_pass, lets_in, lowered}
+
+under_lowered : (len at level : ℕ) (limit : Limit) → at ≤ len → (is_under (len - at) limit && nat_lt len level) ≡ nat_lt len (lowered level at limit)
+under_lowered len at level Max h = refl
+under_lowered len at level (At most) h = grind (arith, nat_tests)
+
+above_lowered : (len at level : ℕ) (limit : Limit) → len < at → at < level → nat_lt len level ≡ nat_lt len (lowered level at limit)
+above_lowered len at level Max h k = refl
+above_lowered len at level (At most) h k = grind (arith, nat_tests)
+
+pub lowered-le : (level at : ℕ) (limit : Limit) → lowered level at limit ≤ level
+lowered-le level at Max = omega arith
+lowered-le level at (At most) = omega arith
+
+module _ (st : State) (subtree : Names) where
+  -- with what the cgroups of fewer than `at` names say, an ancestor lets in a child where it lies above a level
+  abbrev pub OpenAbove : ℕ → ℕ → Type 0
+  OpenAbove at level = (len : ℕ) → len < length subtree → levels_pass st subtree len (min at (suc len)) ≡ nat_lt len level
+
+  later : (len at : ℕ) → at ≤ len → min at (suc len) ≡ at
+  later len at h = omega arith
+
+  sooner : (len at : ℕ) → len < at → min at (suc len) ≡ suc len
+  sooner len at h = omega arith
+
+  pub open_start : OpenAbove 0 (length subtree)
+  open_start len h = ap (levels_pass st subtree len) (later len 0 (omega arith)) ∙ sym (lt-ltb len (length subtree) h)
+
+  -- what bars a level goes on to bar it
+  levels_pass-more : (len at more : ℕ) → levels_pass st subtree len at ≡ false → levels_pass st subtree len (more + at) ≡ false
+  levels_pass-more len at zero h = ap (levels_pass st subtree len) (let e : 0 + at ≡ at = omega arith in e) ∙ h
+  levels_pass-more len at (suc more) h =
+      ap (levels_pass st subtree len) (let e : suc more + at ≡ suc (more + at) = omega arith in e)
+      ∙ ap (λ b. level_passes st subtree len (more + at) && b) (levels_pass-more len at more h) ∙ and-false (level_passes st subtree len (more + at))
+
+  barred_at : (len at : ℕ) → at ≤ suc len → levels_pass st subtree len at ≡ false → lets_in st subtree len ≡ false
+  barred_at len at h barred = ap (levels_pass st subtree len) (let e : suc len ≡ (suc len - at) + at = omega arith in e) ∙ levels_pass-more len at (suc len - at) barred
+
+  pub open_barred : (at level : ℕ) → level ≤ at → OpenAbove at level → (len : ℕ) → len < length subtree → lets_in st subtree len ≡ nat_lt len level
+  open_barred at level h now len within = ⊎_elim
+      (λ below. sym (ap (levels_pass st subtree len) (sooner len at below)) ∙ now len within)
+      (λ above.
+      let over : nat_lt len level ≡ false = le-ltb len level (omega (arith, h, above)) in
+      barred_at len at (omega (arith, above)) (sym (ap (levels_pass st subtree len) (later len at above)) ∙ now len within ∙ over) ∙ sym over)
+      (cases_lt len at)
+
+  pub open_full : (at level : ℕ) (row : Cgroup) → at < level → OpenAbove at level → row_at st (take at subtree) ≡ Some row → is_under (count_below st (take at subtree)) row.max_descendants.value ≡ false
+      → (len : ℕ) → len < length subtree → lets_in st subtree len ≡ nat_lt len at
+  open_full at level row h now is full len within = ⊎_elim
+      (λ below. sym (ap (levels_pass st subtree len) (sooner len at below)) ∙ now len within ∙ lt-ltb len level (omega (arith, h, below)) ∙ sym (lt-ltb len at below))
+      (λ above.
+      let none : level_passes st subtree len at ≡ false =
+      ap (λ r. elim r [ None ↦ true | Some row ↦ is_under (count_below st (take at subtree)) row.max_descendants.value && is_under (len - at) row.max_depth.value ]) is
+      ∙ ap (λ b. b && is_under (len - at) row.max_depth.value) full in
+      barred_at len (suc at) (omega (arith, above)) (ap (λ b. b && levels_pass st subtree len at) none) ∙ sym (le-ltb len at (omega (arith, above))))
+      (cases_lt len at)
+
+  pub open_row : (at level : ℕ) (row : Cgroup) → at < level → OpenAbove at level → row_at st (take at subtree) ≡ Some row → is_under (count_below st (take at subtree)) row.max_descendants.value ≡ true
+      → OpenAbove (at + 1) (lowered level at row.max_depth.value)
+  open_row at level row h now is under len within = ⊎_elim
+      (λ below.
+      ap (levels_pass st subtree len) (let e : min (at + 1) (suc len) ≡ min at (suc len) = omega arith in e)
+      ∙ now len within ∙ above_lowered len at level row.max_depth.value below h)
+      (λ above.
+      let here : level_passes st subtree len at ≡ is_under (len - at) row.max_depth.value =
+      ap (λ r. elim r [ None ↦ true | Some row ↦ is_under (count_below st (take at subtree)) row.max_descendants.value && is_under (len - at) row.max_depth.value ]) is
+      ∙ ap (λ b. b && is_under (len - at) row.max_depth.value) under in
+      ap (levels_pass st subtree len) (let e : min (at + 1) (suc len) ≡ suc at = omega arith in e)
+      ∙ (λ i. here i && levels_pass st subtree len at)
+      ∙ ap (λ b. is_under (len - at) row.max_depth.value && b) (sym (ap (levels_pass st subtree len) (later len at above)) ∙ now len within)
+      ∙ under_lowered len at level row.max_depth.value above)
+      (cases_lt len at)
+
+  pub open_gone : (at level : ℕ) → OpenAbove at level → row_at st (take at subtree) ≡ None → OpenAbove (at + 1) level
+  open_gone at level now gone len within = ⊎_elim
+      (λ below. ap (levels_pass st subtree len) (let e : min (at + 1) (suc len) ≡ min at (suc len) = omega arith in e) ∙ now len within)
+      (λ above.
+      let here : level_passes st subtree len at ≡ true =
+      ap (λ r. elim r [ None ↦ true | Some row ↦ is_under (count_below st (take at subtree)) row.max_descendants.value && is_under (len - at) row.max_depth.value ]) gone in
+      ap (levels_pass st subtree len) (let e : min (at + 1) (suc len) ≡ suc at = omega arith in e)
+      ∙ (λ i. here i && levels_pass st subtree len at) ∙ sym (ap (levels_pass st subtree len) (later len at above)) ∙ now len within)
+      (cases_lt len at)
+
+  pub open_end : (at level : ℕ) → length subtree ≤ at → OpenAbove at level → (len : ℕ) → len < length subtree → lets_in st subtree len ≡ nat_lt len level
+  open_end at level h now len within = sym (ap (levels_pass st subtree len) (sooner len at (omega (arith, within)))) ∙ now len within

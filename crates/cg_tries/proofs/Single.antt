@@ -1,0 +1,169 @@
+-- A try of one operation breaks where it is allowed and its step breaks.
+use Rattle.std.proofs.Common.{◌≡◌, ℕ, Bool, true, false, cond, not, ◌&&◌, ◌||◌, ◌≢◌, List, [], ◌∷◌, map, filter, Option, Some, None, is_some, option_map, nat_eq, refl, sym, ap, ◌∙◌, true≢false, arith}
+use Rattle.std.proofs.lemmas.Bool.{and_from, eqb-true, eqb-false}
+use Rattle.std.proofs.Math.Bool.{and-true}
+use Rattle.std.specs.List.{list_any, list_all}
+use Rattle.std.specs.Ordering.{nat_cmp, eq_by_cmp}
+use Rattle.std.specs.Cmp.{unsigned_ties}
+use Rattle.std.specs.FinMap.{contains_key-keys}
+use Rattle.cg_cgroup.specs.Paths.{Names, inside}
+use Rattle.cg_cgroup.specs.Identity.{Identity}
+use Rattle.cg_cgroup.specs.Files.{all_files}
+use Rattle.cg_cgroup.specs.declared.files.Limit.{Limit}
+use Rattle.cg_cgroup.specs.declared.files.Limit.TheVariants.{Max, At}
+use Rattle.cg_cgroup.specs.declared.files.LimitFile.{LimitFile}
+use Rattle.cg_cgroup.specs.declared.files.LimitFile.TheVariants.{MaxDescendants, MaxDepth, CpuWeight, MemoryMin, MemoryLow, MemoryHigh, MemoryMax, PidsMax}
+use Rattle.cg_cgroup.proofs.Options.{mapped_from, same_some}
+use Rattle.cg_cgroup.proofs.PathOrder.{same_path_refl}
+use Rattle.cg_cgroup.proofs.CgroupLaws.{same_file-refl}
+use Rattle.cg_tree.specs.States.{State, row_at, process_at, place_at, pids_of, with_value, with_place, placed_at, without_row}
+use Rattle.cg_tree.specs.WellFormed.{has_row}
+use Rattle.cg_tree.proofs.StateLaws.{row_at-without_row, process_at-with_place-same}
+use Rattle.cg_tree.proofs.StateEntries.{value_at-with_value}
+use Rattle.cg_ops.specs.Clauses.{first}
+use Rattle.cg_ops.specs.Steps.{after}
+use Rattle.cg_ops.proofs.ClauseLaws.{no_parts, no_unless}
+use Rattle.cg_ops.specs.Bars.{bars}
+use Rattle.cg_ops.specs.Next.{next}
+use Rattle.cg_ops.specs.declared.operation.Op.{Op}
+use Rattle.cg_ops.specs.declared.operation.Op.TheVariants.{Move, Rmdir, Set}
+use Rattle.cg_guards.specs.Limits.{limits, same_limit, same_value, same_limits}
+use Rattle.cg_guards.specs.Edge.{is_crossed, crossing}
+use Rattle.cg_runs.specs.Verdicts.{broken}
+use Rattle.cg_runs.specs.declared.verdict.Clause.{Clause}
+use Rattle.cg_runs.specs.declared.verdict.Clause.TheVariants.{Gone, Crossed, Limits}
+use Rattle.cg_tries.specs.Tries.{other_value}
+use Rattle.cg_tries.specs.Escapes.{breaks, IsUnbroken}
+use Rattle.cg_tries.specs.Finding.{allowed}
+use Rattle.cg_tries.proofs.Seen.{is_empty, breaks-run}
+
+abbrev pub step_breaks : State → State → Names → Bool
+step_breaks st new subtree = not (is_empty (broken st st new subtree))
+
+pub one_operation : (st : State) (user : Identity) (subtree : Names) (op : Op) → IsUnbroken st subtree → breaks st user subtree (op ∷ []) ≡ (allowed st user op && step_breaks st (next st user op) subtree)
+one_operation st user subtree op whole =
+    breaks-run st user subtree (op ∷ [])
+    ∙ ap (λ (l : List Clause). not (is_empty l && (is_empty (broken st st (after st user op) subtree) && true))) whole
+    ∙ ap not (and-true (is_empty (broken st st (after st user op) subtree)))
+    ∙ elim (bars st user op) as (λ l. not (is_empty (broken st st (elim l [ [] ↦ next st user op | bar ∷ others ↦ st ]) subtree)) ≡ (not (is_some (first l)) && step_breaks st (next st user op) subtree)) [
+      | [] ↦ refl
+      | bar ∷ others ↦ ap (λ (l : List Clause). not (is_empty l)) whole
+    ]
+
+-- so it breaks where it is allowed, if its step breaks
+pub where_allowed : (st : State) (user : Identity) (subtree : Names) (op : Op) → IsUnbroken st subtree → (bars st user op ≡ [] → broken st st (next st user op) subtree ≢ []) → breaks st user subtree (op ∷ []) ≡ allowed st user op
+where_allowed st user subtree op whole step =
+    one_operation st user subtree op whole
+    ∙ elim (bars st user op) as (λ l. bars st user op ≡ l → (not (is_some (first l)) && step_breaks st (next st user op) subtree) ≡ not (is_some (first l))) [
+      | [] ↦ λ free. elim (broken st st (next st user op) subtree) as (λ l. broken st st (next st user op) subtree ≡ l → not (is_empty l) ≡ true) [
+        | [] ↦ λ none. absurd (step free none)
+        | clause ∷ clauses ↦ λ _. refl
+      ] refl
+      | bar ∷ others ↦ λ _. refl
+    ] refl
+
+pub where_so : (b p q : Bool) → (b ≡ true → p ≡ q) → (b && p) ≡ (b && q)
+where_so true p q h = h refl
+where_so false p q h = refl
+
+pub nothing_bars : (st : State) (user : Identity) (op : Op) → allowed st user op ≡ true → bars st user op ≡ []
+nothing_bars st user op h = elim (bars st user op) as (λ l. not (is_some (first l)) ≡ true → l ≡ []) [
+  | [] ↦ λ _. refl
+  | bar ∷ others ↦ λ h. absurd (true≢false (sym h))
+] h
+
+-- ---- rmdir
+
+still_there : (start st new : State) (subtree : Names) → broken start st new subtree ≡ [] → has_row new subtree ≡ true
+still_there start st new subtree none =
+    no_unless (has_row new subtree) Gone (no_parts _ _ (no_parts _ _ (no_parts _ _ (no_parts _ _ none).0).0).0).0
+
+pub rmdir_try : (st : State) (user : Identity) (subtree : Names) → IsUnbroken st subtree → breaks st user subtree (Rmdir subtree ∷ []) ≡ allowed st user (Rmdir subtree)
+rmdir_try st user subtree whole = where_allowed st user subtree (Rmdir subtree) whole (λ free none.
+    let gone : has_row (without_row st subtree) subtree ≡ false = ap is_some (row_at-without_row st subtree subtree ∙ ap (λ b. cond b None (row_at st subtree)) (same_path_refl subtree)) in
+    true≢false (sym (still_there st st (without_row st subtree) subtree none) ∙ gone))
+
+-- ---- set
+
+all_at : (p : LimitFile → Bool) → list_all p all_files ≡ true → (file : LimitFile) → p file ≡ true
+all_at p h MaxDescendants = grind arith
+all_at p h MaxDepth = grind arith
+all_at p h CpuWeight = grind arith
+all_at p h MemoryMin = grind arith
+all_at p h MemoryLow = grind arith
+all_at p h MemoryHigh = grind arith
+all_at p h MemoryMax = grind arith
+all_at p h PidsMax = grind arith
+
+same_limit-is : (limit other : Limit) → same_limit limit other ≡ true → limit ≡ other
+same_limit-is Max Max h = refl
+same_limit-is Max (At other) h = absurd (true≢false (sym h))
+same_limit-is (At value) Max h = absurd (true≢false (sym h))
+same_limit-is (At value) (At other) h = ap At (eqb-true value other h)
+
+same_value-is : (value other : Option Limit) → same_value value other ≡ true → value ≡ other
+same_value-is None None h = refl
+same_value-is None (Some other) h = absurd (true≢false (sym h))
+same_value-is (Some limit) None h = absurd (true≢false (sym h))
+same_value-is (Some limit) (Some other) h = ap Some (same_limit-is limit other h)
+
+-- where nothing is broken the limits are those of the start
+pub limits_stay : (start st new : State) (subtree : Names) → broken start st new subtree ≡ [] → (file : LimitFile) → limits start subtree file ≡ limits new subtree file
+limits_stay start st new subtree none file =
+    let same = no_unless (same_limits (limits start subtree) (limits new subtree)) Limits (no_parts _ _ (no_parts _ _ (no_parts _ _ none).0).0).1 in
+    same_value-is _ _ (all_at (λ f. same_value (limits start subtree f) (limits new subtree f)) same file)
+
+pub other_differs : (file : LimitFile) (value : Limit) → other_value file value ≢ value
+other_differs CpuWeight Max h = cc
+other_differs CpuWeight (At value) h = elim (nat_eq value 100) as (λ b. nat_eq value 100 ≡ b → cond b (At 1) (At 100) ≢ At value) [
+  | true ↦ λ is e. let k : 1 ≡ value = cc in omega (arith, eqb-true value 100 is, k)
+  | false ↦ λ isn't e. let k : 100 ≡ value = cc in eqb-false value 100 isn't (sym k)
+] refl h
+other_differs file Max h = cc
+other_differs file (At value) h = cc
+
+value_set : (st : State) (subtree : Names) (file : LimitFile) (value other : Limit) → limits st subtree file ≡ Some value → limits (with_value st subtree file other) subtree file ≡ Some other
+value_set st subtree file value other is =
+    value_at-with_value st subtree file other subtree file
+    ∙ ap (λ b. cond b (option_map (λ _. other) (limits st subtree file)) (limits st subtree file)) (and_from _ _ (same_path_refl subtree) (same_file-refl file))
+    ∙ ap (option_map (λ _. other)) is
+
+pub set_try : (st : State) (user : Identity) (subtree : Names) (file : LimitFile) (value : Limit) → IsUnbroken st subtree → limits st subtree file ≡ Some value
+    → breaks st user subtree (Set subtree file (other_value file value) ∷ []) ≡ allowed st user (Set subtree file (other_value file value))
+set_try st user subtree file value whole is = where_allowed st user subtree (Set subtree file (other_value file value)) whole (λ free none.
+    let same = limits_stay st st (with_value st subtree file (other_value file value)) subtree none file in
+    other_differs file value (same_some _ _ (sym (value_set st subtree file value (other_value file value) is) ∙ sym same ∙ is)))
+
+-- ---- move
+
+-- a PID that passes is left by a filter
+not_filtered : (p : ℕ → Bool) (pids : List ℕ) (pid : ℕ) → list_any (eq_by_cmp nat_cmp pid) pids ≡ true → p pid ≡ true → filter p pids ≢ []
+not_filtered p [] pid h passed none = true≢false (sym h)
+not_filtered p (first ∷ pids) pid h passed none =
+    elim (eq_by_cmp nat_cmp pid first) as (λ b. eq_by_cmp nat_cmp pid first ≡ b → (b || list_any (eq_by_cmp nat_cmp pid) pids) ≡ true → ⊥) [
+      | true ↦ λ is _. filtered_some _ _ (sym (ap (λ b. cond b (first ∷ filter p pids) (filter p pids)) (ap p (sym (eqb-true pid first (unsigned_ties pid first ∙ is))) ∙ passed)) ∙ none)
+      | false ↦ λ _ rest. elim (p first) as (λ b. cond b (first ∷ filter p pids) (filter p pids) ≡ [] → ⊥) [
+        | true ↦ λ none. filtered_some _ _ none
+        | false ↦ λ none. not_filtered p pids pid rest passed none
+      ] none
+    ] refl h
+  where
+    filtered_some : (x : ℕ) (xs : List ℕ) → x ∷ xs ≢ []
+    filtered_some x xs e = cc
+
+mapped_none : {A B : Type 0} (f : A → B) (xs : List A) → map f xs ≡ [] → xs ≡ []
+mapped_none f [] h = refl
+mapped_none f (x ∷ xs) h = cc
+
+-- a live process on the other side of the edge breaks the subtree
+pub crossing_breaks : (st new : State) (subtree : Names) (pid : ℕ) → is_some (process_at st pid) ≡ true → is_crossed subtree (place_at st pid) (place_at new pid) ≡ true → broken st st new subtree ≢ []
+crossing_breaks st new subtree pid live crossed none =
+    let empty = mapped_none Crossed (crossing st new subtree) (no_parts _ _ (no_parts _ _ (no_parts _ _ (no_parts _ _ none).0).0).0).1 in
+    not_filtered (λ p. is_crossed subtree (place_at st p) (place_at new p)) (pids_of st) pid (sym (contains_key-keys st.live pid) ∙ live) crossed empty
+
+pub move_try : (st : State) (user : Identity) (subtree : Names) (pid : ℕ) (place path : Names) → IsUnbroken st subtree → place_at st pid ≡ Some place → cond (inside subtree place) (not (inside subtree path)) (inside subtree path) ≡ true
+    → breaks st user subtree (Move pid path ∷ []) ≡ allowed st user (Move pid path)
+move_try st user subtree pid place path whole at over = where_allowed st user subtree (Move pid path) whole (λ free.
+    let from = mapped_from (λ process. process.place) (process_at st pid) place at in
+    let to : place_at (with_place st pid path) pid ≡ Some path = ap (option_map (λ process. process.place)) (process_at-with_place-same st pid path ∙ ap (option_map (placed_at path)) from.1) in
+    crossing_breaks st (with_place st pid path) subtree pid (ap is_some from.1) ((λ i. is_crossed subtree (at i) (to i)) ∙ over))

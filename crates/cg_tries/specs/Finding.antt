@@ -1,0 +1,144 @@
+-- How the first plain try that breaks is found without carrying tries out. Nothing in it has to be believed.
+use Rattle.std.specs.Prelude.{ℕ, zero, suc, ◌+◌, ◌-◌, min, Bool, true, false, cond, not, ◌&&◌, ◌||◌, nat_le, List, [], ◌∷◌, length, take, find, Option, Some, None, is_some, option_and_then}
+use Rattle.std.specs.Option.{option_map, option_or}
+use Rattle.cg_cgroup.specs.Paths.{Names, inside, is_root, parent, path_text}
+use Rattle.cg_cgroup.specs.Identity.{Identity}
+use Rattle.cg_cgroup.specs.Users.{writes}
+use Rattle.cg_cgroup.specs.Files.{all_files, all_controllers, enables, enables_nothing}
+use Rattle.cg_cgroup.specs.declared.files.Limit.{Limit}
+use Rattle.cg_cgroup.specs.declared.files.Limit.TheVariants.{Max, At}
+use Rattle.cg_cgroup.specs.declared.files.LimitFile.{LimitFile}
+use Rattle.cg_cgroup.specs.declared.files.Controller.{Controller}
+use Rattle.cg_cgroup.specs.declared.files.ControllerSet.{ControllerSet}
+use Rattle.cg_tree.specs.States.{State, row_at, place_at, paths_of, pids_of, count_below}
+use Rattle.cg_tree.specs.WellFormed.{enabled_at}
+use Rattle.cg_ops.specs.Clauses.{first}
+use Rattle.cg_ops.specs.Bars.{bars, passes, is_under}
+use Rattle.cg_ops.specs.declared.operation.Op.{Op}
+use Rattle.cg_ops.specs.declared.operation.Op.TheVariants.{Move, Control, Mkdir, Rmdir, Set}
+use Rattle.cg_guards.specs.Limits.{limits}
+use Rattle.cg_tries.specs.Tries.{other_value, change_of, probe, free_probe, is_inside}
+
+-- nothing bars the operation
+abbrev pub allowed : State → Identity → Op → Bool
+allowed st user op = not (is_some (first (bars st user op)))
+
+-- the change isn't without effect where these are enabled
+abbrev pub changes_enabled : Bool → Controller → ControllerSet → Bool
+changes_enabled on controller enabled = cond on (not (enables enabled controller)) (enables enabled controller)
+
+-- the list of an operation alone, where it is allowed
+abbrev pub if_allowed : State → Identity → Op → Option (List Op)
+if_allowed st user op = cond (allowed st user op) (Some (op ∷ [])) None
+
+-- the first of what a list's elements give
+abbrev pub first_given : {A B : Type 0} → (A → Option B) → List A → Option B
+first_given f [] = None
+first_given f (x ∷ xs) = option_or (f x) (first_given f xs)
+
+-- ---- sets, controls and the removal
+
+abbrev pub set_of : State → Identity → Names → LimitFile → Option (List Op)
+set_of st user subtree file = option_and_then (λ value. if_allowed st user (Set subtree file (other_value file value))) (limits st subtree file)
+
+abbrev pub first_set : State → Identity → Names → Option (List Op)
+first_set st user subtree = first_given (set_of st user subtree) all_files
+
+-- the one change of the controller that has an effect
+abbrev pub control_of : State → Identity → Names → Controller → Option (List Op)
+control_of st user subtree controller =
+    if_allowed st user (Control (parent subtree) (change_of (not (enables (enabled_at st (parent subtree)) controller)) controller ∷ []))
+
+abbrev pub first_control : State → Identity → Names → Option (List Op)
+first_control st user subtree = first_given (control_of st user subtree) all_controllers
+
+-- the first of these, or the removal
+abbrev pub first_write : State → Identity → Names → Option (List Op)
+first_write st user subtree = option_or (first_set st user subtree) (option_or (first_control st user subtree) (if_allowed st user (Rmdir subtree)))
+
+-- ---- moves
+
+-- the user writes cgroup.procs there, if there is such a cgroup
+abbrev pub passes_at : State → Identity → Names → Bool
+passes_at st user path = elim (row_at st path) [ None ↦ true | Some row ↦ writes user row.procs ]
+
+-- a process may come to a place, once it may pass
+abbrev pub receives : State → Identity → Names → Bool
+receives st user path = elim (row_at st path) [ None ↦ false | Some row ↦ writes user row.procs && (is_root path || enables_nothing row.enabled) ]
+
+-- where a process from inside may go, whichever it is
+abbrev pub can_leave_to : State → Identity → Names → Names → Bool
+can_leave_to st user subtree path = not (inside subtree path) && (receives st user path && passes st user subtree path)
+
+-- where a process from outside may come to, once it may pass
+abbrev pub can_enter_at : State → Identity → Names → Names → Bool
+can_enter_at st user subtree path = inside subtree path && receives st user path
+
+-- where a process at a place goes, if these are the first places outside and inside
+abbrev pub goes_from : State → Identity → Names → Option Names → Option Names → Names → Option Names
+goes_from st user subtree out into place = cond (inside subtree place) out (cond (passes st user place subtree) into None)
+
+abbrev pub move_of : State → Identity → Names → Option Names → Option Names → ℕ → Option (List Op)
+move_of st user subtree out into pid =
+    option_and_then (λ place. option_map (λ path. Move pid path ∷ []) (goes_from st user subtree out into place)) (place_at st pid)
+
+abbrev pub first_move : State → Identity → Names → Option (List Op)
+first_move st user subtree =
+    first_given (move_of st user subtree (find (can_leave_to st user subtree) (paths_of st)) (find (can_enter_at st user subtree) (paths_of st))) (pids_of st)
+
+-- ---- probes
+
+-- the path of a probe, where it is short enough
+abbrev pub short_probe : Names → ℕ → Option Names
+short_probe ancestor number = cond (nat_le (length (path_text (probe ancestor number))) 4095) (Some (probe ancestor number)) None
+
+-- that of the first free one
+abbrev pub free_path : State → Names → Option Names
+free_path st ancestor = option_and_then (short_probe ancestor) (free_probe st ancestor)
+
+-- the cgroup of the first `at` names lets in a new child of the ancestor of `len` names
+abbrev pub level_passes : State → Names → ℕ → ℕ → Bool
+level_passes st subtree len at = elim (row_at st (take at subtree)) [
+  | None ↦ true
+  | Some row ↦ is_under (count_below st (take at subtree)) row.max_descendants.value && is_under (len - at) row.max_depth.value
+]
+
+-- those of fewer than `count` names do
+abbrev pub levels_pass : State → Names → ℕ → ℕ → Bool
+levels_pass st subtree len zero = true
+levels_pass st subtree len (suc at) = level_passes st subtree len at && levels_pass st subtree len at
+
+-- whether the ancestor of `len` names and all above it let in a new child of it
+abbrev pub lets_in : State → Names → ℕ → Bool
+lets_in st subtree len = levels_pass st subtree len (suc len)
+
+-- a level, or the lower one at which the depth limit of the cgroup of `at` names is reached
+abbrev pub lowered : ℕ → ℕ → Limit → ℕ
+lowered level at Max = level
+lowered level at (At most) = min level (at + most)
+
+-- the user writes the directory and cgroup.procs of the ancestor
+abbrev pub writes_both : State → Identity → Names → Bool
+writes_both st user ancestor = elim (row_at st ancestor) [ None ↦ false | Some row ↦ writes user row.dir && writes user row.procs ]
+
+-- the path of a probe at the ancestor of `len` names, where one breaks
+abbrev pub probe_path : State → Identity → Names → ℕ → Option Names
+probe_path st user subtree len = cond (lets_in st subtree len && writes_both st user (take len subtree)) (free_path st (take len subtree)) None
+
+-- at the first `len` ancestors from the root down, the nearest first
+abbrev pub first_probe_path : State → Identity → Names → ℕ → Option Names
+first_probe_path st user subtree zero = None
+first_probe_path st user subtree (suc len) = option_or (probe_path st user subtree len) (first_probe_path st user subtree len)
+
+-- the first process inside
+abbrev pub first_inside : State → Names → Option ℕ
+first_inside st subtree = find (is_inside st subtree) (pids_of st)
+
+abbrev pub first_probe : State → Identity → Names → Option (List Op)
+first_probe st user subtree =
+    option_and_then (λ pid. option_map (λ path. Mkdir path ∷ Move pid path ∷ []) (first_probe_path st user subtree (length subtree))) (first_inside st subtree)
+
+-- ---- what goes over the edge
+
+abbrev pub first_passage : State → Identity → Names → Option (List Op)
+first_passage st user subtree = option_or (first_move st user subtree) (first_probe st user subtree)

@@ -1,0 +1,179 @@
+//! Tries of one move: over the edge of a subtree.
+ghost use Rattle.std.specs.Prelude.{◌≡◌, ◌≤◌, ◌<◌, ℕ, [], ◌∷◌, false, find, length, take, option_copied, IfOk};
+ghost use Rattle.cg_tree.specs.States.{paths_of, pids_of};
+ghost use Rattle.cg_ops.specs.Bars.{passes};
+ghost use Rattle.cg_tries.specs.Finding.{passes_at, receives, can_leave_to, can_enter_at, goes_from, first_given, move_of, first_move};
+
+use crate::operations::Operations;
+use cg_cgroup::memory::NoMemory;
+use cg_cgroup::path::Path;
+use cg_cgroup::process::Pid;
+use cg_cgroup::user::User;
+use cg_ops::operation::Op;
+use cg_tree::hierarchy::Hierarchy;
+use std::alloc::Global;
+
+/// Whether the user writes the `cgroup.procs` of the cgroup of the first `len` names, where there is one.
+fn passes_at<H: Hierarchy>(tree: &H, user: &User, path: &Path, len: usize) -> bool
+    requires { len ≤ length path.now }
+    ensures { result ≡ passes_at (H.state tree.now) user.now (take len path.now) }
+{
+    match tree.get(path, len) {
+        Some(cgroup) => user.may_write(&cgroup.procs),
+        None => true,
+    }
+}
+
+/// Whether the user writes the `cgroup.procs` of the common ancestor of two cgroups.
+#[tactic(auto, using(cg_ops::proofs::Prefixes::take_common, cg_ops::proofs::Prefixes::length_common))]
+fn passes<H: Hierarchy>(tree: &H, user: &User, from: &Path, to: &Path) -> bool
+    ensures { result ≡ passes (H.state tree.now) user.now from.now to.now }
+{
+    passes_at(tree, user, to, from.common_len(to))
+}
+
+/// Whether the user writes the `cgroup.procs` of a proper ancestor: no move goes over the edge where he writes none.
+pub fn passes_above<H: Hierarchy>(tree: &H, user: &User, subtree: &Path) -> bool
+    ensures { result ≡ false
+        → (len : ℕ) → len < length subtree.now → passes_at (H.state tree.now) user.now (take len subtree.now) ≡ false }
+{
+    for len in 0..subtree.depth() {
+        if passes_at(tree, user, subtree, len) {
+            return true;
+        }
+    }
+    false
+}
+
+/// Whether a process may come to a cgroup, once it may pass.
+#[tactic(auto, using(cg_ops::proofs::Prefixes::take_whole, cg_ops::proofs::Prefixes::root_of_length, cg_ops::proofs::Prefixes::no_root_of_length))]
+fn receives<H: Hierarchy>(tree: &H, user: &User, path: &Path) -> bool
+    ensures { result ≡ receives (H.state tree.now) user.now path.now }
+{
+    let len = path.depth();
+    let Some(cgroup) = tree.get(path, len) else {
+        return false;
+    };
+    if !user.may_write(&cgroup.procs) {
+        return false;
+    }
+    len == 0 || cgroup.enabled.is_empty()
+}
+
+/// Whether a process from inside the subtree may go to a cgroup outside.
+fn can_leave_to<H: Hierarchy>(tree: &H, user: &User, subtree: &Path, path: &Path) -> bool
+    ensures { result ≡ can_leave_to (H.state tree.now) user.now subtree.now path.now }
+{
+    !subtree.is_prefix_of(path) && receives(tree, user, path) && passes(tree, user, subtree, path)
+}
+
+/// Whether a process from outside the subtree may come to a cgroup inside, once it may pass.
+fn can_enter_at<H: Hierarchy>(tree: &H, user: &User, subtree: &Path, path: &Path) -> bool
+    ensures { result ≡ can_enter_at (H.state tree.now) user.now subtree.now path.now }
+{
+    subtree.is_prefix_of(path) && receives(tree, user, path)
+}
+
+/// The first cgroup outside to which a process from inside may go.
+fn first_to_leave_to<'a, H: Hierarchy>(
+    tree: &H,
+    user: &User,
+    subtree: &Path,
+    paths: &'a [Path],
+) -> Option<&'a Path>
+    ensures { option_copied result ≡ find (can_leave_to (H.state tree.now) user.now subtree.now) paths.entry.now }
+{
+    for path in paths {
+        if can_leave_to(tree, user, subtree, path) {
+            return Some(path);
+        }
+    }
+    None
+}
+
+/// The first cgroup inside to which a process from outside may come, once it may pass.
+fn first_to_enter_at<'a, H: Hierarchy>(
+    tree: &H,
+    user: &User,
+    subtree: &Path,
+    paths: &'a [Path],
+) -> Option<&'a Path>
+    ensures { option_copied result ≡ find (can_enter_at (H.state tree.now) user.now subtree.now) paths.entry.now }
+{
+    for path in paths {
+        if can_enter_at(tree, user, subtree, path) {
+            return Some(path);
+        }
+    }
+    None
+}
+
+/// Where a process at a place goes over the edge, if these are the first cgroups outside and inside for it.
+fn goes_from<'a, H: Hierarchy>(
+    tree: &H,
+    user: &User,
+    subtree: &Path,
+    out: Option<&'a Path>,
+    into: Option<&'a Path>,
+    place: &Path,
+) -> Option<&'a Path>
+    ensures { option_copied result
+        ≡ goes_from (H.state tree.now) user.now subtree.now (option_copied out.entry) (option_copied into.entry) place.now }
+{
+    if subtree.is_prefix_of(place) {
+        return out;
+    }
+    if into.is_none() || !passes(tree, user, place, subtree) {
+        return None;
+    }
+    into
+}
+
+/// The move of a process alone.
+fn only_move(alloc: Global, pid: Pid, path: &Path) -> Result<Operations, NoMemory>
+    ensures { IfOk result (λ operations. operations ≡ Op.Move pid path.now ∷ []) }
+{
+    let to = path.try_clone(alloc)?;
+    Operations::only(alloc, Op::Move { pid, to })
+}
+
+/// The first move of one of these processes over the edge, if these are the first cgroups outside and inside.
+fn first_moved<H: Hierarchy>(
+    alloc: Global,
+    tree: &H,
+    user: &User,
+    subtree: &Path,
+    out: Option<&Path>,
+    into: Option<&Path>,
+    pids: &[Pid],
+) -> Result<Option<Operations>, NoMemory>
+    ensures { IfOk result (λ found. found
+        ≡ first_given (move_of (H.state tree.now) user.now subtree.now (option_copied out.entry) (option_copied into.entry)) pids.now) }
+{
+    for pid in pids {
+        if let Some(place) = tree.place(*pid) {
+            if let Some(path) = goes_from(tree, user, subtree, out, into, place) {
+                return Ok(Some(only_move(alloc, *pid, path)?));
+            }
+        }
+    }
+    Ok(None)
+}
+
+/// The first move over the edge that is allowed.
+pub fn first_move<H: Hierarchy>(
+    alloc: Global,
+    tree: &H,
+    user: &User,
+    subtree: &Path,
+    paths: &[Path],
+    pids: &[Pid],
+) -> Result<Option<Operations>, NoMemory>
+    requires paths { paths.now ≡ paths_of (H.state tree.now) }
+    requires pids { pids.now ≡ pids_of (H.state tree.now) }
+    ensures { IfOk result (λ found. found ≡ first_move (H.state tree.now) user.now subtree.now) }
+{
+    let out = first_to_leave_to(tree, user, subtree, paths);
+    let into = first_to_enter_at(tree, user, subtree, paths);
+    first_moved(alloc, tree, user, subtree, out, into, pids)
+}
