@@ -41,7 +41,7 @@ module _ (st : State) (user : Identity) (subtree : Names) (ops : List Op) (is : 
   escape-broken held = true≢false (sym (find-passes (breaks st user subtree) (tries st user subtree) ops found) ∙ ap (λ verdict. not (is_kept verdict)) held)
 
 -- where a guard fails and a try is found, it is the answer
-escape-answer : (failed : List Failed) (found : Option (List Op)) (ops : List Op) → (failed ≡ [] → ⊥) → found ≡ Some ops → answer_from failed found ≡ Escapes ops
+pub escape-answer : (failed : List Failed) (found : Option (List Op)) (ops : List Op) → (failed ≡ [] → ⊥) → found ≡ Some ops → answer_from failed found ≡ Escapes ops
 escape-answer [] found ops some is = absurd (some refl)
 escape-answer (one ∷ others) found ops some is = ap (answer_from (one ∷ others)) is
 

@@ -8,3 +8,4 @@ mod Checking
 mod Pairs
 mod AllContained
 mod AnswerLaws
+mod LimitFiles

@@ -50,8 +50,16 @@ all-opening st user subtree P each =
       | false ↦ tt
     ]))
 
-opened-bit : (mode : ℕ) → has_bit (opened mode) 128 ≡ true
+pub opened-bit : (mode : ℕ) → has_bit (opened mode) 128 ≡ true
 opened-bit mode = eq-eqb _ _ (and_or_self 128 mode)
+
+pub opening-of_one : (st : State) (user : Identity) (subtree : Names) (guarded : Guarded) → AllByRecursion IsOpening (opening_of st user subtree guarded)
+opening-of_one st user subtree guarded =
+    all-present IsOpening (guarded_entry st subtree guarded) _ (λ entry is.
+    elim (owns user entry && not (writes user entry)) as (λ b. AllByRecursion IsOpening (cond b (Chmod (take guarded.len subtree) guarded.name (opened entry.mode) ∷ []) [])) [
+      | true ↦ (opened-bit entry.mode, tt)
+      | false ↦ tt
+    ])
 
 have_modes : (user : Identity) (ops : List Op) → AllByRecursion HasMode ops → HaveModes (by_user user ops)
 have_modes user [] all = tt
@@ -114,7 +122,7 @@ module _ (user : Identity) (st new : State) (wider : IsWider user st new) (subtr
 
 -- ---- what is free stays free
 
-free_allowed : (st : State) (user : Identity) (op : Op) → bars st user op ≡ [] → allowed st user op ≡ true
+pub free_allowed : (st : State) (user : Identity) (op : Op) → bars st user op ≡ [] → allowed st user op ≡ true
 free_allowed st user op free = ap (λ clauses. not (is_some (first clauses))) free
 
 module _ (user : Identity) (st new : State) (wider : IsWider user st new) where

@@ -63,7 +63,7 @@ abbrev pub IsOpening : Op → Type 0
 IsOpening (Chmod at name mode) = has_bit mode 128 ≡ true
 IsOpening op = ⊥
 
-writes-bit : (user : Identity) (entry : Entry) (mode : ℕ) → has_bit mode 128 ≡ true → owns user entry ≡ true → writes user (with_mode_of mode entry) ≡ true
+pub writes-bit : (user : Identity) (entry : Entry) (mode : ℕ) → has_bit mode 128 ≡ true → owns user entry ≡ true → writes user (with_mode_of mode entry) ≡ true
 unfolding writes
 writes-bit user entry mode bit owned = rw owned bit
 

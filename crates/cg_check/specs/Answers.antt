@@ -5,6 +5,8 @@ use Rattle.cg_cgroup.specs.Identity.{Identity}
 use Rattle.cg_tree.specs.States.{State}
 use Rattle.cg_ops.specs.declared.operation.Op.{Op}
 use Rattle.cg_guards.specs.Guards.{failures}
+use Rattle.cg_guards.specs.declared.guard.Guard.{Guard}
+use Rattle.cg_guards.specs.declared.guard.Guard.TheVariants.{CommonAncestor, LimitFile, ParentControl, ParentDir, AlreadyOver}
 use Rattle.cg_guards.specs.declared.guard.Failed.{Failed}
 use Rattle.cg_tries.specs.Escapes.{first_escape}
 use Rattle.cg_check.specs.declared.answer.Answer.{Answer}
@@ -18,3 +20,11 @@ answer_from (failed ∷ others) None = Unsettled failed
 -- Contained where no guard fails; else the first of the tries that breaks something; else the first guard that fails.
 abbrev pub answer : State → Identity → Names → Answer
 answer st user subtree = answer_from (failures st user subtree) (first_escape st user subtree)
+
+-- The guards that an unsettled answer may name.
+abbrev pub MayBeUnsettled : Guard → Type 0
+MayBeUnsettled CommonAncestor = Unit {0}
+MayBeUnsettled (LimitFile file) = ⊥
+MayBeUnsettled ParentControl = Unit {0}
+MayBeUnsettled ParentDir = Unit {0}
+MayBeUnsettled AlreadyOver = ⊥

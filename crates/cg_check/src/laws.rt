@@ -3,13 +3,18 @@ ghost use Rattle.std.specs.Prelude.{◌≡◌, List, Some, false, true, [], ◌&
 ghost use Rattle.std.specs.List.{Contains};
 ghost use Rattle.cg_cgroup.specs.Paths.{Names};
 ghost use Rattle.cg_cgroup.specs.Identity.{Identity};
-ghost use Rattle.cg_tree.specs.States.{State};
+ghost use Rattle.cg_cgroup.specs.Users.{reaches};
+ghost use Rattle.cg_cgroup.specs.declared.user.Entry.{Entry};
+ghost use Rattle.cg_cgroup.specs.declared.files.LimitFile.{LimitFile};
+ghost use Rattle.cg_cgroup.specs.declared.files.EntryName.TheVariants.{File};
+ghost use Rattle.cg_tree.specs.States.{State, entry_at};
 ghost use Rattle.cg_ops.specs.declared.operation.Op.{Op};
 ghost use Rattle.cg_guards.specs.Limits.{fits_descendants, fits_depth};
 ghost use Rattle.cg_runs.specs.Held.{IsHeld, by_user};
 ghost use Rattle.cg_tries.specs.Tries.{tries};
-ghost use Rattle.cg_check.specs.Answers.{answer};
-ghost use Rattle.cg_check.specs.declared.answer.Answer.TheVariants.{Escapes};
+ghost use Rattle.cg_guards.specs.declared.guard.Failed.{Failed};
+ghost use Rattle.cg_check.specs.Answers.{answer, MayBeUnsettled};
+ghost use Rattle.cg_check.specs.declared.answer.Answer.TheVariants.{Escapes, Unsettled};
 
 /// Operations that are the answer are among the tries, and the subtree isn't held over them.
 pub fn escapes_break()
@@ -23,4 +28,17 @@ pub fn escapes_break()
 pub fn over_limits_escapes()
     ensures { (st : State) (user : Identity) (subtree : Names)
         → (fits_descendants st subtree && fits_depth st subtree) ≡ false → answer st user subtree ≡ Escapes [] }
+{}
+
+/// Where a user reaches a limit file that stands at the subtree, the answer is an escape.
+pub fn limit_file_escapes()
+    ensures { (st : State) (user : Identity) (subtree : Names) (file : LimitFile) (entry : Entry)
+        → entry_at st subtree (File file) ≡ Some entry → reaches user entry ≡ true
+        → (ops : List Op) × (answer st user subtree ≡ Escapes ops) }
+{}
+
+/// So an unsettled answer names the guard of a common ancestor, or one at the parent.
+pub fn unsettled_names_guards_above()
+    ensures { (st : State) (user : Identity) (subtree : Names) (failed : Failed)
+        → answer st user subtree ≡ Unsettled failed → MayBeUnsettled failed.guard }
 {}
