@@ -1,5 +1,6 @@
 //! The command line, as `clap` reads it.
 use crate::fault::Fault;
+use crate::named_user::NamedUser;
 use clap::{Arg, ArgAction, ArgMatches, Command, value_parser};
 use std::alloc::{AllocError, Global};
 
@@ -19,6 +20,33 @@ Example:
   zirofen may --tree examples/delegation.toml --uid 1000 --pid 11 --to /c0/c01
   granted";
 
+const CHECK_HELP: &str = "\
+Status: 0 contained, 1 escapes, 2 unsettled, 3 a fault
+`contained` means that the subtree is held whatever the user does. `escapes` has below it operations of the user, one a
+line, that break it in turn; none where it is broken as it stands. `unsettled` names a guard that fails and where it
+stands, and none of the tries breaks anything.
+`fault: usage` means that the command line isn't as it says above.
+docs/FORMATS.md of the repository has the tree's format, and every line that is written.
+
+Example:
+  zirofen check --tree examples/delegation-limit-writable.toml --uid 1000 --subtree /c0
+  escapes
+  set /c0 memory.max max";
+
+const AUDIT_HELP: &str = "\
+Status: 0 contained, 1 escapes, 2 unsettled, 3 a fault
+`contained` means that every subtree is held whatever all these users do, in whatever order. Else `pair` names the first
+user and subtree for which that isn't shown, and below it stands what `check` says of them, with its status.
+A user is UID or UID:GID,GID.. in decimal digits, with up to 32 gids, of which the first is the primary one.
+`fault: usage` means that the command line isn't as it says above.
+docs/FORMATS.md of the repository has the tree's format, and every line that is written.
+
+Example:
+  zirofen audit --tree examples/delegation-second-user.toml --uid 1000 --uid 1001:1001 --subtree /c0 --subtree /c1
+  pair 1001 /c0
+  escapes
+  set /c0 memory.max max";
+
 const REPLAY_HELP: &str = "\
 Status: 0 where the operations came to their end, 3 a fault
 `fault: usage` means that the command line isn't as it says above.
@@ -37,6 +65,8 @@ pub fn command<'a>(alloc: Global) -> Result<Command<'a>, AllocError> {
         .after_help(HELP)
         .subcommand_required(true)
         .subcommand(may_command(alloc)?)?
+        .subcommand(check_command(alloc)?)?
+        .subcommand(audit_command(alloc)?)?
         .subcommand(replay_command(alloc)?)
 }
 
@@ -64,6 +94,38 @@ fn may_command<'a>(alloc: Global) -> Result<Command<'a>, AllocError> {
         )
 }
 
+fn check_command<'a>(alloc: Global) -> Result<Command<'a>, AllocError> {
+    Command::new(alloc, "check")
+        .about("Says whether a subtree is contained against a user, whatever he does")
+        .after_help(CHECK_HELP)
+        .arg(tree_argument(alloc))?
+        .arg(uid_argument(alloc))?
+        .arg(gid_argument(alloc))?
+        .arg(subtree_argument(alloc).help("The top of the subtree"))
+}
+
+fn audit_command<'a>(alloc: Global) -> Result<Command<'a>, AllocError> {
+    Command::new(alloc, "audit")
+        .about(
+            "Says whether every subtree is contained against every user, whatever they do together",
+        )
+        .after_help(AUDIT_HELP)
+        .arg(tree_argument(alloc))?
+        .arg(
+            Arg::new(alloc, "uid")
+                .long("uid")
+                .value_name("UID[:GID,GID..]")
+                .action(ArgAction::Append)
+                .required(true)
+                .help("A user and his groups, once or more"),
+        )?
+        .arg(
+            subtree_argument(alloc)
+                .action(ArgAction::Append)
+                .help("The top of a subtree, once or more"),
+        )
+}
+
 fn replay_command<'a>(alloc: Global) -> Result<Command<'a>, AllocError> {
     Command::new(alloc, "replay")
         .about("Says of each of a user's operations whether it is carried out")
@@ -85,6 +147,13 @@ fn tree_argument<'a>(alloc: Global) -> Arg<'a> {
         .long("tree")
         .value_name("FILE")
         .help("The tree's text; standard input where this is left out")
+}
+
+fn subtree_argument<'a>(alloc: Global) -> Arg<'a> {
+    Arg::new(alloc, "subtree")
+        .long("subtree")
+        .value_name("PATH")
+        .required(true)
 }
 
 fn uid_argument<'a>(alloc: Global) -> Arg<'a> {
@@ -124,6 +193,54 @@ impl<'a> May<'a> {
             gids: numbers(alloc, matches, "gid")?,
             pid: number(matches, "pid")?,
             to: matches.get_str("to").ok_or(Fault::Usage)?,
+        })
+    }
+}
+
+/// Whether a subtree is contained against a user.
+#[derive(Drop)]
+pub struct Check<'a> {
+    pub tree: Option<&'a str>,
+    pub uid: u32,
+    pub gids: Vec<u32>,
+    pub subtree: &'a str,
+}
+
+impl<'a> Check<'a> {
+    /// What was given to the command.
+    pub fn from_matches(alloc: Global, matches: &ArgMatches<'a>) -> Result<Check<'a>, Fault> {
+        Ok(Check {
+            tree: matches.get_str("tree"),
+            uid: number(matches, "uid")?,
+            gids: numbers(alloc, matches, "gid")?,
+            subtree: matches.get_str("subtree").ok_or(Fault::Usage)?,
+        })
+    }
+}
+
+/// Whether several subtrees are contained against several users.
+#[derive(Drop)]
+pub struct Audit<'a> {
+    pub tree: Option<&'a str>,
+    pub users: Vec<NamedUser>,
+    pub subtrees: Vec<&'a str>,
+}
+
+impl<'a> Audit<'a> {
+    /// What was given to the command.
+    pub fn from_matches(alloc: Global, matches: &ArgMatches<'a>) -> Result<Audit<'a>, Fault> {
+        let mut users = Vec::new(alloc);
+        for word in matches.get_strs("uid").ok_or(Fault::Usage)? {
+            users.push(NamedUser::from_word(alloc, word)?)?;
+        }
+        let mut subtrees = Vec::new(alloc);
+        for subtree in matches.get_strs("subtree").ok_or(Fault::Usage)? {
+            subtrees.push(*subtree)?;
+        }
+        Ok(Audit {
+            tree: matches.get_str("tree"),
+            users,
+            subtrees,
         })
     }
 }

@@ -3,6 +3,7 @@
 
 mod arguments;
 mod fault;
+mod named_user;
 mod run;
 
 use std::process::ExitCode;

@@ -1,7 +1,9 @@
 //! The run of a command: its arguments, its tree, and the call that answers.
-use crate::arguments::{self, May, Replay};
+use crate::arguments::{self, Audit, Check, May, Replay};
 use crate::fault::Fault;
 use cg_cli::arguments::UserIds;
+use cg_cli::audit::audit_bytes;
+use cg_cli::check::check_bytes;
 use cg_cli::fault::CliFault;
 use cg_cli::input::read_input;
 use cg_cli::may::may_bytes;
@@ -47,6 +49,8 @@ fn command<R: AllocGlobal + Files, I: Read + Drop, W: Write>(
 ) -> Result<u8, Fault> {
     match matches.subcommand() {
         Some(("may", given)) => may(rt, &May::from_matches(rt.alloc(), given)?, input, out),
+        Some(("check", given)) => check(rt, &Check::from_matches(rt.alloc(), given)?, input, out),
+        Some(("audit", given)) => audit(rt, &Audit::from_matches(rt.alloc(), given)?, input, out),
         Some(("replay", given)) => {
             replay(rt, &Replay::from_matches(rt.alloc(), given)?, input, out)
         }
@@ -71,6 +75,41 @@ fn may<R: AllocGlobal + Files, I: Read + Drop, W: Write>(
         user,
         request.pid,
         request.to,
+        out,
+    )?)
+}
+
+fn check<R: AllocGlobal + Files, I: Read + Drop, W: Write>(
+    rt: &R,
+    request: &Check<'_>,
+    input: I,
+    out: &mut W,
+) -> Result<u8, Fault> {
+    let tree = tree_text(rt, request.tree, input)?;
+    let user = UserIds {
+        uid: request.uid,
+        gids: request.gids.as_slice(),
+    };
+    Ok(check_bytes(rt.alloc(), tree.as_slice(), user, request.subtree, out)?)
+}
+
+fn audit<R: AllocGlobal + Files, I: Read + Drop, W: Write>(
+    rt: &R,
+    request: &Audit<'_>,
+    input: I,
+    out: &mut W,
+) -> Result<u8, Fault> {
+    let alloc = rt.alloc();
+    let tree = tree_text(rt, request.tree, input)?;
+    let mut users = Vec::new(alloc);
+    for user in request.users.iter() {
+        users.push(user.ids())?;
+    }
+    Ok(audit_bytes(
+        alloc,
+        tree.as_slice(),
+        users.as_slice(),
+        request.subtrees.as_slice(),
         out,
     )?)
 }
