@@ -4,7 +4,7 @@ use Rattle.std.proofs.KnownBytes.{Consumes-nil, Consumes-trans}
 use Rattle.cg_cli.specs.Replaying.{coming, ReadOn}
 use Rattle.cg_cli.proofs.ReplayEnds.{leads_nowhere, leads_on, quiet}
 use Rattle.cg_cli.proofs.ReplayReads.{from_fault, from_end}
-use Rattle.cg_cli.proofs.replay.replay_reader.Goals as goal
+use Rattle.cg_cli.proofs.replay.reader.replay_reader.Goals as goal
 
 pub loop-asked-init : goal.loop-asked-init
 loop-asked-init g c = record {

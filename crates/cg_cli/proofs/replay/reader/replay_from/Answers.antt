@@ -5,7 +5,7 @@ use Rattle.cg_cli.specs.Faults.{lifted}
 use Rattle.cg_cli.specs.Replays.{replay_report}
 use Rattle.cg_cli.specs.Replaying.{ReplaysFrom}
 use Rattle.cg_cli.proofs.ReplayCalls.{begun_is, tree_fault, user_fault, not_asked}
-use Rattle.cg_cli.proofs.replay.replay_from.Goals as goal
+use Rattle.cg_cli.proofs.replay.reader.replay_from.Goals as goal
 
 pub returns-in_err-user-clause-replays : goal.returns-in_err-user-clause-replays
 returns-in_err-user-clause-replays g c =

@@ -1,7 +1,7 @@
 use Rattle.std.proofs.Common.{ℕ, ◌≤◌, List}
 use Rattle.std.specs.Io.KnownBytes.{Consumes}
 use Rattle.cg_cli.specs.Replaying.{coming, most_taken, IsWaiting, Leads}
-use Rattle.cg_cli.proofs.replay.replay_reader.Given as goal
+use Rattle.cg_cli.proofs.replay.reader.replay_reader.Given as goal
 
 -- what the reader gave led here, and each ask took a byte at least
 abbrev pub invariant-loop-asked : goal.invariant-loop-asked

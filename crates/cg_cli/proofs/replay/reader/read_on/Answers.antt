@@ -4,7 +4,7 @@ use Rattle.std.proofs.lemmas.Result.{err_from_is_err_and}
 use Rattle.std.specs.Io.BufRead.{FillKeeps}
 use Rattle.cg_cli.specs.Replaying.{coming}
 use Rattle.cg_cli.proofs.ReplayReads.{read_failed, read_end, read_fault, read_some}
-use Rattle.cg_cli.proofs.replay.read_on.Goals as goal
+use Rattle.cg_cli.proofs.replay.reader.read_on.Goals as goal
 
 pub returns-in-Err-clause-read : goal.returns-in-Err-clause-read
 returns-in-Err-clause-read g c =
