@@ -4,8 +4,6 @@ ghost use Rattle.cg_rows.specs.RowsForm.{IsRoot, state_of_root, state_of_tables}
 ghost use Rattle.cg_tree.specs.WellFormed.{IsWellFormed};
 
 mod below;
-#[cfg(test)]
-mod tests;
 
 use crate::processes::Processes;
 use crate::tables::path_table::PathTable;

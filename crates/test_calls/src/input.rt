@@ -1,7 +1,7 @@
 //! `read_input` at readers that fail and never end.
 use super::readers::{Endless, FailsAfter};
-use crate::fault::CliFault;
-use crate::input::read_input;
+use cg_cli::fault::CliFault;
+use cg_cli::input::read_input;
 use std::io::ErrorKind;
 use std::test::Fail;
 

@@ -1,9 +1,9 @@
 //! `may_bytes` on rows worked out by hand, and at writers that fail and dawdle.
 use super::trees::{DELEGATION, INTERNAL_PROCESS, NO_PARENT, PARENT_DELEGATED};
 use super::writers::{ByteByByte, FailsOnce, TakesNone};
-use crate::arguments::UserIds;
-use crate::fault::{CliFault, fault_text};
-use crate::may::may_bytes;
+use cg_cli::arguments::UserIds;
+use cg_cli::fault::{CliFault, fault_text};
+use cg_cli::may::may_bytes;
 use cg_text::tree::{Place, TreeFault};
 use std::alloc::Global;
 use std::io::Write;

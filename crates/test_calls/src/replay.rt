@@ -2,9 +2,9 @@
 use super::readers::{Pieces, Uneven};
 use super::trees::{DELEGATION, DELEGATION_AND_PROCESS};
 use super::vectors::delegation_with;
-use crate::arguments::UserIds;
-use crate::fault::CliFault;
-use crate::replay::{replay_bytes, replay_from};
+use cg_cli::arguments::UserIds;
+use cg_cli::fault::CliFault;
+use cg_cli::replay::{replay_bytes, replay_from};
 use cg_lines::lines::LineFault;
 use std::alloc::{AllocError, Global};
 use std::process::Abort;

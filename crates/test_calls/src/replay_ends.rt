@@ -3,9 +3,9 @@
 use super::readers::{Again, Pieces};
 use super::trees::{DELEGATION, NO_PARENT};
 use super::writers::{ByteByByte, FailsOnce, TakesNone};
-use crate::arguments::UserIds;
-use crate::fault::{CliFault, fault_text};
-use crate::replay::{replay_bytes, replay_from};
+use cg_cli::arguments::UserIds;
+use cg_cli::fault::{CliFault, fault_text};
+use cg_cli::replay::{replay_bytes, replay_from};
 use cg_lines::lines::LineFault;
 use cg_text::tree::{Place, TreeFault};
 use std::alloc::{AllocError, Global};

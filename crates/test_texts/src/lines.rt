@@ -1,10 +1,11 @@
-use super::*;
-use cg_ops::changes::{Change, Changes};
-use cg_ops::operation::Op;
+//! Operation lines, read and written.
 use cg_cgroup::files::{Controller, EntryName, Limit, LimitFile};
 use cg_cgroup::path::{Path, PathFault};
 use cg_cgroup::process::Pid;
 use cg_cgroup::user::Mode;
+use cg_lines::lines::{LONGEST_LINE, LineFault, op_text, read_op};
+use cg_ops::changes::{Change, Changes};
+use cg_ops::operation::Op;
 use std::alloc::{AllocError, Global};
 use std::test::Fail;
 

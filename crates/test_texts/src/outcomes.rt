@@ -3,15 +3,15 @@ ghost use Rattle.std.specs.Prelude.{◌≡◌, IfSome, length};
 ghost use Rattle.cg_ops.specs.declared.outcome.Outcome.{Outcome};
 ghost use Rattle.cg_lines.specs.Outcomes.{CanShow};
 
-use super::outcome_text;
-use cg_ops::changes::Changes;
-use cg_ops::operation::Op;
-use cg_ops::outcome::{Outcome, Refusal};
 use cg_cgroup::files::{Controller, EntryName, Limit, LimitFile};
 use cg_cgroup::memory::NoMemory;
 use cg_cgroup::path::Path;
 use cg_cgroup::process::Pid;
 use cg_cgroup::user::Mode;
+use cg_lines::outcome::outcome_text;
+use cg_ops::changes::Changes;
+use cg_ops::operation::Op;
+use cg_ops::outcome::{Outcome, Refusal};
 use std::alloc::Global;
 use std::test::Fail;
 

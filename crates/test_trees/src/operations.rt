@@ -1,17 +1,15 @@
 //! Operations on trees worked out by hand: the delegation example of the kernel's document, with uid 1 in place of uid 0.
-mod fixtures;
-
-use crate::apply;
-use crate::changes::{Change, Changes};
-use crate::operation::Op;
-use crate::outcome::{Outcome, Refusal};
+use crate::trees::fixtures::{ALL, Owners, delegate, populate, root_alone};
 use cg_cgroup::files::{Controller, EntryName, Limit, LimitFile};
 use cg_cgroup::path::Path;
 use cg_cgroup::process::Pid;
 use cg_cgroup::user::{Mode, User};
+use cg_ops::apply;
+use cg_ops::changes::{Change, Changes};
+use cg_ops::operation::Op;
+use cg_ops::outcome::{Outcome, Refusal};
 use cg_rows::rows::Rows;
 use cg_tree::hierarchy::Hierarchy;
-use fixtures::{delegation, populate};
 use std::alloc::Global;
 use std::process::Abort;
 use std::test::Fail;
@@ -97,13 +95,12 @@ struct Trial {
 }
 
 impl Trial {
-    /// The delegation example, for a user without groups.
+    /// The delegation example, whose root is uid 1's, for a user without groups.
     fn new(rt: &impl Abort, alloc: Global, uid: u32) -> Result<Trial, Fail> {
-        Ok(Trial {
-            alloc,
-            tree: delegation(rt, alloc)?,
-            user: User::new(uid).ok_or("uid")?,
-        })
+        let user = User::new(uid).ok_or("uid")?;
+        let mut tree = root_alone(alloc, ALL, Owners::ADMINISTRATOR)?;
+        delegate(rt, alloc, &mut tree, &user)?;
+        Ok(Trial { alloc, tree, user })
     }
 
     /// Carries an operation out and compares how it ended.
@@ -160,15 +157,7 @@ fn processes_and_controllers_exclude_each_other(rt: HostRuntime) -> Result<(), F
     let internal = Refusal::InternalProcess { len: 1 };
     let enable = [(true, Controller::Memory)];
     let mut t = Trial::new(&rt, a, 1000)?;
-    assert!(rt;
-        populate(
-            a,
-            &mut t.tree,
-            Pid::new(13).ok_or("pid")?,
-            1000,
-            &Path::parse(a, "/c0")?
-        )?
-    );
+    assert!(rt; populate(a, &mut t.tree, 13, 1000, "/c0")?);
     t.refused(&rt, control(a, "/c0", &enable), internal)?;
     t.done(&rt, moved(a, 13, "/c0/c00"))?;
     t.done(&rt, control(a, "/c0", &enable))?;

@@ -1,5 +1,6 @@
-use super::*;
-use std::alloc::Global;
+//! Paths.
+use cg_cgroup::path::{Path, PathFault};
+use std::alloc::{AllocError, Global};
 use std::cmp::Ordering;
 use std::test::Fail;
 

@@ -1,6 +1,6 @@
 //! The delegation example, cut after each of its bytes.
 use super::{Asked, expect_line};
-use crate::tests::trees::DELEGATION;
+use crate::trees::DELEGATION;
 use std::test::Fail;
 
 const NO_CGROUP: &str = "refused no-such-cgroup /c0/c01";

@@ -1,9 +1,9 @@
 //! Single migrations: what is said of one, and of arguments that are none's.
 use super::{Asked, expect_line};
-use crate::arguments::UserIds;
-use crate::fault::fault_text;
-use crate::may::may_bytes;
-use crate::tests::trees::{DELEGATION, INTERNAL_PROCESS, NO_PARENT, PARENT_DELEGATED};
+use crate::trees::{DELEGATION, INTERNAL_PROCESS, NO_PARENT, PARENT_DELEGATED};
+use cg_cli::arguments::UserIds;
+use cg_cli::fault::fault_text;
+use cg_cli::may::may_bytes;
 use std::alloc::Global;
 use std::str::from_utf8;
 use std::test::Fail;

@@ -1,14 +1,14 @@
 //! Whole trees: every cgroup with its owners, modes and values, and every process.
 use super::delegation_with;
-use crate::tests::trees::PARENT_DELEGATED;
-use cg_text::tree::read_tree;
+use crate::trees::PARENT_DELEGATED;
 use cg_cgroup::cgroup::{Cgroup, LimitEntry};
 use cg_cgroup::files::{ControllerSet, Limit};
-use cg_tree::hierarchy::Hierarchy;
 use cg_cgroup::path::Path;
 use cg_cgroup::process::Pid;
-use cg_rows::rows::Rows;
 use cg_cgroup::user::Entry;
+use cg_rows::rows::Rows;
+use cg_text::tree::read_tree;
+use cg_tree::hierarchy::Hierarchy;
 use std::alloc::{AllocError, Global};
 use std::process::Abort;
 use std::str::from_utf8;

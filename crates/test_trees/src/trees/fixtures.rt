@@ -6,15 +6,15 @@ ghost use Rattle.cg_tree.specs.States.{child_enables};
 ghost use Rattle.cg_rows.specs.RowsForm.{IsRoot, state_of_root};
 ghost use Rattle.cg_tree.specs.WellFormed.{has_row, available_at};
 
-use crate::processes::Processes;
-use crate::rows::Rows;
-use crate::tables::path_table::PathTable;
 use cg_cgroup::cgroup::{Cgroup, LimitEntry};
 use cg_cgroup::files::{Controller, ControllerSet, EntryName, Limit, LimitFile};
 use cg_cgroup::memory::NoMemory;
 use cg_cgroup::path::{Path, PathFault};
 use cg_cgroup::process::Pid;
 use cg_cgroup::user::{Entry, Mode, User};
+use cg_rows::processes::Processes;
+use cg_rows::rows::Rows;
+use cg_rows::tables::path_table::PathTable;
 use cg_tree::hierarchy::Hierarchy;
 use std::alloc::Global;
 use std::collections::BTreeMap;
@@ -37,6 +37,13 @@ impl Owners {
         procs: 0,
         subtree_control: 0,
         limits: 0,
+    };
+    /// All is uid 1's, which stands for an administrator, since no user has uid 0.
+    pub const ADMINISTRATOR: Owners = Owners {
+        dir: 1,
+        procs: 1,
+        subtree_control: 1,
+        limits: 1,
     };
     /// The directory and the processes are user 1000's.
     pub const PROCESSES: Owners = Owners {
@@ -324,13 +331,13 @@ pub const MEMORY: ControllerSet = ControllerSet {
     pids: false,
 };
 
-/// A tree with a root alone, of uid 0, where the root has these controllers.
-pub fn root_alone(alloc: Global, controllers: ControllerSet) -> Result<Rows, NoMemory> {
-    Rows::new(
-        alloc,
-        controllers,
-        cgroup_of(Owners::KEPT, ControllerSet::none()),
-    )
+/// A tree with a root alone, of these owners, where the root has these controllers.
+pub fn root_alone(
+    alloc: Global,
+    controllers: ControllerSet,
+    owners: Owners,
+) -> Result<Rows, NoMemory> {
+    Rows::new(alloc, controllers, cgroup_of(owners, ControllerSet::none()))
 }
 
 /// A tree with a root alone, of finished tables.
@@ -377,7 +384,7 @@ pub fn delegate<H: Hierarchy>(
 
 /// The delegation example.
 pub fn delegation(rt: &impl Abort, alloc: Global) -> Result<Rows, Fail> {
-    let mut tree = root_alone(alloc, ALL)?;
+    let mut tree = root_alone(alloc, ALL, Owners::KEPT)?;
     delegate(rt, alloc, &mut tree, &User::new(1000).ok_or("uid 0")?)?;
     Ok(tree)
 }
@@ -416,7 +423,7 @@ pub fn nest<H: Hierarchy>(
 
 /// A tree in which two levels enable the one controller that there is.
 pub fn nested(rt: &impl Abort, alloc: Global) -> Result<Rows, Fail> {
-    let mut tree = root_alone(alloc, MEMORY)?;
+    let mut tree = root_alone(alloc, MEMORY, Owners::KEPT)?;
     nest(rt, alloc, &mut tree, &User::new(1000).ok_or("uid 0")?)?;
     Ok(tree)
 }
