@@ -4,8 +4,6 @@ pub mod laws;
 mod names;
 pub mod order;
 pub mod parse;
-#[cfg(test)]
-mod tests;
 
 ghost use Rattle.std.specs.Prelude.{◌≡◌, ◌+◌, ◌<◌, ◌≤◌, length, take, slice_index_or, [], IfOk};
 ghost use Rattle.cg_cgroup.specs.Paths.{path_text, path_cmp, same_path, inside, common, IsPath};

@@ -48,14 +48,16 @@ plain_line words = codes "fault: " ++ words ++ codes "\n"
 abbrev pub tree_fault_line : TreeFault → List ℕ
 tree_fault_line fault = plain_line ((tree_fault_parts fault).0 ++ place_text (tree_fault_parts fault).1)
 
-abbrev pub line_word : LineFault → List ℕ
-line_word lines.TooLong = codes "too-long"
-line_word lines.BadWord = codes "bad-word"
-line_word lines.Cut = codes "cut"
-line_word lines.NoMemory = codes "memory"
+-- the line that names an operation line by its number, and says its fault in a word
+abbrev pub numbered_line : ℕ → List ℕ → List ℕ
+numbered_line number word = codes "fault: line " ++ spaced (decimal number) word ++ codes "\n"
 
-abbrev pub operation_fault_line : ℕ → List ℕ → List ℕ
-operation_fault_line number word = codes "fault: line " ++ spaced (decimal number) word ++ codes "\n"
+-- want of memory is the call's, and names no line
+abbrev pub operation_fault_line : ℕ → LineFault → List ℕ
+operation_fault_line number lines.TooLong = numbered_line number (codes "too-long")
+operation_fault_line number lines.BadWord = numbered_line number (codes "bad-word")
+operation_fault_line number lines.Cut = numbered_line number (codes "cut")
+operation_fault_line number lines.NoMemory = plain_line (codes "memory")
 
 -- the words of a subtree's fault
 abbrev pub subtree_words : CheckFault → List ℕ
@@ -70,7 +72,7 @@ fault_line Pid = plain_line (codes "pid")
 fault_line BadPath = plain_line (codes "path")
 fault_line (Tree fault) = tree_fault_line fault
 fault_line (Subtree fault) = plain_line (subtree_words fault)
-fault_line (Line number fault) = operation_fault_line number (line_word fault)
+fault_line (Line number fault) = operation_fault_line number fault
 fault_line TooManySteps = plain_line (codes "too-many-steps")
 fault_line Read = plain_line (codes "read")
 fault_line Write = plain_line (codes "write")

@@ -1,6 +1,6 @@
 //! Why a call of this crate gives no status, and the line that says so.
 ghost use Rattle.std.specs.Prelude.{◌≡◌, ◌⊎◌, IfOk, string_bytes};
-ghost use Rattle.cg_cli.specs.FaultLines.{fault_line, plain_line, tree_fault_line, tree_fault_parts, subtree_words, operation_fault_line, line_word};
+ghost use Rattle.cg_cli.specs.FaultLines.{fault_line, plain_line, tree_fault_line, tree_fault_parts, subtree_words, operation_fault_line, numbered_line};
 ghost use Rattle.cg_cli.specs.Faults.{lifted, lifted_path, lifted_line, lifted_check};
 ghost use Rattle.cg_cli.specs.declared.fault.CliFault.TheVariants.{Write as WriteFault, NoMemory as MemoryFault};
 
@@ -147,9 +147,7 @@ fn fault_line(alloc: Global, fault: &CliFault) -> Result<String, AllocError>
         CliFault::BadPath => plain_line(alloc, "path"),
         CliFault::Tree(inner) => tree_fault_line(alloc, *inner),
         CliFault::Subtree(inner) => plain_line(alloc, subtree_words(*inner)),
-        CliFault::Line { number, fault } => {
-            operation_fault_line(alloc, *number, line_word(*fault))
-        }
+        CliFault::Line { number, fault } => operation_fault_line(alloc, *number, *fault),
         CliFault::TooManySteps => plain_line(alloc, "too-many-steps"),
         CliFault::Read => plain_line(alloc, "read"),
         CliFault::Write => plain_line(alloc, "write"),
@@ -164,13 +162,6 @@ fn plain_line(alloc: Global, words: &str) -> Result<String, AllocError>
     format!(in alloc; "fault: {words}\n")
 }
 
-/// The line of a fault of an operation line.
-fn operation_fault_line(alloc: Global, number: u32, word: &str) -> Result<String, AllocError>
-    ensures { IfOk result (λ line. string_bytes line ≡ operation_fault_line number word.now) }
-{
-    format!(in alloc; "fault: line {number} {word}\n")
-}
-
 /// The words of a subtree's fault.
 fn subtree_words(fault: CheckFault) -> &'static str
     ensures { result.now ≡ subtree_words fault }
@@ -182,15 +173,23 @@ fn subtree_words(fault: CheckFault) -> &'static str
     }
 }
 
-fn line_word(fault: LineFault) -> &'static str
-    ensures { result.now ≡ line_word fault }
+/// The line of a fault of the operation line of that number. Want of memory is the call's.
+fn operation_fault_line(alloc: Global, number: u32, fault: LineFault) -> Result<String, AllocError>
+    ensures { IfOk result (λ line. string_bytes line ≡ operation_fault_line number fault) }
 {
     match fault {
-        LineFault::TooLong => "too-long",
-        LineFault::BadWord => "bad-word",
-        LineFault::Cut => "cut",
-        LineFault::NoMemory => "memory",
+        LineFault::TooLong => numbered_line(alloc, number, "too-long"),
+        LineFault::BadWord => numbered_line(alloc, number, "bad-word"),
+        LineFault::Cut => numbered_line(alloc, number, "cut"),
+        LineFault::NoMemory => plain_line(alloc, "memory"),
     }
+}
+
+/// The line that names an operation line by its number, and says its fault in a word.
+fn numbered_line(alloc: Global, number: u32, word: &str) -> Result<String, AllocError>
+    ensures { IfOk result (λ line. string_bytes line ≡ numbered_line number word.now) }
+{
+    format!(in alloc; "fault: line {number} {word}\n")
 }
 
 fn tree_fault_line(alloc: Global, fault: TreeFault) -> Result<String, AllocError>

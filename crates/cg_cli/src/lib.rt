@@ -8,6 +8,4 @@ pub mod fault;
 pub mod input;
 pub mod may;
 pub mod replay;
-#[cfg(test)]
-mod tests;
 pub mod write;

@@ -1,10 +1,10 @@
 //! Operation lines that are replayed: each is answered by its outcome before the next is read.
-ghost use Rattle.std.specs.Prelude.{◌≡◌, ◌≢◌, ◌+◌, ◌≤◌, [], OnOk, IfOk, IfErr, MatchResult, Ok, Err, Some, None};
+ghost use Rattle.std.specs.Prelude.{◌≡◌, ◌≢◌, IfOk, IfErr, MatchResult, Ok, Err, Some, None};
 ghost use Rattle.std.specs.Option.{option_map};
 ghost use Rattle.cg_cli.specs.Arguments.{user_read};
 ghost use Rattle.cg_cli.specs.Courses.{HasMade, Unwatched as Plain, Watched, came_to};
 ghost use Rattle.cg_cli.specs.Replays.{closed, course_read, lines_report, lines_said};
-ghost use Rattle.cg_cli.specs.Replaying.{coming, most_taken, whole, IsWaiting, Replays, ReplaysFrom, ReadOn};
+ghost use Rattle.cg_cli.specs.Replaying.{coming, whole, IsWaiting, Replays};
 
 use crate::arguments::{UserIds, read_path, read_user};
 use crate::fault::CliFault;
@@ -16,14 +16,14 @@ use cg_text::tree::read_tree;
 use course::{OnCourse, Unwatched};
 use run::Run;
 use std::alloc::Global;
-use std::io::{BufRead, Write};
+use std::io::Write;
 
 mod course;
 mod line;
+mod reader;
 mod run;
 
-/// How often a reader is asked at most: for each byte of 65536 lines of 8193 bytes, and once more.
-const MOST_ASKS: u32 = 536_936_449;
+pub use reader::replay_from;
 
 /// Replays operations and writes a line for each: its outcome. Where a subtree is named, a last line says whether it was
 /// kept, with status 0, or what was broken first and after how many steps, with status 1. Else the status is 0.
@@ -48,30 +48,6 @@ pub fn replay_bytes<W: Write>(
     match subtree {
         None => slice_closed(alloc, unwatched(alloc, tree)?, user, ops, out),
         Some(subtree) => slice_closed(alloc, watched(alloc, tree, subtree)?, user, ops, out),
-    }
-}
-
-/// Replays operations that a reader gives, as `replay_bytes` does with the same bytes. At most one line is held.
-///
-/// # Errors
-/// Those of `replay_bytes`, and `Read` where the reader failed, which isn't asked again: the lines of the operations that
-/// it gave before are written.
-pub fn replay_from<R: BufRead, W: Write>(
-    alloc: Global,
-    tree: &[u8],
-    user: UserIds<'_>,
-    subtree: Option<&str>,
-    ops: &mut R,
-    out: &mut W,
-) -> Result<u8, CliFault>
-    ensures replays { ReplaysFrom closed (lines_report tree.now user.entry.uid user.entry.gids.now (option_map (λ text. text.now) subtree.entry))
-        (R.remaining ops.old) (R.remaining ops.new) (W.contents out.old) (W.contents out.new) result }
-    ensures user { IfErr (user_read user.entry.uid user.entry.gids.now) (λ fault. result ≡ Err fault) }
-{
-    let user = read_user(user)?;
-    match subtree {
-        None => reader_closed(alloc, unwatched(alloc, tree)?, user, ops, out),
-        Some(subtree) => reader_closed(alloc, watched(alloc, tree, subtree)?, user, ops, out),
     }
 }
 
@@ -112,24 +88,6 @@ fn slice_closed<C: OnCourse, W: Write>(
     Ok(status)
 }
 
-/// A whole replay over the bytes of a reader, and what is said at its end.
-fn reader_closed<C: OnCourse, R: BufRead, W: Write>(
-    alloc: Global,
-    course: C,
-    user: User,
-    ops: &mut R,
-    out: &mut W,
-) -> Result<u8, CliFault>
-    requires { HasMade 0 (C.course course) }
-    ensures { ReplaysFrom closed (λ bytes. lines_said (C.course course) user 0 bytes)
-        (R.remaining ops.old) (R.remaining ops.new) (W.contents out.old) (W.contents out.new) result }
-{
-    let course = replay_reader(alloc, Run::new(alloc, course, user), ops, out)?;
-    let (text, status) = course.closing(alloc)?;
-    write_whole(out, text.as_slice())?;
-    Ok(status)
-}
-
 /// Goes on with a replay over bytes that are all there.
 fn replay_slice<C: OnCourse, W: Write>(
     alloc: Global,
@@ -150,53 +108,3 @@ fn replay_slice<C: OnCourse, W: Write>(
     run.end()
 }
 
-/// Goes on with a replay over the bytes of a reader.
-fn replay_reader<C: OnCourse, R: BufRead, W: Write>(
-    alloc: Global,
-    mut run: Run<C>,
-    ops: &mut R,
-    out: &mut W,
-) -> Result<C, CliFault>
-    requires made { HasMade run.done (C.course run.course) }
-    requires waiting { IsWaiting run.done run.line.items }
-    requires first { run.done ≡ 0 }
-    requires fresh { run.line.items ≡ [] }
-    ensures { ReplaysFrom whole (coming (C.course run.course) run.user run.done run.line.items)
-        (R.remaining ops.old) (R.remaining ops.new) (W.contents out.old) (W.contents out.new) (came_to C.course result) }
-{
-    for _asked in 0..MOST_ASKS {
-        if read_on(alloc, &mut run, ops, out)? == 0 {
-            return run.end();
-        }
-    }
-    unreachable!()
-}
-
-/// Feeds bytes of the next piece that a reader shows. Answers how many; none at the end.
-fn read_on<C: OnCourse, R: BufRead, W: Write>(
-    alloc: Global,
-    run: &mut Run<C>,
-    ops: &mut R,
-    out: &mut W,
-) -> Result<usize, CliFault>
-    requires waiting { IsWaiting run.old.done run.old.line.items }
-    requires made { HasMade run.old.done (C.course run.old.course) }
-    ensures read { ReadOn (coming (C.course run.old.course) run.old.user run.old.done run.old.line.items)
-        (coming (C.course run.new.course) run.new.user run.new.done run.new.line.items)
-        (R.remaining ops.old) (R.remaining ops.new) (W.contents out.old) (W.contents out.new) result }
-    ensures waiting { OnOk result (IsWaiting run.new.done run.new.line.items) }
-    ensures made { OnOk result (HasMade run.new.done (C.course run.new.course)) }
-    ensures taken { IfOk result (λ taken. most_taken run.old.done run.old.line.items + taken
-        ≤ most_taken run.new.done run.new.line.items) }
-{
-    let piece = match ops.fill_buf() {
-        Ok(piece) => piece,
-        Err(error) => return Err(CliFault::of_read(&error)),
-    };
-    if piece.is_empty() {
-        return Ok(0);
-    }
-    let taken = run.feed(alloc, piece, out)?;
-    ops.consume(taken);
-    Ok(taken)
-}

@@ -9,6 +9,3 @@ mod write;
 pub use fault::LineFault;
 pub use read::{LONGEST_LINE, read_op};
 pub use write::op_text;
-
-#[cfg(test)]
-mod tests;

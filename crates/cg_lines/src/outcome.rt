@@ -130,6 +130,3 @@ pub fn bars_are_shown()
     ensures { (st : State) (user : Identity) (op : Op) (refusal : Refusal)
         → first (bars st user op) ≡ Some refusal → CanShow op (Outcome.Refused refusal) }
 {}
-
-#[cfg(test)]
-mod tests;

@@ -74,6 +74,3 @@ pub fn apply<H: Hierarchy>(
     }
     Ok(Outcome::Done)
 }
-
-#[cfg(test)]
-mod tests;

@@ -5,8 +5,6 @@ ghost use Rattle.cg_tree.specs.WellFormed.{IsWellFormed};
 ghost use Rattle.cg_tree.specs.Limits.{is_full};
 
 mod below;
-#[cfg(test)]
-mod tests;
 
 use crate::processes::Processes;
 use crate::tables::path_table::PathTable;

@@ -1,0 +1,21 @@
+//! Tests of the calls over bytes, and of tree texts: that good calls succeed, and what no clause says.
+#![tactic(auto)]
+
+#[cfg(test)]
+mod input;
+#[cfg(test)]
+mod may;
+#[cfg(test)]
+mod readers;
+#[cfg(test)]
+mod replay;
+#[cfg(test)]
+mod replay_ends;
+#[cfg(test)]
+mod trees;
+#[cfg(test)]
+mod vectors;
+#[cfg(test)]
+mod writers;
+#[cfg(test)]
+mod written;

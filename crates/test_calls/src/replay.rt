@@ -1,0 +1,188 @@
+//! `replay_bytes` and `replay_from` on rows worked out by hand.
+use super::readers::{Pieces, Uneven};
+use super::trees::{DELEGATION, DELEGATION_AND_PROCESS};
+use super::vectors::delegation_with;
+use cg_cli::arguments::UserIds;
+use cg_cli::fault::CliFault;
+use cg_cli::replay::{replay_bytes, replay_from};
+use cg_lines::lines::LineFault;
+use std::alloc::{AllocError, Global};
+use std::process::Abort;
+use std::test::Fail;
+
+/// Operations of a user, and what is said of them.
+struct Row {
+    pub uid: u32,
+    pub ops: &'static str,
+    pub report: &'static str,
+    pub ending: Result<u8, CliFault>,
+}
+
+const ROWS: [Row; 8] = [
+    Row {
+        uid: 1000,
+        ops: "mkdir /c0/c00/x\nmkdir /c0/c00/x/y\n",
+        report: "ok\nrefused depth-limit /c0\n",
+        ending: Ok(0),
+    },
+    Row {
+        uid: 1000,
+        ops: "control /c0 +memory -memory\ncontrol /c0 +pids\ncontrol /c0 +memory +pids\nset /c0/c00 memory.max 0\n",
+        report: "ok\nrefused not-available pids\nrefused not-available pids\nrefused no-such-file /c0/c00 memory.max\n",
+        ending: Ok(0),
+    },
+    Row {
+        uid: 1000,
+        ops: "fork 11 12\nexit 12\nfork 11 12\n",
+        report: "ok\nok\nrefused pid-used 12\n",
+        ending: Ok(0),
+    },
+    Row {
+        uid: 1000,
+        ops: "exit 11\nmkdir /c0/a",
+        report: "ok\n",
+        ending: Err(CliFault::Line {
+            number: 2,
+            fault: LineFault::Cut,
+        }),
+    },
+    Row {
+        uid: 1000,
+        ops: "",
+        report: "",
+        ending: Ok(0),
+    },
+    Row {
+        uid: 1000,
+        ops: "mkdir /c0/a\nmkdir /c0/b\nmkdir /c0/c\nrmdir /c0/a\nmkdir /c0/c\n",
+        report: "ok\nok\nrefused descendant-limit /c0\nok\nok\n",
+        ending: Ok(0),
+    },
+    Row {
+        uid: 1001,
+        ops: "exit 11\nfork 99 12\nexit 99\n",
+        report: "refused not-yours 11\nrefused no-such-process 99\nrefused no-such-process 99\n",
+        ending: Ok(0),
+    },
+    Row {
+        uid: 1000,
+        ops: "mkdir /c0/c00/x\nrmdir /c0/c00\n",
+        report: "ok\nrefused has-children /c0/c00\n",
+        ending: Ok(0),
+    },
+];
+
+const MORE_ROWS: [Row; 5] = [
+    Row {
+        uid: 1000,
+        ops: "rmdir /\nrmdir /c0\nrmdir /c0/c00\nexit 11\nrmdir /c0/c00\nmkdir /c0/c01\nmkdir /c0/q/r\nmkdir /d\n",
+        report: "refused root-cgroup\nrefused no-access / dir\nrefused has-processes /c0/c00\nok\nok\nrefused exists /c0/c01\nrefused no-such-cgroup /c0/q\nrefused no-access / dir\n",
+        ending: Ok(0),
+    },
+    Row {
+        uid: 1000,
+        ops: "control /c0 +memory\nset /c0/c00 memory.max 4096\ncontrol /c0 -memory +memory\ncontrol /c0/c01 +memory\ncontrol /c0 -memory\ncontrol /c0/c00 +memory\n",
+        report: "ok\nok\nok\nok\nrefused child-uses memory\nrefused internal-process /c0/c00\n",
+        ending: Ok(0),
+    },
+    Row {
+        uid: 1000,
+        ops: "set /c0/c00 cgroup.max.depth 9223372036854775807\nset /c0/c00 cgroup.max.depth 9223372036854775808\nset /c0/c00 cgroup.max.depth 0\nmkdir /c0/c00/x\nset /c0 memory.max max\nset /c0/c00 cgroup.max.depth 18446744073709551616\n",
+        report: "ok\nrefused bad-value cgroup.max.depth\nok\nrefused depth-limit /c0/c00\nrefused no-access /c0 memory.max\n",
+        ending: Err(CliFault::Line {
+            number: 6,
+            fault: LineFault::BadWord,
+        }),
+    },
+    Row {
+        uid: 1000,
+        ops: "chmod /c0 dir 555\nmkdir /c0/a\nchmod /c0 dir 755\nmkdir /c0/a\n",
+        report: "ok\nrefused no-access /c0 dir\nok\nok\n",
+        ending: Ok(0),
+    },
+    Row {
+        uid: 1000,
+        ops: "chmod /zz dir 755\nchmod /c0/c00 memory.max 644\nchmod /c0 memory.max 666\nchmod /c0 dir 0755\n",
+        report: "refused no-such-cgroup /zz\nrefused no-such-file /c0/c00 memory.max\nrefused not-owner /c0 memory.max\n",
+        ending: Err(CliFault::Line {
+            number: 4,
+            fault: LineFault::BadWord,
+        }),
+    },
+];
+
+/// What is said where the tree has process 13 at `/c0`.
+const ROW_OF_PROCESS: Row = Row {
+    uid: 1000,
+    ops: "control /c0 +memory\nmove 13 /c0/c00\ncontrol /c0 +memory\nmove 13 /c0\n",
+    report: "refused internal-process /c0\nok\nok\nrefused internal-process /c0\n",
+    ending: Ok(0),
+};
+
+/// A row over bytes, in pieces of each of some sizes, and in pieces of uneven sizes.
+fn assert_row(rt: &impl Abort, alloc: Global, tree: &[u8], row: &Row) {
+    let user = UserIds {
+        uid: row.uid,
+        gids: &[],
+    };
+    let ops = row.ops.as_bytes();
+    let mut out = Vec::new(alloc);
+    let ending = replay_bytes(alloc, tree, user, ops, &mut out);
+    assert_eq!(rt; ending, row.ending);
+    assert_eq!(rt; out.as_slice(), row.report.as_bytes());
+    for size in [1, 2, 7, 8, 13, 8192] {
+        let mut out = Vec::new(alloc);
+        let mut pieces = Pieces::new(ops, size);
+        let ending = replay_from(alloc, tree, user, &mut pieces, &mut out);
+        assert_eq!(rt; ending, row.ending);
+        assert_eq!(rt; out.as_slice(), row.report.as_bytes());
+    }
+    for seed in 1..20 {
+        let mut out = Vec::new(alloc);
+        let mut pieces = Uneven { rest: ops, seed };
+        let ending = replay_from(alloc, tree, user, &mut pieces, &mut out);
+        assert_eq!(rt; ending, row.ending);
+        assert_eq!(rt; out.as_slice(), row.report.as_bytes());
+    }
+}
+
+/// A move from beside `/c0` into it, where all others write the root's `cgroup.procs`.
+const ROW_OF_ENTERING: Row = Row {
+    uid: 1000,
+    ops: "move 14 /c0\n",
+    report: "ok\n",
+    ending: Ok(0),
+};
+
+/// The delegation example where all others write the root's `cgroup.procs`, with `/c01` and process 14 in it.
+fn open_delegation(alloc: Global) -> Result<String, Fail> {
+    let root = "enabled = [\"memory\"]";
+    let open = "enabled = [\"memory\"]\nfiles = { \"cgroup.procs\" = { mode = 0o646 } }";
+    let mut tree = delegation_with(alloc, &[(root, open)])?;
+    tree.push_str(
+        "[[cgroup]]\npath = \"/c01\"\ndir = { uid = 1000 }\nfiles = { \"cgroup.procs\" = { uid = 1000 } }\n",
+    )?;
+    tree.push_str("[[process]]\npid = 14\nuid = 1000\nat = \"/c01\"\n")?;
+    Ok(tree)
+}
+
+fn delegation_and_process(alloc: Global) -> Result<Vec<u8>, AllocError> {
+    let mut tree = DELEGATION.to_vec(alloc)?;
+    tree.extend_from_slice(DELEGATION_AND_PROCESS.as_bytes())?;
+    Ok(tree)
+}
+
+#[test]
+fn operations_are_answered_in_turn(rt: HostRuntime) -> Result<(), Fail> {
+    for row in ROWS.iter() {
+        assert_row(&rt, rt.alloc(), DELEGATION, row);
+    }
+    for row in MORE_ROWS.iter() {
+        assert_row(&rt, rt.alloc(), DELEGATION, row);
+    }
+    let tree = delegation_and_process(rt.alloc())?;
+    assert_row(&rt, rt.alloc(), tree.as_slice(), &ROW_OF_PROCESS);
+    let tree = open_delegation(rt.alloc())?;
+    assert_row(&rt, rt.alloc(), tree.as_bytes(), &ROW_OF_ENTERING);
+    Ok(())
+}

@@ -1,0 +1,231 @@
+//! Where a replay ends: faults before its first line, lines that are too long, too many, cut or not read, and writers that
+//! fail and dawdle.
+use super::readers::{Again, Pieces};
+use super::trees::{DELEGATION, NO_PARENT};
+use super::writers::{ByteByByte, FailsOnce, TakesNone};
+use cg_cli::arguments::UserIds;
+use cg_cli::fault::{CliFault, fault_text};
+use cg_cli::replay::{replay_bytes, replay_from};
+use cg_lines::lines::LineFault;
+use cg_text::tree::{Place, TreeFault};
+use std::alloc::{AllocError, Global};
+use std::io::{BufRead, Write};
+use std::test::Fail;
+
+/// Operations of user 1000, and their report.
+const REPLAYS: [(&[u8], &[u8]); 2] = [
+    (
+        b"mkdir /c0/c00/x\nmkdir /c0/c00/x/y\n",
+        b"ok\nrefused depth-limit /c0\n",
+    ),
+    (
+        b"control /c0 +memory\nset /c0/c00 memory.max 4096\ncontrol /c0 -memory +memory\ncontrol /c0/c01 +memory\ncontrol /c0 -memory\ncontrol /c0/c00 +memory\n",
+        b"ok\nok\nok\nok\nrefused child-uses memory\nrefused internal-process /c0/c00\n",
+    ),
+];
+
+fn replay<W: Write>(alloc: Global, ops: &[u8], out: &mut W) -> Result<u8, CliFault> {
+    let user = UserIds {
+        uid: 1000,
+        gids: &[],
+    };
+    replay_bytes(alloc, DELEGATION, user, ops, out)
+}
+
+fn replay_reader<R: BufRead, W: Write>(
+    alloc: Global,
+    ops: &mut R,
+    out: &mut W,
+) -> Result<u8, CliFault> {
+    let user = UserIds {
+        uid: 1000,
+        gids: &[],
+    };
+    replay_from(alloc, DELEGATION, user, ops, out)
+}
+
+/// A text so many times.
+fn times(alloc: Global, text: &[u8], count: usize) -> Result<Vec<u8>, AllocError> {
+    let mut all = Vec::new(alloc);
+    for _ in 0..count {
+        all.extend_from_slice(text)?;
+    }
+    Ok(all)
+}
+
+#[test]
+fn a_fault_before_the_lines_leaves_nothing_written(rt: HostRuntime) {
+    let many = [7; 33];
+    let no_parent = CliFault::Tree(TreeFault::NoParent(Place::Cgroup(2)));
+    for (uid, gids, tree, fault) in [
+        (0, many.as_slice(), b"".as_slice(), CliFault::Uid),
+        (1000, many.as_slice(), b"".as_slice(), CliFault::Gids),
+        (1000, &many[..32], NO_PARENT, no_parent),
+    ] {
+        let user = UserIds { uid, gids };
+        let mut out = Vec::new(rt.alloc());
+        assert_eq!(rt;
+            replay_bytes(rt.alloc(), tree, user, b"x", &mut out),
+            Err(fault)
+        );
+        assert_eq!(rt; out.len(), 0);
+        let mut ops = Pieces::new(b"x", 1);
+        assert_eq!(rt;
+            replay_from(rt.alloc(), tree, user, &mut ops, &mut out),
+            Err(fault)
+        );
+        assert_eq!(rt; out.len(), 0);
+        assert_eq!(rt; ops.asked, 0);
+    }
+}
+
+#[test]
+fn a_fault_of_a_line_has_its_line(rt: HostRuntime) -> Result<(), Fail> {
+    for (fault, text) in [
+        (LineFault::TooLong, "fault: line 7 too-long\n"),
+        (LineFault::BadWord, "fault: line 7 bad-word\n"),
+        (LineFault::Cut, "fault: line 7 cut\n"),
+    ] {
+        let line = fault_text(rt.alloc(), &CliFault::Line { number: 7, fault })?;
+        assert_eq!(rt; line.as_slice(), text.as_bytes());
+    }
+    let line = fault_text(rt.alloc(), &CliFault::TooManySteps)?;
+    assert_eq!(rt; line.as_slice(), b"fault: too-many-steps\n".as_slice());
+    Ok(())
+}
+
+/// The fault of a line that isn't looked into.
+fn line_fault(number: u32, fault: LineFault) -> Result<u8, CliFault> {
+    Err(CliFault::Line { number, fault })
+}
+
+#[test]
+fn a_line_without_its_newline_is_cut_or_too_long(rt: HostRuntime) -> Result<(), Fail> {
+    for (count, fault) in [
+        (1, LineFault::Cut),
+        (8192, LineFault::Cut),
+        (8193, LineFault::TooLong),
+        (20000, LineFault::TooLong),
+    ] {
+        let ops = times(rt.alloc(), b"x", count)?;
+        let mut out = Vec::new(rt.alloc());
+        let ending = replay(rt.alloc(), ops.as_slice(), &mut out);
+        assert_eq!(rt; ending, line_fault(1, fault));
+        assert_eq!(rt; out.len(), 0);
+    }
+    Ok(())
+}
+
+#[test]
+fn a_line_of_8192_bytes_is_answered_and_a_longer_one_is_not(rt: HostRuntime) -> Result<(), Fail> {
+    let mut ops = b"control /".to_vec(rt.alloc())?;
+    ops.extend_from_slice(times(rt.alloc(), b" +cpu", 1635)?.as_slice())?;
+    ops.extend_from_slice(b" +memory")?;
+    assert_eq!(rt; ops.len(), 8192);
+    ops.extend_from_slice(b"\ncontrol /")?;
+    ops.extend_from_slice(times(rt.alloc(), b" +pids", 1364)?.as_slice())?;
+    ops.extend_from_slice(b"\n")?;
+    for size in [1, 100, 8192, 8193, 20000] {
+        let mut out = Vec::new(rt.alloc());
+        let mut pieces = Pieces::new(ops.as_slice(), size);
+        let ending = replay_reader(rt.alloc(), &mut pieces, &mut out);
+        assert_eq!(rt; ending, line_fault(2, LineFault::TooLong));
+        assert_eq!(rt;
+            out.as_slice(),
+            b"refused no-access / cgroup.subtree_control\n".as_slice()
+        );
+    }
+    Ok(())
+}
+
+#[test]
+fn a_replay_has_65536_operations_at_most(rt: HostRuntime) -> Result<(), Fail> {
+    let mut ops = times(rt.alloc(), b"exit 99\n", 65536)?;
+    let report = times(rt.alloc(), b"refused no-such-process 99\n", 65536)?;
+    let mut out = Vec::new(rt.alloc());
+    assert_eq!(rt; replay(rt.alloc(), ops.as_slice(), &mut out), Ok(0));
+    assert!(rt; out == report);
+    ops.extend_from_slice(b"\n")?;
+    let mut out = Vec::new(rt.alloc());
+    assert_eq!(rt;
+        replay(rt.alloc(), ops.as_slice(), &mut out),
+        Err(CliFault::TooManySteps)
+    );
+    assert!(rt; out == report);
+    Ok(())
+}
+
+#[test]
+fn an_endless_reader_is_left(rt: HostRuntime) -> Result<(), Fail> {
+    let mut endless = Again::new(b"x");
+    let mut out = Vec::new(rt.alloc());
+    let ending = replay_reader(rt.alloc(), &mut endless, &mut out);
+    assert_eq!(rt; ending, line_fault(1, LineFault::TooLong));
+    assert_eq!(rt; out.len(), 0);
+    assert_eq!(rt; endless.asked, 8193);
+    let mut endless = Again::new(b"exit 99\n");
+    let ending = replay_reader(rt.alloc(), &mut endless, &mut out);
+    assert_eq!(rt; ending, Err(CliFault::TooManySteps));
+    assert!(rt; out == times(rt.alloc(), b"refused no-such-process 99\n", 65536)?);
+    assert_eq!(rt; endless.asked, 524_289);
+    Ok(())
+}
+
+/// How many newlines are in a text.
+fn newlines(text: &[u8]) -> usize {
+    text.iter().filter(|byte| **byte == b'\n').count()
+}
+
+/// The first lines of a text.
+fn first_lines(text: &[u8], count: usize) -> &[u8] {
+    let mut left = count;
+    for (i, byte) in text.iter().enumerate() {
+        if left == 0 {
+            return &text[..i];
+        }
+        if *byte == b'\n' {
+            left -= 1;
+        }
+    }
+    text
+}
+
+#[test]
+fn a_failed_read_leaves_the_lines_before_it(rt: HostRuntime) {
+    for (ops, report) in REPLAYS {
+        for given in 0..=ops.len() {
+            let mut pieces = Pieces::new(ops, 1);
+            pieces.fails_at = given as u64 + 1;
+            let mut out = Vec::new(rt.alloc());
+            let ending = replay_reader(rt.alloc(), &mut pieces, &mut out);
+            assert_eq!(rt; ending, Err(CliFault::Read));
+            assert_eq!(rt; pieces.asked, pieces.fails_at);
+            assert_eq!(rt;
+                out.as_slice(),
+                first_lines(report, newlines(&ops[..given]))
+            );
+        }
+    }
+}
+
+#[test]
+fn a_failed_write_leaves_a_part_of_the_report(rt: HostRuntime) {
+    for (ops, report) in REPLAYS {
+        for room in 0..report.len() {
+            let mut out = FailsOnce::new(rt.alloc(), room);
+            assert_eq!(rt; replay(rt.alloc(), ops, &mut out), Err(CliFault::Write));
+            assert_eq!(rt; out.taken.as_slice(), &report[..room]);
+        }
+        let mut out = TakesNone { asked: 0 };
+        assert_eq!(rt; replay(rt.alloc(), ops, &mut out), Err(CliFault::Write));
+        assert_eq!(rt; out.asked, 1);
+        let mut out = ByteByByte {
+            taken: Vec::new(rt.alloc()),
+        };
+        assert_eq!(rt; replay(rt.alloc(), ops, &mut out), Ok(0));
+        assert_eq!(rt; out.taken.as_slice(), report);
+    }
+    let mut out = TakesNone { asked: 0 };
+    assert_eq!(rt; replay(rt.alloc(), b"", &mut out), Ok(0));
+    assert_eq!(rt; out.asked, 0);
+}
