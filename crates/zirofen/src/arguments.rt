@@ -48,7 +48,8 @@ Example:
   set /c0 memory.max max";
 
 const REPLAY_HELP: &str = "\
-Status: 0 where the operations came to their end, 3 a fault
+With --subtree a last line says `kept`, or `broken` with the step and what it broke of the subtree.
+Status: 0 where the operations came to their end and kept the subtree, 1 where they broke it, 3 a fault
 `fault: usage` means that the command line isn't as it says above.
 docs/FORMATS.md of the repository has the formats of the tree and of operations, and every line that is written.
 
@@ -101,7 +102,7 @@ fn check_command<'a>(alloc: Global) -> Result<Command<'a>, AllocError> {
         .arg(tree_argument(alloc))?
         .arg(uid_argument(alloc))?
         .arg(gid_argument(alloc))?
-        .arg(subtree_argument(alloc).help("The top of the subtree"))
+        .arg(subtree_argument(alloc).required(true).help("The top of the subtree"))
 }
 
 fn audit_command<'a>(alloc: Global) -> Result<Command<'a>, AllocError> {
@@ -121,6 +122,7 @@ fn audit_command<'a>(alloc: Global) -> Result<Command<'a>, AllocError> {
         )?
         .arg(
             subtree_argument(alloc)
+                .required(true)
                 .action(ArgAction::Append)
                 .help("The top of a subtree, once or more"),
         )
@@ -139,6 +141,10 @@ fn replay_command<'a>(alloc: Global) -> Result<Command<'a>, AllocError> {
                 .value_name("FILE")
                 .required(true)
                 .help("The operations, one a line"),
+        )?
+        .arg(
+            subtree_argument(alloc)
+                .help("The top of a subtree, on which a verdict is wanted"),
         )
 }
 
@@ -153,7 +159,6 @@ fn subtree_argument<'a>(alloc: Global) -> Arg<'a> {
     Arg::new(alloc, "subtree")
         .long("subtree")
         .value_name("PATH")
-        .required(true)
 }
 
 fn uid_argument<'a>(alloc: Global) -> Arg<'a> {
@@ -252,6 +257,7 @@ pub struct Replay<'a> {
     pub uid: u32,
     pub gids: Vec<u32>,
     pub ops: &'a str,
+    pub subtree: Option<&'a str>,
 }
 
 impl<'a> Replay<'a> {
@@ -262,6 +268,7 @@ impl<'a> Replay<'a> {
             uid: number(matches, "uid")?,
             gids: numbers(alloc, matches, "gid")?,
             ops: matches.get_str("ops").ok_or(Fault::Usage)?,
+            subtree: matches.get_str("subtree"),
         })
     }
 }

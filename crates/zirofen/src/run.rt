@@ -133,7 +133,7 @@ fn replay<R: AllocGlobal + Files, I: Read + Drop, W: Write>(
         alloc,
         tree.as_slice(),
         user,
-        None,
+        request.subtree,
         &mut ops,
         &mut report,
     );
