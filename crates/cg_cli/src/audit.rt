@@ -95,7 +95,7 @@ fn read_paths(alloc: Global, texts: &[&str]) -> Result<Vec<Path>, CliFault>
 }
 
 /// What is said of users and subtrees, and the status.
-fn audited<H: Hierarchy>(
+fn audited<H: Hierarchy + Drop>(
     alloc: Global,
     tree: &H,
     users: &[User],

@@ -53,7 +53,7 @@ pub fn check_bytes<W: Write>(
 }
 
 /// What is said of a subtree, and the status.
-fn answered<H: Hierarchy>(
+fn answered<H: Hierarchy + Drop>(
     alloc: Global,
     tree: &H,
     user: &User,
