@@ -2,6 +2,12 @@
 #![tactic(auto)]
 
 #[cfg(test)]
+mod audit;
+#[cfg(test)]
+mod changed;
+#[cfg(test)]
+mod check;
+#[cfg(test)]
 mod input;
 #[cfg(test)]
 mod may;

@@ -6,6 +6,7 @@ use cg_cli::arguments::UserIds;
 use cg_cli::fault::CliFault;
 use cg_cli::replay::{replay_bytes, replay_from};
 use cg_lines::lines::LineFault;
+use cg_runs::fault::CheckFault;
 use std::alloc::{AllocError, Global};
 use std::process::Abort;
 use std::test::Fail;
@@ -121,26 +122,31 @@ const ROW_OF_PROCESS: Row = Row {
 
 /// A row over bytes, in pieces of each of some sizes, and in pieces of uneven sizes.
 fn assert_row(rt: &impl Abort, alloc: Global, tree: &[u8], row: &Row) {
+    assert_watched(rt, alloc, tree, None, row);
+}
+
+/// The same with a subtree that is watched, or none.
+fn assert_watched(rt: &impl Abort, alloc: Global, tree: &[u8], subtree: Option<&str>, row: &Row) {
     let user = UserIds {
         uid: row.uid,
         gids: &[],
     };
     let ops = row.ops.as_bytes();
     let mut out = Vec::new(alloc);
-    let ending = replay_bytes(alloc, tree, user, ops, &mut out);
+    let ending = replay_bytes(alloc, tree, user, subtree, ops, &mut out);
     assert_eq!(rt; ending, row.ending);
     assert_eq!(rt; out.as_slice(), row.report.as_bytes());
     for size in [1, 2, 7, 8, 13, 8192] {
         let mut out = Vec::new(alloc);
         let mut pieces = Pieces::new(ops, size);
-        let ending = replay_from(alloc, tree, user, &mut pieces, &mut out);
+        let ending = replay_from(alloc, tree, user, subtree, &mut pieces, &mut out);
         assert_eq!(rt; ending, row.ending);
         assert_eq!(rt; out.as_slice(), row.report.as_bytes());
     }
     for seed in 1..20 {
         let mut out = Vec::new(alloc);
         let mut pieces = Uneven { rest: ops, seed };
-        let ending = replay_from(alloc, tree, user, &mut pieces, &mut out);
+        let ending = replay_from(alloc, tree, user, subtree, &mut pieces, &mut out);
         assert_eq!(rt; ending, row.ending);
         assert_eq!(rt; out.as_slice(), row.report.as_bytes());
     }
@@ -184,5 +190,120 @@ fn operations_are_answered_in_turn(rt: HostRuntime) -> Result<(), Fail> {
     assert_row(&rt, rt.alloc(), tree.as_slice(), &ROW_OF_PROCESS);
     let tree = open_delegation(rt.alloc())?;
     assert_row(&rt, rt.alloc(), tree.as_bytes(), &ROW_OF_ENTERING);
+    Ok(())
+}
+
+/// What is said of `/c0`, which is watched, in the delegation.
+const WATCHED_ROWS: [Row; 5] = [
+    Row {
+        uid: 1000,
+        ops: "",
+        report: "kept\n",
+        ending: Ok(0),
+    },
+    Row {
+        uid: 1000,
+        ops: "mkdir /c0/c00/x\nmkdir /c0/c00/x/y\n",
+        report: "ok\nrefused depth-limit /c0\nkept\n",
+        ending: Ok(0),
+    },
+    Row {
+        uid: 1000,
+        ops: "fork 11 12\nexit 12\nfork 11 12\n",
+        report: "ok\nok\nrefused pid-used 12\nkept\n",
+        ending: Ok(0),
+    },
+    Row {
+        uid: 1000,
+        ops: "mkdir /c0/a\nmkdir /c0/b\nmkdir /c0/c\nrmdir /c0/a\nmkdir /c0/c\n",
+        report: "ok\nok\nrefused descendant-limit /c0\nok\nok\nkept\n",
+        ending: Ok(0),
+    },
+    Row {
+        uid: 1000,
+        ops: "exit 11\nmkdir /c0/a",
+        report: "ok\n",
+        ending: Err(CliFault::Line {
+            number: 2,
+            fault: LineFault::Cut,
+        }),
+    },
+];
+
+/// A move into `/c0`, which is watched.
+const ROW_OF_CROSSING: Row = Row {
+    uid: 1000,
+    ops: "move 14 /c0\n",
+    report: "ok\nbroken 1 crossed 14\n",
+    ending: Ok(1),
+};
+
+/// A subtree that is removed and made again, in a tree where the user owns the root's directory.
+const ROW_OF_REMOVAL: Row = Row {
+    uid: 1000,
+    ops: "rmdir /c0\nmkdir /c0\n",
+    report: "ok\nok\nbroken 1 gone\n",
+    ending: Ok(1),
+};
+
+/// A limit of the subtree that is the user's.
+const ROW_OF_LIMITS: Row = Row {
+    uid: 1000,
+    ops: "set /c0 memory.max max\nset /c0 memory.max 1073741824\n",
+    report: "ok\nok\nbroken 1 limits\n",
+    ending: Ok(1),
+};
+
+/// A subtree over its limit before any operation.
+const ROW_OF_TOO_MANY: Row = Row {
+    uid: 1000,
+    ops: "exit 11\n",
+    report: "ok\nbroken 0 descendants\n",
+    ending: Ok(1),
+};
+
+const PARENT_DIRECTORY: &str = "format = 1\ncontrollers = []\n[[cgroup]]\npath = \"/\"\ndir = { uid = 1000 }\n[[cgroup]]\npath = \"/c0\"\n";
+
+#[test]
+fn verdicts_stand_behind_the_outcomes(rt: HostRuntime) -> Result<(), Fail> {
+    for row in WATCHED_ROWS.iter() {
+        assert_watched(&rt, rt.alloc(), DELEGATION, Some("/c0"), row);
+    }
+    let tree = PARENT_DIRECTORY.as_bytes();
+    assert_watched(&rt, rt.alloc(), tree, Some("/c0"), &ROW_OF_REMOVAL);
+    let tree = open_delegation(rt.alloc())?;
+    assert_watched(&rt, rt.alloc(), tree.as_bytes(), Some("/c0"), &ROW_OF_CROSSING);
+    Ok(())
+}
+
+#[test]
+fn verdicts_name_limits(rt: HostRuntime) -> Result<(), Fail> {
+    let limit = "\"memory.max\" = { value = 1073741824 }";
+    let owned = "\"memory.max\" = { uid = 1000, value = 1073741824 }";
+    let tree = delegation_with(rt.alloc(), &[(limit, owned)])?;
+    assert_watched(&rt, rt.alloc(), tree.as_bytes(), Some("/c0"), &ROW_OF_LIMITS);
+    let most = "\"cgroup.max.descendants\" = { value = 4 }";
+    let fewer = "\"cgroup.max.descendants\" = { value = 1 }";
+    let tree = delegation_with(rt.alloc(), &[(most, fewer)])?;
+    assert_watched(&rt, rt.alloc(), tree.as_bytes(), Some("/c0"), &ROW_OF_TOO_MANY);
+    Ok(())
+}
+
+/// The faults of a subtree, in their order, before any operation.
+fn assert_fault(rt: &impl Abort, alloc: Global, subtree: &str, fault: CliFault) {
+    let row = Row {
+        uid: 1000,
+        ops: "exit 11\n",
+        report: "",
+        ending: Err(fault),
+    };
+    assert_watched(rt, alloc, DELEGATION, Some(subtree), &row);
+}
+
+#[test]
+fn subtrees_that_cannot_be_watched(rt: HostRuntime) -> Result<(), Fail> {
+    assert_fault(&rt, rt.alloc(), "c0", CliFault::BadPath);
+    assert_fault(&rt, rt.alloc(), "/", CliFault::Subtree(CheckFault::RootSubtree));
+    assert_fault(&rt, rt.alloc(), "/zz", CliFault::Subtree(CheckFault::NoSuchSubtree));
     Ok(())
 }

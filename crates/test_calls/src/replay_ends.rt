@@ -29,7 +29,7 @@ fn replay<W: Write>(alloc: Global, ops: &[u8], out: &mut W) -> Result<u8, CliFau
         uid: 1000,
         gids: &[],
     };
-    replay_bytes(alloc, DELEGATION, user, ops, out)
+    replay_bytes(alloc, DELEGATION, user, None, ops, out)
 }
 
 fn replay_reader<R: BufRead, W: Write>(
@@ -41,7 +41,7 @@ fn replay_reader<R: BufRead, W: Write>(
         uid: 1000,
         gids: &[],
     };
-    replay_from(alloc, DELEGATION, user, ops, out)
+    replay_from(alloc, DELEGATION, user, None, ops, out)
 }
 
 /// A text so many times.
@@ -65,13 +65,13 @@ fn a_fault_before_the_lines_leaves_nothing_written(rt: HostRuntime) {
         let user = UserIds { uid, gids };
         let mut out = Vec::new(rt.alloc());
         assert_eq!(rt;
-            replay_bytes(rt.alloc(), tree, user, b"x", &mut out),
+            replay_bytes(rt.alloc(), tree, user, None, b"x", &mut out),
             Err(fault)
         );
         assert_eq!(rt; out.len(), 0);
         let mut ops = Pieces::new(b"x", 1);
         assert_eq!(rt;
-            replay_from(rt.alloc(), tree, user, &mut ops, &mut out),
+            replay_from(rt.alloc(), tree, user, None, &mut ops, &mut out),
             Err(fault)
         );
         assert_eq!(rt; out.len(), 0);

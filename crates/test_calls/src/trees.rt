@@ -121,3 +121,13 @@ pid = 5
 uid = 1000
 at = \"/a\"
 ";
+
+/// `/` and `/c0`, everything of uid 0.
+pub const EMPTY: &[u8] = b"
+format = 1
+controllers = []
+[[cgroup]]
+path = \"/\"
+[[cgroup]]
+path = \"/c0\"
+";
