@@ -1,0 +1,253 @@
+//! The judge: each plain try carried out on a copy, and what it breaks looked at.
+ghost use Rattle.std.specs.Prelude.{◌≤◌, length};
+
+use crate::random::step;
+use cg_cgroup::files::{Controller, Limit, LimitFile};
+use cg_cgroup::memory::NoMemory;
+use cg_cgroup::path::{Path, PathFault};
+use cg_cgroup::process::Pid;
+use cg_cgroup::user::User;
+use cg_ops::changes::{Change, Changes};
+use cg_ops::operation::Op;
+use cg_rows::rows::Rows;
+use cg_tree::hierarchy::Hierarchy;
+use std::alloc::Global;
+
+/// The first of the plain tries that breaks the subtree.
+pub fn first_plain_try(
+    alloc: Global,
+    tree: &Rows,
+    user: &User,
+    subtree: &Path,
+) -> Result<Option<Vec<Op>>, PathFault> {
+    for ops in plain_tries(alloc, tree, subtree)? {
+        if breaks(alloc, tree, user, subtree, ops.as_slice())? {
+            return Ok(Some(ops));
+        }
+    }
+    Ok(None)
+}
+
+/// Whether these operations, in turn, break the subtree.
+fn breaks(
+    alloc: Global,
+    tree: &Rows,
+    user: &User,
+    subtree: &Path,
+    ops: &[Op],
+) -> Result<bool, NoMemory> {
+    let mut now = tree.try_clone(alloc)?;
+    for op in ops {
+        let before = now.try_clone(alloc)?;
+        step(alloc, &mut now, user, op)?;
+        if is_broken(alloc, tree, &before, &now, subtree)? {
+            return Ok(true);
+        }
+    }
+    Ok(false)
+}
+
+/// Whether the step from one tree to another breaks the subtree, in a run that began at `start`.
+fn is_broken(
+    alloc: Global,
+    start: &Rows,
+    before: &Rows,
+    now: &Rows,
+    subtree: &Path,
+) -> Result<bool, NoMemory> {
+    Ok(
+        is_changed(start, now, subtree)
+            || is_crossed(before, now, subtree, before.pids(alloc)?.as_slice())
+            || is_over(now, subtree, now.paths(alloc)?.as_slice()),
+    )
+}
+
+/// Whether the subtree is gone, or one of its limits is another.
+fn is_changed(start: &Rows, now: &Rows, subtree: &Path) -> bool {
+    let (Some(old), Some(new)) = (
+        start.get(subtree, subtree.depth()),
+        now.get(subtree, subtree.depth()),
+    ) else {
+        return true;
+    };
+    for file in LimitFile::ALL {
+        if old.file(file).map(|held| held.value) != new.file(file).map(|held| held.value) {
+            return true;
+        }
+    }
+    false
+}
+
+/// Whether one of these processes is inside on one side of the step alone.
+fn is_crossed(before: &Rows, now: &Rows, subtree: &Path, pids: &[Pid]) -> bool {
+    for pid in pids {
+        if let (Some(from), Some(to)) = (before.place(*pid), now.place(*pid)) {
+            if subtree.is_prefix_of(from) != subtree.is_prefix_of(to) {
+                return true;
+            }
+        }
+    }
+    false
+}
+
+/// Whether the subtree is over its limits of descendants and depth, counted from all paths.
+fn is_over(now: &Rows, subtree: &Path, paths: &[Path]) -> bool {
+    let Some(cgroup) = now.get(subtree, subtree.depth()) else {
+        return true;
+    };
+    let (mut count, mut deepest) = (0_u64, 0_u64);
+    for path in paths {
+        let down = path.depth().saturating_sub(subtree.depth()) as u64;
+        if subtree.is_prefix_of(path) && down > 0 {
+            count = count.saturating_add(1);
+            deepest = deepest.max(down);
+        }
+    }
+    is_past(count, cgroup.max_descendants.value) || is_past(deepest, cgroup.max_depth.value)
+}
+
+/// Whether so many are more than a limit allows.
+fn is_past(count: u64, limit: Limit) -> bool {
+    match limit {
+        Limit::Max => false,
+        Limit::At(most) => count > most,
+    }
+}
+
+/// One operation.
+fn only(alloc: Global, op: Op) -> Result<Vec<Op>, NoMemory> {
+    let mut ops = Vec::new(alloc);
+    ops.push(op)?;
+    Ok(ops)
+}
+
+/// The plain tries, in order.
+fn plain_tries(alloc: Global, tree: &Rows, subtree: &Path) -> Result<Vec<Vec<Op>>, PathFault> {
+    let mut tries = Vec::new(alloc);
+    tries.push(Vec::new(alloc))?;
+    add_writes(alloc, tree, subtree, &mut tries)?;
+    let path = subtree.try_clone(alloc)?;
+    tries.push(only(alloc, Op::Rmdir { path })?)?;
+    add_moves(alloc, tree, subtree, &mut tries)?;
+    for len in (0..subtree.depth()).rev() {
+        add_probes(alloc, tree, subtree, len, &mut tries)?;
+    }
+    Ok(tries)
+}
+
+/// Another value that the file accepts.
+fn other_value(file: LimitFile, value: Limit) -> Limit {
+    if file == LimitFile::CpuWeight {
+        let weight = if value == Limit::At(100) { 1 } else { 100 };
+        return Limit::At(weight);
+    }
+    if value == Limit::Max {
+        Limit::At(0)
+    } else {
+        Limit::Max
+    }
+}
+
+/// The sets of the subtree's limits, and the controls at its parent.
+fn add_writes(
+    alloc: Global,
+    tree: &Rows,
+    subtree: &Path,
+    tries: &mut Vec<Vec<Op>>,
+) -> Result<(), NoMemory> {
+    for file in LimitFile::ALL {
+        let held = tree
+            .get(subtree, subtree.depth())
+            .and_then(|cgroup| cgroup.file(file));
+        if let Some(held) = held {
+            let at = subtree.try_clone(alloc)?;
+            let value = other_value(file, held.value);
+            tries.push(only(alloc, Op::Set { at, file, value })?)?;
+        }
+    }
+    for controller in Controller::ALL {
+        for on in [false, true] {
+            let at = subtree.try_prefix(alloc, subtree.depth().saturating_sub(1))?;
+            let mut changes = Changes::new(alloc);
+            changes.push(Change { on, controller })?;
+            tries.push(only(alloc, Op::Control { at, changes })?)?;
+        }
+    }
+    Ok(())
+}
+
+/// Each process to each cgroup on the other side of the edge.
+fn add_moves(
+    alloc: Global,
+    tree: &Rows,
+    subtree: &Path,
+    tries: &mut Vec<Vec<Op>>,
+) -> Result<(), NoMemory> {
+    let paths = tree.paths(alloc)?;
+    for pid in tree.pids(alloc)? {
+        if let Some(place) = tree.place(pid) {
+            for path in &paths {
+                if subtree.is_prefix_of(place) != subtree.is_prefix_of(path) {
+                    let to = path.try_clone(alloc)?;
+                    tries.push(only(alloc, Op::Move { pid, to })?)?;
+                }
+            }
+        }
+    }
+    Ok(())
+}
+
+/// A new child of the ancestor of `len` names, and each process from inside moved there.
+fn add_probes(
+    alloc: Global,
+    tree: &Rows,
+    subtree: &Path,
+    len: usize,
+    tries: &mut Vec<Vec<Op>>,
+) -> Result<(), PathFault>
+    requires { len ≤ length subtree.now }
+{
+    let Some(path) = free_probe(alloc, tree, subtree, len)? else {
+        return Ok(());
+    };
+    for pid in tree.pids(alloc)? {
+        if let Some(place) = tree.place(pid) {
+            if subtree.is_prefix_of(place) {
+                let to = path.try_clone(alloc)?;
+                let mut ops = only(
+                    alloc,
+                    Op::Mkdir {
+                        path: path.try_clone(alloc)?,
+                    },
+                )?;
+                ops.push(Op::Move { pid, to })?;
+                tries.push(ops)?;
+            }
+        }
+    }
+    Ok(())
+}
+
+/// The path of the first probe that isn't there, where it isn't too long.
+fn free_probe(
+    alloc: Global,
+    tree: &Rows,
+    subtree: &Path,
+    len: usize,
+) -> Result<Option<Path>, PathFault>
+    requires { len ≤ length subtree.now }
+{
+    for number in 0..1000 {
+        let name = format!(in alloc; "probe{number}")?;
+        match subtree.with_child(alloc, len, name.as_str()) {
+            Ok(path) => {
+                if tree.get(&path, path.depth()).is_none() {
+                    return Ok(Some(path));
+                }
+            }
+            Err(PathFault::BadPath) => return Ok(None),
+            Err(PathFault::NoMemory) => return Err(PathFault::NoMemory),
+        }
+    }
+    Ok(None)
+}

@@ -1,0 +1,237 @@
+//! Small random trees, the same ones each time.
+ghost use Rattle.std.specs.Prelude.{◌<◌};
+
+use cg_cgroup::cgroup::Cgroup;
+use cg_cgroup::files::{Controller, ControllerSet, EntryName, Limit, LimitFile};
+use cg_cgroup::memory::NoMemory;
+use cg_cgroup::path::{Path, PathFault};
+use cg_cgroup::process::Pid;
+use cg_cgroup::user::{Mode, User};
+use cg_ops::apply;
+use cg_ops::changes::{Change, Changes};
+use cg_ops::operation::Op;
+use cg_ops::outcome::{Outcome, Refusal};
+use cg_rows::rows::Rows;
+use cg_tree::hierarchy::Hierarchy;
+use std::alloc::Global;
+
+/// Numbers that follow from a seed.
+#[derive(Drop)]
+pub struct Random {
+    state: u64,
+}
+
+impl Random {
+    /// The numbers of a seed other than 0.
+    pub fn new(seed: u64) -> Random {
+        Random { state: seed }
+    }
+
+    /// The next number, below a bound.
+    pub fn below(&mut self, bound: u64) -> u64
+        requires { 0 < bound }
+        ensures { result < bound }
+    {
+        let mut state = self.state;
+        state ^= state << 13;
+        state ^= state >> 7;
+        state ^= state << 17;
+        self.state = state;
+        state % bound
+    }
+
+    /// The place of one of so many things; 0 where there is none.
+    fn place(&mut self, count: usize) -> usize {
+        if count == 0 {
+            return 0;
+        }
+        self.below(count as u64) as usize
+    }
+
+    /// One of these values, or another where there is none.
+    fn one_of<T: Copy>(&mut self, values: &[T], otherwise: T) -> T {
+        let place = self.place(values.len());
+        values.get(place).copied().unwrap_or(otherwise)
+    }
+}
+
+/// The modes that entries get: who writes depends on owner, group and others in turn.
+const MODES: [u16; 8] = [0o000, 0o200, 0o020, 0o002, 0o220, 0o202, 0o022, 0o222];
+
+/// The cgroup of a random path of the tree.
+fn path_of(alloc: Global, random: &mut Random, tree: &Rows) -> Result<Path, NoMemory> {
+    let paths = tree.paths(alloc)?;
+    match paths.get(random.place(paths.len())) {
+        Some(path) => path.try_clone(alloc),
+        None => Ok(Path::root(alloc)),
+    }
+}
+
+/// A new child of a random cgroup.
+fn child(alloc: Global, random: &mut Random, tree: &Rows) -> Result<Op, PathFault> {
+    let above = path_of(alloc, random, tree)?;
+    let name = random.one_of(&["a", "b", "probe0"], "c");
+    let path = above.with_child(alloc, above.depth(), name)?;
+    Ok(Op::Mkdir { path })
+}
+
+/// Another mode for a random entry.
+fn chmod(alloc: Global, random: &mut Random, tree: &Rows) -> Result<Op, NoMemory> {
+    let at = path_of(alloc, random, tree)?;
+    let file = random.one_of(&LimitFile::ALL, LimitFile::MaxDepth);
+    let entries = [EntryName::Dir, EntryName::Procs, EntryName::SubtreeControl];
+    let control = random.one_of(&entries, EntryName::Dir);
+    let entry = random.one_of(&[control, control, EntryName::File(file)], control);
+    let mode = Mode::new(random.one_of(&MODES, 0o600)).unwrap_or(Mode::FILE);
+    Ok(Op::Chmod { at, entry, mode })
+}
+
+/// Another value for a random limit.
+fn set(alloc: Global, random: &mut Random, tree: &Rows) -> Result<Op, NoMemory> {
+    let at = path_of(alloc, random, tree)?;
+    let file = random.one_of(&LimitFile::ALL, LimitFile::MaxDepth);
+    let values = [
+        Limit::Max,
+        Limit::At(1),
+        Limit::At(2),
+        Limit::At(4),
+        Limit::At(100),
+    ];
+    let value = random.one_of(&values, Limit::Max);
+    Ok(Op::Set { at, file, value })
+}
+
+/// A change of a random controller at a random cgroup.
+fn control(alloc: Global, random: &mut Random, tree: &Rows) -> Result<Op, NoMemory> {
+    let at = path_of(alloc, random, tree)?;
+    let mut changes = Changes::new(alloc);
+    changes.push(Change {
+        on: random.below(3) > 0,
+        controller: random.one_of(&Controller::ALL, Controller::Cpu),
+    })?;
+    Ok(Op::Control { at, changes })
+}
+
+/// A random process to a random cgroup.
+fn movement(alloc: Global, random: &mut Random, tree: &Rows) -> Result<Op, NoMemory> {
+    let pids = tree.pids(alloc)?;
+    let to = path_of(alloc, random, tree)?;
+    match pids.get(random.place(pids.len())) {
+        Some(pid) => Ok(Op::Move { pid: *pid, to }),
+        None => Ok(Op::Rmdir { path: to }),
+    }
+}
+
+/// A random operation.
+fn operation(alloc: Global, random: &mut Random, tree: &Rows) -> Result<Op, PathFault> {
+    match random.below(10) {
+        0..=2 => child(alloc, random, tree),
+        3..=5 => Ok(chmod(alloc, random, tree)?),
+        6 => Ok(set(alloc, random, tree)?),
+        7 => Ok(control(alloc, random, tree)?),
+        _ => Ok(movement(alloc, random, tree)?),
+    }
+}
+
+/// The controllers of this list, on at the cgroup of a text.
+fn enabling(alloc: Global, text: &str, controllers: &[Controller]) -> Result<Op, PathFault> {
+    let mut changes = Changes::new(alloc);
+    for controller in controllers {
+        changes.push(Change {
+            on: true,
+            controller: *controller,
+        })?;
+    }
+    let at = Path::parse(alloc, text)?;
+    Ok(Op::Control { at, changes })
+}
+
+/// How trees begin: a chain of two cgroups, of which the upper one enables and is written by many, and a process at its end.
+fn beginning(alloc: Global, random: &mut Random, place: u32) -> Result<Op, PathFault> {
+    match place {
+        0 => enabling(alloc, "/", &Controller::ALL),
+        1 => {
+            let path = Path::parse(alloc, "/a")?;
+            Ok(Op::Mkdir { path })
+        }
+        2 => enabling(alloc, "/a", &[Controller::Pids, Controller::Memory]),
+        3 => {
+            let path = Path::parse(alloc, "/a/b")?;
+            Ok(Op::Mkdir { path })
+        }
+        4 | 5 => {
+            let pid = Pid::new(place - 1).ok_or(PathFault::BadPath)?;
+            let to = Path::parse(alloc, "/a/b")?;
+            Ok(Op::Move { pid, to })
+        }
+        _ => {
+            let at = Path::parse(alloc, "/a")?;
+            let entry = if place == 6 {
+                EntryName::Dir
+            } else {
+                EntryName::Procs
+            };
+            let mode = Mode::new(random.one_of(&MODES, 0o600)).unwrap_or(Mode::FILE);
+            Ok(Op::Chmod { at, entry, mode })
+        }
+    }
+}
+
+/// A random tree: what some random steps of these users leave of a root that is the first user's, with three processes.
+pub fn tree(alloc: Global, random: &mut Random, users: &[User]) -> Result<Rows, PathFault> {
+    let all = ControllerSet {
+        cpu: true,
+        memory: true,
+        pids: true,
+    };
+    let Some(keeper) = users.first() else {
+        return Err(PathFault::BadPath);
+    };
+    let mut tree = Rows::new(alloc, all, Cgroup::made_by(keeper, ControllerSet::none()))?;
+    for number in [3, 1, 4] {
+        populate(alloc, &mut tree, number, keeper.uid())?;
+    }
+    for place in 0..8 {
+        // one of four is left out
+        if random.below(4) > 0 {
+            let op = beginning(alloc, random, place)?;
+            step(alloc, &mut tree, keeper, &op)?;
+        }
+    }
+    for _step in 0..16 {
+        let op = operation(alloc, random, &tree)?;
+        // the first user carries out half of them
+        let place = random.place(users.len() * 2);
+        let user = users.get(place).unwrap_or(keeper);
+        step(alloc, &mut tree, user, &op)?;
+    }
+    Ok(tree)
+}
+
+/// Carries an operation out where nothing refuses it.
+pub fn step(
+    alloc: Global,
+    tree: &mut Rows,
+    user: &User,
+    op: &Op,
+) -> Result<Option<Refusal>, NoMemory> {
+    match apply(alloc, tree, user, op)? {
+        Outcome::Done => Ok(None),
+        Outcome::Refused(refusal) => Ok(Some(refusal)),
+    }
+}
+
+/// Adds a process at the root.
+fn populate(alloc: Global, tree: &mut Rows, number: u32, uid: u32) -> Result<(), NoMemory> {
+    let root = Path::root(alloc);
+    let Some(pid) = Pid::new(number) else {
+        return Ok(());
+    };
+    let Some(cgroup) = tree.get(&root, 0) else {
+        return Ok(());
+    };
+    if !cgroup.enabled.is_empty() || tree.is_used(pid) {
+        return Ok(());
+    }
+    tree.add_process(alloc, pid, uid, &root)
+}
