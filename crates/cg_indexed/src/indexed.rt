@@ -181,7 +181,8 @@ impl Hierarchy for Indexed {
         let Some(process) = self.processes.get(pid) else {
             unreachable!()
         };
-        self.cgroups.lower_live(&process.place);
+        let old = &process.place;
+        self.cgroups.lower_live(old);
         self.cgroups.raise_live(path);
         self.processes.set_place(pid, place);
         Ok(())
