@@ -2,6 +2,7 @@
 use cg_cgroup::path::Path;
 use cg_cgroup::user::User;
 use cg_lines::lines::read_op;
+use cg_ops::outcome::{Outcome, Refusal};
 use cg_rows::rows::Rows;
 use cg_runs::replay::Replay;
 use cg_runs::verdict::Verdict;
@@ -71,7 +72,9 @@ pub fn verdict_after(
     let user = User::new(1000).ok_or("user")?;
     for line in lines {
         let op = read_op(alloc, line.as_bytes())?;
-        replay.step(alloc, &user, &op)?;
+        if let Outcome::Refused(Refusal::NoSuchProcess { .. }) = replay.step(alloc, &user, &op)? {
+            return Err("a line names a process that isn't there".into());
+        }
     }
     Ok(replay.verdict())
 }
