@@ -138,12 +138,12 @@ module _ (st : State) (users : List Identity) (subtrees : List Names) (none : fi
   are-contained some = record {
     held = λ deeds by k d within. held-guarded st users (get_or subtrees k d) deeds (formed_at k within) (sub_at k d within) some (hold_at k d within) by;
     still = λ deeds by.
-      let again : All (λ subtree. IsSubtree (after_all st deeds) subtree × GuardsHoldForAll (after_all st deeds) users subtree) subtrees
+        let again : All (λ subtree. IsSubtree (after_all st deeds) subtree × GuardsHoldForAll (after_all st deeds) users subtree) subtrees
         = λ k d within. guarded-again st users (get_or subtrees k d) deeds (formed_at k within) (sub_at k d within) (hold_at k d within) by in
-      ap (λ found. unless_fault (first found) (all_answers (after_all st deeds) users subtrees)) (faults_none (after_all st deeds) subtrees (λ k d within. (again k d within).0))
-      ∙ ap (λ found. Ok (unwrap_or (first found) all.Contained)) (users_none (after_all st deeds) 0 users subtrees (λ user among k d within. (again k d within).1 user among));
+        ap (λ found. unless_fault (first found) (all_answers (after_all st deeds) users subtrees)) (faults_none (after_all st deeds) subtrees (λ k d within. (again k d within).0))
+        ∙ ap (λ found. Ok (unwrap_or (first found) all.Contained)) (users_none (after_all st deeds) 0 users subtrees (λ user among k d within. (again k d within).1 user among));
     strangers = λ deeds k d within opens steps clause broken.
-      broken-of_stranger st users (get_or subtrees k d) deeds steps clause (formed_at k within) (sub_at k d within) some (hold_at k d within) opens broken;
+        broken-of_stranger st users (get_or subtrees k d) deeds steps clause (formed_at k within) (sub_at k d within) some (hold_at k d within) opens broken;
   }
 
 pub on-err : {T E P : Type 0} (result : Result T E) → P → OnErr result P

@@ -106,15 +106,15 @@ module _ (st : State) (user : Identity) (at : Names) (name : EntryName) (entry :
     where
       row_there : absent (row_at st at) (NoSuchCgroup (length at)) ≡ []
       row_there = elim (row_at st at) as (λ found. option_and_then (λ row. entry_in row name) found ≡ Some entry → absent found (NoSuchCgroup (length at)) ≡ []) [
-          | None ↦ λ none. absurd (none-some entry none)
-          | Some row ↦ λ _. refl
-        ] is
+        | None ↦ λ none. absurd (none-some entry none)
+        | Some row ↦ λ _. refl
+      ] is
 
       row_named : present (row_at st at) (λ row. missing_bars row name) ≡ []
       row_named = elim (row_at st at) as (λ found. option_and_then (λ row. entry_in row name) found ≡ Some entry → present found (λ row. missing_bars row name) ≡ []) [
-          | None ↦ λ none. absurd (none-some entry none)
-          | Some row ↦ λ here. missing-none row name entry here
-        ] is
+        | None ↦ λ none. absurd (none-some entry none)
+        | Some row ↦ λ here. missing-none row name entry here
+      ] is
 
   chmod-opens : (mode : ℕ) → entry_at (after st user (Chmod at name mode)) at name ≡ Some (with_mode_of mode entry)
   chmod-opens mode =
@@ -137,14 +137,15 @@ module _ (st : State) (user : Identity) (subtree : Names) where
       → IsOpen (after_all new (by_user user (opening_of st user subtree guarded))) guarded
   one-opens new wider guarded entry is owned shut =
       let this : opening_of st user subtree guarded ≡ Chmod (take guarded.len subtree) guarded.name (opened entry.mode) ∷ [] =
-          ap (λ found. present found (λ e. cond (owns user e && not (writes user e)) (Chmod (take guarded.len subtree) guarded.name (opened e.mode) ∷ []) [])) is
-          ∙ (λ i. cond (owned i && not (shut i)) (Chmod (take guarded.len subtree) guarded.name (opened entry.mode) ∷ []) []) in
+      ap (λ found. present found (λ e. cond (owns user e && not (writes user e)) (Chmod (take guarded.len subtree) guarded.name (opened e.mode) ∷ []) [])) is
+      ∙ (λ i. cond (owned i && not (shut i)) (Chmod (take guarded.len subtree) guarded.name (opened entry.mode) ∷ []) []) in
       let kept = wider.stays (take guarded.len subtree) guarded.name entry is in
-      let now = kept.owned ∙ owned in
-      (with_mode_of (opened entry.mode) kept.now,
-      ap (λ ops. entry_at (after_all new (by_user user ops)) (take guarded.len subtree) guarded.name) this
-      ∙ chmod-opens new user (take guarded.len subtree) guarded.name kept.now kept.is now (opened entry.mode),
-      writes-bit user kept.now (opened entry.mode) (opened-bit entry.mode) now)
+      let now = kept.owned ∙ owned in (
+        with_mode_of (opened entry.mode) kept.now,
+        ap (λ ops. entry_at (after_all new (by_user user ops)) (take guarded.len subtree) guarded.name) this
+            ∙ chmod-opens new user (take guarded.len subtree) guarded.name kept.now kept.is now (opened entry.mode),
+        writes-bit user kept.now (opened entry.mode) (opened-bit entry.mode) now,
+      )
 
   still-open : (new : State) (ops : List Op) → AllByRecursion IsOpening ops → (guarded : Guarded) → IsOpen new guarded → IsOpen (after_all new (by_user user ops)) guarded
   still-open new ops all guarded is =
@@ -156,9 +157,10 @@ module _ (st : State) (user : Identity) (subtree : Names) where
       let first = opening_of st user subtree guarded in
       let rest = flat_map (opening_of st user subtree) entries in
       let step = after_all new (by_user user first) in
-      let joined : after_all step (by_user user rest) ≡ after_all new (by_user user (first ++ rest)) = sym (after-append user new first rest) in
-      ((λ entry is owned shut. subst (λ s. IsOpen s guarded) joined (still-open step rest (all-flat_map IsOpening (opening_of st user subtree) entries (λ g. opening-of_one st user subtree g)) guarded (one-opens new wider guarded entry is owned shut))),
-      subst (λ s. AllByRecursion (Opens s) entries) joined (all-opens entries step (wider-all user st new first wider (opening-of_one st user subtree guarded))))
+      let joined : after_all step (by_user user rest) ≡ after_all new (by_user user (first ++ rest)) = sym (after-append user new first rest) in (
+        (λ entry is owned shut. subst (λ s. IsOpen s guarded) joined (still-open step rest (all-flat_map IsOpening (opening_of st user subtree) entries (λ g. opening-of_one st user subtree g)) guarded (one-opens new wider guarded entry is owned shut))),
+        subst (λ s. AllByRecursion (Opens s) entries) joined (all-opens entries step (wider-all user st new first wider (opening-of_one st user subtree guarded))),
+      )
 
   -- a limit file that he reaches is written in the opened tree
   file-open : (file : LimitFile) (entry : Entry) → entry_at st subtree (File file) ≡ Some entry → reaches user entry ≡ true → (now : Entry) × (entry_at (opened_state st user subtree) subtree (File file) ≡ Some now) × (writes user now ≡ true)
@@ -166,12 +168,12 @@ module _ (st : State) (user : Identity) (subtree : Names) where
       elim (writes user entry) as (λ b. writes user entry ≡ b → (b || owns user entry) ≡ true → (now : Entry) × (entry_at (opened_state st user subtree) subtree (File file) ≡ Some now) × (writes user now ≡ true)) [
         | true ↦ λ can _. let kept = (wider-opened st user subtree).stays subtree (File file) entry is in (kept.now, kept.is, kept.written can)
         | false ↦ λ shut owned.
-          let entries = ancestors (length subtree) ++ limit_files (length subtree) in
-          let opens = of_file (λ f. Opens (opened_state st user subtree) (limit_file (length subtree) f))
-              (all-unmap (Opens (opened_state st user subtree)) (limit_file (length subtree)) all_files (all-right (Opens (opened_state st user subtree)) (ancestors (length subtree)) (limit_files (length subtree))
-              (all-left (Opens (opened_state st user subtree)) entries _ (all-opens (guarded_entries subtree) st (wider-itself user st))))) file in
-          let one = opens entry (ap (λ path. entry_at st path (File file)) (take-length subtree) ∙ is) owned shut in
-          (one.0, sym (ap (λ path. entry_at (opened_state st user subtree) path (File file)) (take-length subtree)) ∙ one.1, one.2)
+            let entries = ancestors (length subtree) ++ limit_files (length subtree) in
+            let opens = of_file (λ f. Opens (opened_state st user subtree) (limit_file (length subtree) f))
+            (all-unmap (Opens (opened_state st user subtree)) (limit_file (length subtree)) all_files (all-right (Opens (opened_state st user subtree)) (ancestors (length subtree)) (limit_files (length subtree))
+            (all-left (Opens (opened_state st user subtree)) entries _ (all-opens (guarded_entries subtree) st (wider-itself user st))))) file in
+            let one = opens entry (ap (λ path. entry_at st path (File file)) (take-length subtree) ∙ is) owned shut in
+            (one.0, sym (ap (λ path. entry_at (opened_state st user subtree) path (File file)) (take-length subtree)) ∙ one.1, one.2)
       ] refl reached
 
 -- ---- a limit file that the user writes is set
@@ -195,25 +197,25 @@ module _ (st : State) (user : Identity) (subtree : Names) (file : LimitFile) (he
     where
       row_there : absent (row_at st subtree) (NoSuchCgroup (length subtree)) ≡ []
       row_there = elim (row_at st subtree) as (λ found. option_and_then (λ row. file_of row file) found ≡ Some held → absent found (NoSuchCgroup (length subtree)) ≡ []) [
-          | None ↦ λ none. absurd (none-some held none)
-          | Some row ↦ λ _. refl
-        ] is
+        | None ↦ λ none. absurd (none-some held none)
+        | Some row ↦ λ _. refl
+      ] is
 
       file_there : present (row_at st subtree) (λ row. absent (file_of row file) (NoSuchFile file)) ≡ []
       file_there = elim (row_at st subtree) as (λ found. option_and_then (λ row. file_of row file) found ≡ Some held → present found (λ row. absent (file_of row file) (NoSuchFile file)) ≡ []) [
-          | None ↦ λ none. absurd (none-some held none)
-          | Some row ↦ λ here. ap (λ found. absent found (NoSuchFile file)) here
-        ] is
+        | None ↦ λ none. absurd (none-some held none)
+        | Some row ↦ λ here. ap (λ found. absent found (NoSuchFile file)) here
+      ] is
 
   set-breaks : breaks st user subtree (Set subtree file (other_value file held.value) ∷ []) ≡ true
   set-breaks =
       elim (is_empty (broken st st st subtree)) as (λ b. is_empty (broken st st st subtree) ≡ b → breaks st user subtree (Set subtree file (other_value file held.value) ∷ []) ≡ true) [
         | true ↦ λ none.
-          set_try st user subtree file held.value (empty_is _ none) (value_at-file st subtree file ∙ ap (option_map (λ f. f.value)) is)
-          ∙ free_allowed st user (Set subtree file (other_value file held.value)) set-free
+            set_try st user subtree file held.value (empty_is _ none) (value_at-file st subtree file ∙ ap (option_map (λ f. f.value)) is)
+            ∙ free_allowed st user (Set subtree file (other_value file held.value)) set-free
         | false ↦ λ some.
-          breaks-run st user subtree (Set subtree file (other_value file held.value) ∷ [])
-          ∙ ap (λ b. not (b && keeps st st (by_user user (Set subtree file (other_value file held.value) ∷ [])) subtree)) some
+            breaks-run st user subtree (Set subtree file (other_value file held.value) ∷ [])
+            ∙ ap (λ b. not (b && keeps st st (by_user user (Set subtree file (other_value file held.value) ∷ [])) subtree)) some
       ] refl
 
 -- ---- so some try breaks
@@ -237,7 +239,7 @@ module _ (st : State) (user : Identity) (subtree : Names) (file : LimitFile) (en
   file-escape none =
       let fails : List Op → Type 0 = λ ops. breaks st user subtree ops ≡ false in
       let plain = all-each (λ ops. AllByRecursion fails (with_opening (opening st user subtree) ops)) (λ ops. fails (opening st user subtree ++ ops)) (with-opening fails (opening st user subtree)) (plain_tries st subtree)
-          (all-unflat fails (with_opening (opening st user subtree)) (plain_tries st subtree) (none-passes (breaks st user subtree) (tries st user subtree) none)) in
+      (all-unflat fails (with_opening (opening st user subtree)) (plain_tries st subtree) (none-passes (breaks st user subtree) (tries st user subtree) none)) in
       let after : List Op → Type 0 = λ ops. fails (opening st user subtree ++ ops) in
       let sets = all-left after (set_tries st subtree) (control_tries subtree) (all-left after (set_tries st subtree ++ control_tries subtree) _ plain.1) in
       let one = of_file (λ f. AllByRecursion after (present (limits st subtree f) (λ value. (Set subtree f (other_value f value) ∷ []) ∷ []))) (all-unflat after (λ f. present (limits st subtree f) (λ value. (Set subtree f (other_value f value) ∷ []) ∷ [])) all_files sets) file in

@@ -47,7 +47,7 @@ find-all P p (y ∷ ys) all x e =
       | true ↦ λ found. let same : y ≡ x = cc in subst P same all.0
       | false ↦ λ found. find-all P p ys all.1 x found
     ] e
-  
+
 pub find-same : {A : Type 0} (p q : A → Bool) (xs : List A) → ((x : A) → p x ≡ q x) → find p xs ≡ find q xs
 find-same p q [] same = refl
 find-same p q (x ∷ xs) same = λ i. cond (same x i) (Some x) (find-same p q xs same i)

@@ -73,7 +73,7 @@ level_same None (Some was) here many deep count depth len = absurd (true≢false
 level_same (Some row) None here many deep count depth len = absurd (true≢false here)
 level_same (Some row) (Some was) here many deep count depth len =
     λ i. unless (is_under count (same_some row.max_descendants.value was.max_descendants.value many i)) (DescendantLimit len)
-      ++ unless (is_under depth (same_some row.max_depth.value was.max_depth.value deep i)) (DepthLimit len)
+    ++ unless (is_under depth (same_some row.max_depth.value was.max_depth.value deep i)) (DepthLimit len)
 
 child_still : (st new : State) → ((path : Names) → has_row new path ≡ has_row st path) → ((path : Names) → enabled_at new path ≡ enabled_at st path)
     → (path : Names) (controller : Controller) → child_enables st path controller ≡ true → child_enables new path controller ≡ true
@@ -136,8 +136,8 @@ module _ (user : Identity) (st new : State) (wider : IsWider user st new) where
       elim (row_at new path) as (λ found. row_at new path ≡ found → written_if_there user entry found ≡ true) [
         | None ↦ λ _. refl
         | Some row ↦ λ now.
-          let was = row-was path row now in
-          writes-stays path name entry named was.0 row was.1 now (sym (ap (written_if_there user entry) was.1) ∙ can)
+            let was = row-was path row now in
+            writes-stays path name entry named was.0 row was.1 now (sym (ap (written_if_there user entry) was.1) ∙ can)
       ] refl
 
   as_written : (found : Option Cgroup) → elim found as (λ _. Bool) [ None ↦ true | Some row ↦ writes user row.procs ] ≡ written_if_there user (λ row. row.procs) found
@@ -184,7 +184,7 @@ module _ (user : Identity) (st new : State) (wider : IsWider user st new) where
   level-wider path len =
       level_same (row_at new (take len path)) (row_at st (take len path)) (wider.here (take len path)) (wider.values (take len path) MaxDescendants) (wider.values (take len path) MaxDepth) (count_below new (take len path)) (length path - 1 - len) len
       ∙ ap (λ count. present (row_at st (take len path)) (λ row. unless (is_under count row.max_descendants.value) (DescendantLimit len) ++ unless (is_under (length path - 1 - len) row.max_depth.value) (DepthLimit len)))
-        (count_below-same_paths st new wider.paths (take len path))
+      (count_below-same_paths st new wider.paths (take len path))
 
   limit-wider : (path : Names) (len : ℕ) → limit_bars new path len ≡ limit_bars st path len
   limit-wider path zero = refl
@@ -269,4 +269,4 @@ module _ (user : Identity) (st new : State) (wider : IsWider user st new) where
       changes-wider : (row was : Cgroup) → row.enabled ≡ was.enabled → changes_bars new at changes row ≡ changes_bars st at changes was
       changes-wider row was same =
           λ i. flat_map (λ controller. change-wider row was same controller (effective changes controller) i) all_controllers
-            ++ unless (is_root at || (is_within (enabled_after (same i) changes) (same i) || not (has_live-wider at i))) (InternalProcess (length at))
+          ++ unless (is_root at || (is_within (enabled_after (same i) changes) (same i) || not (has_live-wider at i))) (InternalProcess (length at))

@@ -101,9 +101,9 @@ module _ (user : Identity) (st new : State) (wider : IsWider user st new) (subtr
   same_probes_at : (ancestor : Names) → probe_tries_at new subtree ancestor ≡ probe_tries_at st subtree ancestor
   same_probes_at ancestor =
       λ i. present (find (λ number. not (wider.here (probe ancestor number) i)) (numbers_from 0 (length (wider.paths i) + 1))) (λ number.
-        cond (nat_le (length (path_text (probe ancestor number))) 4095)
-        (map (λ pid. Mkdir (probe ancestor number) ∷ Move pid (probe ancestor number) ∷ [])
-          (filter (λ pid. elim (option_map (λ process. process.place) (finite.get (wider.live i) pid)) [ None ↦ false | Some place ↦ inside subtree place ]) (finite.keys (wider.live i)))) [])
+      cond (nat_le (length (path_text (probe ancestor number))) 4095)
+      (map (λ pid. Mkdir (probe ancestor number) ∷ Move pid (probe ancestor number) ∷ [])
+      (filter (λ pid. elim (option_map (λ process. process.place) (finite.get (wider.live i) pid)) [ None ↦ false | Some place ↦ inside subtree place ]) (finite.keys (wider.live i)))) [])
 
   same_probes : (len : ℕ) → probe_tries new subtree len ≡ probe_tries st subtree len
   same_probes zero = refl
@@ -115,7 +115,7 @@ module _ (user : Identity) (st new : State) (wider : IsWider user st new) (subtr
   same_moves : move_tries new subtree ≡ move_tries st subtree
   same_moves =
       λ i. flat_map (λ pid. present (option_map (λ process. process.place) (finite.get (wider.live i) pid)) (λ place.
-        map (λ path. Move pid path ∷ []) (filter (λ path. cond (inside subtree place) (not (inside subtree path)) (inside subtree path)) (wider.paths i)))) (finite.keys (wider.live i))
+      map (λ path. Move pid path ∷ []) (filter (λ path. cond (inside subtree place) (not (inside subtree path)) (inside subtree path)) (wider.paths i)))) (finite.keys (wider.live i))
 
   pub same_tries : plain_tries new subtree ≡ plain_tries st subtree
   same_tries = λ i. [] ∷ (same_sets i ++ control_tries subtree ++ (Rmdir subtree ∷ []) ∷ (same_moves i ++ same_probes (length subtree) i))
@@ -165,13 +165,13 @@ find-doubled p [] (ops ∷ others) all =
     same false = refl
 find-doubled p (op ∷ before) (ops ∷ others) all =
     elim (p ops) as (λ b. p ops ≡ b → cond b (Some ops) (cond (p (op ∷ (before ++ ops))) (Some (op ∷ (before ++ ops))) (find p (flat_map (with_opening (op ∷ before)) others)))
-      ≡ option_map (λ t. unless_free (p t) (op ∷ before) t) (cond (p (op ∷ (before ++ ops))) (Some ops) (find (λ t. p (op ∷ (before ++ t))) others))) [
+    ≡ option_map (λ t. unless_free (p t) (op ∷ before) t) (cond (p (op ∷ (before ++ ops))) (Some ops) (find (λ t. p (op ∷ (before ++ t))) others))) [
       | true ↦ λ e. sym (ap (λ b. option_map (λ t. unless_free (p t) (op ∷ before) t) (cond b (Some ops) (find (λ t. p (op ∷ (before ++ t))) others))) (all.0 e) ∙ ap (λ b. Some (unless_free b (op ∷ before) ops)) e)
       | false ↦ λ e. elim (p (op ∷ (before ++ ops))) as (λ b. cond b (Some (op ∷ (before ++ ops))) (find p (flat_map (with_opening (op ∷ before)) others))
-        ≡ option_map (λ t. unless_free (p t) (op ∷ before) t) (cond b (Some ops) (find (λ t. p (op ∷ (before ++ t))) others))) [
-        | true ↦ sym (ap (λ b. Some (unless_free b (op ∷ before) ops)) e)
-        | false ↦ find-doubled p (op ∷ before) others all.1
-      ]
+          ≡ option_map (λ t. unless_free (p t) (op ∷ before) t) (cond b (Some ops) (find (λ t. p (op ∷ (before ++ t))) others))) [
+            | true ↦ sym (ap (λ b. Some (unless_free b (op ∷ before) ops)) e)
+            | false ↦ find-doubled p (op ∷ before) others all.1
+          ]
     ] refl
 
 -- what a plain try breaks before the opening and after it
@@ -182,11 +182,11 @@ record IsPlain (st new : State) (user : Identity) (subtree : Names) (ops : List 
 plain-wider : (st new : State) (user : Identity) (subtree : Names) → IsWider user st new → (ops : List Op) → IsExact st user subtree ops → IsExact new user subtree ops → IsPlain st new user subtree ops
 plain-wider st new user subtree wider ops here there = record {
   still = λ h.
-    let parts = and_parts (is_free st user ops) (has_effect st ops) (sym here.exact ∙ h) in
-    there.exact ∙ (λ i. free-stays user st new wider ops here.tried parts.0 i && (effect-wider user st new wider ops ∙ parts.1) i);
+      let parts = and_parts (is_free st user ops) (has_effect st ops) (sym here.exact ∙ h) in
+      there.exact ∙ (λ i. free-stays user st new wider ops here.tried parts.0 i && (effect-wider user st new wider ops ∙ parts.1) i);
   by_free = λ h.
-    let parts = and_parts (is_free new user ops) (has_effect new ops) (sym there.exact ∙ h) in
-    here.exact ∙ ap (λ e. is_free st user ops && e) (sym (effect-wider user st new wider ops) ∙ parts.1) ∙ sym (with_true _ _ refl);
+      let parts = and_parts (is_free new user ops) (has_effect new ops) (sym there.exact ∙ h) in
+      here.exact ∙ ap (λ e. is_free st user ops && e) (sym (effect-wider user st new wider ops) ∙ parts.1) ∙ sym (with_true _ _ refl);
 }
 
 module _ (st : State) (user : Identity) (subtree : Names) (whole : IsUnbroken st subtree) (formed : IsWellFormed st) (sub : IsSubtree st subtree) where
@@ -206,8 +206,8 @@ module _ (st : State) (user : Identity) (subtree : Names) (whole : IsUnbroken st
       elim found as (λ o. found ≡ o → option_map (λ ops. unless_free (breaks st user subtree ops) (opening st user subtree) ops) o ≡ option_map (λ ops. unless_free (is_free st user ops) (opening st user subtree) ops) o) [
         | None ↦ λ _. refl
         | Some ops ↦ λ e.
-          let plain = find-all (IsPlain st (opened_state st user subtree) user subtree) (breaks (opened_state st user subtree) user subtree) (plain_tries st subtree) all_plain ops e in
-          ap (λ b. Some (unless_free b (opening st user subtree) ops)) (plain.by_free (find-passes (breaks (opened_state st user subtree) user subtree) (plain_tries st subtree) ops e))
+            let plain = find-all (IsPlain st (opened_state st user subtree) user subtree) (breaks (opened_state st user subtree) user subtree) (plain_tries st subtree) all_plain ops e in
+            ap (λ b. Some (unless_free b (opening st user subtree) ops)) (plain.by_free (find-passes (breaks (opened_state st user subtree) user subtree) (plain_tries st subtree) ops e))
       ] refl
 
   pub first_escape-is : first_escape st user subtree

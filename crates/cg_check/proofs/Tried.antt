@@ -96,8 +96,8 @@ module _ (st : State) (user : Identity) (subtree : Names) (whole : IsUnbroken st
       let place = is_inside-place pid is in
       record {
         exact =
-          with_true _ _ (probe_try st user subtree len (codes "probe" ++ decimal number) pid place.0 whole formed sub.0 within free place.1 place.2
-          ∙ ap (λ path. allowed st user (Mkdir (probe (take len subtree) number)) && passes_at st user path) (sym (parent-append (take len subtree) (codes "probe" ++ decimal number))));
+            with_true _ _ (probe_try st user subtree len (codes "probe" ++ decimal number) pid place.0 whole formed sub.0 within free place.1 place.2
+            ∙ ap (λ path. allowed st user (Mkdir (probe (take len subtree) number)) && passes_at st user path) (sym (parent-append (take len subtree) (codes "probe" ++ decimal number))));
         tried = tt;
       }
 
@@ -114,9 +114,11 @@ module _ (st : State) (user : Identity) (subtree : Names) (whole : IsUnbroken st
   exact-probes (suc len) within = all-append Exact (probe_tries_at st subtree (take len subtree)) (probe_tries st subtree len) (exact-probes_at len (omega (arith, within))) (exact-probes len (omega (arith, within)))
 
   pub exact-plain_tries : AllByRecursion Exact (plain_tries st subtree)
-  exact-plain_tries =
-      (exact-empty,
-      all-append Exact (set_tries st subtree ++ control_tries subtree) ((Rmdir subtree ∷ []) ∷ (move_tries st subtree ++ probe_tries st subtree (length subtree)))
-      (all-append Exact (set_tries st subtree) (control_tries subtree) exact-sets exact-controls)
-      (record { exact = with_true _ _ (rmdir_try st user subtree whole); tried = tt },
-      all-append Exact (move_tries st subtree) (probe_tries st subtree (length subtree)) exact-moves (exact-probes (length subtree) (omega arith))))
+  exact-plain_tries = (
+    exact-empty,
+    all-append Exact (set_tries st subtree ++ control_tries subtree) ((Rmdir subtree ∷ []) ∷ (move_tries st subtree ++ probe_tries st subtree (length subtree)))
+        (all-append Exact (set_tries st subtree) (control_tries subtree) exact-sets exact-controls) (
+          record { exact = with_true _ _ (rmdir_try st user subtree whole); tried = tt },
+          all-append Exact (move_tries st subtree) (probe_tries st subtree (length subtree)) exact-moves (exact-probes (length subtree) (omega arith)),
+        ),
+  )

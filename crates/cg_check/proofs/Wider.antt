@@ -92,9 +92,9 @@ module _ (user : Identity) (st new : State) (wider : IsWider user st new) (at : 
     values = λ path file. value_at-after new user (Chmod at name mode) path file refl ∙ wider.values path file;
     enabled = λ path. enabled_at-after new user (Chmod at name mode) path refl ∙ wider.enabled path;
     stays = λ path other entry is.
-      after-by new user (Chmod at name mode) (λ s. Stays user entry (entry_at s path other))
-      (λ free. subst (Stays user entry) (sym (entry_at-with_mode new at name mode path other)) (stays-free free path other entry (wider.stays path other entry is) (same_path at path && same_entry name other) refl))
-      (wider.stays path other entry is);
+        after-by new user (Chmod at name mode) (λ s. Stays user entry (entry_at s path other))
+        (λ free. subst (Stays user entry) (sym (entry_at-with_mode new at name mode path other)) (stays-free free path other entry (wider.stays path other entry is) (same_path at path && same_entry name other) refl))
+        (wider.stays path other entry is);
   }
 
 pub wider-step : (user : Identity) (st new : State) (op : Op) → IsWider user st new → IsOpening op → IsWider user st (after new user op)

@@ -22,11 +22,11 @@ mod opening;
 use answer::{AllAnswer, Answer};
 use cg_cgroup::path::Path;
 use cg_cgroup::user::User;
+use cg_guards::failed::failed_guard;
 use cg_guards::guard::Failed;
 use cg_runs::fault::CheckFault;
 use cg_tree::hierarchy::Hierarchy;
 use escape::first_escape;
-use cg_guards::failed::failed_guard;
 use std::alloc::Global;
 
 /// Whether a subtree is contained against a user: against whatever he does, operation after operation.

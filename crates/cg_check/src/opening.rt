@@ -29,7 +29,15 @@ pub fn opening<H: Hierarchy>(
     open_ancestors(alloc, tree, user, subtree, &mut chmods)?;
     open_files(alloc, tree, user, subtree, &LimitFile::ALL, &mut chmods)?;
     let len = subtree.parent_len();
-    open_entry(alloc, tree, user, subtree, len, EntryName::SubtreeControl, &mut chmods)?;
+    open_entry(
+        alloc,
+        tree,
+        user,
+        subtree,
+        len,
+        EntryName::SubtreeControl,
+        &mut chmods,
+    )?;
     open_entry(alloc, tree, user, subtree, len, EntryName::Dir, &mut chmods)?;
     Ok(chmods)
 }
@@ -65,7 +73,15 @@ fn open_files<H: Hierarchy>(
 {
     let len = subtree.depth();
     for file in files {
-        open_entry(alloc, tree, user, subtree, len, EntryName::File(*file), chmods)?;
+        open_entry(
+            alloc,
+            tree,
+            user,
+            subtree,
+            len,
+            EntryName::File(*file),
+            chmods,
+        )?;
     }
     Ok(())
 }

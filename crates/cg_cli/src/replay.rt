@@ -107,4 +107,3 @@ fn replay_slice<C: OnCourse, W: Write>(
     }
     run.end()
 }
-

@@ -123,6 +123,7 @@ levels_key p t h is = ap (levels_below (names_text p)) (sym is.same) ∙ of_path
         first_byte : (a : Name) (x : List ℕ) → 0 < length a → levels_below (47 ∷ (a ++ x)) (47 ∷ []) ≡ 0
         first_byte [] x l = absurd (omega arith)
         first_byte (c ∷ a) x l = refl
+
     of_path : (q : Names) → IsPath q → levels_below (names_text p) (path_text q) ≡ level p q
     of_path [] k = alone p (path_names p h)
     of_path (b ∷ q) k = levels_text p (b ∷ q) (path_names p h) (path_names (b ∷ q) k)

@@ -46,6 +46,7 @@ listed_more es rest next k v path paths more so_far takes is new ordered = recor
   where
     tie : (q : Names) → is_at (path_cmp path) q ≡ eq_by_cmp path_cmp q (names_at (string_bytes k))
     tie q = (eq_by_cmp_equiv path_cmp_total).symm path q ∙ ap (eq_by_cmp path_cmp q) is
+
     moved : (b a : Bool) (v : ℕ) (o : Option ℕ) → (cond b true a || is_some o) ≡ (a || is_some (cond b (Some v) o))
     moved true true v o = refl
     moved true false v o = refl

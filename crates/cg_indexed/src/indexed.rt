@@ -44,11 +44,7 @@ impl Model for Indexed {
 
 impl Indexed {
     /// A tree with a root alone. Fails where memory is wanted.
-    pub fn new(
-        alloc: Global,
-        controllers: ControllerSet,
-        root: Cgroup,
-    ) -> Result<Indexed, NoMemory>
+    pub fn new(alloc: Global, controllers: ControllerSet, root: Cgroup) -> Result<Indexed, NoMemory>
         requires { IsRoot controllers root }
         ensures { IfOk result (λ tree. tree ≡ state_of_root controllers root) }
     {

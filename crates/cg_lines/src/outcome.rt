@@ -9,10 +9,10 @@ ghost use Rattle.cg_ops.specs.declared.operation.Op.{Op};
 ghost use Rattle.cg_ops.specs.declared.outcome.Refusal.{Refusal};
 ghost use Rattle.cg_lines.specs.Outcomes.{path_of, named_len, outcome_text, refusal_text, IsShown, CanShow};
 
-use cg_ops::operation::Op;
-use cg_ops::outcome::{Outcome, Refusal};
 use cg_cgroup::memory::NoMemory;
 use cg_cgroup::path::Path;
+use cg_ops::operation::Op;
+use cg_ops::outcome::{Outcome, Refusal};
 use std::alloc::{AllocError, Global};
 
 /// The line of an outcome, with its newline: `ok`, or `refused` and why.

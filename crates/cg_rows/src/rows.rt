@@ -96,10 +96,8 @@ impl Rows {
         let Some(cgroup) = self.get(path, at) else {
             return false;
         };
-        !(is_under(
-            self.count_below(path, at),
-            cgroup.max_descendants.value,
-        ) && is_under((len - at) as u64, cgroup.max_depth.value))
+        !(is_under(self.count_below(path, at), cgroup.max_descendants.value)
+            && is_under((len - at) as u64, cgroup.max_depth.value))
     }
 }
 

@@ -12,6 +12,7 @@ use std::process::Abort;
 use std::test::Fail;
 
 /// Operations of a user, and what is said of them.
+#[derive(Drop)]
 struct Row {
     pub uid: u32,
     pub ops: &'static str,
@@ -262,7 +263,8 @@ const ROW_OF_TOO_MANY: Row = Row {
     ending: Ok(1),
 };
 
-const PARENT_DIRECTORY: &str = "format = 1\ncontrollers = []\n[[cgroup]]\npath = \"/\"\ndir = { uid = 1000 }\n[[cgroup]]\npath = \"/c0\"\n";
+const PARENT_DIRECTORY: &str =
+    "format = 1\ncontrollers = []\n[[cgroup]]\npath = \"/\"\ndir = { uid = 1000 }\n[[cgroup]]\npath = \"/c0\"\n";
 
 #[test]
 fn verdicts_stand_behind_the_outcomes(rt: HostRuntime) -> Result<(), Fail> {
@@ -272,7 +274,13 @@ fn verdicts_stand_behind_the_outcomes(rt: HostRuntime) -> Result<(), Fail> {
     let tree = PARENT_DIRECTORY.as_bytes();
     assert_watched(&rt, rt.alloc(), tree, Some("/c0"), &ROW_OF_REMOVAL);
     let tree = open_delegation(rt.alloc())?;
-    assert_watched(&rt, rt.alloc(), tree.as_bytes(), Some("/c0"), &ROW_OF_CROSSING);
+    assert_watched(
+        &rt,
+        rt.alloc(),
+        tree.as_bytes(),
+        Some("/c0"),
+        &ROW_OF_CROSSING,
+    );
     Ok(())
 }
 
@@ -281,11 +289,23 @@ fn verdicts_name_limits(rt: HostRuntime) -> Result<(), Fail> {
     let limit = "\"memory.max\" = { value = 1073741824 }";
     let owned = "\"memory.max\" = { uid = 1000, value = 1073741824 }";
     let tree = delegation_with(rt.alloc(), &[(limit, owned)])?;
-    assert_watched(&rt, rt.alloc(), tree.as_bytes(), Some("/c0"), &ROW_OF_LIMITS);
+    assert_watched(
+        &rt,
+        rt.alloc(),
+        tree.as_bytes(),
+        Some("/c0"),
+        &ROW_OF_LIMITS,
+    );
     let most = "\"cgroup.max.descendants\" = { value = 4 }";
     let fewer = "\"cgroup.max.descendants\" = { value = 1 }";
     let tree = delegation_with(rt.alloc(), &[(most, fewer)])?;
-    assert_watched(&rt, rt.alloc(), tree.as_bytes(), Some("/c0"), &ROW_OF_TOO_MANY);
+    assert_watched(
+        &rt,
+        rt.alloc(),
+        tree.as_bytes(),
+        Some("/c0"),
+        &ROW_OF_TOO_MANY,
+    );
     Ok(())
 }
 
@@ -303,7 +323,17 @@ fn assert_fault(rt: &impl Abort, alloc: Global, subtree: &str, fault: CliFault) 
 #[test]
 fn subtrees_that_cannot_be_watched(rt: HostRuntime) -> Result<(), Fail> {
     assert_fault(&rt, rt.alloc(), "c0", CliFault::BadPath);
-    assert_fault(&rt, rt.alloc(), "/", CliFault::Subtree(CheckFault::RootSubtree));
-    assert_fault(&rt, rt.alloc(), "/zz", CliFault::Subtree(CheckFault::NoSuchSubtree));
+    assert_fault(
+        &rt,
+        rt.alloc(),
+        "/",
+        CliFault::Subtree(CheckFault::RootSubtree),
+    );
+    assert_fault(
+        &rt,
+        rt.alloc(),
+        "/zz",
+        CliFault::Subtree(CheckFault::NoSuchSubtree),
+    );
     Ok(())
 }

@@ -3,11 +3,14 @@ use crate::trees::{replay_of, verdict_after};
 use cg_cgroup::path::Path;
 use cg_cgroup::user::User;
 use cg_lines::lines::read_op;
+use cg_ops::operation::Op;
 use cg_ops::outcome::{Outcome, Refusal};
+use cg_rows::rows::Rows;
 use cg_runs::fault::{CheckFault, StepFault};
 use cg_runs::replay::{MAX_STEPS, Replay};
 use cg_runs::verdict::{Clause, Verdict};
 use cg_text::tree::read_tree;
+use std::alloc::Global;
 use std::test::Fail;
 
 const ROOT: &str = "
@@ -46,33 +49,45 @@ fn refused_steps_count(rt: HostRuntime) -> Result<(), Fail> {
     Ok(())
 }
 
-#[test]
-fn the_last_step(rt: HostRuntime) -> Result<(), Fail> {
-    let alloc = rt.alloc();
+/// A replay that has made all steps but one, each refused, and kept its subtree.
+fn nearly_full(alloc: Global) -> Result<Replay<Rows>, Fail> {
     let user = User::new(1000).ok_or("user")?;
     let refused = read_op(alloc, b"rmdir /")?;
-    let last = read_op(alloc, b"set /s memory.max 5")?;
     let mut replay = replay_of(alloc)?;
     for _ in 1..MAX_STEPS {
-        let Outcome::Refused(refusal) = replay.step(alloc, &user, &refused)? else {
-            return Err("the root is removed".into());
-        };
-        assert_eq!(rt; refusal, Refusal::RootCgroup);
+        refuse(alloc, &mut replay, &user, &refused)?;
     }
-    assert_eq!(rt; replay.verdict(), Verdict::Kept);
-    assert_eq!(rt; replay.step(alloc, &user, &last)?, Outcome::Done);
+    Ok(replay)
+}
+
+/// One step that is refused.
+fn refuse(alloc: Global, replay: &mut Replay<Rows>, user: &User, op: &Op) -> Result<(), Fail> {
+    match replay.step(alloc, user, op)? {
+        Outcome::Refused(Refusal::RootCgroup) => Ok(()),
+        _ => Err("another outcome".into()),
+    }
+}
+
+/// A step that breaks the limits, the last that a replay may have, and the fault of one more.
+fn last_and_one_more(
+    alloc: Global,
+    replay: &mut Replay<Rows>,
+) -> Result<(Verdict, Option<StepFault>), Fail> {
+    let user = User::new(1000).ok_or("user")?;
+    let last = read_op(alloc, b"set /s memory.max 5")?;
+    let _outcome = replay.step(alloc, &user, &last)?;
     let broken = replay.verdict();
-    assert_eq!(rt;
-        broken,
-        Verdict::Broken {
-            after: MAX_STEPS,
-            clause: Clause::Limits
-        }
-    );
-    let Err(fault) = replay.step(alloc, &user, &last) else {
-        return Err("one step too many".into());
-    };
-    assert_eq!(rt; fault, StepFault::TooManySteps);
+    Ok((broken, replay.step(alloc, &user, &last).err()))
+}
+
+#[test]
+fn the_last_step(rt: HostRuntime) -> Result<(), Fail> {
+    let mut replay = nearly_full(rt.alloc())?;
+    assert_eq!(rt; replay.verdict(), Verdict::Kept);
+    let (broken, fault) = last_and_one_more(rt.alloc(), &mut replay)?;
+    let (after, clause) = (MAX_STEPS, Clause::Limits);
+    assert_eq!(rt; broken, Verdict::Broken { after, clause });
+    assert_eq!(rt; fault, Some(StepFault::TooManySteps));
     assert_eq!(rt; replay.verdict(), broken);
     Ok(())
 }

@@ -102,7 +102,11 @@ fn check_command<'a>(alloc: Global) -> Result<Command<'a>, AllocError> {
         .arg(tree_argument(alloc))?
         .arg(uid_argument(alloc))?
         .arg(gid_argument(alloc))?
-        .arg(subtree_argument(alloc).required(true).help("The top of the subtree"))
+        .arg(
+            subtree_argument(alloc)
+                .required(true)
+                .help("The top of the subtree"),
+        )
 }
 
 fn audit_command<'a>(alloc: Global) -> Result<Command<'a>, AllocError> {
@@ -142,10 +146,7 @@ fn replay_command<'a>(alloc: Global) -> Result<Command<'a>, AllocError> {
                 .required(true)
                 .help("The operations, one a line"),
         )?
-        .arg(
-            subtree_argument(alloc)
-                .help("The top of a subtree, on which a verdict is wanted"),
-        )
+        .arg(subtree_argument(alloc).help("The top of a subtree, on which a verdict is wanted"))
 }
 
 fn tree_argument<'a>(alloc: Global) -> Arg<'a> {

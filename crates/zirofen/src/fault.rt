@@ -1,6 +1,6 @@
 //! Why the program ends without a command's status.
-ghost use Rattle.std.specs.Prelude.{◌≡◌};
-ghost use Rattle.zirofen.specs.declared.fault.Fault.TheVariants.{Cli};
+ghost use Rattle.std.specs.Prelude.{◌≡◌, ◌⊎◌};
+ghost use Rattle.zirofen.specs.declared.fault.Fault.TheVariants.{Usage, Cli};
 ghost use Rattle.cg_cli.specs.declared.fault.CliFault.TheVariants.{NoMemory as MemoryFault};
 
 use cg_cli::fault::{CliFault, fault_text};
@@ -62,6 +62,8 @@ impl From<AllocError> for Fault {
 }
 
 impl<T: Drop> From<AllocFailed<T>> for Fault {
+    ghost from_gives = { λ _ fault. fault ≡ Cli MemoryFault };
+
     fn from(_failed: AllocFailed<T>) -> Fault {
         Fault::Cli(CliFault::NoMemory)
     }
@@ -69,6 +71,8 @@ impl<T: Drop> From<AllocFailed<T>> for Fault {
 
 /// A command line that was refused.
 impl From<clap::Error> for Fault {
+    ghost from_gives = { λ _ fault. (fault ≡ Usage) ⊎ (fault ≡ Cli MemoryFault) };
+
     fn from(error: clap::Error) -> Fault {
         if error.kind() == ErrorKind::OutOfMemory {
             Fault::Cli(CliFault::NoMemory)

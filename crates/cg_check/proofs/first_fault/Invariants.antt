@@ -9,5 +9,5 @@ use Rattle.cg_check.proofs.first_fault.Given as goal
 abbrev pub invariant-loop-subtree : goal.invariant-loop-subtree
 invariant-loop-subtree g l = record {
   fault : first (flat_map (subtree_faults (g.H.Hierarchy.state l.tree)) (drop l.subtree-index l.subtrees)) ≡ first (flat_map (subtree_faults (g.H.Hierarchy.state l.tree)) l.subtrees);
-  formed : 0 < l.subtree-index → IsWellFormed (g.H.Hierarchy.state l.tree)
+  formed : 0 < l.subtree-index → IsWellFormed (g.H.Hierarchy.state l.tree);
 }

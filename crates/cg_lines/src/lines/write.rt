@@ -6,13 +6,13 @@ ghost use Rattle.cg_cgroup.specs.Paths.{path_text, IsPath};
 ghost use Rattle.cg_ops.specs.declared.operation.Op.TheVariants.{Move, Control, Mkdir, Rmdir, Set, Fork, Exit, Chmod};
 ghost use Rattle.cg_lines.specs.OperationLines.{change_word, limit_word, mode_word, spelling, IsHeld};
 
-use cg_ops::changes::{Change, Changes};
-use cg_ops::operation::Op;
 use cg_cgroup::files::{EntryName, Limit, LimitFile};
 use cg_cgroup::memory::NoMemory;
 use cg_cgroup::path::Path;
 use cg_cgroup::process::Pid;
 use cg_cgroup::user::Mode;
+use cg_ops::changes::{Change, Changes};
+use cg_ops::operation::Op;
 use std::alloc::Global;
 
 fn whole(path: &Path) -> &str

@@ -41,5 +41,5 @@ invariant_of-self-2 c =
     (subst (λ (processes : LiveAndUsed). IsIndexed (change_held c.self.inside.cgroups c.args.path.now one_live_more) processes c.self.inside.controllers) (sym (processes_are c)) (record {
       formed = subst IsWellFormed (sym (next c)) (formed-with_process c.args.self.now c.args.pid c.args.uid c.args.path.now c.requires.may_hold (subst IsWellFormed c.self.view_is c.self.invariant.formed));
       live = counted_more c.self.inside.cgroups c.self.inside.processes.live (map.insert c.self.inside.processes.live c.args.pid (record { uid = c.args.uid; place = c.args.path.now })) c.args.path.now c.self.invariant.live
-      (count_live-insert c.self.inside.processes.live c.args.pid (record { uid = c.args.uid; place = c.args.path.now }) (none_live_yet c)) (omega (arith, c.size-size.ensures.bound, c.size-size.ensures.small));
+          (count_live-insert c.self.inside.processes.live c.args.pid (record { uid = c.args.uid; place = c.args.path.now }) (none_live_yet c)) (omega (arith, c.size-size.ensures.bound, c.size-size.ensures.small));
     }))
