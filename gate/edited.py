@@ -105,10 +105,11 @@ class Crate:
             for file in files:
                 self.functions += self.functions_in(os.path.relpath(f"{at}/{file}", self.folder), known)
 
-    def stop_on_unknown_calls(self, said):
-        """Stops where the prover names a call that is not in what the kit keeps for linking, on which groups rest."""
+    def stop_on_unknown_calls(self, said, edited):
+        """Stops where the prover names a call that is not in what the kit keeps for linking, on which groups rest. An edit
+        may add calls to the functions that it changes."""
         for caller, callees in (it.groups() for it in map(CALLS.match, said) if it and self.reached):
-            if not {*re.findall(r"`([^`]+)`", callees)} <= self.reached[caller]:
+            if caller not in edited and not {*re.findall(r"`([^`]+)`", callees)} <= self.reached[caller]:
                 raise ValueError(f"{caller} calls {callees}, which mir.json of {self.name} doesn't say")
 
     def functions_in(self, path, known):
