@@ -194,6 +194,45 @@ fn operations_are_answered_in_turn(rt: HostRuntime) -> Result<(), Fail> {
     Ok(())
 }
 
+/// A row where `/c0` is watched too, and kept.
+fn assert_kept(rt: &impl Abort, alloc: Global, tree: &[u8], row: &Row) -> Result<(), Fail> {
+    let mut report = String::from_str(alloc, row.report)?;
+    if row.ending.is_ok() {
+        report.push_str("kept\n")?;
+    }
+    let user = UserIds {
+        uid: row.uid,
+        gids: &[],
+    };
+    let mut out = Vec::new(alloc);
+    let mut pieces = Pieces::new(row.ops.as_bytes(), 1);
+    let ending = replay_from(alloc, tree, user, Some("/c0"), &mut pieces, &mut out);
+    assert_eq!(rt; ending, row.ending);
+    assert_eq!(rt; out.as_slice(), report.as_bytes());
+    let mut out = Vec::new(alloc);
+    let mut pieces = Uneven {
+        rest: row.ops.as_bytes(),
+        seed: 7,
+    };
+    let ending = replay_from(alloc, tree, user, Some("/c0"), &mut pieces, &mut out);
+    assert_eq!(rt; ending, row.ending);
+    assert_eq!(rt; out.as_slice(), report.as_bytes());
+    Ok(())
+}
+
+#[test]
+fn whoever_acts_inside_the_subtree_is_kept(rt: HostRuntime) -> Result<(), Fail> {
+    for row in ROWS.iter() {
+        assert_kept(&rt, rt.alloc(), DELEGATION, row)?;
+    }
+    for row in MORE_ROWS.iter() {
+        assert_kept(&rt, rt.alloc(), DELEGATION, row)?;
+    }
+    let tree = delegation_and_process(rt.alloc())?;
+    assert_kept(&rt, rt.alloc(), tree.as_slice(), &ROW_OF_PROCESS)?;
+    Ok(())
+}
+
 /// What is said of `/c0`, which is watched, in the delegation.
 const WATCHED_ROWS: [Row; 5] = [
     Row {

@@ -12,15 +12,15 @@ use std::alloc::{AllocError, Global};
 use std::io::{BufRead, Write};
 use std::test::Fail;
 
-/// Operations of user 1000, and their report.
+/// Operations of user 1000, and their report where `/c0` is watched.
 const REPLAYS: [(&[u8], &[u8]); 2] = [
     (
         b"mkdir /c0/c00/x\nmkdir /c0/c00/x/y\n",
-        b"ok\nrefused depth-limit /c0\n",
+        b"ok\nrefused depth-limit /c0\nkept\n",
     ),
     (
         b"control /c0 +memory\nset /c0/c00 memory.max 4096\ncontrol /c0 -memory +memory\ncontrol /c0/c01 +memory\ncontrol /c0 -memory\ncontrol /c0/c00 +memory\n",
-        b"ok\nok\nok\nok\nrefused child-uses memory\nrefused internal-process /c0/c00\n",
+        b"ok\nok\nok\nok\nrefused child-uses memory\nrefused internal-process /c0/c00\nkept\n",
     ),
 ];
 
@@ -42,6 +42,27 @@ fn replay_reader<R: BufRead, W: Write>(
         gids: &[],
     };
     replay_from(alloc, DELEGATION, user, None, ops, out)
+}
+
+/// The same where `/c0` is watched.
+fn watched<W: Write>(alloc: Global, ops: &[u8], out: &mut W) -> Result<u8, CliFault> {
+    let user = UserIds {
+        uid: 1000,
+        gids: &[],
+    };
+    replay_bytes(alloc, DELEGATION, user, Some("/c0"), ops, out)
+}
+
+fn watched_reader<R: BufRead, W: Write>(
+    alloc: Global,
+    ops: &mut R,
+    out: &mut W,
+) -> Result<u8, CliFault> {
+    let user = UserIds {
+        uid: 1000,
+        gids: &[],
+    };
+    replay_from(alloc, DELEGATION, user, Some("/c0"), ops, out)
 }
 
 /// A text so many times.
@@ -197,7 +218,7 @@ fn a_failed_read_leaves_the_lines_before_it(rt: HostRuntime) {
             let mut pieces = Pieces::new(ops, 1);
             pieces.fails_at = given as u64 + 1;
             let mut out = Vec::new(rt.alloc());
-            let ending = replay_reader(rt.alloc(), &mut pieces, &mut out);
+            let ending = watched_reader(rt.alloc(), &mut pieces, &mut out);
             assert_eq!(rt; ending, Err(CliFault::Read));
             assert_eq!(rt; pieces.asked, pieces.fails_at);
             assert_eq!(rt;
@@ -213,16 +234,16 @@ fn a_failed_write_leaves_a_part_of_the_report(rt: HostRuntime) {
     for (ops, report) in REPLAYS {
         for room in 0..report.len() {
             let mut out = FailsOnce::new(rt.alloc(), room);
-            assert_eq!(rt; replay(rt.alloc(), ops, &mut out), Err(CliFault::Write));
+            assert_eq!(rt; watched(rt.alloc(), ops, &mut out), Err(CliFault::Write));
             assert_eq!(rt; out.taken.as_slice(), &report[..room]);
         }
         let mut out = TakesNone { asked: 0 };
-        assert_eq!(rt; replay(rt.alloc(), ops, &mut out), Err(CliFault::Write));
+        assert_eq!(rt; watched(rt.alloc(), ops, &mut out), Err(CliFault::Write));
         assert_eq!(rt; out.asked, 1);
         let mut out = ByteByByte {
             taken: Vec::new(rt.alloc()),
         };
-        assert_eq!(rt; replay(rt.alloc(), ops, &mut out), Ok(0));
+        assert_eq!(rt; watched(rt.alloc(), ops, &mut out), Ok(0));
         assert_eq!(rt; out.taken.as_slice(), report);
     }
     let mut out = TakesNone { asked: 0 };
