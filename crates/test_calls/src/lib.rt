@@ -18,6 +18,8 @@ mod replay;
 #[cfg(test)]
 mod replay_ends;
 #[cfg(test)]
+mod strangers;
+#[cfg(test)]
 mod trees;
 #[cfg(test)]
 mod vectors;
