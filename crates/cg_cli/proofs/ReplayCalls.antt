@@ -123,9 +123,3 @@ pub not_asked : (lines : Reporting) (given old new : Option (List ℕ)) (ended :
 not_asked lines given old new ended replays =
     let some = some_bytes given in
     from_replays closed lines given given old new some.0 ended some.1 (replays some.0)
-
--- a watched run has made no step at its start
-steps_of : Result Course CliFault → ℕ
-steps_of (Ok (Unwatched st)) = 0
-steps_of (Ok (Watched run)) = run.steps
-steps_of (Err fault) = 0
