@@ -4,7 +4,7 @@ use cg_cgroup::user::User;
 use cg_check::answer::AllAnswer;
 use cg_check::check_all;
 use cg_lines::lines::read_op;
-use cg_ops::outcome::Outcome;
+use cg_ops::outcome::{Outcome, Refusal};
 use cg_rows::rows::Rows;
 use cg_runs::replay::Replay;
 use cg_runs::verdict::{Clause, Verdict};
@@ -41,7 +41,11 @@ fn watched(alloc: Global) -> Result<Replay<Rows>, Fail> {
 fn removes(alloc: Global, replay: &mut Replay<Rows>, uid: u32) -> Result<bool, Fail> {
     let user = User::new(uid).ok_or("user")?;
     let op = read_op(alloc, b"rmdir /c0")?;
-    Ok(replay.step(alloc, &user, &op)? == Outcome::Done)
+    match replay.step(alloc, &user, &op)? {
+        Outcome::Done => Ok(true),
+        Outcome::Refused(Refusal::NoAccess { .. }) => Ok(false),
+        Outcome::Refused(_) => Err("another refusal".into()),
+    }
 }
 
 #[test]

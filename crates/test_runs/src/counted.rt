@@ -68,25 +68,35 @@ fn refuse(alloc: Global, replay: &mut Replay<Rows>, user: &User, op: &Op) -> Res
     }
 }
 
-/// A step that breaks the limits, the last that a replay may have, and the fault of one more.
-fn last_and_one_more(
+/// One step that is carried out.
+fn carry_out(
     alloc: Global,
     replay: &mut Replay<Rows>,
-) -> Result<(Verdict, Option<StepFault>), Fail> {
+    user: &User,
+    op: &Op,
+) -> Result<(), StepFault> {
+    match replay.step(alloc, user, op)? {
+        Outcome::Refused(Refusal::RootCgroup) => Err(StepFault::NoMemory),
+        _ => Ok(()),
+    }
+}
+
+/// A step that breaks the limits: the fault of it, if there is one.
+fn break_limits(alloc: Global, replay: &mut Replay<Rows>) -> Result<Option<StepFault>, Fail> {
     let user = User::new(1000).ok_or("user")?;
     let last = read_op(alloc, b"set /s memory.max 5")?;
-    let _outcome = replay.step(alloc, &user, &last)?;
-    let broken = replay.verdict();
-    Ok((broken, replay.step(alloc, &user, &last).err()))
+    Ok(carry_out(alloc, replay, &user, &last).err())
 }
 
 #[test]
 fn the_last_step(rt: HostRuntime) -> Result<(), Fail> {
     let mut replay = nearly_full(rt.alloc())?;
     assert_eq!(rt; replay.verdict(), Verdict::Kept);
-    let (broken, fault) = last_and_one_more(rt.alloc(), &mut replay)?;
+    assert_eq!(rt; break_limits(rt.alloc(), &mut replay)?, None);
+    let broken = replay.verdict();
     let (after, clause) = (MAX_STEPS, Clause::Limits);
     assert_eq!(rt; broken, Verdict::Broken { after, clause });
+    let fault = break_limits(rt.alloc(), &mut replay)?;
     assert_eq!(rt; fault, Some(StepFault::TooManySteps));
     assert_eq!(rt; replay.verdict(), broken);
     Ok(())
