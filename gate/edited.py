@@ -6,7 +6,7 @@ FUNCTION = re.compile(r"( *)(?:pub(?:\([\w ]+\))? )?(?:const |unsafe )*fn (\w+)"
 BLOCK = re.compile(r"impl(?:<.*?>)? (?:(?:\w+::)*(?P<trait>\w+)(?:<.*>)? for )?(?P<type>\w+)")
 # How the prover says that a goal of a function is open, and that an answer in a proof file doesn't prove its goal.
 OPEN = re.compile(r"note: (src/\S+?):(\d+):\d+: (it is not proved that .*)")
-NOT_MET = r"`[^`]*`: (?:as printed, |computed as far as they go, |expected type |`(?:grind|omega|search|simp)`:? ).*"
+NOT_MET = r"`[^`]*`: (?:as printed, |computed as (?:a goal is|far as they go), |expected type |`(?:grind|omega|rw|search|simp)`:? ).*"
 REFUSED_ANSWER = re.compile(rf"\./proofs/(\S+)/(?:Answers|Invariants|Proof)\.antt:\d+:\d+: error: ({NOT_MET})")
 CALLS = re.compile(r"fn (\S+): .*?it calls (.*?), which (?:is|are) not proved")
 
