@@ -7,6 +7,8 @@ use cg_cli::audit::audit_bytes;
 use cg_cli::fault::CliFault;
 use cg_runs::fault::CheckFault;
 use cg_text::tree::{Place, TreeFault};
+use std::alloc::Global;
+use std::process::Abort;
 use std::test::Fail;
 
 /// The delegation, where the limit on the memory of `/c0` belongs to user 1001.
@@ -29,6 +31,8 @@ const GROUP: Changed = Changed {
         ),
     ],
 };
+
+const MANY_GROUPS: &[u32] = &[7; 33];
 
 const NO_GROUPS: &[u32] = &[];
 
@@ -101,37 +105,74 @@ fn two_users_of_one_uid_differ_by_their_groups(rt: HostRuntime) -> Result<(), Fa
     Ok(())
 }
 
+/// An audit that ends in a fault, and has written nothing.
+fn assert_fault(
+    rt: &impl Abort,
+    alloc: Global,
+    tree: &[u8],
+    users: &[UserIds<'_>],
+    subtrees: &[&str],
+    fault: CliFault,
+) {
+    let mut out = Vec::new(alloc);
+    assert_eq!(rt;
+        audit_bytes(alloc, tree, users, subtrees, &mut out),
+        Err(fault)
+    );
+    assert_eq!(rt; out.len(), 0);
+}
+
 #[test]
-fn the_first_fault_is_said_and_nothing_written(rt: HostRuntime) {
-    let many = [7; 33];
+fn the_first_fault_of_a_user_is_said_and_nothing_written(rt: HostRuntime) {
     let good = user(1000, NO_GROUPS);
     let root = user(0, NO_GROUPS);
-    let grouped = user(1000, many.as_slice());
+    let grouped = user(1000, MANY_GROUPS);
+    let alloc = rt.alloc();
+    assert_fault(
+        &rt,
+        alloc,
+        DELEGATION,
+        &[good, root],
+        &["zz"],
+        CliFault::Uid,
+    );
+    assert_fault(
+        &rt,
+        alloc,
+        DELEGATION,
+        &[grouped, root],
+        &["zz"],
+        CliFault::Gids,
+    );
+    assert_fault(
+        &rt,
+        alloc,
+        DELEGATION,
+        &[root, grouped],
+        &["zz"],
+        CliFault::Uid,
+    );
+    assert_fault(
+        &rt,
+        alloc,
+        NO_PARENT,
+        &[good],
+        &["/zz", "zz"],
+        CliFault::BadPath,
+    );
+}
+
+#[test]
+fn the_first_fault_of_the_tree_is_said_and_nothing_written(rt: HostRuntime) {
+    let good = user(1000, NO_GROUPS);
     let no_root = CliFault::Subtree(CheckFault::RootSubtree);
     let missing = CliFault::Subtree(CheckFault::NoSuchSubtree);
     let no_parent = CliFault::Tree(TreeFault::NoParent(Place::Cgroup(2)));
-    for (tree, users, subtrees, fault) in [
-        (
-            DELEGATION,
-            [good, root].as_slice(),
-            ["zz"].as_slice(),
-            CliFault::Uid,
-        ),
-        (DELEGATION, &[grouped, root], &["zz"], CliFault::Gids),
-        (DELEGATION, &[root, grouped], &["zz"], CliFault::Uid),
-        (NO_PARENT, &[good], &["/zz", "zz"], CliFault::BadPath),
-        (NO_PARENT, &[good], &["/zz", "/"], no_parent),
-        (DELEGATION, &[good], &["/zz", "/"], missing),
-        (DELEGATION, &[good], &["/", "/zz"], no_root),
-        (DELEGATION, &[], &["/c0", "/zz"], missing),
-    ] {
-        let mut out = Vec::new(rt.alloc());
-        assert_eq!(rt;
-            audit_bytes(rt.alloc(), tree, users, subtrees, &mut out),
-            Err(fault)
-        );
-        assert_eq!(rt; out.len(), 0);
-    }
+    let alloc = rt.alloc();
+    assert_fault(&rt, alloc, NO_PARENT, &[good], &["/zz", "/"], no_parent);
+    assert_fault(&rt, alloc, DELEGATION, &[good], &["/zz", "/"], missing);
+    assert_fault(&rt, alloc, DELEGATION, &[good], &["/", "/zz"], no_root);
+    assert_fault(&rt, alloc, DELEGATION, &[], &["/c0", "/zz"], missing);
 }
 
 #[test]
