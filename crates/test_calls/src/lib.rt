@@ -1,4 +1,4 @@
-//! Tests of the calls over bytes, and of tree texts: that good calls succeed, and what no clause says.
+//! Tests of the calls over bytes: that good calls succeed, and what no clause says.
 #![tactic(auto)]
 
 #[cfg(test)]
@@ -19,10 +19,6 @@ mod replay;
 mod replay_ends;
 #[cfg(test)]
 mod strangers;
-#[cfg(test)]
-mod trees;
-#[cfg(test)]
-mod vectors;
 #[cfg(test)]
 mod writers;
 #[cfg(test)]

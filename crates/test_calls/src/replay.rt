@@ -1,7 +1,6 @@
 //! `replay_bytes` and `replay_from` on rows worked out by hand.
+use super::changed::{Base, Changed, MEMORY_MAX};
 use super::readers::{Pieces, Uneven};
-use super::trees::{DELEGATION, DELEGATION_AND_PROCESS};
-use super::vectors::delegation_with;
 use cg_cli::arguments::UserIds;
 use cg_cli::fault::CliFault;
 use cg_cli::replay::{replay_bytes, replay_from};
@@ -10,6 +9,7 @@ use cg_runs::fault::CheckFault;
 use std::alloc::{AllocError, Global};
 use std::process::Abort;
 use std::test::Fail;
+use test_samples::trees::{DELEGATION, DELEGATION_AND_PROCESS};
 
 /// Operations of a user, and what is said of them.
 #[derive(Drop)]
@@ -162,10 +162,17 @@ const ROW_OF_ENTERING: Row = Row {
 };
 
 /// The delegation example where all others write the root's `cgroup.procs`, with `/c01` and process 14 in it.
+/// The delegation, where anyone writes `cgroup.procs` of the root.
+const OPEN: Changed = Changed {
+    base: Base::Delegation,
+    changes: &[(
+        "enabled = [\"memory\"]",
+        "enabled = [\"memory\"]\nfiles = { \"cgroup.procs\" = { mode = 0o646 } }",
+    )],
+};
+
 fn open_delegation(alloc: Global) -> Result<String, Fail> {
-    let root = "enabled = [\"memory\"]";
-    let open = "enabled = [\"memory\"]\nfiles = { \"cgroup.procs\" = { mode = 0o646 } }";
-    let mut tree = delegation_with(alloc, &[(root, open)])?;
+    let mut tree = OPEN.text(alloc)?;
     tree.push_str(
         "[[cgroup]]\npath = \"/c01\"\ndir = { uid = 1000 }\nfiles = { \"cgroup.procs\" = { uid = 1000 } }\n",
     )?;
@@ -323,11 +330,27 @@ fn verdicts_stand_behind_the_outcomes(rt: HostRuntime) -> Result<(), Fail> {
     Ok(())
 }
 
+/// The delegation, where the limit on the memory of `/c0` is user 1000's.
+const LIMIT_OWNED: Changed = Changed {
+    base: Base::Delegation,
+    changes: &[(
+        MEMORY_MAX,
+        "\"memory.max\" = { uid = 1000, value = 1073741824 }",
+    )],
+};
+
+/// The delegation, where `/c0` has more descendants than it may.
+const TOO_MANY: Changed = Changed {
+    base: Base::Delegation,
+    changes: &[(
+        "\"cgroup.max.descendants\" = { value = 4 }",
+        "\"cgroup.max.descendants\" = { value = 1 }",
+    )],
+};
+
 #[test]
 fn verdicts_name_limits(rt: HostRuntime) -> Result<(), Fail> {
-    let limit = "\"memory.max\" = { value = 1073741824 }";
-    let owned = "\"memory.max\" = { uid = 1000, value = 1073741824 }";
-    let tree = delegation_with(rt.alloc(), &[(limit, owned)])?;
+    let tree = LIMIT_OWNED.text(rt.alloc())?;
     assert_watched(
         &rt,
         rt.alloc(),
@@ -335,9 +358,7 @@ fn verdicts_name_limits(rt: HostRuntime) -> Result<(), Fail> {
         Some("/c0"),
         &ROW_OF_LIMITS,
     );
-    let most = "\"cgroup.max.descendants\" = { value = 4 }";
-    let fewer = "\"cgroup.max.descendants\" = { value = 1 }";
-    let tree = delegation_with(rt.alloc(), &[(most, fewer)])?;
+    let tree = TOO_MANY.text(rt.alloc())?;
     assert_watched(
         &rt,
         rt.alloc(),

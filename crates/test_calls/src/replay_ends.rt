@@ -1,7 +1,6 @@
 //! Where a replay ends: faults before its first line, lines that are too long, too many, cut or not read, and writers that
 //! fail and dawdle.
 use super::readers::{Again, Pieces};
-use super::trees::{DELEGATION, NO_PARENT};
 use super::writers::{ByteByByte, FailsOnce, TakesNone};
 use cg_cli::arguments::UserIds;
 use cg_cli::fault::{CliFault, fault_text};
@@ -11,6 +10,7 @@ use cg_text::tree::{Place, TreeFault};
 use std::alloc::{AllocError, Global};
 use std::io::{BufRead, Write};
 use std::test::Fail;
+use test_samples::trees::{DELEGATION, NO_PARENT};
 
 /// Operations of user 1000, and their report where `/c0` is watched.
 const REPLAYS: [(&[u8], &[u8]); 2] = [

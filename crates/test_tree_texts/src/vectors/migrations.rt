@@ -1,12 +1,12 @@
 //! Single migrations: what is said of one, and of arguments that are none's.
 use super::{Asked, expect_line};
-use crate::trees::{DELEGATION, INTERNAL_PROCESS, NO_PARENT, PARENT_DELEGATED};
 use cg_cli::arguments::UserIds;
 use cg_cli::fault::fault_text;
 use cg_cli::may::may_bytes;
 use std::alloc::Global;
 use std::str::from_utf8;
 use std::test::Fail;
+use test_samples::trees::{DELEGATION, INTERNAL_PROCESS, NO_PARENT, PARENT_DELEGATED};
 
 #[test]
 fn moves_within_and_over_an_edge(rt: HostRuntime) -> Result<(), Fail> {

@@ -9,7 +9,6 @@ mod rows;
 mod top;
 mod whole;
 
-use super::trees::DELEGATION;
 use cg_cgroup::cgroup::Cgroup;
 use cg_cgroup::memory::NoMemory;
 use cg_cgroup::path::Path;
@@ -22,6 +21,7 @@ use std::alloc::{AllocError, Global};
 use std::process::Abort;
 use std::str::from_utf8;
 use std::test::Fail;
+use test_samples::trees::DELEGATION;
 
 /// A move by user 1000.
 #[derive(Clone, Copy, Debug)]

@@ -1,7 +1,7 @@
 //! The delegation example, cut after each of its bytes.
 use super::{Asked, expect_line};
-use crate::trees::DELEGATION;
 use std::test::Fail;
+use test_samples::trees::DELEGATION;
 
 const NO_CGROUP: &str = "refused no-such-cgroup /c0/c01";
 

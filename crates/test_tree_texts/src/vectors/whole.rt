@@ -1,6 +1,5 @@
 //! Whole trees: every cgroup with its owners, modes and values, and every process.
 use super::delegation_with;
-use crate::trees::PARENT_DELEGATED;
 use cg_cgroup::cgroup::{Cgroup, LimitEntry};
 use cg_cgroup::files::{ControllerSet, Limit};
 use cg_cgroup::path::Path;
@@ -13,6 +12,7 @@ use std::alloc::{AllocError, Global};
 use std::process::Abort;
 use std::str::from_utf8;
 use std::test::Fail;
+use test_samples::trees::PARENT_DELEGATED;
 
 const MEMORY: ControllerSet = ControllerSet {
     cpu: false,

@@ -1,0 +1,4 @@
+//! Tree texts that several crates of tests read.
+#![tactic(auto)]
+
+pub mod trees;
