@@ -10,7 +10,7 @@ use crate::arguments::{UserIds, read_path, read_user};
 use crate::fault::CliFault;
 use crate::write::write_whole;
 use cg_cgroup::user::User;
-use cg_rows::rows::Rows;
+use cg_indexed::indexed::Indexed;
 use cg_runs::replay::Replay;
 use cg_text::tree::read_tree;
 use course::{OnCourse, Unwatched};
@@ -52,22 +52,23 @@ pub fn replay_bytes<W: Write>(
 }
 
 /// The tree of a text.
-fn unwatched(alloc: Global, tree: &[u8]) -> Result<Unwatched<Rows>, CliFault>
+fn unwatched(alloc: Global, tree: &[u8]) -> Result<Unwatched<Indexed>, CliFault>
     ensures { MatchResult result (λ course. course_read None tree.now ≡ Ok (Plain course.tree))
         (λ fault. fault ≢ CliFault.NoMemory → course_read None tree.now ≡ Err fault) }
 {
-    Ok(Unwatched::new(read_tree(alloc, tree)?))
+    let tree = Indexed::from_rows(alloc, read_tree(alloc, tree)?)?;
+    Ok(Unwatched::new(tree))
 }
 
 /// The tree of a text, with a subtree that is watched.
-fn watched(alloc: Global, tree: &[u8], subtree: &str) -> Result<Replay<Rows>, CliFault>
+fn watched(alloc: Global, tree: &[u8], subtree: &str) -> Result<Replay<Indexed>, CliFault>
     ensures made { IfOk result (λ replay. replay.steps ≡ 0) }
     ensures read { MatchResult result (λ replay. course_read (Some subtree.now) tree.now ≡ Ok (Watched replay))
         (λ fault. fault ≢ CliFault.NoMemory → course_read (Some subtree.now) tree.now ≡ Err fault) }
 {
     let subtree = read_path(alloc, subtree)?;
-    let tree = read_tree(alloc, tree)?;
-    Ok(Replay::start(tree, subtree)?)
+    let rows = read_tree(alloc, tree)?;
+    Ok(Replay::start(Indexed::from_rows(alloc, rows)?, subtree)?)
 }
 
 /// A whole replay over bytes that are all there, and what is said at its end.

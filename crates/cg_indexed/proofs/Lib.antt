@@ -14,3 +14,4 @@ pub mod Living
 pub mod States
 pub mod Listed
 pub mod Depths
+pub mod Taken

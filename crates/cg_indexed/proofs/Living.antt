@@ -50,14 +50,14 @@ has_live-counted st q = any-count (λ process. same_path process.place q) (map.v
 
 -- ---- live processes, counted
 
-abbrev at : Names → ℕ × Process → Bool
+abbrev pub at : Names → ℕ × Process → Bool
 at q e = same_path e.1.place q
 
 gathered-values : (q : Names) (es : List (ℕ × Process)) → gathered (one_more (λ (process : Process). same_path process.place q)) 0 (map_list (λ e. e.1) es) ≡ gathered (one_more (at q)) 0 es
 gathered-values q [] = refl
 gathered-values q (e ∷ es) = ap (one_more (at q) e) (gathered-values q es)
 
-gathered_live : (live : FinMap nat_cmp Process) (q : Names) → gathered (one_more (at q)) 0 (map.entries live) ≡ count_live live q
+pub gathered_live : (live : FinMap nat_cmp Process) (q : Names) → gathered (one_more (at q)) 0 (map.entries live) ≡ count_live live q
 gathered_live live q = sym (gathered-values q (map.entries live)) ∙ gathered-count (λ (process : Process). same_path process.place q) (map.values live)
 
 module _ (live : FinMap nat_cmp Process) (pid : ℕ) where

@@ -1,6 +1,7 @@
 //! `Indexed`: a tree kept by places, with kept counts.
 ghost use Rattle.std.specs.Prelude.{◌≡◌, IfOk};
 ghost use Rattle.cg_rows.specs.RowsForm.{IsRoot, state_of_root};
+ghost use Rattle.cg_indexed.specs.Kept.{map_values, new_held};
 
 use crate::cgroups::Cgroups;
 use cg_cgroup::cgroup::Cgroup;
@@ -10,6 +11,7 @@ use cg_cgroup::path::Path;
 use cg_cgroup::process::{Pid, Process};
 use cg_cgroup::user::{Mode, User};
 use cg_rows::processes::Processes;
+use cg_rows::rows::Rows;
 use cg_tree::hierarchy::Hierarchy;
 use std::alloc::Global;
 use std::marker::Model;
@@ -54,6 +56,40 @@ impl Indexed {
             controllers,
         })
     }
+
+    /// The tree that rows keep, kept by places. Fails where memory is wanted.
+    pub fn from_rows(alloc: Global, rows: Rows) -> Result<Indexed, NoMemory>
+        ensures { IfOk result (λ tree. tree ≡ rows) }
+    {
+        let mut cgroups = cgroups_of(alloc, &rows)?;
+        // What `size` says bounds the counts.
+        let _size = rows.processes().size();
+        for (_pid, process) in rows.processes().iter() {
+            cgroups.raise_live(&process.place);
+        }
+        Ok(Indexed {
+            cgroups,
+            controllers: rows.controllers(),
+            processes: rows.into_processes(),
+        })
+    }
+}
+
+/// The cgroups of rows, none with a live process. Fails where memory is wanted.
+fn cgroups_of(alloc: Global, rows: &Rows) -> Result<Cgroups, NoMemory>
+    ensures { IfOk result (λ cgroups. cgroups ≡ map_values new_held rows.now.rows) }
+{
+    let Some(root) = rows.get(&Path::root(alloc), 0) else {
+        unreachable!()
+    };
+    let mut cgroups = Cgroups::new(alloc, *root)?;
+    // A parent comes before its children.
+    for (path, cgroup) in rows.entries() {
+        if path.depth() > 0 {
+            cgroups.add(alloc, path, *cgroup)?;
+        }
+    }
+    Ok(cgroups)
 }
 
 impl Hierarchy for Indexed {

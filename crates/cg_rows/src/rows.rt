@@ -1,5 +1,6 @@
 //! `Rows`: a tree kept as tables.
 ghost use Rattle.std.specs.Prelude.{◌≡◌, ◌≤◌, length, IfOk};
+ghost use Rattle.std.specs.FinMap as map;
 ghost use Rattle.cg_rows.specs.RowsForm.{IsRoot, state_of_root, state_of_tables};
 ghost use Rattle.cg_tree.specs.WellFormed.{IsWellFormed};
 ghost use Rattle.cg_tree.specs.Limits.{is_full};
@@ -85,6 +86,21 @@ impl Rows {
         ensures used { result.now.used ≡ self.now.used }
     {
         &self.processes
+    }
+
+    /// The processes, of a tree that is done with.
+    pub fn into_processes(self) -> Processes
+        ensures live { result.live ≡ self.live }
+        ensures used { result.used ≡ self.used }
+    {
+        self.processes
+    }
+
+    /// The cgroups, in the order of their paths.
+    pub fn entries(&self) -> &[(Path, Cgroup)]
+        ensures { result.now ≡ map.entries self.now.rows }
+    {
+        self.rows.entries()
     }
 
     /// Whether the cgroup of the first `at` names bars a child of that of the first `len` names, by its limits.
