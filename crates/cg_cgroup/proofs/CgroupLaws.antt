@@ -4,7 +4,6 @@ use Rattle.std.specs.Prelude.{Option, Some, None, is_some, unwrap_or}
 use Rattle.std.specs.Option.{option_map}
 use Rattle.std.proofs.lemmas.Option.{same_Some}
 use Rattle.cg_cgroup.specs.Identity.{Identity}
-use Rattle.cg_cgroup.specs.Users.{entry_made_by}
 use Rattle.cg_cgroup.specs.Files.{accepts, default_value, stands_under, same_file, same_entry}
 use Rattle.cg_cgroup.specs.Cgroups.{file_of, entry_in, value_in, with_file, with_value_of, with_value_in, with_mode_of, with_file_mode_of, with_mode_in, file_made_by, refitted, with_files_of, cgroup_made_by}
 use Rattle.cg_cgroup.specs.declared.files.Limit.{Limit}
@@ -141,15 +140,6 @@ pub file_of-with_files_of : (enabled : ControllerSet) (user : Identity) (row : C
 file_of-with_files_of enabled user row MaxDescendants = refl
 file_of-with_files_of enabled user row file = refl
 
-refit_part : (b : Bool) (o : Option LimitEntry) (new : LimitEntry) → option_map (λ x. x.entry) (cond b (Some (unwrap_or o new)) None) ≡ cond b (Some (unwrap_or (option_map (λ x. x.entry) o) new.entry)) None
-refit_part false o new = refl
-refit_part true None new = refl
-refit_part true (Some x) new = refl
-
-pub entry_in-with_files_of : (enabled : ControllerSet) (user : Identity) (row : Cgroup) (file : LimitFile) → entry_in (with_files_of enabled user row) (File file) ≡ cond (stands_under enabled file) (Some (unwrap_or (entry_in row (File file)) (entry_made_by user 420))) None
-entry_in-with_files_of enabled user row file =
-    ap (option_map (λ x. x.entry)) (file_of-with_files_of enabled user row file) ∙ refit_part (stands_under enabled file) (file_of row file) (file_made_by user file)
-
 is_some-cond : {A : Type 0} (b : Bool) (x : A) → is_some (cond b (Some x) None) ≡ b
 is_some-cond true x = refl
 is_some-cond false x = refl
@@ -158,10 +148,6 @@ is_some-cond false x = refl
 pub stands-with_files_of : (enabled : ControllerSet) (user : Identity) (row : Cgroup) (file : LimitFile) → is_some (file_of (with_files_of enabled user row) file) ≡ stands_under enabled file
 stands-with_files_of enabled user row file =
     ap is_some (file_of-with_files_of enabled user row file) ∙ is_some-cond (stands_under enabled file) (unwrap_or (file_of row file) (file_made_by user file))
-
--- a file that stays is kept as it is
-pub kept-with_files_of : (enabled : ControllerSet) (user : Identity) (row : Cgroup) (file : LimitFile) (held : LimitEntry) → file_of row file ≡ Some held → stands_under enabled file ≡ true → file_of (with_files_of enabled user row) file ≡ Some held
-kept-with_files_of enabled user row file held h stands = rw (file_of-with_files_of enabled user row file, stands, h) refl
 
 stays : {A : Type 0} (o : Option A) (b : Bool) (new : A) → is_some o ≡ b → cond b (Some (unwrap_or o new)) None ≡ o
 stays None true new h = cc
@@ -203,13 +189,6 @@ with_files_of-same enabled user row stands =
 pub file_of-cgroup_made_by : (user : Identity) (enabled : ControllerSet) (file : LimitFile) → file_of (cgroup_made_by user enabled) file ≡ cond (stands_under enabled file) (Some (file_made_by user file)) None
 file_of-cgroup_made_by user enabled MaxDescendants = refl
 file_of-cgroup_made_by user enabled file = refl
-
-made_part : (b : Bool) (x : LimitEntry) → option_map (λ x. x.entry) (cond b (Some x) None) ≡ cond b (Some x.entry) None
-made_part false x = refl
-made_part true x = refl
-
-pub entry_in-cgroup_made_by : (user : Identity) (enabled : ControllerSet) (file : LimitFile) → entry_in (cgroup_made_by user enabled) (File file) ≡ cond (stands_under enabled file) (Some (entry_made_by user 420)) None
-entry_in-cgroup_made_by user enabled file = ap (option_map (λ x. x.entry)) (file_of-cgroup_made_by user enabled file) ∙ made_part (stands_under enabled file) (file_made_by user file)
 
 pub stands-cgroup_made_by : (user : Identity) (enabled : ControllerSet) (file : LimitFile) → is_some (file_of (cgroup_made_by user enabled) file) ≡ stands_under enabled file
 stands-cgroup_made_by user enabled file = ap is_some (file_of-cgroup_made_by user enabled file) ∙ is_some-cond (stands_under enabled file) (file_made_by user file)

@@ -1,29 +1,9 @@
 -- Sets of controllers, read controller by controller.
-use Rattle.std.proofs.Common.{◌≡◌, Bool, true, false, cond, refl, ap, ◌∙◌, arith}
-use Rattle.cg_cgroup.specs.Files.{enables, enables_nothing, is_within, no_controllers, same_controller, with_controller}
+use Rattle.std.proofs.Common.{◌≡◌, Bool, true, false, refl, ap, ◌∙◌, arith}
+use Rattle.cg_cgroup.specs.Files.{enables, enables_nothing, is_within}
 use Rattle.cg_cgroup.specs.declared.files.Controller.{Controller}
 use Rattle.cg_cgroup.specs.declared.files.Controller.TheVariants.{Cpu, Memory, Pids}
 use Rattle.cg_cgroup.specs.declared.files.ControllerSet.{ControllerSet}
-
-pub same_controller-refl : (controller : Controller) → same_controller controller controller ≡ true
-same_controller-refl Cpu = refl
-same_controller-refl controller = refl
-
-pub same_controller-true : (controller other : Controller) → same_controller controller other ≡ true → controller ≡ other
-same_controller-true Cpu Cpu h = refl
-same_controller-true Memory Memory h = refl
-same_controller-true Pids Pids h = refl
-same_controller-true controller other h = cc
-
-pub enables-with_controller : (set : ControllerSet) (controller : Controller) (on : Bool) (other : Controller) → enables (with_controller set controller on) other ≡ cond (same_controller controller other) on (enables set other)
-enables-with_controller set Cpu on Cpu = refl
-enables-with_controller set Memory on Memory = refl
-enables-with_controller set Pids on Pids = refl
-enables-with_controller set controller on other = refl
-
-pub enables-no_controllers : (controller : Controller) → enables no_controllers controller ≡ false
-enables-no_controllers Cpu = refl
-enables-no_controllers controller = refl
 
 -- two sets with the same controllers are one
 pub same_set : (set other : ControllerSet) → ((controller : Controller) → enables set controller ≡ enables other controller) → set ≡ other

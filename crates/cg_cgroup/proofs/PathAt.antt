@@ -43,6 +43,9 @@ path_at-none text path none h e =
     let some : path_at text ≡ Some path = ap path_at (sym e) ∙ path_at-text path h in
     cc
 
+pub path_at-some : (text : List ℕ) (path : Names) → path_at text ≡ Some path → path_at text ≢ None
+path_at-some text path some none = cc
+
 none-from : {X : Type 0} (o : Option X) → ((x : X) → o ≡ Some x → ⊥) → o ≡ None
 none-from None h = refl
 none-from (Some x) h = absurd (h x refl)

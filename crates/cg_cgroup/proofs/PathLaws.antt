@@ -1,5 +1,5 @@
 -- Laws of paths: inside, the longest common prefix, the order, texts.
-use Rattle.std.proofs.Common.{◌≡◌, ◌≤◌, Bool, true, false, cond, [], ◌∷◌, ◌++◌, length, take, refl, ap, sym, ◌∙◌, arith, Some, Decides, Ordering, Less, Equal, Greater}
+use Rattle.std.proofs.Common.{◌≡◌, ◌≤◌, Bool, true, false, cond, [], ◌∷◌, length, take, refl, ap, sym, ◌∙◌, arith, Some, Decides, Ordering, Less, Equal, Greater}
 use Rattle.std.specs.Prelude.{◌≢◌}
 use Rattle.std.specs.Ordering.{nat_cmp, ordering_then, ordering_reverse, is_gt, is_eq}
 use Rattle.std.specs.Cmp.Lexicographic.{slice_cmp, nat_list_cmp_total, nat_list_eq_equiv, texts_ties, bytes_decides}
@@ -44,10 +44,6 @@ pub inside_decides : (p q : Names) → Decides (inside p q) (p ≡ take (length 
 inside_decides p q =
     (λ h. sym (inside-is p q h), λ h. ap (λ (x : Names). inside x q) h ∙ inside-take (length p) q)
 
-pub inside-append : (p q : Names) → inside p (p ++ q) ≡ true
-inside-append [] q = refl
-inside-append (name ∷ p) q = and_from (same_name name name) (inside p (p ++ q)) (nat_list_eq_equiv.refl name) (inside-append p q)
-
 pub inside-length : (p q : Names) → inside p q ≡ true → length p ≤ length q
 inside-length [] q h = omega arith
 inside-length (a ∷ p) [] h = absurd (true≢false (sym h))
@@ -91,9 +87,6 @@ common-take_first p q = (inside_decides (common p q) p).0 (common-inside_first p
 pub common_comm : (p q : Names) → common p q ≡ common q p
 common_comm p q =
     common_unique (common p q) q p (common-inside_second p q) (common-inside_first p q) (λ r h k. common-longest r p q k h)
-
-pub common-inside : (p q : Names) → inside p q ≡ true → common p q ≡ p
-common-inside p q h = sym (common_unique p p q (inside_refl p) h (λ r k l. k))
 
 -- ---- the order
 

@@ -15,6 +15,7 @@ impl Path {
         ensures ok { IfOk result (λ path. IsPath path × (path_text path ≡ text.now)) }
         ensures bad { result ≡ Err PathFault.BadPath
             → (path : Names) → IsPath path → path_text path ≢ text.now }
+        ensures none { path_at text.now ≡ None → result ≡ Err PathFault.BadPath }
         ensures value { MatchResult
             result
             (λ path. path_at text.now ≡ Some path)

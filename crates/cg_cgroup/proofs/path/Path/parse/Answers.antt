@@ -4,7 +4,7 @@ use Rattle.std.proofs.lemmas.Str.Pattern.{strip_prefix_char}
 use Rattle.cg_cgroup.specs.Paths.{names_of}
 use Rattle.cg_cgroup.specs.PathText.{ends_from}
 use Rattle.cg_cgroup.proofs.PathNames.{IsKept-at}
-use Rattle.cg_cgroup.proofs.PathAt.{path_at-is, path_at-none, path_at-no_slash, path_at-found, path_at-bad}
+use Rattle.cg_cgroup.proofs.PathAt.{path_at-is, path_at-none, path_at-some, path_at-no_slash, path_at-found, path_at-bad}
 use Rattle.cg_cgroup.proofs.path.Path.parse.Goals as goal
 use Rattle.cg_cgroup.proofs.path.Path.parse.Goals.{then-text-gt-LONGEST_TEXT-via-then-text-gt-LONGEST_TEXT, then-text-gt-LONGEST_TEXT-via-else-text-gt-LONGEST_TEXT+then-not-are_names}
 
@@ -45,3 +45,21 @@ returns-clause-value c =
     let found = path_at-found c.args.text.now c.in-Some.names.now slash (omega arith) (sym c.are_names.ensures ∙ c.if-not-are_names.false) in
     let same : names_of (string_bytes c.in_ok-text.text) ≡ names_of c.args.text.now = ap names_of c.in_ok-text.ensures.ok in
     found.2 ∙ ap Some (sym same)
+
+pub returns-in_err-ends-clause-none : goal.returns-in_err-ends-clause-none
+returns-in_err-ends-clause-none c =
+    let slash = rw c.in-Some.is at (strip_prefix_char 47 c.args.text.now _ c.strip_prefix.ensures.cases (lit< tt)) in
+    let found = path_at-found c.args.text.now c.in-Some.names.now slash (omega arith) (sym c.are_names.ensures ∙ c.if-not-are_names.false) in
+    λ none. absurd (path_at-some c.args.text.now (names_of c.args.text.now) found.2 none)
+
+pub returns-in_err-text-clause-none : goal.returns-in_err-text-clause-none
+returns-in_err-text-clause-none c =
+    let slash = rw c.in-Some.is at (strip_prefix_char 47 c.args.text.now _ c.strip_prefix.ensures.cases (lit< tt)) in
+    let found = path_at-found c.args.text.now c.in-Some.names.now slash (omega arith) (sym c.are_names.ensures ∙ c.if-not-are_names.false) in
+    λ none. absurd (path_at-some c.args.text.now (names_of c.args.text.now) found.2 none)
+
+pub returns-clause-none : goal.returns-clause-none
+returns-clause-none c =
+    let slash = rw c.in-Some.is at (strip_prefix_char 47 c.args.text.now _ c.strip_prefix.ensures.cases (lit< tt)) in
+    let found = path_at-found c.args.text.now c.in-Some.names.now slash (omega arith) (sym c.are_names.ensures ∙ c.if-not-are_names.false) in
+    λ none. absurd (path_at-some c.args.text.now (names_of c.args.text.now) found.2 none)
