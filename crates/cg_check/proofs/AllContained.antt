@@ -1,5 +1,5 @@
 -- What it means that there is neither a fault nor a pair, and that every other result is one.
-use Rattle.std.proofs.Common.{◌≡◌, ◌≢◌, ℕ, zero, suc, ◌+◌, ◌<◌, ◌≤◌, Bool, true, false, not, List, [], ◌∷◌, ◌++◌, length, get_or, drop, refl, sym, ap, ◌∙◌, subst, Option, Some, None, is_some, unwrap_or, Ok, Err, Result, OnErr, arith}
+use Rattle.std.proofs.Common.{◌≡◌, ◌≢◌, ℕ, suc, ◌<◌, true, false, not, List, [], ◌∷◌, ◌++◌, length, get_or, refl, sym, ap, ◌∙◌, subst, Some, None, unwrap_or, Ok, Err, Result, arith}
 use Rattle.std.specs.List.{flat_map, All, AllByRecursion, Contains}
 use Rattle.std.proofs.lemmas.List.Elements.{All-from_recursion, All-contains}
 use Rattle.cg_cgroup.specs.Paths.{Names, is_root}
@@ -7,7 +7,7 @@ use Rattle.cg_cgroup.specs.Identity.{Identity}
 use Rattle.cg_tree.specs.States.{State}
 use Rattle.cg_tree.specs.WellFormed.{IsWellFormed, has_row}
 use Rattle.cg_ops.specs.Clauses.{unless, first}
-use Rattle.cg_ops.specs.Steps.{after_all, Deed}
+use Rattle.cg_ops.specs.Steps.{after_all}
 use Rattle.cg_ops.proofs.ClauseLaws.{none_of_first, no_parts}
 use Rattle.cg_guards.specs.Guards.{GuardsHold}
 use Rattle.cg_guards.specs.Guarding.{IsSubtree}
@@ -17,16 +17,17 @@ use Rattle.cg_runs.specs.declared.fault.CheckFault.TheVariants.{RootSubtree, NoS
 use Rattle.cg_runs.proofs.RunLaws.{held-guarded, guarded-again}
 use Rattle.cg_runs.proofs.StrangerLaws.{broken-of_stranger}
 use Rattle.cg_check.specs.Answers.{answer}
-use Rattle.cg_check.specs.Checks.{subtree_faults, unless_fault, all_checked, all_take_memory, Gives}
+use Rattle.std.specs.Result.{IsErr, IsErrAnd}
+use Rattle.cg_check.specs.Unguarded.{IsFirstUnguarded}
+use Rattle.cg_check.specs.Checks.{subtree_faults, unless_fault, checked, takes_memory, all_checked, all_take_memory, Gives}
 use Rattle.cg_check.specs.AllAnswers.{pair_unless_contained, pairs_of, pairs_from, all_answers}
 use Rattle.cg_check.specs.Several.{AreContained}
 use Rattle.cg_check.specs.declared.answer.Answer.{Answer}
 use Rattle.cg_check.specs.declared.answer.Answer.TheVariants.{Contained, Escapes, Unsettled}
 use Rattle.cg_check.specs.declared.answer.AllAnswer.{AllAnswer}
 use Rattle.cg_check.specs.declared.answer.AllAnswer.TheVariants as all
-use Rattle.cg_check.proofs.Checking.{no_fault, guarded-answer, answer-guarded}
-use Rattle.cg_check.proofs.Pairs.{none-element, not-none, users-found}
-use Rattle.cg_cgroup.proofs.Options.{some_value}
+use Rattle.cg_check.proofs.Checking.{no_fault, guarded-answer, answer-guarded, checked-answer}
+use Rattle.cg_check.proofs.Pairs.{none-element, not-none}
 
 -- ---- faults
 
@@ -67,19 +68,6 @@ faults_none st (subtree ∷ subtrees) are =
 abbrev pub IsPair : AllAnswer → Type 0
 IsPair all.Contained = ⊥
 IsPair (all.Pair user subtree answer) = Unit {0}
-
-pub pair-is : (st : State) (place : ℕ) (user : Identity) (from : ℕ) (subtrees : List Names) (pair : AllAnswer) → Some pair ≡ first (pairs_of st place user from subtrees) → IsPair pair
-pair-is st place user from [] pair h = cc
-pair-is st place user from (subtree ∷ subtrees) pair h =
-    elim (answer st user subtree) as (λ found. Some pair ≡ first (pair_unless_contained place from found ++ pairs_of st place user (suc from) subtrees) → IsPair pair) [
-      | Contained ↦ λ is. pair-is st place user (suc from) subtrees pair is
-      | Escapes ops ↦ λ is. let same : pair ≡ all.Pair place from (Escapes ops) = cc in subst IsPair (sym same) tt
-      | Unsettled failed ↦ λ is. let same : pair ≡ all.Pair place from (Unsettled failed) = cc in subst IsPair (sym same) tt
-    ] h
-
-pub pair-contained : {P : Type 0} (pair : AllAnswer) {E : Type 0} → IsPair pair → ◌≡◌ {A = Result AllAnswer E} (Ok pair) (Ok all.Contained) → P
-pair-contained all.Contained is h = absurd is
-pair-contained (all.Pair user subtree answer) is h = cc
 
 -- where there is some pair, the answer takes memory
 pub pairs-memory : (st : State) (users : List Identity) (subtrees : List Names) (pair : AllAnswer) → first (flat_map (subtree_faults st) subtrees) ≡ None → Some pair ≡ first (pairs_from st 0 users subtrees) → IsPair pair
@@ -146,22 +134,20 @@ module _ (st : State) (users : List Identity) (subtrees : List Names) (none : fi
         broken-of_stranger st users (get_or subtrees k d) deeds steps clause (formed_at k within) (sub_at k d within) some (hold_at k d within) opens broken;
   }
 
-pub on-err : {T E P : Type 0} (result : Result T E) → P → OnErr result P
-on-err (Ok x) p = tt
-on-err (Err e) p = p
+-- where the check of the first pair has a fault, the pair takes memory
+module _ (st : State) (users : List Identity) (subtrees : List Names) (at : ℕ × ℕ) (user : Identity) (subtree : Names) (none : first (flat_map (subtree_faults st) subtrees) ≡ None) (found : IsFirstUnguarded st users subtrees (Some at))
+    (one : user ≡ get_or users at.0 user) (other : subtree ≡ get_or subtrees at.1 subtree) where
+  memory : all_take_memory (all_checked st users subtrees) ≡ true
+  memory = pairs-memory st users subtrees _ none (sym (found.2 user subtree)) tt
 
-pub user-memory : (st : State) (users : List Identity) (subtrees : List Names) (place : ℕ) (user : Identity) → first (flat_map (subtree_faults st) subtrees) ≡ None → place < length users → user ≡ get_or users place user
-    → is_some (first (pairs_of st place user 0 subtrees)) ≡ true → first (pairs_from st place (drop place users) subtrees) ≡ first (pairs_from st 0 users subtrees) → all_take_memory (all_checked st users subtrees) ≡ true
-user-memory st users subtrees place user none within at some rest =
-    let pair = some_value (first (pairs_of st place user 0 subtrees)) some in
-    pairs-memory st users subtrees pair.0 none (users-found st users subtrees place user within at pair.0 (sym pair.1) ∙ rest) (pair-is st place user 0 subtrees pair.0 (sym pair.1))
+  faultless : checked st user subtree ≡ Ok (answer st user subtree)
+  faultless = checked-answer st user subtree (sym (ap (λ path. first (subtree_faults st path)) other ∙ none-element (subtree_faults st) subtrees at.1 subtree found.1 none))
 
-drop_all : {A : Type 0} (xs : List A) (n : ℕ) → length xs ≤ n → drop n xs ≡ []
-drop_all [] zero all = refl
-drop_all [] (suc n) all = refl
-drop_all (x ∷ xs) zero all = absurd (omega (arith, all))
-drop_all (x ∷ xs) (suc n) all = drop_all xs n (omega (arith, all))
+  of_fault : (fault : CheckFault) → Gives takes_memory (checked st user subtree) (Err fault) → Gives all_take_memory (all_checked st users subtrees) (Err fault)
+  of_fault RootSubtree gives = let never : Ok (answer st user subtree) ≡ Err RootSubtree = sym faultless ∙ gives in cc
+  of_fault NoSuchSubtree gives = let never : Ok (answer st user subtree) ≡ Err NoSuchSubtree = sym faultless ∙ gives in cc
+  of_fault NoMemory gives = memory
 
-pub none-left : (st : State) (users : List Identity) (subtrees : List Names) (place : ℕ) → length users ≤ place → first (pairs_from st place (drop place users) subtrees) ≡ first (pairs_from st 0 users subtrees)
-    → first (pairs_from st 0 users subtrees) ≡ None
-none-left st users subtrees place all rest = sym rest ∙ ap (λ left. first (pairs_from st place left subtrees)) (drop_all users place all)
+  pub err-gives : (fault : CheckFault) (result : Result AllAnswer CheckFault) → Gives takes_memory (checked st user subtree) (Err fault) → IsErr result × IsErrAnd result (λ found. found ≡ fault) → Gives all_take_memory (all_checked st users subtrees) result
+  err-gives fault (Ok found) gives is = absurd is.1
+  err-gives fault (Err found) gives is = subst (λ f. Gives all_take_memory (all_checked st users subtrees) (Err f)) (sym is.1) (of_fault fault gives)

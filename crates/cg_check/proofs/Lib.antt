@@ -6,6 +6,7 @@ mod Openings
 mod Escaping
 mod Checking
 mod Pairs
+mod FirstUnguarded
 mod AllContained
 mod AnswerLaws
 mod LimitFiles

@@ -3,3 +3,4 @@ pub mod AllAnswers
 pub mod Checks
 pub mod Several
 pub mod Opened
+pub mod Unguarded

@@ -10,7 +10,7 @@ ghost use Rattle.cg_check.specs.Answers.{answer};
 ghost use Rattle.cg_runs.specs.Held.{IsContained};
 ghost use Rattle.cg_check.specs.Checks.{subtree_faults, checked, all_checked, takes_memory, all_take_memory, Gives};
 ghost use Rattle.std.specs.List.{flat_map};
-ghost use Rattle.cg_check.specs.AllAnswers.{pairs_of};
+ghost use Rattle.cg_check.specs.Unguarded.{IsFirstUnguarded};
 ghost use Rattle.cg_check.specs.Several.{AreContained};
 
 pub mod answer;
@@ -24,6 +24,7 @@ use cg_cgroup::path::Path;
 use cg_cgroup::user::User;
 use cg_guards::failed::failed_guard;
 use cg_guards::guard::Failed;
+use cg_guards::users::guarded_users;
 use cg_runs::fault::CheckFault;
 use cg_tree::hierarchy::Hierarchy;
 use escape::first_escape;
@@ -70,40 +71,39 @@ pub fn check_all<H: Hierarchy + Drop>(
     if let Some(fault) = first_fault(tree, subtrees) {
         return Err(fault);
     }
-    for (place, user) in users.iter().enumerate() {
-        match first_pair_of(alloc, tree, place, user, subtrees) {
-            Ok(None) => {}
-            Ok(Some(pair)) => return Ok(pair),
-            Err(_) => return Err(CheckFault::NoMemory),
-        }
-    }
-    Ok(AllAnswer::Contained)
+    let Some((user, subtree)) = first_unguarded(tree, users, subtrees) else {
+        return Ok(AllAnswer::Contained);
+    };
+    let answer = check(alloc, tree, &users[user], &subtrees[subtree])?;
+    Ok(AllAnswer::Pair {
+        user,
+        subtree,
+        answer,
+    })
 }
 
-/// The first pair of a user and a subtree that isn't contained; `place` is that of the user.
-fn first_pair_of<H: Hierarchy + Drop>(
-    alloc: Global,
+/// The places of the first pair of a user and a subtree for which a guard fails, by user and then subtree. Each subtree is
+/// asked for those users alone who come before all that were found with the subtrees before it.
+#[tactic(auto, using(crate::proofs::FirstUnguarded::below_start, crate::proofs::FirstUnguarded::below_end, crate::proofs::FirstUnguarded::below_found, crate::proofs::FirstUnguarded::below_kept, crate::proofs::Pairs::subtree_at))]
+fn first_unguarded<H: Hierarchy>(
     tree: &H,
-    place: usize,
-    user: &User,
+    users: &[User],
     subtrees: &[Path],
-) -> Result<Option<AllAnswer>, CheckFault>
-    requires formed { subtrees.now ≢ [] → IsWellFormed (H.state tree.now) }
+) -> Option<(usize, usize)>
     requires there { first (flat_map (subtree_faults (H.state tree.now)) subtrees.now) ≡ None }
-    ensures ok { IfOk result (λ found. found ≡ first (pairs_of (H.state tree.now) place user.now 0 subtrees.now)) }
-    ensures err { IfErr result (λ fault. fault ≡ CheckFault.NoMemory) }
-    ensures memory { OnErr result (is_some (first (pairs_of (H.state tree.now) place user.now 0 subtrees.now)) ≡ true) }
+    ensures { IsFirstUnguarded (H.state tree.now) users.now subtrees.now result }
 {
-    for (from, subtree) in subtrees.iter().enumerate() {
-        if let Some(failed) = failed_guard(tree, user, subtree) {
-            return Ok(Some(AllAnswer::Pair {
-                user: place,
-                subtree: from,
-                answer: unguarded(alloc, tree, user, subtree, failed)?,
-            }));
+    let mut guarded = users;
+    let mut found = None;
+    for (place, subtree) in subtrees.iter().enumerate() {
+        let left = guarded_users(tree, guarded, subtree);
+        if left.len() == guarded.len() {
+            continue;
         }
+        guarded = left;
+        found = Some((left.len(), place));
     }
-    Ok(None)
+    found
 }
 
 /// Why the first of some subtrees isn't checked, where one isn't.

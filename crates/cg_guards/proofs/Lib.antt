@@ -8,3 +8,4 @@ pub mod Kept
 pub mod Steps
 pub mod FirstFailed
 pub mod OperationLaws
+pub mod KeptOff

@@ -2,3 +2,4 @@ pub mod Limits
 pub mod Edge
 pub mod Guards
 pub mod Guarding
+pub mod GuardedUsers

@@ -4,3 +4,4 @@
 pub mod failed;
 pub mod guard;
 pub mod laws;
+pub mod users;

@@ -1,22 +1,16 @@
-use Rattle.std.proofs.Common.{sym, ◌∙◌}
-use Rattle.cg_check.proofs.AllContained.{fault-gives, pair-is, pair-contained, are-contained, user-memory, none-left}
+use Rattle.std.proofs.Common.{rules, refl, sym}
+use Rattle.cg_check.proofs.AllContained.{fault-gives, err-gives, are-contained}
 use Rattle.cg_check.proofs.check_all.Goals as goal
 
 pub returns-in-Some-clause-answer : goal.returns-in-Some-clause-answer
-returns-in-Some-clause-answer g c =
-    fault-gives (g.H.Hierarchy.state c.args.tree.now) c.args.users.now c.args.subtrees.now c.in-Some.fault c.in-Some.ensures.fault
+returns-in-Some-clause-answer g c = search (rules, fault-gives)
 
-pub returns-in-Err-clause-answer : goal.returns-in-Err-clause-answer
-returns-in-Err-clause-answer g c =
-    user-memory (g.H.Hierarchy.state c.args.tree.now) c.args.users.now c.args.subtrees.now c.loop-place.place c.index-users-place.result (sym c.in_default.ensures.fault) c.loop-place-test.true c.index-users-place.is
-    c.in-Err.ensures.memory c.loop-place.invariant
+pub returns-in_default-first_unguarded-clause-contained :
+    goal.returns-in_default-first_unguarded-clause-contained
+returns-in_default-first_unguarded-clause-contained g c is some =
+    are-contained (g.H.Hierarchy.state c.args.tree.now) c.args.users.now c.args.subtrees.now (sym c.in_default.ensures.fault) (c.in_default.ensures.formed refl) c.in_default-first_unguarded.ensures some
 
-pub returns-in-Ok-Some-clause-contained : goal.returns-in-Ok-Some-clause-contained
-returns-in-Ok-Some-clause-contained g c is some =
-    pair-contained c.in-Ok-Some.pair
-    (pair-is (g.H.Hierarchy.state c.args.tree.now) c.loop-place.place c.index-users-place.result 0 c.args.subtrees.now c.in-Ok-Some.pair (sym c.in-Ok-Some.field-0-is ∙ c.in-Ok-Some.ensures.ok)) is
-
-pub returns-clause-contained : goal.returns-clause-contained
-returns-clause-contained g c is some =
-    are-contained (g.H.Hierarchy.state c.args.tree.now) c.args.users.now c.args.subtrees.now (sym c.in_default.ensures.fault) (c.first_fault.ensures.formed c.in_default.is)
-    (none-left (g.H.Hierarchy.state c.args.tree.now) c.args.users.now c.args.subtrees.now c.loop-place.place c.loop-place-test.false c.loop-place.invariant) some
+pub returns-in_err-answer-clause-answer : goal.returns-in_err-answer-clause-answer
+returns-in_err-answer-clause-answer g c =
+    err-gives (g.H.Hierarchy.state c.args.tree.now) c.args.users.now c.args.subtrees.now (c.in-Some-first_unguarded.user, c.in-Some-first_unguarded.subtree) c.index-users-user.result c.index-subtrees-subtree.result
+    (sym c.in_default.ensures.fault) c.in-Some-first_unguarded.ensures c.index-users-user.is c.index-subtrees-subtree.is c.in_err-answer.field-0.0 c.from_residual.result c.in_err-answer.ensures.answer c.from_residual.ensures

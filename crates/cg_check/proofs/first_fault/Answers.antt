@@ -1,4 +1,4 @@
-use Rattle.std.proofs.Common.{sym, ◌∙◌, ◌<◌, length, arith}
+use Rattle.std.proofs.Common.{◌∙◌, ◌<◌, length, arith}
 use Rattle.cg_check.specs.Checks.{subtree_faults}
 use Rattle.cg_check.proofs.Pairs.{none-here, some-here, some_length}
 use Rattle.cg_check.proofs.first_fault.Goals as goal
