@@ -4,3 +4,4 @@ pub mod LineNumbers
 pub mod LineChanges
 pub mod LineSpelled
 pub mod LineLaws
+pub mod LineLengths

@@ -94,12 +94,12 @@ pairs_each : (P : Names → Cgroup → Type 0) (rows : List NamedRow) → AllByR
 pairs_each P [] each = tt
 pairs_each P (row ∷ rows) each = (each.0, pairs_each P rows each.1)
 
-live_each : (P : ℕ → Process → Type 0) (processes : List ProcessRow) → AllByRecursion (λ row. P (live_process row).0 (live_process row).1) processes
+pub live_each : (P : ℕ → Process → Type 0) (processes : List ProcessRow) → AllByRecursion (λ row. P (live_process row).0 (live_process row).1) processes
     → AllByRecursion (λ e. P e.0 e.1) (live_processes processes)
 live_each P [] each = tt
 live_each P (row ∷ rows) each = (each.0, live_each P rows each.1)
 
-is_some-mapped : {A B : Type 0} (f : A → B) (o : Option A) → is_some (option_map f o) ≡ is_some o
+pub is_some-mapped : {A B : Type 0} (f : A → B) (o : Option A) → is_some (option_map f o) ≡ is_some o
 is_some-mapped f None = refl
 is_some-mapped f (Some x) = refl
 
@@ -107,7 +107,7 @@ mapped_from : {A B : Type 0} (f : A → B) (o : Option A) (y : B) → option_map
 mapped_from f None y is = none_is y is
 mapped_from f (Some x) y is = (x, refl, ap (λ o. unwrap_or o (f x)) is)
 
-some_of : {A : Type 0} (o : Option A) → is_some o ≡ true → (x : A) × (o ≡ Some x)
+pub some_of : {A : Type 0} (o : Option A) → is_some o ≡ true → (x : A) × (o ≡ Some x)
 some_of None is = absurd (true≢false (sym is))
 some_of (Some x) is = (x, refl)
 

@@ -9,3 +9,4 @@ pub mod TableLaws
 pub mod TablesLaws
 pub mod TextLaws
 pub mod StateLaws
+pub mod NamedLaws

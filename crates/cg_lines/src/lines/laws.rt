@@ -1,7 +1,8 @@
 //! What holds of operations and their lines.
-ghost use Rattle.std.specs.Prelude.{◌≡◌, ◌↔◌, ℕ, List, Some};
+ghost use Rattle.std.specs.Prelude.{◌≡◌, ◌↔◌, ◌≤◌, ℕ, List, length, Some};
 ghost use Rattle.cg_ops.specs.declared.operation.Op.{Op};
 ghost use Rattle.cg_lines.specs.OperationLines.{spelling, IsHeld};
+ghost use Rattle.cg_lines.specs.LineLengths.{HasFewChanges};
 ghost use Rattle.cg_lines.specs.LineReading.{operation_at};
 
 /// An operation has one line, and no two operations have the same.
@@ -12,4 +13,9 @@ pub fn one_operation()
 /// A line is read as an operation exactly where the operation can be held and the line is its line.
 pub fn lines_are_exact()
     ensures { (line : List ℕ) (op : Op) → (operation_at line ≡ Some op) ↔ (IsHeld op × (line ≡ spelling op)) }
+{}
+
+/// The line of an operation with at most 511 changes isn't too long to be read.
+pub fn held_lines_are_short()
+    ensures { (op : Op) → IsHeld op → HasFewChanges op → length (spelling op) ≤ 8192 }
 {}

@@ -1,0 +1,146 @@
+-- How long the line of an operation is at most, and that it is one line.
+use Rattle.std.proofs.Common.{◌≡◌, ℕ, ◌+◌, ◌*◌, ◌^◌, ◌<◌, ◌≤◌, true, false, List, [], ◌∷◌, ◌++◌, length, map, subst, arith, length-append, append-nil, All, refl}
+use Rattle.std.specs.Prelude.{nat_lt, codes, ◌==◌}
+use Rattle.std.specs.List.{join_with_byte}
+use Rattle.std.specs.Fmt.{decimal}
+use Rattle.std.proofs.lemmas.Bool.{and_parts, ltb-true, ne_eqb}
+use Rattle.std.proofs.lemmas.Fmt.{length-decimal-le}
+use Rattle.std.proofs.lemmas.List.Elements.{All-nil, All-cons}
+use Rattle.cg_cgroup.specs.Paths.{Names, path_text, IsPath}
+use Rattle.cg_cgroup.specs.Files.{controller_name, file_name, entry_text}
+use Rattle.cg_cgroup.specs.declared.files.Limit.{Limit}
+use Rattle.cg_cgroup.specs.declared.files.Limit.TheVariants.{Max, At}
+use Rattle.cg_cgroup.specs.declared.files.LimitFile.{LimitFile}
+use Rattle.cg_cgroup.specs.declared.files.LimitFile.TheVariants.{MaxDescendants}
+use Rattle.cg_cgroup.specs.declared.files.EntryName.{EntryName}
+use Rattle.cg_cgroup.specs.declared.files.EntryName.TheVariants.{Dir, Procs, SubtreeControl, File}
+use Rattle.cg_cgroup.specs.declared.files.Controller.{Controller}
+use Rattle.cg_cgroup.specs.declared.files.Controller.TheVariants.{Cpu}
+use Rattle.cg_cgroup.proofs.PathEnds.{path_bytes}
+use Rattle.cg_cgroup.specs.Numbers.{is_pid}
+use Rattle.cg_ops.specs.declared.changes.Change.{Change}
+use Rattle.cg_ops.specs.declared.operation.Op.{Op}
+use Rattle.cg_ops.specs.declared.operation.Op.TheVariants.{Move, Control, Mkdir, Rmdir, Set, Fork, Exit, Chmod}
+use Rattle.cg_lines.specs.OperationLines.{change_word, limit_word, mode_word, words, spelling, IsHeld, IsHeldLimit}
+use Rattle.cg_lines.specs.LineLengths.{HasFewChanges}
+use Rattle.cg_lines.proofs.LineWords.{is_graphic, is_word, are_words}
+use Rattle.cg_lines.proofs.LineSpelled.{small_pid}
+use Rattle.cg_lines.proofs.LineLaws.{line_words}
+
+-- ---- lengths
+
+number_length : (n : ℕ) → n < 2 ^ 64 → length (decimal n) ≤ 20
+number_length n small = length-decimal-le 20 n (omega arith) (omega (arith, small)) small
+
+pid_length : (pid : ℕ) → is_pid pid ≡ true → length (decimal pid) ≤ 20
+pid_length pid h = number_length pid (small_pid pid h)
+
+path_length : (path : Names) → IsPath path → length (path_text path) ≤ 4095
+path_length [] h = omega arith
+path_length (name ∷ path) h = path_bytes (name ∷ path) h
+
+file_length : (file : LimitFile) → length (file_name file) ≤ 22
+file_length MaxDescendants = omega arith
+file_length file = omega arith
+
+entry_length : (entry : EntryName) → length (entry_text entry) ≤ 22
+entry_length Dir = omega arith
+entry_length Procs = omega arith
+entry_length SubtreeControl = omega arith
+entry_length (File file) = file_length file
+
+limit_length : (value : Limit) → IsHeldLimit value → length (limit_word value) ≤ 20
+limit_length Max h = omega arith
+limit_length (At value) h = number_length value h
+
+controller_length : (controller : Controller) → length (controller_name controller) ≤ 6
+controller_length Cpu = omega arith
+controller_length controller = omega arith
+
+-- two texts with a byte between them
+between : (first second : List ℕ) → length (first ++ (32 ∷ second)) ≡ length first + 1 + length second
+between first second = let l = length-append first (32 ∷ second) in omega (arith, l)
+
+changes_length : (word : List ℕ) (changes : List Change) → length (join_with_byte 32 (word ∷ map change_word changes)) ≤ length word + 8 * length changes
+changes_length word [] = omega arith
+changes_length word (change ∷ changes) =
+    let rest = changes_length (change_word change) changes in
+    let one = controller_length change.controller in
+    let l = between word (join_with_byte 32 (change_word change ∷ map change_word changes)) in
+    omega (arith, rest, one, l)
+
+-- The line of an operation that can be held isn't too long.
+pub line_length : (op : Op) → IsHeld op → HasFewChanges op → length (spelling op) ≤ 8192
+line_length (Move pid to) h few =
+    let a = pid_length pid h.0 in
+    let b = path_length to h.1 in
+    let l = between (decimal pid) (path_text to) in
+    let m = between (codes "move") (decimal pid ++ (32 ∷ path_text to)) in
+    omega (arith, a, b, l, m)
+line_length (Control at changes) h few =
+    let a = path_length at h in
+    let l = changes_length (path_text at) changes in
+    let m = between (codes "control") (join_with_byte 32 (path_text at ∷ map change_word changes)) in
+    omega (arith, a, few, l, m)
+line_length (Mkdir path) h few =
+    let a = path_length path h in
+    let l = between (codes "mkdir") (path_text path) in
+    omega (arith, a, l)
+line_length (Rmdir path) h few =
+    let a = path_length path h in
+    let l = between (codes "rmdir") (path_text path) in
+    omega (arith, a, l)
+line_length (Set at file value) h few =
+    let a = path_length at h.0 in
+    let b = file_length file in
+    let c = limit_length value h.1 in
+    let l = between (file_name file) (limit_word value) in
+    let m = between (path_text at) (file_name file ++ (32 ∷ limit_word value)) in
+    let n = between (codes "set") (path_text at ++ (32 ∷ (file_name file ++ (32 ∷ limit_word value)))) in
+    omega (arith, a, b, c, l, m, n)
+line_length (Fork parent child) h few =
+    let a = pid_length parent h.0 in
+    let b = pid_length child h.1 in
+    let l = between (decimal parent) (decimal child) in
+    let m = between (codes "fork") (decimal parent ++ (32 ∷ decimal child)) in
+    omega (arith, a, b, l, m)
+line_length (Exit pid) h few =
+    let a = pid_length pid h in
+    let l = between (codes "exit") (decimal pid) in
+    omega (arith, a, l)
+line_length (Chmod at entry mode) h few =
+    let a = path_length at h.0 in
+    let b = entry_length entry in
+    let l = between (entry_text entry) (mode_word mode) in
+    let m = between (path_text at) (entry_text entry ++ (32 ∷ mode_word mode)) in
+    let n = between (codes "chmod") (path_text at ++ (32 ∷ (entry_text entry ++ (32 ∷ mode_word mode)))) in
+    omega (arith, a, b, l, m, n)
+
+-- ---- one line
+
+abbrev pub IsNoNewline : ℕ → Type 0
+IsNoNewline b = (b == 10) ≡ false
+
+not_newline : (b : ℕ) → is_graphic b ≡ true → IsNoNewline b
+not_newline b h =
+    let l = ltb-true 32 b (and_parts (nat_lt 32 b) (nat_lt b 127) h).0 in
+    ne_eqb b 10 (λ e. omega (arith, l, e))
+
+word_line : (word rest : List ℕ) → is_word word ≡ true → All IsNoNewline rest → All IsNoNewline (word ++ rest)
+word_line [] rest h one = one
+word_line (b ∷ word) rest h one =
+    let p = and_parts (is_graphic b) (is_word word) h in
+    All-cons IsNoNewline b (word ++ rest) (not_newline b p.0) (word_line word rest p.1 one)
+
+words_line : (words : List (List ℕ)) → are_words words ≡ true → All IsNoNewline (join_with_byte 32 words)
+words_line [] h = All-nil IsNoNewline
+words_line (word ∷ []) h =
+    subst (All IsNoNewline) (append-nil word) (word_line word [] (and_parts (is_word word) true h).0 (All-nil IsNoNewline))
+words_line (word ∷ next ∷ words) h =
+    let p = and_parts (is_word word) (are_words (next ∷ words)) h in
+    let rest = join_with_byte 32 (next ∷ words) in
+    word_line word (32 ∷ rest) p.0 (All-cons IsNoNewline 32 rest refl (words_line (next ∷ words) p.1))
+
+-- No newline stands in it.
+pub one_line : (op : Op) → IsHeld op → All IsNoNewline (spelling op)
+one_line op h = words_line (words op) (line_words op h)
