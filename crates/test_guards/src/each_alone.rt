@@ -100,7 +100,7 @@ fn one_entry_is_reached(rt: HostRuntime) -> Result<(), Fail> {
         for so in [WRITTEN, OWNED, WRITTEN_BY_GROUP] {
             let tree = tree_of(rt.alloc(), &[(len, name)], so)?;
             assert_eq!(rt;
-                first_failed(rt.alloc(), &tree, &user, "/a/b")?,
+                first_failed(rt.alloc(), tree, &user, "/a/b")?,
                 Some(Failed { guard, len }),
                 "{len} {name} {so}"
             );
@@ -115,7 +115,7 @@ fn others_are_reached(rt: HostRuntime) -> Result<(), Fail> {
     for so in [WRITTEN, OWNED, WRITTEN_BY_GROUP] {
         let tree = tree_of(rt.alloc(), &UNGUARDED, so)?;
         assert_eq!(rt;
-            first_failed(rt.alloc(), &tree, &user, "/a/b")?,
+            first_failed(rt.alloc(), tree, &user, "/a/b")?,
             None,
             "{so}"
         );
@@ -135,7 +135,7 @@ fn guards_come_in_order(rt: HostRuntime) -> Result<(), Fail> {
         let tree = tree_of(rt.alloc(), entries.as_slice(), OWNED)?;
         let (guard, (len, name)) = GUARDED[first];
         assert_eq!(rt;
-            first_failed(rt.alloc(), &tree, &user, "/a/b")?,
+            first_failed(rt.alloc(), tree, &user, "/a/b")?,
             Some(Failed { guard, len }),
             "{name}"
         );

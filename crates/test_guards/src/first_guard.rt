@@ -21,7 +21,7 @@ fn expect(
     let user = User::with_groups(1000, gids).ok_or("user")?;
     let wanted = wanted.map(|(guard, len)| Failed { guard, len });
     assert_eq!(rt;
-        first_failed(alloc, &tree, &user, subtree)?,
+        first_failed(alloc, tree, &user, subtree)?,
         wanted,
         "{change:?}"
     );

@@ -30,7 +30,7 @@ fn after(
     let user = User::new(1000).ok_or("user")?;
     let (guard, len) = wanted;
     assert_eq!(rt;
-        first_failed(alloc, &tree, &user, "/c0")?,
+        first_failed(alloc, tree.try_clone(alloc)?, &user, "/c0")?,
         Some(Failed { guard, len })
     );
     assert_eq!(rt; apply(alloc, &mut tree, &user, op)?, Outcome::Done);

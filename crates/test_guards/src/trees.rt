@@ -6,6 +6,7 @@ use cg_cgroup::path::Path;
 use cg_cgroup::user::User;
 use cg_guards::failed::failed_guard;
 use cg_guards::guard::Failed;
+use cg_indexed::indexed::Indexed;
 use cg_rows::rows::Rows;
 use cg_text::tree::read_tree;
 use cg_tree::hierarchy::Hierarchy;
@@ -125,8 +126,22 @@ pub fn tree_with(alloc: Global, text: &str, changes: &[(&str, &str)]) -> Result<
     Ok(read_tree(alloc, text.as_bytes())?)
 }
 
-/// The first guard that fails of a subtree that is there and isn't the root.
-pub fn first_failed<H: Hierarchy>(
+/// The first guard that fails of a subtree that is there and isn't the root. Each way to keep the tree says the same.
+pub fn first_failed(
+    alloc: Global,
+    tree: Rows,
+    user: &User,
+    subtree: &str,
+) -> Result<Option<Failed>, Fail> {
+    let of_rows = failed_of(alloc, &tree, user, subtree)?;
+    let of_indexed = failed_of(alloc, &Indexed::from_rows(alloc, tree)?, user, subtree)?;
+    if of_rows != of_indexed {
+        return Err("the trees answer differently".into());
+    }
+    Ok(of_rows)
+}
+
+fn failed_of<H: Hierarchy>(
     alloc: Global,
     tree: &H,
     user: &User,
