@@ -1,4 +1,4 @@
-mod Lists
+pub mod Lists
 mod Wider
 mod Tried
 mod Monotone
@@ -7,5 +7,5 @@ mod Escaping
 mod Checking
 mod Pairs
 mod AllContained
-mod AnswerLaws
+pub mod AnswerLaws
 mod LimitFiles
