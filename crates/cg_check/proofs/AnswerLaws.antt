@@ -17,7 +17,7 @@ use Rattle.cg_check.specs.declared.answer.Answer.TheVariants.{Contained, Escapes
 use Rattle.cg_check.proofs.Lists.{find-passes}
 use Rattle.cg_check.proofs.Escaping.{escape-over}
 
-found-escape : (failed : List Failed) (found : Option (List Op)) (ops : List Op) → answer_from failed found ≡ Escapes ops → found ≡ Some ops
+pub found-escape : (failed : List Failed) (found : Option (List Op)) (ops : List Op) → answer_from failed found ≡ Escapes ops → found ≡ Some ops
 found-escape [] found ops is = cc
 found-escape (one ∷ others) None ops is = cc
 found-escape (one ∷ others) (Some tried) ops is = let same : tried ≡ ops = cc in ap Some same

@@ -1,4 +1,4 @@
-mod Lists
+pub mod Lists
 mod Wider
 mod Tried
 mod Monotone
@@ -8,5 +8,5 @@ mod Checking
 mod Pairs
 mod FirstUnguarded
 mod AllContained
-mod AnswerLaws
+pub mod AnswerLaws
 mod LimitFiles

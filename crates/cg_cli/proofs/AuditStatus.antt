@@ -14,7 +14,7 @@ use Rattle.cg_check.specs.declared.answer.Answer.{Answer}
 use Rattle.cg_check.specs.declared.answer.Answer.TheVariants as one
 use Rattle.cg_check.specs.declared.answer.AllAnswer.{AllAnswer}
 use Rattle.cg_check.specs.declared.answer.AllAnswer.TheVariants.{Contained}
-use Rattle.cg_report.proofs.Shown.{all_append}
+use Rattle.cg_check.proofs.Lists.{all-append}
 use Rattle.cg_cli.specs.Audits.{audit_status}
 
 abbrev IsNamed : AllAnswer → Type 0
@@ -28,13 +28,13 @@ one_named user subtree (one.Unsettled failed) = ((λ same. cc), tt)
 of_user_named : (st : State) (place : ℕ) (user : Identity) (from : ℕ) (subtrees : List Names) → AllByRecursion IsNamed (pairs_of st place user from subtrees)
 of_user_named st place user from [] = tt
 of_user_named st place user from (subtree ∷ subtrees) =
-    all_append IsNamed (pair_unless_contained place from (answer st user subtree)) (pairs_of st place user (suc from) subtrees)
+    all-append IsNamed (pair_unless_contained place from (answer st user subtree)) (pairs_of st place user (suc from) subtrees)
     (one_named place from (answer st user subtree)) (of_user_named st place user (suc from) subtrees)
 
 named : (st : State) (from : ℕ) (users : List Identity) (subtrees : List Names) → AllByRecursion IsNamed (pairs_from st from users subtrees)
 named st from [] subtrees = tt
 named st from (user ∷ users) subtrees =
-    all_append IsNamed (pairs_of st from user 0 subtrees) (pairs_from st (suc from) users subtrees)
+    all-append IsNamed (pairs_of st from user 0 subtrees) (pairs_from st (suc from) users subtrees)
     (of_user_named st from user 0 subtrees) (named st (suc from) users subtrees)
 
 first_named : (pairs : List AllAnswer) → AllByRecursion IsNamed pairs → audit_status (unwrap_or (first pairs) Contained) ≡ 0 → unwrap_or (first pairs) Contained ≡ Contained

@@ -57,10 +57,14 @@ module _ (text : List ℕ) (uid : ℕ) (gids subtree : List ℕ) (user : Identit
   fault_reports CheckNoMemory known is =
       (ap (λ (r : Report). takes_memory r.ending) report_is ∙ needs_memory (checked st user path), keeps known)
 
-  -- what is contained in the state, and for the user and the path, that were read
-  pub contained_bytes : IsContained st user path → (other : State) (who : Identity) (named : Names) → tree_of text ≡ Ok other → user_of uid gids ≡ Some who → path_at subtree ≡ Some named → IsContained other who named
-  contained_bytes holds other who named of_other of_who of_named =
+  -- what holds of the state, the user and the path that were read holds of those that the bytes say
+  pub of_bytes : (P : State → Identity → Names → Type 0) → P st user path → (other : State) (who : Identity) (named : Names) → tree_of text ≡ Ok other → user_of uid gids ≡ Some who → path_at subtree ≡ Some named → P other who named
+  of_bytes P holds other who named of_other of_who of_named =
       let a : st ≡ other = same_Ok _ _ (sym of_text ∙ of_other) in
       let b : user ≡ who = same_user (nat_eq uid 0) (user_of uid gids) user who of_user of_who in
       let c : path ≡ named = same_Ok _ _ (sym of_path ∙ ap (λ o. or_fault o BadPath) of_named) in
-      subst (λ s. IsContained s who named) a (subst (λ u. IsContained st u named) b (subst (IsContained st user) c holds))
+      subst (λ s. P s who named) a (subst (λ u. P st u named) b (subst (P st user) c holds))
+
+  -- what is contained there
+  pub contained_bytes : IsContained st user path → (other : State) (who : Identity) (named : Names) → tree_of text ≡ Ok other → user_of uid gids ≡ Some who → path_at subtree ≡ Some named → IsContained other who named
+  contained_bytes = of_bytes IsContained

@@ -9,3 +9,4 @@ mod AuditReports
 mod AuditStatus
 mod Closings
 mod ReplayCalls
+mod EscapeReplays

@@ -9,3 +9,4 @@ pub mod Replays
 pub mod Replaying
 pub mod Containment
 pub mod Audits
+pub mod EscapeReplays

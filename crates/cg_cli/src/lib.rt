@@ -6,6 +6,7 @@ pub mod audit;
 pub mod check;
 pub mod fault;
 pub mod input;
+pub mod laws;
 pub mod may;
 pub mod replay;
 pub mod write;

@@ -18,15 +18,12 @@ use Rattle.cg_check.specs.Answers.{answer_from, answer}
 use Rattle.cg_runs.specs.declared.fault.CheckFault.{CheckFault}
 use Rattle.cg_check.specs.Checks.{subtree_faults, unless_fault, checked}
 use Rattle.cg_ops.specs.Clauses.{first}
+use Rattle.cg_check.proofs.Lists.{all-append}
 use Rattle.cg_report.specs.AnswerLines.{IsShown}
 
-pub all_append : {A : Type 0} (P : A → Type 0) (xs ys : List A) → AllByRecursion P xs → AllByRecursion P ys → AllByRecursion P (xs ++ ys)
-all_append P [] ys of_xs of_ys = of_ys
-all_append P (x ∷ xs) ys of_xs of_ys = (of_xs.0, all_append P xs ys of_xs.1 of_ys)
-
-all_flat : {A B : Type 0} (P : B → Type 0) (Q : A → Type 0) (f : A → List B) → ((x : A) → Q x → AllByRecursion P (f x)) → (xs : List A) → AllByRecursion Q xs → AllByRecursion P (flat_map f xs)
+pub all_flat : {A B : Type 0} (P : B → Type 0) (Q : A → Type 0) (f : A → List B) → ((x : A) → Q x → AllByRecursion P (f x)) → (xs : List A) → AllByRecursion Q xs → AllByRecursion P (flat_map f xs)
 all_flat P Q f each [] all = tt
-all_flat P Q f each (x ∷ xs) all = all_append P (f x) (flat_map f xs) (each x all.0) (all_flat P Q f each xs all.1)
+all_flat P Q f each (x ∷ xs) all = all-append P (f x) (flat_map f xs) (each x all.0) (all_flat P Q f each xs all.1)
 
 all_unless : {R : Type 0} (P : R → Type 0) (test : Bool) (r : R) → P r → AllByRecursion P (unless test r)
 all_unless P true r holds = tt
@@ -48,8 +45,8 @@ files_within len (file ∷ files) = (omega arith, files_within len files)
 
 guarded_within : (subtree : Names) → AllByRecursion (Within (length subtree)) (guarded_entries subtree)
 guarded_within subtree =
-    all_append (Within (length subtree)) (ancestors (length subtree) ++ limit_files (length subtree)) _
-    (all_append (Within (length subtree)) (ancestors (length subtree)) (limit_files (length subtree)) (ancestors_within (length subtree) (length subtree) (omega arith)) (files_within (length subtree) all_files))
+    all-append (Within (length subtree)) (ancestors (length subtree) ++ limit_files (length subtree)) _
+    (all-append (Within (length subtree)) (ancestors (length subtree)) (limit_files (length subtree)) (ancestors_within (length subtree) (length subtree) (omega arith)) (files_within (length subtree) all_files))
     (omega arith, (omega arith, tt))
 
 entry_fails_within : (st : State) (user : Identity) (subtree : Names) (guarded : Guarded) → Within (length subtree) guarded → AllByRecursion (FailsWithin (length subtree)) (entry_failures st user subtree guarded)
@@ -61,7 +58,7 @@ entry_fails_within st user subtree guarded within =
 
 pub failures_within : (st : State) (user : Identity) (subtree : Names) → AllByRecursion (FailsWithin (length subtree)) (failures st user subtree)
 failures_within st user subtree =
-    all_append (FailsWithin (length subtree)) (flat_map (entry_failures st user subtree) (guarded_entries subtree)) (over_failures st subtree)
+    all-append (FailsWithin (length subtree)) (flat_map (entry_failures st user subtree) (guarded_entries subtree)) (over_failures st subtree)
     (all_flat (FailsWithin (length subtree)) (Within (length subtree)) (entry_failures st user subtree) (entry_fails_within st user subtree) (guarded_entries subtree) (guarded_within subtree))
     (all_unless (FailsWithin (length subtree)) _ _ (omega arith))
 

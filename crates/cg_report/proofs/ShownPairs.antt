@@ -14,9 +14,10 @@ use Rattle.cg_check.specs.declared.answer.Answer.{Answer}
 use Rattle.cg_check.specs.declared.answer.Answer.TheVariants as one
 use Rattle.cg_check.specs.declared.answer.AllAnswer.{AllAnswer}
 use Rattle.cg_check.specs.declared.answer.AllAnswer.TheVariants.{Contained}
+use Rattle.cg_check.proofs.Lists.{all-append}
 use Rattle.cg_report.specs.AnswerLines.{IsShown}
 use Rattle.cg_report.specs.AuditLines.{subtree_at, IsPairShown}
-use Rattle.cg_report.proofs.Shown.{all_append, answer_is_shown}
+use Rattle.cg_report.proofs.Shown.{answer_is_shown}
 
 -- the one between two lists
 at_front : (front : List Names) (subtree : Names) (others : List Names) → get_or (front ++ subtree ∷ others) (length front) [] ≡ subtree
@@ -37,7 +38,7 @@ module _ (st : State) (users : List Identity) (place : ℕ) (listed : place < le
       let within : from < length all = omega (arith, ap length whole, length-append front (subtree ∷ subtrees), count) in
       let shown = subst (λ s. IsShown s (answer st user subtree)) (sym at) (answer_is_shown st user subtree) in
       let more : length (front ++ subtree ∷ []) ≡ suc from = omega (arith, length-append front (subtree ∷ []), count) in
-      all_append (IsPairShown users all) (pair_unless_contained place from (answer st user subtree)) (pairs_of st place user (suc from) subtrees)
+      all-append (IsPairShown users all) (pair_unless_contained place from (answer st user subtree)) (pairs_of st place user (suc from) subtrees)
       (one_shown all from (answer st user subtree) within shown)
       (of_user_shown (front ++ subtree ∷ []) subtrees all (suc from) (append_assoc front (subtree ∷ []) subtrees ∙ whole) more)
 
@@ -46,7 +47,7 @@ of_users_shown st all subtrees front [] from whole count = tt
 of_users_shown st all subtrees front (user ∷ users) from whole count =
     let listed : from < length all = omega (arith, ap length whole, length-append front (user ∷ users), count) in
     let more : length (front ++ user ∷ []) ≡ suc from = omega (arith, length-append front (user ∷ []), count) in
-    all_append (IsPairShown all subtrees) (pairs_of st from user 0 subtrees) (pairs_from st (suc from) users subtrees)
+    all-append (IsPairShown all subtrees) (pairs_of st from user 0 subtrees) (pairs_from st (suc from) users subtrees)
     (of_user_shown st all from listed user [] subtrees subtrees 0 refl refl)
     (of_users_shown st all subtrees (front ++ user ∷ []) users (suc from) (append_assoc front (user ∷ []) users ∙ whole) more)
 

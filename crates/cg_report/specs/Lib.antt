@@ -1,3 +1,4 @@
 pub mod VerdictLines
 pub mod AnswerLines
 pub mod AuditLines
+pub mod EscapeLines

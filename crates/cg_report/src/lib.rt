@@ -3,4 +3,5 @@
 
 pub mod answer;
 pub mod audit;
+pub mod laws;
 pub mod verdict;
