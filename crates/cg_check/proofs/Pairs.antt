@@ -1,16 +1,14 @@
 -- Lists of faults and pairs, one after another, and what it means that there is none.
-use Rattle.std.proofs.Common.{◌≡◌, ◌≢◌, ℕ, zero, suc, ◌+◌, ◌<◌, Bool, true, false, not, List, [], ◌∷◌, ◌++◌, length, get_or, drop, drop-cons, add-one, refl, sym, ap, ◌∙◌, subst, Option, Some, None, is_some, unwrap_or, Ok, Err, Result, arith}
-use Rattle.std.specs.List.{flat_map, All, Contains}
-use Rattle.cg_cgroup.specs.Paths.{Names, is_root}
+use Rattle.std.proofs.Common.{◌≡◌, ◌≢◌, ℕ, zero, suc, ◌+◌, ◌<◌, true, List, [], ◌∷◌, ◌++◌, length, get_or, drop, drop-cons, add-one, refl, sym, ap, ◌∙◌, Some, None, Ok, arith}
+use Rattle.std.specs.List.{flat_map}
+use Rattle.cg_cgroup.specs.Paths.{Names}
 use Rattle.cg_cgroup.specs.Identity.{Identity}
 use Rattle.cg_tree.specs.States.{State}
-use Rattle.cg_tree.specs.WellFormed.{IsWellFormed, has_row}
-use Rattle.cg_ops.specs.Clauses.{unless, first}
+use Rattle.cg_ops.specs.Clauses.{first}
 use Rattle.cg_ops.proofs.ClauseLaws.{first_none, first_some, none_of_first, no_parts}
-use Rattle.cg_guards.specs.Guards.{failures, GuardsHold}
+use Rattle.cg_guards.specs.Guards.{failures}
 use Rattle.cg_guards.specs.Guarding.{IsSubtree}
 use Rattle.cg_guards.specs.declared.guard.Failed.{Failed}
-use Rattle.cg_runs.specs.declared.fault.CheckFault.{CheckFault}
 use Rattle.cg_check.specs.Answers.{answer}
 use Rattle.cg_check.specs.Checks.{subtree_faults, takes_memory}
 use Rattle.cg_check.specs.AllAnswers.{pair_unless_contained, pairs_of, pairs_from}
@@ -18,7 +16,7 @@ use Rattle.cg_check.specs.declared.answer.Answer.{Answer}
 use Rattle.cg_check.specs.declared.answer.Answer.TheVariants.{Contained, Escapes, Unsettled}
 use Rattle.cg_check.specs.declared.answer.AllAnswer.{AllAnswer}
 use Rattle.cg_check.specs.declared.answer.AllAnswer.TheVariants as all
-use Rattle.cg_check.proofs.Checking.{no_fault, guarded-answer, answer-guarded, fails-memory}
+use Rattle.cg_check.proofs.Checking.{no_fault, guarded-answer, fails-memory}
 
 -- ---- one after another
 
@@ -72,9 +70,6 @@ module _ (st : State) (users : List Identity) (subtrees : List Names) (i : ℕ) 
   users_here =
       ap (λ rest. pairs_from st i rest subtrees) (drop-cons users i user within)
       ∙ (λ j. pairs_of st i (sym at j) 0 subtrees ++ pairs_from st (sym (add-one i) j) (drop (sym (add-one i) j) users) subtrees)
-
-  pub users-none : None ≡ first (pairs_of st i user 0 subtrees) → first (pairs_from st (i + 1) (drop (i + 1) users) subtrees) ≡ first (pairs_from st i (drop i users) subtrees)
-  users-none none = sym (ap first users_here ∙ first_none _ _ (sym none))
 
   pub users-found : (pair : AllAnswer) → Some pair ≡ first (pairs_of st i user 0 subtrees) → Some pair ≡ first (pairs_from st i (drop i users) subtrees)
   users-found pair some = sym (ap first users_here ∙ first_some _ _ pair (sym some))

@@ -94,7 +94,3 @@ course_read (Some subtree) text =
 abbrev pub lines_report : List ℕ → ℕ → List ℕ → Option (List ℕ) → List ℕ → Said Course
 lines_report text uid gids subtree ops =
     report_on (user_read uid gids) (λ user. report_on (course_read subtree text) (λ course. lines_said course user 0 ops))
-
--- The whole report: the lines, and behind them the verdict where a subtree is watched and no fault ended them.
-abbrev pub replay_report : List ℕ → ℕ → List ℕ → Option (List ℕ) → List ℕ → Report
-replay_report text uid gids subtree ops = closed (lines_report text uid gids subtree ops)
