@@ -29,9 +29,6 @@ use Rattle.cg_guards.proofs.Counts.{fits-after}
 over : (st : State) (subtree : Names) → fits_descendants st subtree ≡ true → fits_depth st subtree ≡ true → over_failures st subtree ≡ []
 over st subtree descendants depth = ap (λ fits. unless fits (record { guard = AlreadyOver; len = length subtree })) (and_from _ _ descendants depth)
 
-pub over-kept : (st new : State) (user : Identity) (subtree : Names) → IsKept st new user subtree → over_failures new subtree ≡ []
-over-kept st new user subtree kept = over new subtree kept.descendants kept.depth
-
 module _ (st : State) (user : Identity) (subtree : Names) (sound : IsSound st) (sub : IsSubtree st subtree) (held : Holding st user subtree) where
   -- what an operation that nothing bars doesn't alter
   row_stays : (op : Op) → bars st user op ≡ [] → alters_row op subtree ≡ false

@@ -5,6 +5,6 @@ pub use Rattle.cg_guards.proofs.Sound.{IsSound, sound-formed, sound-after}
 -- anyone's step that leaves the subtree there with its limits, and is no chmod of a guarded entry, touches none of these
 pub use Rattle.cg_guards.proofs.Untouched.{untouched-after}
 -- what a step of a user against whom the guards hold leaves; it touches no guarded entry either
-pub use Rattle.cg_guards.proofs.Kept.{kept-after, untouched-guarded, over-kept}
+pub use Rattle.cg_guards.proofs.Kept.{kept-after, untouched-guarded}
 -- the guards against any user hold again where the guarded entries are untouched and the counts fit
 pub use Rattle.cg_guards.proofs.GuardedEntries.{hold-untouched}

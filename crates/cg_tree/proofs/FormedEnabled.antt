@@ -14,10 +14,10 @@ use Rattle.cg_cgroup.proofs.Options.{some_value, mapped_from, is_some-mapped}
 use Rattle.cg_cgroup.proofs.PathOrder.{same_path-is, same_path_refl, same_path_comm}
 use Rattle.cg_cgroup.proofs.PathParents.{is_child-parent, parent-is_child, is_root-is_child, parent-other}
 use Rattle.cg_tree.proofs.StateLaws.{row_at-with_enabled}
-use Rattle.cg_tree.proofs.StateTests.{row-child_enables, child_enables-row, process-has_live, has_live-process}
-use Rattle.cg_cgroup.proofs.ControllerLaws.{is_within-each, is_within-enables}
+use Rattle.cg_tree.proofs.StateTests.{row-child_enables, process-has_live}
+use Rattle.cg_cgroup.proofs.ControllerLaws.{is_within-each}
 use Rattle.cg_tree.proofs.FormedRows.{formed_row-with_files_of}
-use Rattle.cg_tree.proofs.FormedParts.{may_hold-row, row-may_hold, enabled_at-row}
+use Rattle.cg_tree.proofs.FormedParts.{may_hold-row, row-may_hold}
 
 -- no path is a child of itself
 pub is_child-itself : (path : Names) → is_child path path ≡ false
@@ -138,40 +138,3 @@ module _ (st : State) (path : Names) (enabled : ControllerSet) (user : Identity)
       places = stays_held;
       used = whole.used;
     }
-
-  -- a cgroup may enable just what keeps the tree well-formed
-  pub may_enable-formed : has_row st path ≡ true → IsWellFormed (with_enabled st path enabled user) → MayEnable st path enabled
-  may_enable-formed there new = record {
-    available =
-        let row = some_value (row_at st path) there in
-        (λ i. is_within (sym (enabled-enabling-same path enabled user row.0) i) (sym (above_same st.controllers path (same_path_refl path)) i))
-        ∙ new.top_down path (enabling path enabled user path row.0) (row_at-with_enabled st path enabled user path ∙ ap (option_map (enabling path enabled user path)) row.1);
-    children = λ controller on.
-        let found = child_enables-row st path controller on in
-        let q = found.0 in
-        let row = found.1 in
-        let apart = false_from_ne_true (same_path path q) (λ same. true≢false (sym found.3 ∙ ap (is_child path) (sym (same_path-is path q same)) ∙ is_child-itself path)) in
-        let within = (λ i. is_within (sym (enabled-enabling path enabled user q row apart) i) (sym (above_child there st.controllers q found.3) i))
-        ∙ new.top_down q (enabling path enabled user q row) (row_at-with_enabled st path enabled user q ∙ ap (option_map (enabling path enabled user q)) found.2) in
-        is_within-enables row.enabled enabled within controller found.4;
-    no_internal =
-        elim (has_live st path) as (λ b. has_live st path ≡ b → (is_root path || (enables_nothing enabled || not b)) ≡ true) [
-          | true ↦ λ live.
-              let found = has_live-process st path live in
-              let place = same_path-is found.1.place path found.3 in
-              let held = may_hold-row (with_enabled st path enabled user) path (ap (may_hold (with_enabled st path enabled user)) (sym place) ∙ new.places found.0 found.1 found.2) in
-              let set = sym (enabled_at-with_enabled-same there) ∙ enabled_at-row (with_enabled st path enabled user) path held.0 held.1 in
-              ap (λ s. is_root path || (enables_nothing s || false)) set ∙ or_false (is_root path) (enables_nothing held.0.enabled) ∙ held.2
-          | false ↦ λ _. or_true (is_root path) (enables_nothing enabled)
-        ] refl;
-  }
-    where
-      or_false : (a b : Bool) → (a || (b || false)) ≡ (a || b)
-      or_false true b = refl
-      or_false false true = refl
-      or_false false false = refl
-
-      or_true : (a b : Bool) → (a || (b || true)) ≡ true
-      or_true true b = refl
-      or_true false true = refl
-      or_true false false = refl

@@ -1,26 +1,22 @@
 -- What each change does to the paths, the counts and the tests of a state.
-use Rattle.std.proofs.Common.{◌≡◌, ℕ, ◌+◌, ◌-◌, max, Bool, true, false, cond, ◌&&◌, ◌||◌, List, [], ◌∷◌, length, map, refl, sym, ap, ◌∙◌, Some, None, fold, filter, count_by, arith}
+use Rattle.std.proofs.Common.{◌≡◌, ℕ, ◌+◌, ◌-◌, max, Bool, true, false, cond, List, [], ◌∷◌, length, map, refl, sym, ap, ◌∙◌, Some, fold, filter, count_by, arith}
 use Rattle.std.specs.List.{list_any}
-use Rattle.std.specs.Cmp.{nat_cmp_total}
 use Rattle.std.specs.FinMap as finite
 use Rattle.std.proofs.lemmas.List.Recursion.{is_count_by}
-use Rattle.cg_cgroup.specs.Paths.{Names, same_path, below, is_child}
+use Rattle.cg_cgroup.specs.Paths.{Names, below, is_child}
 use Rattle.cg_cgroup.specs.Identity.{Identity}
-use Rattle.cg_cgroup.specs.Files.{enables}
 use Rattle.cg_cgroup.specs.Cgroups.{with_value_in, with_mode_in}
-use Rattle.cg_tree.specs.States.{State, row_at, process_at, paths_of, pids_of, has_child, has_live, child_enables, count_below, depth_below, enabling, with_row, without_row, with_value, with_mode, with_enabled, placed_at, with_place, with_process, without_process}
+use Rattle.cg_tree.specs.States.{State, row_at, paths_of, has_child, count_below, depth_below, enabling, with_row, without_row, with_value, with_mode, with_enabled}
 use Rattle.cg_tree.specs.WellFormed.{has_row}
 use Rattle.cg_cgroup.specs.declared.files.Limit.{Limit}
-use Rattle.cg_cgroup.specs.declared.files.Controller.{Controller}
 use Rattle.cg_cgroup.specs.declared.files.ControllerSet.{ControllerSet}
 use Rattle.cg_cgroup.specs.declared.files.LimitFile.{LimitFile}
 use Rattle.cg_cgroup.specs.declared.files.EntryName.{EntryName}
 use Rattle.cg_cgroup.specs.declared.cgroup.Cgroup.{Cgroup}
-use Rattle.cg_cgroup.specs.declared.process.Process.{Process}
 use Rattle.cg_cgroup.proofs.Options.{none_value}
 use Rattle.cg_cgroup.proofs.PathOrder.{path_cmp_total, path_cmp-IsAntisymmetric}
-use Rattle.cg_tree.proofs.MapLaws.{keys-changed, keys-change_value, change_value-there}
-use Rattle.cg_tree.proofs.MapFolds.{gathered, Commutes, gathered-insert, gathered-remove, insert-remove, get-remove-same}
+use Rattle.cg_tree.proofs.MapLaws.{keys-changed, keys-change_value}
+use Rattle.cg_tree.proofs.MapFolds.{gathered, Commutes, gathered-insert, gathered-remove}
 
 -- ---- the same paths and PIDs
 
@@ -32,9 +28,6 @@ paths_of-with_mode st p name mode = keys-change_value path_cmp_total st.rows p (
 
 pub paths_of-with_enabled : (st : State) (p : Names) (enabled : ControllerSet) (user : Identity) → paths_of (with_enabled st p enabled user) ≡ paths_of st
 paths_of-with_enabled st p enabled user = keys-changed (enabling p enabled user) st.rows
-
-pub pids_of-with_place : (st : State) (pid : ℕ) (p : Names) → pids_of (with_place st pid p) ≡ pids_of st
-pids_of-with_place st pid p = keys-change_value nat_cmp_total st.live pid (placed_at p)
 
 -- what goes by the paths alone
 module _ (st new : State) (same : paths_of new ≡ paths_of st) (q : Names) where
@@ -92,18 +85,6 @@ gathered-greater p f (x ∷ xs) =
     fold_max a [] = omega arith
     fold_max a (n ∷ ns) = omega (arith, fold_max (max a n) ns, fold_max (max 0 n) ns)
 
-or_else-Commutes : {A : Type 0} (p : A → Bool) → Commutes {B = Bool} (λ x b. p x || b)
-or_else-Commutes p x y b = swapped (p x) (p y)
-  where
-    swapped : (a c : Bool) → (a || (c || b)) ≡ (c || (a || b))
-    swapped true true = refl
-    swapped true false = refl
-    swapped false c = refl
-
-gathered-any : {A : Type 0} (p : A → Bool) (xs : List A) → gathered (λ x b. p x || b) false xs ≡ list_any p xs
-gathered-any p [] = refl
-gathered-any p (x ∷ xs) = ap (λ b. p x || b) (gathered-any p xs)
-
 -- ---- the counts of a tree
 
 count_from_front : (st : State) (q : Names) → gathered (λ e. one_more (below q) e.0) 0 (finite.entries st.rows) ≡ count_below st q
@@ -113,13 +94,6 @@ count_from_front st q =
 depth_from_front : (st : State) (q : Names) → gathered (λ e. greater (below q) (λ x. length x - length q) e.0) 0 (finite.entries st.rows) ≡ depth_below st q
 depth_from_front st q =
     sym (gathered-map (greater (below q) (λ x. length x - length q)) 0 (λ e. e.0) (finite.entries st.rows)) ∙ gathered-greater (below q) (λ x. length x - length q) (paths_of st)
-
-child_from_front : (st : State) (q : Names) → gathered (λ e b. is_child q e.0 || b) false (finite.entries st.rows) ≡ has_child st q
-child_from_front st q = sym (gathered-map (λ x b. is_child q x || b) false (λ e. e.0) (finite.entries st.rows)) ∙ gathered-any (is_child q) (paths_of st)
-
-live_from_front : (st : State) (q : Names) → gathered (λ e b. same_path e.1.place q || b) false (finite.entries st.live) ≡ has_live st q
-live_from_front st q =
-    sym (gathered-map (λ process b. same_path process.place q || b) false (λ e. e.1) (finite.entries st.live)) ∙ gathered-any (λ process. same_path process.place q) (finite.values st.live)
 
 -- ---- making a cgroup adds one below each cgroup that it is below
 
@@ -135,17 +109,6 @@ module _ (st : State) (p : Names) (row : Cgroup) (absent : has_row st p ≡ fals
       ∙ gathered-insert path_cmp_total (λ e. greater (below q) (λ x. length x - length q) e.0) 0 (λ x y. greater-Commutes (below q) (λ x. length x - length q) x.0 y.0) st.rows p row (none_value _ absent)
       ∙ ap (greater (below q) (λ x. length x - length q) p) (depth_from_front st q)
 
-  pub has_child-with_row : (q : Names) → has_child (with_row st p row) q ≡ (is_child q p || has_child st q)
-  has_child-with_row q =
-      sym (child_from_front (with_row st p row) q)
-      ∙ gathered-insert path_cmp_total (λ e b. is_child q e.0 || b) false (λ x y. or_else-Commutes (is_child q) x.0 y.0) st.rows p row (none_value _ absent) ∙ ap (λ b. is_child q p || b) (child_from_front st q)
-
-  pub child_enables-with_row : (q : Names) (controller : Controller) → child_enables (with_row st p row) q controller ≡ ((is_child q p && enables row.enabled controller) || child_enables st q controller)
-  child_enables-with_row q controller =
-      let test = λ (e : Names × Cgroup). is_child q e.0 && enables e.1.enabled controller in
-      sym (gathered-any test (finite.entries (with_row st p row).rows))
-      ∙ gathered-insert path_cmp_total (λ e b. test e || b) false (or_else-Commutes test) st.rows p row (none_value _ absent) ∙ ap (λ b. test (p, row) || b) (gathered-any test (finite.entries st.rows))
-
 -- ---- removing one takes it
 
 module _ (st : State) (p : Names) (row : Cgroup) (there : row_at st p ≡ Some row) where
@@ -159,32 +122,3 @@ module _ (st : State) (p : Names) (row : Cgroup) (there : row_at st p ≡ Some r
       sym (depth_from_front st q)
       ∙ gathered-remove path_cmp_total (λ e. greater (below q) (λ x. length x - length q) e.0) 0 (λ x y. greater-Commutes (below q) (λ x. length x - length q) x.0 y.0) path_cmp-IsAntisymmetric st.rows p row there
       ∙ ap (greater (below q) (λ x. length x - length q) p) (depth_from_front (without_row st p) q)
-
-  pub has_child-without_row : (q : Names) → has_child st q ≡ (is_child q p || has_child (without_row st p) q)
-  has_child-without_row q =
-      sym (child_from_front st q)
-      ∙ gathered-remove path_cmp_total (λ e b. is_child q e.0 || b) false (λ x y. or_else-Commutes (is_child q) x.0 y.0) path_cmp-IsAntisymmetric st.rows p row there ∙ ap (λ b. is_child q p || b) (child_from_front (without_row st p) q)
-
--- ---- processes
-
-pub has_live-with_process : (st : State) (pid uid : ℕ) (p : Names) → process_at st pid ≡ None → (q : Names) → has_live (with_process st pid uid p) q ≡ (same_path p q || has_live st q)
-has_live-with_process st pid uid p none q =
-    sym (live_from_front (with_process st pid uid p) q)
-    ∙ gathered-insert nat_cmp_total (λ e b. same_path e.1.place q || b) false (λ x y. or_else-Commutes (λ (process : Process). same_path process.place q) x.1 y.1) st.live pid (record { uid = uid; place = p }) none
-    ∙ ap (λ b. same_path p q || b) (live_from_front st q)
-
-module _ (st : State) (pid : ℕ) (process : Process) (live : process_at st pid ≡ Some process) where
-  pub has_live-without_process : (q : Names) → has_live st q ≡ (same_path process.place q || has_live (without_process st pid) q)
-  has_live-without_process q =
-      sym (live_from_front st q)
-      ∙ gathered-remove nat_cmp_total (λ e b. same_path e.1.place q || b) false (λ x y. or_else-Commutes (λ (process : Process). same_path process.place q) x.1 y.1) finite.nat_cmp-IsAntisymmetric st.live pid process live
-      ∙ ap (λ b. same_path process.place q || b) (live_from_front (without_process st pid) q)
-
-  pub has_live-with_place : (p q : Names) → has_live (with_place st pid p) q ≡ (same_path p q || has_live (without_process st pid) q)
-  has_live-with_place p q =
-      let placed = placed_at p process in
-      let others = finite.remove st.live pid in
-      let changed = change_value-there st.live pid (placed_at p) process live ∙ sym (insert-remove nat_cmp_total finite.nat_cmp-IsAntisymmetric st.live pid placed) in
-      ap (λ m. has_live (record st { live = m }) q) changed ∙ sym (live_from_front (record st { live = finite.insert others pid placed }) q)
-      ∙ gathered-insert nat_cmp_total (λ e b. same_path e.1.place q || b) false (λ x y. or_else-Commutes (λ (process : Process). same_path process.place q) x.1 y.1) others pid placed (get-remove-same nat_cmp_total st.live pid)
-      ∙ ap (λ b. same_path p q || b) (live_from_front (without_process st pid) q)

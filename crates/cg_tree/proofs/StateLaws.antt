@@ -7,7 +7,7 @@ use Rattle.std.specs.FinSet as set
 use Rattle.cg_cgroup.specs.Paths.{Names, path_cmp, same_path}
 use Rattle.cg_cgroup.specs.Identity.{Identity}
 use Rattle.cg_cgroup.specs.Cgroups.{with_value_in, with_mode_in}
-use Rattle.cg_tree.specs.States.{State, row_at, process_at, is_used, change_at, enabling_these, enabling, with_row, without_row, with_value, with_mode, with_enabled, placed_at, with_place, with_process, without_process}
+use Rattle.cg_tree.specs.States.{State, row_at, process_at, is_used, change_at, enabling, with_row, without_row, with_value, with_mode, with_enabled, placed_at, with_place, with_process, without_process}
 use Rattle.cg_cgroup.specs.declared.files.Limit.{Limit}
 use Rattle.cg_cgroup.specs.declared.files.ControllerSet.{ControllerSet}
 use Rattle.cg_cgroup.specs.declared.files.LimitFile.{LimitFile}
@@ -43,15 +43,6 @@ row_at-with_mode st p name mode q = row_at-change_at p (with_mode_in name mode) 
 
 pub row_at-with_enabled : (st : State) (p : Names) (enabled : ControllerSet) (user : Identity) (q : Names) → row_at (with_enabled st p enabled user) q ≡ option_map (enabling p enabled user q) (row_at st q)
 row_at-with_enabled st p enabled user q = get-changed path_cmp-IsAntisymmetric (enabling p enabled user) st.rows q
-
-pub row_at-with_place : (st : State) (pid : ℕ) (p q : Names) → row_at (with_place st pid p) q ≡ row_at st q
-row_at-with_place st pid p q = refl
-
-pub row_at-with_process : (st : State) (pid uid : ℕ) (p q : Names) → row_at (with_process st pid uid p) q ≡ row_at st q
-row_at-with_process st pid uid p q = refl
-
-pub row_at-without_process : (st : State) (pid : ℕ) (q : Names) → row_at (without_process st pid) q ≡ row_at st q
-row_at-without_process st pid q = refl
 
 -- ---- live processes
 
@@ -92,22 +83,6 @@ module _ (p : Names) where
   pub row_at-without_row-other : (st : State) (q : Names) → same_path p q ≡ false → row_at (without_row st p) q ≡ row_at st q
   row_at-without_row-other st q apart = row_at-without_row st p q ∙ at_other q _ _ apart
 
-  pub row_at-with_value-same : (st : State) (file : LimitFile) (value : Limit) → row_at (with_value st p file value) p ≡ option_map (with_value_in file value) (row_at st p)
-  row_at-with_value-same st file value = row_at-with_value st p file value p ∙ at_same _ _
-
-  pub row_at-with_value-other : (st : State) (file : LimitFile) (value : Limit) (q : Names) → same_path p q ≡ false → row_at (with_value st p file value) q ≡ row_at st q
-  row_at-with_value-other st file value q apart = row_at-with_value st p file value q ∙ at_other q _ _ apart
-
-  pub row_at-with_mode-same : (st : State) (name : EntryName) (mode : ℕ) → row_at (with_mode st p name mode) p ≡ option_map (with_mode_in name mode) (row_at st p)
-  row_at-with_mode-same st name mode = row_at-with_mode st p name mode p ∙ at_same _ _
-
-  pub row_at-with_mode-other : (st : State) (name : EntryName) (mode : ℕ) (q : Names) → same_path p q ≡ false → row_at (with_mode st p name mode) q ≡ row_at st q
-  row_at-with_mode-other st name mode q apart = row_at-with_mode st p name mode q ∙ at_other q _ _ apart
-
-  pub row_at-with_enabled-same : (st : State) (enabled : ControllerSet) (user : Identity) → row_at (with_enabled st p enabled user) p ≡ option_map (enabling_these enabled) (row_at st p)
-  row_at-with_enabled-same st enabled user =
-      row_at-with_enabled st p enabled user p ∙ elim (row_at st p) as (λ r. option_map (enabling p enabled user p) r ≡ option_map (enabling_these enabled) r) [ None ↦ refl | Some row ↦ ap Some (at_same _ _) ]
-
 pid_same : {A : Type 0} (pid : ℕ) (x y : A) → cond (nat_eq pid pid) x y ≡ x
 pid_same pid x y = ap (λ b. cond b x y) (eq-eqb pid pid refl)
 
@@ -117,14 +92,8 @@ process_at-with_place-same st pid p = process_at-with_place st pid p pid ∙ pid
 pub process_at-with_place-other : (st : State) (pid : ℕ) (p : Names) (q : ℕ) → nat_eq pid q ≡ false → process_at (with_place st pid p) q ≡ process_at st q
 process_at-with_place-other st pid p q apart = process_at-with_place st pid p q ∙ ap (λ b. cond b (option_map (placed_at p) (process_at st q)) (process_at st q)) apart
 
-pub process_at-with_process-same : (st : State) (pid uid : ℕ) (p : Names) → process_at (with_process st pid uid p) pid ≡ Some (record { uid = uid; place = p })
-process_at-with_process-same st pid uid p = process_at-with_process st pid uid p pid ∙ pid_same pid _ _
-
 pub process_at-with_process-other : (st : State) (pid uid : ℕ) (p : Names) (q : ℕ) → nat_eq pid q ≡ false → process_at (with_process st pid uid p) q ≡ process_at st q
 process_at-with_process-other st pid uid p q apart = process_at-with_process st pid uid p q ∙ ap (λ b. cond b (Some (record { uid = uid; place = p })) (process_at st q)) apart
-
-pub process_at-without_process-same : (st : State) (pid : ℕ) → process_at (without_process st pid) pid ≡ None
-process_at-without_process-same st pid = process_at-without_process st pid pid ∙ pid_same pid _ _
 
 pub process_at-without_process-other : (st : State) (pid q : ℕ) → nat_eq pid q ≡ false → process_at (without_process st pid) q ≡ process_at st q
 process_at-without_process-other st pid q apart = process_at-without_process st pid q ∙ ap (λ b. cond b None (process_at st q)) apart

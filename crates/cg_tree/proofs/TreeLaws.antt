@@ -37,9 +37,6 @@ module _ (st : State) (whole : IsWellFormed st) where
   pub take-there : (path : Names) (n : ℕ) → has_row st path ≡ true → has_row st (take n path) ≡ true
   take-there = take-there-by_parents st whole.parents
 
-  pub inside-there : (top path : Names) → inside top path ≡ true → has_row st path ≡ true → has_row st top ≡ true
-  inside-there top path h there = ap (has_row st) (sym (inside-is top path h)) ∙ take-there path (length top) there
-
   -- what has a cgroup below it has a child
   pub below-has_child : (top path : Names) → below top path ≡ true → has_row st path ≡ true → has_child st top ≡ true
   below-has_child top path h there =

@@ -34,9 +34,6 @@ module _ (st : State) (subtree : Names) where
   sooner : (len at : ℕ) → len < at → min at (suc len) ≡ suc len
   sooner len at h = omega arith
 
-  pub open_start : OpenAbove 0 (length subtree)
-  open_start len h = ap (levels_pass st subtree len) (later len 0 (omega arith)) ∙ sym (lt-ltb len (length subtree) h)
-
   -- what bars a level goes on to bar it
   levels_pass-more : (len at more : ℕ) → levels_pass st subtree len at ≡ false → levels_pass st subtree len (more + at) ≡ false
   levels_pass-more len at zero h = ap (levels_pass st subtree len) (let e : 0 + at ≡ at = omega arith in e) ∙ h
@@ -91,6 +88,3 @@ module _ (st : State) (subtree : Names) where
       ap (levels_pass st subtree len) (let e : min (at + 1) (suc len) ≡ suc at = omega arith in e)
       ∙ (λ i. here i && levels_pass st subtree len at) ∙ sym (ap (levels_pass st subtree len) (later len at above)) ∙ now len within)
       (cases_lt len at)
-
-  pub open_end : (at level : ℕ) → length subtree ≤ at → OpenAbove at level → (len : ℕ) → len < length subtree → lets_in st subtree len ≡ nat_lt len level
-  open_end at level h now len within = sym (ap (levels_pass st subtree len) (sooner len at (omega (arith, within)))) ∙ now len within

@@ -21,9 +21,6 @@ numbers_next p number count h =
     let f : suc number ≡ number + 1 = omega arith in
     ap (λ k. find p (numbers_from number k)) e ∙ ap (λ k. cond (p number) (Some number) (find p (numbers_from k (count - (number + 1))))) f
 
-pub numbers_end : (p : ℕ → Bool) (number count : ℕ) → count ≤ number → find p (numbers_from number (count - number)) ≡ None
-numbers_end p number count h = let e : count - number ≡ 0 = omega arith in ap (λ k. find p (numbers_from number k)) e
-
 -- ---- digits
 
 digits-longer : (k n : ℕ) (rest : List ℕ) → length rest ≤ length (digits_onto k 10 false n rest)
