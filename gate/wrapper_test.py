@@ -93,7 +93,7 @@ class WrapperTest(unittest.TestCase):
     def test_first_call_builds_and_later_ones_do_not(self):
         first = self.call("may", "--uid", "7")
         self.assert_ran(first, "may --uid 7")
-        self.assertIn("12 minutes on 4 cores", first.stderr)
+        self.assertIn("20 minutes on 4 cores", first.stderr)
         self.assertIn("2.4 GB", first.stderr)
         later = self.call("may")
         self.assert_ran(later)
