@@ -28,14 +28,17 @@ pub fn first_plain_try(
     Ok(None)
 }
 
-/// Whether these operations, in turn, break the subtree.
-fn breaks(
+/// Whether these operations, in turn, break the subtree, or it is broken before them.
+pub fn breaks(
     alloc: Global,
     tree: &Rows,
     user: &User,
     subtree: &Path,
     ops: &[Op],
 ) -> Result<bool, NoMemory> {
+    if is_over(tree, subtree, tree.paths(alloc)?.as_slice()) {
+        return Ok(true);
+    }
     let mut now = tree.try_clone(alloc)?;
     for op in ops {
         let before = now.try_clone(alloc)?;
@@ -91,7 +94,7 @@ fn is_crossed(before: &Rows, now: &Rows, subtree: &Path, pids: &[Pid]) -> bool {
 }
 
 /// Whether the subtree is over its limits of descendants and depth, counted from all paths.
-fn is_over(now: &Rows, subtree: &Path, paths: &[Path]) -> bool {
+pub fn is_over(now: &Rows, subtree: &Path, paths: &[Path]) -> bool {
     let Some(cgroup) = now.get(subtree, subtree.depth()) else {
         return true;
     };
@@ -122,7 +125,7 @@ fn only(alloc: Global, op: Op) -> Result<Vec<Op>, NoMemory> {
 }
 
 /// The plain tries, in order.
-fn plain_tries(alloc: Global, tree: &Rows, subtree: &Path) -> Result<Vec<Vec<Op>>, PathFault> {
+pub fn plain_tries(alloc: Global, tree: &Rows, subtree: &Path) -> Result<Vec<Vec<Op>>, PathFault> {
     let mut tries = Vec::new(alloc);
     tries.push(Vec::new(alloc))?;
     add_writes(alloc, tree, subtree, &mut tries)?;

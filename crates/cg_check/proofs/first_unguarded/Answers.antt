@@ -7,7 +7,7 @@ pub guarded_users-left-requires : goal.guarded_users-left-requires
 guarded_users-left-requires g c = search (rules, subtree_at)
 
 pub loop-place-preserved-then-left-guarded : goal.loop-place-preserved-then-left-guarded
-loop-place-preserved-then-left-guarded g c = search (rules, below_kept)
+loop-place-preserved-then-left-guarded g c = search below_kept
 
 pub loop-place-preserved : goal.loop-place-preserved
-loop-place-preserved g c = search (rules, below_found)
+loop-place-preserved g c = search below_found
