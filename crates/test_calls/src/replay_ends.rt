@@ -106,6 +106,7 @@ fn a_fault_of_a_line_has_its_line(rt: HostRuntime) -> Result<(), Fail> {
         (LineFault::TooLong, "fault: line 7 too-long\n"),
         (LineFault::BadWord, "fault: line 7 bad-word\n"),
         (LineFault::Cut, "fault: line 7 cut\n"),
+        (LineFault::NoMemory, "fault: memory\n"),
     ] {
         let line = fault_text(rt.alloc(), &CliFault::Line { number: 7, fault })?;
         assert_eq!(rt; line.as_slice(), text.as_bytes());
