@@ -154,8 +154,9 @@ fn check_counts<H: Hierarchy>(
 fn counts_are_kept(rt: HostRuntime) -> Result<(), Fail> {
     let user = User::new(1000).ok_or("uid")?;
     let root = Cgroup::made_by(&user, ControllerSet::none());
-    let mut tree = Indexed::new(rt.alloc(), ControllerSet::none(), root)?;
-    delegate(&rt, rt.alloc(), &mut tree, &user)?;
+    let mut rows = Rows::new(rt.alloc(), ControllerSet::none(), root)?;
+    delegate(&rt, rt.alloc(), &mut rows, &user)?;
+    let mut tree = Indexed::from_rows(rt.alloc(), rows)?;
     check_counts(&rt, rt.alloc(), &mut tree, &user)
 }
 
