@@ -185,9 +185,9 @@ class WrapperTest(unittest.TestCase):
 
     def interrupt(self, number):
         child = f"{self.played}/child"
-        # Python's children are to take the signal as those of a terminal do
         started = subprocess.Popen([f"{self.checkout}/zirofen", "may"], stdin=subprocess.DEVNULL, text=True,
-                                   stdout=subprocess.PIPE, stderr=subprocess.PIPE, env=self.environment, cwd="/")
+                                   stdout=subprocess.PIPE, stderr=subprocess.PIPE, env=self.environment, cwd="/",
+                                   preexec_fn=take_signals)
         self.wait_for(lambda: os.path.exists(child) and open(child).read().endswith("\n"))
         sleeper = int(open(child).read())
         started.send_signal(number)
@@ -204,6 +204,12 @@ class WrapperTest(unittest.TestCase):
         while not holds():
             self.assertLess(time.monotonic(), until, "waited in vain")
             time.sleep(0.02)
+
+
+def take_signals():
+    """Takes signals as a terminal's programs do: a shell starts what it runs in the background with some ignored."""
+    for number in (signal.SIGINT, signal.SIGTERM, signal.SIGHUP):
+        signal.signal(number, signal.SIG_DFL)
 
 
 if __name__ == "__main__":
