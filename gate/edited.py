@@ -8,7 +8,6 @@ BLOCK = re.compile(r"impl(?:<.*?>)? (?:(?:\w+::)*(?P<trait>\w+)(?:<.*>)? for )?(
 OPEN = re.compile(r"note: (src/\S+?):(\d+):\d+: (it is not proved that .*)")
 NOT_MET = r"`[^`]*`: (?:as printed, |computed as (?:a goal is|far as they go), |expected type |`(?:grind|omega|rw|search|simp)`:? ).*"
 REFUSED_ANSWER = re.compile(rf"\./proofs/(\S+)/(?:Answers|Invariants|Proof)\.antt:\d+:\d+: error: ({NOT_MET})")
-CALLS = re.compile(r"fn (\S+): .*?it calls (.*?), which (?:is|are) not proved")
 
 
 def text_of(file):
@@ -56,13 +55,28 @@ class Edit:
             found += here[-1:]
         return found
 
+    def keeps_heads(self):
+        """Returns whether it changes what stands in bodies alone: clauses and types decide goals of other functions too."""
+        for (path, line, old), (_, _, new) in zip(self.lines, self.pairs):
+            here = [it for it in self.functions() if it["file"] == path and it["first"] <= line <= it["body"]]
+            if here and not new.startswith(old):
+                return False
+        return True
+
+    def part(self):
+        """Returns the module that it changes, by its path, or of a crate's root the function."""
+        path = self.lines[0][0]
+        if path in ("src/main.rt", "src/lib.rt"):
+            return next((it["name"] for it in self.functions()), "main")
+        return path[len("src/") : -len(".rt")].removesuffix("/mod").replace("/", "::")
+
     def goes_beside(self, other):
-        """Returns whether one check can try both: neither edited function reaches the other, or each names a goal."""
+        """Returns whether one check can try both: they change other functions, or each names a goal. A function's goals
+        are tried on the clauses of those that it calls, also where these are not proved."""
         ours, theirs = ({name for it in edit.functions() for name in it["names"]} for edit in (self, other))
         if ours == theirs:
             return bool(self.goal and other.goal and self.goal != other.goal)
-        reached = self.crate.reached
-        return not any(a == b or a in reached[b] or b in reached[a] for a in ours for b in theirs)
+        return not ours & theirs
 
     def open_goal(self, said):
         """Returns the first goal of an edited function that stays open. Outside functions any function's will do."""
@@ -83,7 +97,7 @@ class Crate:
     def __init__(self, folder, uses):
         self.name, self.folder, self.uses = os.path.basename(folder), folder, uses
         self.is_library = os.path.isfile(f"{self.folder}/src/lib.rt")
-        self.edits, self.functions, self.reached = [], [], {}
+        self.edits, self.functions = [], []
 
     def read_edits(self):
         folder = f"{self.folder}/must-fail"
@@ -91,26 +105,11 @@ class Crate:
         self.edits = [Edit(self, it) for it in files if not it.endswith(".md")]
 
     def read_functions(self, rlib):
-        """Finds the functions in the text, and which reaches which in what the kit keeps of a library for linking."""
-        made = json.loads(text_of(f"{rlib}/toolchain/mir.json")) if self.is_library else []
-        known = {name for name, _ in made}
-        calls = {name: known & {*re.findall(r'"([^"\\]+)"', json.dumps(does))} for name, does in made}
-        for name in known:
-            found, ahead = set(), [name]
-            while ahead:
-                ahead += calls[ahead.pop()] - found
-                found.update(ahead)
-            self.reached[name] = found
+        """Finds the functions in the text, under the names that the kit keeps of a library for linking."""
+        known = {name for name, _ in json.loads(text_of(f"{rlib}/toolchain/mir.json"))} if self.is_library else {}
         for at, _, files in os.walk(f"{self.folder}/src"):
             for file in files:
                 self.functions += self.functions_in(os.path.relpath(f"{at}/{file}", self.folder), known)
-
-    def stop_on_unknown_calls(self, said, edited):
-        """Stops where the prover names a call that is not in what the kit keeps for linking, on which groups rest. An edit
-        may add calls to the functions that it changes."""
-        for caller, callees in (it.groups() for it in map(CALLS.match, said) if it and self.reached):
-            if caller not in edited and not {*re.findall(r"`([^`]+)`", callees)} <= self.reached[caller]:
-                raise ValueError(f"{caller} calls {callees}, which mir.json of {self.name} doesn't say")
 
     def functions_in(self, path, known):
         """Returns the functions of a file in rt fmt's layout: each ends at the first brace below it at its depth."""
@@ -123,10 +122,13 @@ class Crate:
             if head:
                 below = (at for at in range(first, len(lines)) if re.match(rf" {{0,{len(head[1])}}}\}}", lines[at]))
                 last = first if line.endswith("}") else next(below, first) + 1
+                opened = re.compile(rf"{head[1]}(?:\{{|\S.* \{{)$")
+                body = next((at + 1 for at in range(first - 1, last) if opened.match(lines[at])), first)
                 while first > 1 and lines[first - 2] and not lines[first - 2].endswith(("{", "}", ";")):
                     first -= 1
                 names = names_of(head[2], module, block if head[1] else None, known)
-                found.append({"file": path, "first": first, "last": last, "names": names})
+                lines_of = {"file": path, "first": first, "body": body, "last": last}
+                found.append({**lines_of, "name": head[2], "names": names})
         return found
 
 
@@ -145,11 +147,11 @@ def texts_with(edits):
 
 
 def groups_of(edits):
-    """Returns the edits in groups of one check each. One outside functions, or in one of no known name, is alone."""
+    """Returns the edits in groups of one check each. One outside bodies, or in a function of no known name, is alone."""
     groups, alone = [], []
     for edit in edits:
         functions = edit.functions()
-        if not functions or not all(it["names"] for it in functions):
+        if not functions or not all(it["names"] for it in functions) or not edit.keeps_heads():
             alone.append([edit])
             continue
         group = next((it for it in groups if can_join(edit, it)), [])

@@ -1,5 +1,5 @@
 //! Tries of one move: over the edge of a subtree.
-ghost use Rattle.std.specs.Prelude.{◌≡◌, ◌≤◌, ◌<◌, ℕ, [], ◌∷◌, false, find, length, take, option_copied, IfOk};
+ghost use Rattle.std.specs.Prelude.{◌≡◌, ◌≤◌, ◌<◌, ℕ, [], ◌∷◌, true, false, find, length, take, option_copied, IfOk};
 ghost use Rattle.cg_tree.specs.States.{paths_of, pids_of};
 ghost use Rattle.cg_ops.specs.Bars.{passes};
 ghost use Rattle.cg_tries.specs.Finding.{passes_at, receives, can_leave_to, can_enter_at, goes_from, first_given, move_of, first_move};
@@ -34,8 +34,10 @@ fn passes<H: Hierarchy>(tree: &H, user: &User, from: &Path, to: &Path) -> bool
 
 /// Whether the user writes the `cgroup.procs` of a proper ancestor: no move goes over the edge where he writes none.
 pub fn passes_above<H: Hierarchy>(tree: &H, user: &User, subtree: &Path) -> bool
-    ensures { result ≡ false
+    ensures none { result ≡ false
         → (len : ℕ) → len < length subtree.now → passes_at (H.state tree.now) user.now (take len subtree.now) ≡ false }
+    ensures some { result ≡ true
+        → (len : ℕ) × (len < length subtree.now) × (passes_at (H.state tree.now) user.now (take len subtree.now) ≡ true) }
 {
     for len in 0..subtree.depth() {
         if passes_at(tree, user, subtree, len) {

@@ -21,7 +21,7 @@ returns-then-not-passes_above g c =
     let subtree = c.args.subtree.now in
     sym (plain-is st user subtree c.requires.unbroken c.get.ensures.formed c.requires.subtree
     ∙ ap (λ o. option_or o (first_passage st user subtree)) (sym c.in_ok-found.ensures ∙ c.in_default-2.is)
-    ∙ no_passage st user subtree (c.passes_above.ensures c.if-not-passes_above.true))
+    ∙ no_passage st user subtree (c.passes_above.ensures.none c.if-not-passes_above.true))
 
 pub returns : goal.returns
 returns g c =
