@@ -1,5 +1,5 @@
 -- What an answer says of the tries, and when it is no escape.
-use Rattle.std.proofs.Common.{◌≡◌, ℕ, zero, suc, ◌+◌, ◌<◌, Bool, true, false, cond, not, ◌&&◌, List, [], ◌∷◌, ◌++◌, find, length, get_or, refl, sym, ap, ◌∙◌, subst, Option, Some, None, true≢false, arith}
+use Rattle.std.proofs.Common.{◌≡◌, suc, Bool, true, false, cond, not, ◌&&◌, List, [], ◌∷◌, find, refl, sym, ap, ◌∙◌, Option, Some, None, true≢false, arith}
 use Rattle.std.specs.List.{Contains}
 use Rattle.cg_cgroup.specs.Paths.{Names}
 use Rattle.cg_cgroup.specs.Identity.{Identity}
@@ -7,13 +7,13 @@ use Rattle.cg_tree.specs.States.{State}
 use Rattle.cg_ops.proofs.ClauseLaws.{no_parts, no_unless}
 use Rattle.cg_ops.specs.declared.operation.Op.{Op}
 use Rattle.cg_guards.specs.Limits.{fits_descendants, fits_depth}
-use Rattle.cg_guards.specs.Guards.{guarded_entries, entry_failures, over_failures, failures}
+use Rattle.cg_guards.specs.Guards.{failures}
 use Rattle.cg_guards.specs.declared.guard.Failed.{Failed}
 use Rattle.cg_runs.specs.Held.{IsHeld, by_user}
 use Rattle.cg_tries.specs.Tries.{tries}
 use Rattle.cg_tries.specs.Escapes.{is_kept, breaks, first_escape}
 use Rattle.cg_check.specs.Answers.{answer_from, answer}
-use Rattle.cg_check.specs.declared.answer.Answer.TheVariants.{Contained, Escapes, Unsettled}
+use Rattle.cg_check.specs.declared.answer.Answer.TheVariants.{Escapes}
 use Rattle.cg_check.proofs.Lists.{find-passes}
 use Rattle.cg_check.proofs.Escaping.{escape-over}
 

@@ -1,20 +1,17 @@
 -- What a check says, from the faults of its subtree and the guards.
-use Rattle.std.proofs.Common.{◌≡◌, ◌≢◌, ℕ, Bool, true, false, not, List, [], ◌∷◌, ◌++◌, find, refl, sym, ap, ◌∙◌, subst, Option, Some, None, Result, Ok, Err, IfOk, IfErr}
-use Rattle.std.specs.List.{flat_map}
+use Rattle.std.proofs.Common.{◌≡◌, Bool, true, false, not, List, [], ◌∷◌, refl, sym, ap, ◌∙◌, Option, Some, None, Result, Ok, Err, IfOk, IfErr}
 use Rattle.cg_cgroup.specs.Paths.{Names, is_root}
 use Rattle.cg_cgroup.specs.Identity.{Identity}
 use Rattle.cg_tree.specs.States.{State}
-use Rattle.cg_tree.specs.WellFormed.{IsWellFormed, has_row}
-use Rattle.cg_ops.specs.Clauses.{unless, first}
+use Rattle.cg_tree.specs.WellFormed.{has_row}
+use Rattle.cg_ops.specs.Clauses.{first}
 use Rattle.cg_ops.specs.declared.operation.Op.{Op}
 use Rattle.cg_ops.proofs.ClauseLaws.{no_parts, no_unless, none_of_first}
 use Rattle.cg_guards.specs.Guards.{failures, GuardsHold}
 use Rattle.cg_guards.specs.Guarding.{IsSubtree}
 use Rattle.cg_guards.specs.declared.guard.Failed.{Failed}
-use Rattle.cg_runs.specs.Held.{IsContained}
 use Rattle.cg_runs.specs.declared.fault.CheckFault.{CheckFault}
 use Rattle.cg_runs.specs.declared.fault.CheckFault.TheVariants.{RootSubtree, NoSuchSubtree, NoMemory}
-use Rattle.cg_runs.proofs.RunLaws.{contained-guarded}
 use Rattle.cg_tries.specs.Escapes.{first_escape}
 use Rattle.cg_check.specs.Answers.{answer_from, answer}
 use Rattle.cg_check.specs.Checks.{subtree_faults, unless_fault, checked, takes_memory, Gives}

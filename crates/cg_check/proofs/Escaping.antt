@@ -1,12 +1,12 @@
 -- What the code for the first escape stands on: the list of the opening, part by part; the first escape by what is found
 -- in the opened tree; and what an answer says.
-use Rattle.std.proofs.Common.{◌≡◌, ◌≢◌, ℕ, ◌≤◌, ◌+◌, ◌-◌, Bool, true, false, not, ◌&&◌, List, [], ◌∷◌, ◌++◌, map, filter, find, length, nat_le, refl, sym, ap, ◌∙◌, subst, Option, Some, None, is_some, option_map, true≢false, append_assoc, arith, cond, ◌==◌}
+use Rattle.std.proofs.Common.{◌≡◌, ℕ, ◌≤◌, ◌+◌, ◌-◌, Bool, true, false, not, ◌&&◌, List, [], ◌∷◌, ◌++◌, find, length, refl, sym, ap, ◌∙◌, subst, Option, Some, None, option_map, true≢false, append_assoc, arith, cond, ◌==◌}
 use Rattle.std.proofs.lemmas.Bool.Decides.{nat_tests}
 use Rattle.std.proofs.lemmas.Bool.{and_parts, false_from_ne_true}
 use Rattle.std.proofs.lemmas.List.Concat.{flat_map-append}
 use Rattle.std.proofs.lemmas.List.{append-nil}
 use Rattle.std.specs.List.{flat_map}
-use Rattle.cg_cgroup.specs.Paths.{Names, inside}
+use Rattle.cg_cgroup.specs.Paths.{Names}
 use Rattle.cg_cgroup.specs.Identity.{Identity}
 use Rattle.cg_cgroup.specs.Numbers.{mode_of}
 use Rattle.cg_cgroup.specs.Users.{opened}
@@ -16,25 +16,23 @@ use Rattle.cg_cgroup.specs.declared.files.EntryName.{EntryName}
 use Rattle.cg_cgroup.specs.declared.files.EntryName.TheVariants.{Dir, SubtreeControl}
 use Rattle.cg_cgroup.specs.declared.cgroup.Cgroup.{Cgroup}
 use Rattle.cg_cgroup.proofs.UserLaws.{opened-le}
-use Rattle.cg_cgroup.proofs.Options.{same_some}
 use Rattle.cg_tree.specs.States.{State, row_at}
-use Rattle.cg_tree.specs.WellFormed.{IsWellFormed, has_row}
+use Rattle.cg_tree.specs.WellFormed.{IsWellFormed}
 use Rattle.cg_ops.specs.Steps.{after_all}
 use Rattle.cg_ops.specs.declared.operation.Op.{Op}
 use Rattle.cg_guards.specs.Limits.{limits, fits_descendants, fits_depth}
-use Rattle.cg_guards.specs.Edge.{is_crossed, crossing}
-use Rattle.cg_guards.specs.Guards.{Guarded, ancestors, limit_files, parent_control, parent_dir, guarded_entries}
+use Rattle.cg_guards.specs.Guards.{Guarded, ancestors, limit_files, parent_control, parent_dir}
 use Rattle.cg_guards.specs.declared.guard.Guard.TheVariants.{CommonAncestor}
 use Rattle.cg_guards.specs.Guarding.{IsSubtree}
 use Rattle.cg_guards.proofs.Crossing.{none-crosses-same}
 use Rattle.cg_runs.specs.Held.{by_user}
 use Rattle.cg_runs.specs.Verdicts.{broken}
-use Rattle.cg_runs.proofs.BrokenLaws.{IsWhole, whole-broken, broken-whole}
-use Rattle.cg_tries.specs.Tries.{opening_of, opening, with_opening, plain_tries, tries}
+use Rattle.cg_runs.proofs.BrokenLaws.{whole-broken, broken-whole}
+use Rattle.cg_tries.specs.Tries.{opening_of, opening, with_opening, plain_tries}
 use Rattle.cg_tries.specs.Escapes.{breaks, first_escape, IsUnbroken}
 use Rattle.cg_tries.proofs.Seen.{is_empty, empty_is, breaks-run}
 use Rattle.cg_check.specs.Opened.{opened_state, is_free, unless_free}
-use Rattle.cg_check.proofs.Openings.{unbroken-opened, formed-opened, subtree-opened, first_escape-is}
+use Rattle.cg_check.proofs.Openings.{unbroken-opened, subtree-opened, first_escape-is}
 
 -- ---- the opening
 

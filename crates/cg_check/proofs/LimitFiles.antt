@@ -1,12 +1,12 @@
 -- Where a user reaches a limit file of a subtree, some try breaks the subtree: that file set to another value.
-use Rattle.std.proofs.Common.{◌≡◌, ℕ, zero, suc, Bool, true, false, cond, not, ◌&&◌, ◌||◌, List, [], ◌∷◌, ◌++◌, map, find, length, take, nat_eq, refl, sym, ap, ◌∙◌, subst, Option, Some, None, is_some, option_map, option_and_then, true≢false}
+use Rattle.std.proofs.Common.{◌≡◌, ℕ, zero, suc, Bool, true, false, cond, not, ◌&&◌, ◌||◌, List, [], ◌∷◌, ◌++◌, map, find, length, take, nat_eq, refl, sym, ap, ◌∙◌, subst, Option, Some, None, option_map, option_and_then, true≢false}
 use Rattle.std.proofs.lemmas.Option.{none-some}
 use Rattle.std.proofs.Math.Seq.{take-length}
 use Rattle.std.specs.List.{flat_map, AllByRecursion}
-use Rattle.cg_cgroup.specs.Paths.{Names, same_path}
+use Rattle.cg_cgroup.specs.Paths.{Names}
 use Rattle.cg_cgroup.specs.Identity.{Identity}
-use Rattle.cg_cgroup.specs.Users.{writes, owns, reaches, has_bit, opened}
-use Rattle.cg_cgroup.specs.Files.{all_files, accepts, same_entry}
+use Rattle.cg_cgroup.specs.Users.{writes, owns, reaches, opened}
+use Rattle.cg_cgroup.specs.Files.{all_files, accepts}
 use Rattle.cg_cgroup.specs.Cgroups.{file_of, entry_in, with_mode_of}
 use Rattle.cg_cgroup.specs.declared.user.Entry.{Entry}
 use Rattle.cg_cgroup.specs.declared.files.Limit.{Limit}
@@ -20,7 +20,7 @@ use Rattle.cg_cgroup.specs.declared.cgroup.LimitEntry.{LimitEntry}
 use Rattle.cg_cgroup.proofs.Options.{mapped_from, same_some}
 use Rattle.cg_cgroup.proofs.PathOrder.{same_path_refl}
 use Rattle.cg_cgroup.proofs.CgroupLaws.{same_entry-refl}
-use Rattle.cg_tree.specs.States.{State, row_at, file_at, entry_at, value_at}
+use Rattle.cg_tree.specs.States.{State, row_at, file_at, entry_at}
 use Rattle.cg_tree.proofs.StateEntries.{entry_at-with_mode, entry_at-file, value_at-file}
 use Rattle.cg_ops.specs.Clauses.{unless, absent, present}
 use Rattle.cg_ops.specs.Bars.{bars, missing_bars}
@@ -46,7 +46,7 @@ use Rattle.cg_check.specs.Answers.{answer_from, answer, MayBeUnsettled}
 use Rattle.cg_check.specs.declared.answer.Answer.TheVariants.{Escapes, Unsettled}
 use Rattle.cg_check.proofs.Escaping.{escape-over}
 use Rattle.cg_check.proofs.AnswerLaws.{escape-answer}
-use Rattle.cg_check.proofs.Wider.{Stays, IsWider, wider-itself, wider-all, IsOpening, writes-bit}
+use Rattle.cg_check.proofs.Wider.{IsWider, wider-itself, wider-all, IsOpening, writes-bit}
 use Rattle.cg_check.proofs.Monotone.{both_none}
 use Rattle.cg_check.proofs.Openings.{opened-bit, opening-of_one, free_allowed, wider-opened, opened-breaks}
 

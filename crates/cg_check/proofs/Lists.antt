@@ -1,5 +1,5 @@
 -- What holds of each element of a list that is made from another, and the first of those that pass.
-use Rattle.std.proofs.Common.{◌≡◌, Bool, true, false, cond, List, [], ◌∷◌, ◌++◌, map, filter, refl, ap, true≢false}
+use Rattle.std.proofs.Common.{◌≡◌, Bool, true, false, cond, List, [], ◌∷◌, ◌++◌, map, filter, refl, ap}
 use Rattle.std.proofs.Common.{sym, ◌∙◌, subst, Option, Some, None}
 use Rattle.std.specs.List.{find, flat_map, AllByRecursion}
 use Rattle.cg_ops.specs.Clauses.{present}

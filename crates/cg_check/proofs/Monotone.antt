@@ -1,12 +1,11 @@
 -- What a user may do he may still do where he writes more.
-use Rattle.std.proofs.Common.{◌≡◌, ℕ, zero, suc, ◌+◌, ◌-◌, Bool, true, false, cond, not, ◌&&◌, ◌||◌, List, [], ◌∷◌, ◌++◌, map, length, take, nat_eq, refl, sym, ap, ◌∙◌, subst, Option, Some, None, is_some, option_map, option_and_then, true≢false}
-use Rattle.std.proofs.lemmas.Bool.{and_parts}
+use Rattle.std.proofs.Common.{◌≡◌, ℕ, zero, suc, ◌-◌, Bool, true, false, cond, not, ◌&&◌, ◌||◌, List, [], ◌∷◌, ◌++◌, length, take, refl, sym, ap, ◌∙◌, Option, Some, None, is_some, option_map, option_and_then, true≢false}
 use Rattle.std.specs.List.{list_any, flat_map}
 use Rattle.std.specs.FinMap as map
-use Rattle.cg_cgroup.specs.Paths.{Names, same_path, parent, is_root, is_child, common, below}
+use Rattle.cg_cgroup.specs.Paths.{Names, same_path, parent, is_root, common}
 use Rattle.cg_cgroup.specs.Identity.{Identity}
 use Rattle.cg_cgroup.specs.Users.{writes}
-use Rattle.cg_cgroup.specs.Files.{all_controllers, enables, enables_nothing, is_within, accepts, no_controllers}
+use Rattle.cg_cgroup.specs.Files.{all_controllers, enables, enables_nothing, is_within, accepts}
 use Rattle.cg_cgroup.specs.Cgroups.{file_of, entry_in, value_in}
 use Rattle.cg_cgroup.specs.declared.user.Entry.{Entry}
 use Rattle.cg_cgroup.specs.declared.files.Controller.{Controller}
@@ -17,10 +16,8 @@ use Rattle.cg_cgroup.specs.declared.files.LimitFile.TheVariants.{MaxDescendants,
 use Rattle.cg_cgroup.specs.declared.files.EntryName.{EntryName}
 use Rattle.cg_cgroup.specs.declared.files.EntryName.TheVariants.{Dir, Procs, SubtreeControl, File}
 use Rattle.cg_cgroup.specs.declared.cgroup.Cgroup.{Cgroup}
-use Rattle.cg_cgroup.specs.declared.cgroup.LimitEntry.{LimitEntry}
-use Rattle.cg_cgroup.specs.declared.process.Process.{Process}
 use Rattle.cg_cgroup.proofs.Options.{some_value, same_some, is_some-mapped}
-use Rattle.cg_tree.specs.States.{State, row_at, place_at, paths_of, file_at, entry_at, value_at, has_child, has_live, child_enables, count_below}
+use Rattle.cg_tree.specs.States.{State, row_at, place_at, file_at, has_child, has_live, child_enables, count_below}
 use Rattle.cg_tree.specs.WellFormed.{has_row, enabled_at, available_at}
 use Rattle.cg_tree.proofs.StateTests.{child_enables-row, row-child_enables}
 use Rattle.cg_tree.proofs.StateEntries.{entry_at-file, value_at-file}
@@ -28,15 +25,14 @@ use Rattle.cg_tree.proofs.StateCounts.{count_below-same_paths, has_child-same_pa
 use Rattle.cg_tree.proofs.FormedParts.{enabled_at-row}
 use Rattle.cg_ops.specs.Clauses.{unless, absent, present}
 use Rattle.cg_ops.specs.Changes.{effective, enabled_after}
-use Rattle.cg_ops.specs.Bars.{bars, passes, change_bars, changes_bars, may_enable_new, row_above, writes_above, is_under, level_bars, limit_bars}
+use Rattle.cg_ops.specs.Bars.{bars, passes, change_bars, changes_bars, row_above, writes_above, is_under, level_bars, limit_bars}
 use Rattle.cg_ops.specs.declared.changes.Change.{Change}
-use Rattle.cg_ops.specs.declared.operation.Op.{Op}
-use Rattle.cg_ops.specs.declared.operation.Op.TheVariants.{Move, Control, Mkdir, Rmdir, Set, Fork, Exit, Chmod}
+use Rattle.cg_ops.specs.declared.operation.Op.TheVariants.{Move, Control, Mkdir, Rmdir, Set}
 use Rattle.cg_ops.specs.declared.outcome.Refusal.{Refusal}
 use Rattle.cg_ops.specs.declared.outcome.Refusal.TheVariants.{NoSuchCgroup, NoAccess, NoSuchProcess, InternalProcess, NotAvailable, ChildUses, Exists, DescendantLimit, DepthLimit, HasChildren, HasProcesses, NoSuchFile, BadValue}
 use Rattle.cg_ops.proofs.ClauseLaws.{no_parts, no_unless, no_absent, no_present}
 use Rattle.cg_tries.specs.Finding.{passes_at}
-use Rattle.cg_check.proofs.Wider.{Stays, IsWider}
+use Rattle.cg_check.proofs.Wider.{IsWider}
 
 -- ---- lists of clauses
 

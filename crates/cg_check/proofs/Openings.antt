@@ -11,21 +11,20 @@ use Rattle.cg_cgroup.specs.Users.{writes, owns, has_bit, opened}
 use Rattle.cg_cgroup.specs.Files.{all_files}
 use Rattle.cg_cgroup.specs.declared.user.Entry.{Entry}
 use Rattle.cg_cgroup.proofs.UserLaws.{opened-le}
-use Rattle.cg_cgroup.proofs.Options.{some_value}
 use Rattle.cg_cgroup.specs.Cgroups.{entry_in}
 use Rattle.std.proofs.lemmas.Option.{none-some}
-use Rattle.cg_tree.specs.States.{State, row_at, entry_at, place_at, paths_of, pids_of}
-use Rattle.cg_tree.specs.WellFormed.{IsWellFormed, has_row}
+use Rattle.cg_tree.specs.States.{State, row_at, entry_at}
+use Rattle.cg_tree.specs.WellFormed.{IsWellFormed}
 use Rattle.cg_ops.specs.Clauses.{present, first}
 use Rattle.cg_ops.specs.Bars.{bars}
-use Rattle.cg_ops.specs.Steps.{after_all, HasMode, HaveModes}
+use Rattle.cg_ops.specs.Steps.{HasMode, HaveModes}
 use Rattle.cg_ops.specs.declared.operation.Op.{Op}
 use Rattle.cg_ops.specs.declared.operation.Op.TheVariants.{Chmod, Move, Mkdir, Rmdir, Control, Set}
 use Rattle.cg_ops.proofs.StepFormed.{formed-after_all}
 use Rattle.cg_guards.specs.Guards.{Guarded, guarded_entries, guarded_entry}
 use Rattle.cg_guards.specs.Guarding.{IsSubtree}
 use Rattle.cg_runs.specs.Held.{by_user}
-use Rattle.cg_tries.specs.Tries.{other_value, set_tries, control_tries, move_tries, probe, numbers_from, probe_tries_at, probe_tries, plain_tries, opening_of, opening, with_opening, tries}
+use Rattle.cg_tries.specs.Tries.{other_value, set_tries, control_tries, move_tries, probe, numbers_from, probe_tries_at, probe_tries, plain_tries, opening_of, opening, with_opening}
 use Rattle.cg_tries.specs.Escapes.{breaks, first_escape, IsUnbroken}
 use Rattle.cg_tries.specs.Finding.{allowed, changes_enabled}
 use Rattle.cg_tries.proofs.Seen.{unbroken-alike}

@@ -1,12 +1,11 @@
 -- A plain try breaks where it is free and changes something, and it stays free where the user writes more.
-use Rattle.std.proofs.Common.{◌≡◌, ℕ, zero, suc, ◌+◌, ◌-◌, ◌<◌, ◌≤◌, Bool, true, false, cond, not, ◌&&◌, List, [], ◌∷◌, ◌++◌, map, length, length-append, filter, take, nat_le, refl, sym, ap, ◌∙◌, subst, Option, Some, None, is_some, arith, true≢false, codes}
-use Rattle.std.proofs.lemmas.Bool.{and_parts}
+use Rattle.std.proofs.Common.{◌≡◌, ℕ, zero, suc, ◌+◌, ◌-◌, ◌<◌, ◌≤◌, Bool, true, false, cond, not, ◌&&◌, List, [], ◌∷◌, ◌++◌, map, length, length-append, filter, take, nat_le, refl, sym, ap, ◌∙◌, Some, None, arith, true≢false, codes}
 use Rattle.std.proofs.Math.Seq.{take-append_seam}
 use Rattle.std.specs.Fmt.{decimal}
-use Rattle.std.specs.List.{find, AllByRecursion}
-use Rattle.cg_cgroup.specs.Paths.{Name, Names, parent, inside, is_root, path_text}
+use Rattle.std.specs.List.{AllByRecursion}
+use Rattle.cg_cgroup.specs.Paths.{Name, Names, parent, inside, path_text}
 use Rattle.cg_cgroup.specs.Identity.{Identity}
-use Rattle.cg_cgroup.specs.Files.{all_files, all_controllers}
+use Rattle.cg_cgroup.specs.Files.{all_files}
 use Rattle.cg_cgroup.specs.declared.files.Controller.{Controller}
 use Rattle.cg_cgroup.specs.declared.files.Controller.TheVariants.{Cpu, Memory, Pids}
 use Rattle.cg_tree.specs.States.{State, place_at, paths_of, pids_of}

@@ -1,5 +1,5 @@
 -- A user's opening leaves everything but modes, and what he wrote he writes still.
-use Rattle.std.proofs.Common.{◌≡◌, ℕ, Bool, true, false, cond, ◌&&◌, List, [], ◌∷◌, ◌++◌, refl, sym, ap, ◌∙◌, subst, Option, Some, None, option_map}
+use Rattle.std.proofs.Common.{◌≡◌, ℕ, Bool, true, false, cond, ◌&&◌, List, [], ◌∷◌, ◌++◌, refl, sym, ap, ◌∙◌, subst, Option, Some, option_map}
 use Rattle.std.proofs.lemmas.Bool.{and_parts}
 use Rattle.std.specs.List.{AllByRecursion}
 use Rattle.std.specs.FinMap as map
@@ -13,7 +13,7 @@ use Rattle.cg_cgroup.specs.declared.files.LimitFile.{LimitFile}
 use Rattle.cg_cgroup.specs.declared.files.EntryName.{EntryName}
 use Rattle.cg_cgroup.proofs.PathOrder.{same_path-is}
 use Rattle.cg_cgroup.proofs.CgroupLaws.{same_entry-true}
-use Rattle.cg_tree.specs.States.{State, entry_at, value_at, paths_of, with_mode}
+use Rattle.cg_tree.specs.States.{State, entry_at, value_at, paths_of}
 use Rattle.cg_tree.specs.WellFormed.{has_row, enabled_at}
 use Rattle.cg_tree.proofs.StateEntries.{entry_at-with_mode}
 use Rattle.cg_tree.proofs.StateCounts.{paths_of-with_mode, count_below-same_paths, depth_below-same_paths}

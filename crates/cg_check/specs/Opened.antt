@@ -1,5 +1,5 @@
 -- How the first escape is found in the opened tree. Nothing in it has to be believed.
-use Rattle.std.specs.Prelude.{Bool, true, false, cond, ◌&&◌, List, [], ◌∷◌, ◌++◌}
+use Rattle.std.specs.Prelude.{Bool, true, false, ◌&&◌, List, [], ◌∷◌, ◌++◌}
 use Rattle.cg_cgroup.specs.Paths.{Names, parent}
 use Rattle.cg_cgroup.specs.Identity.{Identity}
 use Rattle.cg_tree.specs.States.{State}

@@ -7,7 +7,7 @@ use Rattle.cg_cli.specs.Reports.{Said, Report}
 use Rattle.cg_cgroup.specs.Identity.{Identity}
 use Rattle.cg_cli.specs.Courses.{Course, HasMade, closing}
 use Rattle.cg_cli.specs.Replays.{with_front, closed, lines_said}
-use Rattle.cg_cli.specs.Replaying.{Reporting, coming, whole, HasFront, Replays, ReplaysFrom}
+use Rattle.cg_cli.specs.Replaying.{Reporting, coming, whole, Replays, ReplaysFrom}
 use Rattle.cg_cli.specs.declared.fault.CliFault.{CliFault}
 use Rattle.cg_cli.specs.declared.fault.CliFault.TheVariants.{Write, Read, NoMemory}
 use Rattle.cg_cli.proofs.ReplayRuns.{part_of_front}

@@ -12,8 +12,8 @@ use Rattle.cg_text.specs.declared.tree.fault.TreeFault.{TreeFault}
 use Rattle.cg_text.specs.declared.tree.fault.TreeFault.TheVariants.{NoMemory as TreeNoMemory}
 use Rattle.cg_cli.specs.Faults.{lifted}
 use Rattle.cg_cli.specs.Arguments.{or_fault, user_read}
-use Rattle.cg_cli.specs.Reports.{Said, Report, fault_report, report_on}
-use Rattle.cg_cli.specs.Courses.{Course, Unwatched, Watched, course_from}
+use Rattle.cg_cli.specs.Reports.{Report, fault_report, report_on}
+use Rattle.cg_cli.specs.Courses.{Course, Watched, course_from}
 use Rattle.cg_cli.specs.Replays.{closed, course_read, lines_said, lines_report, replayed}
 use Rattle.cg_cli.specs.Replaying.{Reporting, AreOf, HasFront, Replays, ReplaysFrom}
 use Rattle.cg_cli.specs.declared.fault.CliFault.{CliFault}

@@ -2,10 +2,9 @@ use Rattle.std.proofs.Common.{◌≡◌, Ok, Err, Some, None, sym, subst, ap}
 use Rattle.std.proofs.lemmas.Result.{err_from_is_err_and}
 use Rattle.std.specs.Option.{option_map}
 use Rattle.cg_cli.specs.Arguments.{user_read}
-use Rattle.cg_cli.specs.Courses.{Unwatched, Watched}
 use Rattle.cg_cli.specs.Replays.{closed, lines_report}
 use Rattle.cg_cli.specs.Replaying.{Replays}
-use Rattle.cg_cli.proofs.ReplayCalls.{course_fault, lines_are, user_fault, not_asked}
+use Rattle.cg_cli.proofs.ReplayCalls.{course_fault, lines_are}
 use Rattle.cg_cli.proofs.replay.replay_bytes.Goals as goal
 
 pub returns-in_err-unwatched-in-None-clause-replays : goal.returns-in_err-unwatched-in-None-clause-replays

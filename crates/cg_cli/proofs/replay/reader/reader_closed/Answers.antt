@@ -1,8 +1,8 @@
-use Rattle.std.proofs.Common.{◌≡◌, ℕ, Ok, Err, List, subst, sym, ap, ◌∙◌}
+use Rattle.std.proofs.Common.{Ok, Err, subst}
 use Rattle.std.proofs.lemmas.Result.{err_from_is_err_and}
 use Rattle.std.specs.Io.KnownBytes.{Appends}
 use Rattle.cg_cli.specs.Written.{AppendsPart}
-use Rattle.cg_cli.specs.Replays.{closed, lines_said}
+use Rattle.cg_cli.specs.Replays.{lines_said}
 use Rattle.cg_cli.specs.Replaying.{whole, ReplaysFrom}
 use Rattle.cg_cli.proofs.Closings.{begun, made_none, from_close_fault, from_close_whole, from_close_part, from_close_memory}
 use Rattle.cg_cli.proofs.replay.reader.reader_closed.Goals as goal

@@ -2,7 +2,6 @@ use Rattle.std.proofs.Common.{◌≡◌, Ok, Err, Some, None, sym, subst, ap}
 use Rattle.std.proofs.lemmas.Result.{err_from_is_err_and}
 use Rattle.std.specs.Option.{option_map}
 use Rattle.cg_cli.specs.Arguments.{user_read}
-use Rattle.cg_cli.specs.Courses.{Unwatched, Watched}
 use Rattle.cg_cli.specs.Replays.{closed, lines_report}
 use Rattle.cg_cli.specs.Replaying.{ReplaysFrom}
 use Rattle.cg_cli.proofs.ReplayCalls.{course_fault, lines_are, user_fault, not_asked}
