@@ -1,6 +1,6 @@
 //! The whole answer of a check, and the plain one: the table of guards walked, and each try carried out.
 use crate::judge::{breaks, is_over, plain_tries};
-use crate::random::{Random, tree};
+use crate::random::{Random, tree, users};
 use cg_cgroup::files::{EntryName, LimitFile};
 use cg_cgroup::memory::NoMemory;
 use cg_cgroup::path::{Path, PathFault};
@@ -48,14 +48,21 @@ fn table(alloc: Global, subtree: &Path) -> Result<Vec<Guarded>, NoMemory> {
             name: EntryName::File(file),
         })?;
     }
-    for (guard, name) in [
-        (Guard::ParentControl, EntryName::SubtreeControl),
-        (Guard::ParentDir, EntryName::Dir),
-    ] {
-        let at = subtree.try_prefix(alloc, subtree.depth().saturating_sub(1))?;
-        entries.push(Guarded { guard, at, name })?;
-    }
+    entries.push(Guarded {
+        guard: Guard::ParentControl,
+        at: parent(alloc, subtree)?,
+        name: EntryName::SubtreeControl,
+    })?;
+    entries.push(Guarded {
+        guard: Guard::ParentDir,
+        at: parent(alloc, subtree)?,
+        name: EntryName::Dir,
+    })?;
     Ok(entries)
+}
+
+fn parent(alloc: Global, subtree: &Path) -> Result<Path, NoMemory> {
+    subtree.try_prefix(alloc, subtree.depth().saturating_sub(1))
 }
 
 /// What stands in the tree of an entry of the table.
@@ -259,11 +266,7 @@ fn ask_all(
 #[test]
 fn answers_are_the_judges(rt: HostRuntime) -> Result<(), Fail> {
     let alloc = rt.alloc();
-    let users = [
-        User::with_groups(1, &[5]).ok_or("uid")?,
-        User::with_groups(1000, &[6, 5]).ok_or("uid")?,
-        User::with_groups(1001, &[6]).ok_or("uid")?,
-    ];
+    let users = users().ok_or("users")?;
     let mut random = Random::new(20231124);
     let mut counts = Counts {
         kinds: [0; 6],

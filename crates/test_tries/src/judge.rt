@@ -67,14 +67,14 @@ fn is_broken(
 
 /// Whether the subtree is gone, or one of its limits is another.
 fn is_changed(start: &Rows, now: &Rows, subtree: &Path) -> bool {
-    let (Some(old), Some(new)) = (
-        start.get(subtree, subtree.depth()),
-        now.get(subtree, subtree.depth()),
-    ) else {
+    let Some(old) = start.get(subtree, subtree.depth()) else {
+        return true;
+    };
+    let Some(new) = now.get(subtree, subtree.depth()) else {
         return true;
     };
     for file in LimitFile::ALL {
-        if old.file(file).map(|held| held.value) != new.file(file).map(|held| held.value) {
+        if old.limit(file) != new.limit(file) {
             return true;
         }
     }
@@ -84,9 +84,11 @@ fn is_changed(start: &Rows, now: &Rows, subtree: &Path) -> bool {
 /// Whether one of these processes is inside on one side of the step alone.
 fn is_crossed(before: &Rows, now: &Rows, subtree: &Path, pids: &[Pid]) -> bool {
     for pid in pids {
-        if let (Some(from), Some(to)) = (before.place(*pid), now.place(*pid)) {
-            if subtree.is_prefix_of(from) != subtree.is_prefix_of(to) {
-                return true;
+        if let Some(from) = before.place(*pid) {
+            if let Some(to) = now.place(*pid) {
+                if subtree.is_prefix_of(from) != subtree.is_prefix_of(to) {
+                    return true;
+                }
             }
         }
     }
@@ -140,14 +142,15 @@ pub fn plain_tries(alloc: Global, tree: &Rows, subtree: &Path) -> Result<Vec<Vec
 
 /// Another value that the file accepts.
 fn other_value(file: LimitFile, value: Limit) -> Limit {
-    if file == LimitFile::CpuWeight {
-        let weight = if value == Limit::At(100) { 1 } else { 100 };
-        return Limit::At(weight);
-    }
-    if value == Limit::Max {
-        Limit::At(0)
-    } else {
-        Limit::Max
+    match file {
+        LimitFile::CpuWeight => match value {
+            Limit::At(100) => Limit::At(1),
+            _ => Limit::At(100),
+        },
+        _ => match value {
+            Limit::Max => Limit::At(0),
+            Limit::At(_) => Limit::Max,
+        },
     }
 }
 

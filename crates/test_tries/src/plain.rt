@@ -4,7 +4,7 @@ ghost use Rattle.cg_tree.specs.WellFormed.{has_row};
 ghost use Rattle.cg_guards.specs.Limits.{is_within_limit, fits_descendants, fits_depth};
 
 use crate::judge;
-use crate::random::{Random, tree};
+use crate::random::{Random, tree, users};
 use cg_cgroup::files::Limit;
 use cg_cgroup::path::Path;
 use cg_cgroup::user::User;
@@ -92,27 +92,35 @@ fn ask(
     Ok(Some(kind(found)))
 }
 
+/// The same for each subtree of a tree.
+fn ask_all(
+    rt: &impl Abort,
+    alloc: Global,
+    tree: &Rows,
+    users: &[User],
+    kinds: &mut [u64; 6],
+) -> Result<(), Fail> {
+    for subtree in &tree.paths(alloc)? {
+        for user in users.iter().skip(1) {
+            if let Some(kind) = ask(rt, alloc, tree, user, subtree)? {
+                if let Some(count) = kinds.get_mut(kind) {
+                    *count = count.saturating_add(1);
+                }
+            }
+        }
+    }
+    Ok(())
+}
+
 #[test]
 fn judge_agrees(rt: HostRuntime) -> Result<(), Fail> {
     let alloc = rt.alloc();
-    let users = [
-        User::with_groups(1, &[5]).ok_or("uid")?,
-        User::with_groups(1000, &[6, 5]).ok_or("uid")?,
-        User::with_groups(1001, &[6]).ok_or("uid")?,
-    ];
+    let users = users().ok_or("users")?;
     let mut random = Random::new(20231123);
     let mut kinds = [0_u64; 6];
     for _tree in 0..1000 {
         let tree = tree(alloc, &mut random, &users)?;
-        for subtree in &tree.paths(alloc)? {
-            for user in users.iter().skip(1) {
-                if let Some(kind) = ask(&rt, alloc, &tree, user, subtree)? {
-                    if let Some(count) = kinds.get_mut(kind) {
-                        *count = count.saturating_add(1);
-                    }
-                }
-            }
-        }
+        ask_all(&rt, alloc, &tree, &users, &mut kinds)?;
     }
     for count in kinds {
         assert!(rt; count > 20, "{kinds:?}");

@@ -177,6 +177,15 @@ fn beginning(alloc: Global, random: &mut Random, place: u32) -> Result<Op, PathF
     }
 }
 
+/// Three users, of whom each shares a group with another.
+pub fn users() -> Option<[User; 3]> {
+    Some([
+        User::with_groups(1, &[5])?,
+        User::with_groups(1000, &[6, 5])?,
+        User::with_groups(1001, &[6])?,
+    ])
+}
+
 /// A random tree: what some random steps of these users leave of a root that is the first user's, with three processes.
 pub fn tree(alloc: Global, random: &mut Random, users: &[User]) -> Result<Rows, PathFault> {
     let all = ControllerSet {
