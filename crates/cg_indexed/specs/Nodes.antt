@@ -1,9 +1,8 @@
 -- Cgroups at their places, and what is counted of their children and processes.
 use Rattle.std.specs.Prelude.{◌≡◌, ℕ, ◌+◌, ◌-◌, ◌<◌, min, Bool, ◌&&◌, not, cond, nat_eq, List, length, None, slice_set}
+use mathlib.Core.Bool.{beq}
 use Rattle.std.proofs.Common.{get_or}
-use Rattle.cg_cgroup.specs.Identity.{Identity}
 use Rattle.cg_cgroup.specs.Files.{no_controllers}
-use Rattle.cg_cgroup.specs.Cgroups.{with_files_of}
 use Rattle.cg_tree.specs.States.{enabling_these}
 use Rattle.cg_cgroup.specs.declared.user.Entry.{Entry}
 use Rattle.cg_cgroup.specs.declared.files.Limit.TheVariants.{Max}
@@ -86,14 +85,32 @@ enabled_at nodes at above enabled =
     let set = slice_set nodes at (enabling_node enabled (node_at nodes at)) in
     cond (nat_eq above at) set (slice_set set above (recounted (node_at nodes at).cgroup.enabled enabled (node_at set above)))
 
-abbrev pub refitted_node : ControllerSet → Identity → Node → Node
-refitted_node enabled user node = record node { cgroup = with_files_of enabled user node.cgroup }
+abbrev pub differs : Bool → Bool → Bool
+differs a b = not (beq a b)
+
+-- the controllers that are in one set and not in the other
+abbrev pub differing : ControllerSet → ControllerSet → ControllerSet
+differing had has = record { cpu = differs had.cpu has.cpu; memory = differs had.memory has.memory; pids = differs had.pids has.pids }
+
+-- a cgroup with the limit files of these controllers as another one has them
+abbrev pub with_files_from : ControllerSet → Cgroup → Cgroup → Cgroup
+with_files_from changed fresh row = record row {
+  cpu_weight = cond changed.cpu fresh.cpu_weight row.cpu_weight;
+  memory_min = cond changed.memory fresh.memory_min row.memory_min;
+  memory_low = cond changed.memory fresh.memory_low row.memory_low;
+  memory_high = cond changed.memory fresh.memory_high row.memory_high;
+  memory_max = cond changed.memory fresh.memory_max row.memory_max;
+  pids_max = cond changed.pids fresh.pids_max row.pids_max;
+}
+
+abbrev pub refitted_node : ControllerSet → Cgroup → Node → Node
+refitted_node changed fresh node = record node { cgroup = with_files_from changed fresh node.cgroup }
 
 -- whether the place `i` links to the place `at`
 abbrev pub links_to : List Link → ℕ → ℕ → Bool
 links_to links at i = nat_eq (link_at links i).above at && not (nat_eq i at)
 
--- the cgroups whose links lead to a place are refitted, and all else stays
-pub record Refits (links : List Link) (at : ℕ) (enabled : ControllerSet) (user : Identity) (old new : List Node) : Type 0 where
+-- the cgroups whose links lead to a place have those files, and all else stays
+pub record Refits (links : List Link) (at : ℕ) (changed : ControllerSet) (fresh : Cgroup) (old new : List Node) : Type 0 where
   pub len : length new ≡ length old
-  pub each : (i : ℕ) → i < length old → node_at new i ≡ cond (links_to links at i) (refitted_node enabled user (node_at old i)) (node_at old i)
+  pub each : (i : ℕ) → i < length old → node_at new i ≡ cond (links_to links at i) (refitted_node changed fresh (node_at old i)) (node_at old i)

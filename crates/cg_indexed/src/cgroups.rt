@@ -7,10 +7,10 @@ ghost use Rattle.cg_cgroup.specs.Files.{enables};
 ghost use Rattle.cg_tree.specs.States.{row_at, count_below, has_child, child_enables, depth_below};
 ghost use Rattle.cg_tree.specs.WellFormed.{has_row};
 ghost use Rattle.cg_tree.specs.Limits.{NoneIsFull, IsNearestFull};
-ghost use Rattle.cg_indexed.specs.Kept.{tree_of, new_held, with_row_of, one_live_more, one_live_less, enabling_held, change_held, change_each_held};
+ghost use Rattle.cg_indexed.specs.Kept.{AreFittedBelow, tree_of, new_held, with_row_of, one_live_more, one_live_less, enabling_held, change_held, change_each_held};
 
 use crate::links::{Link, climb, lower, put_limits, raise};
-use crate::nodes::{Node, enable, lower_live, put, raise_live, recount, refit_children};
+use crate::nodes::{Node, differing, enable, lower_live, put, raise_live, recount, refit_children};
 use crate::path_index::PathIndex;
 use cg_cgroup::cgroup::Cgroup;
 use cg_cgroup::files::{Controller, ControllerSet};
@@ -161,7 +161,8 @@ impl Cgroups {
 
     /// Sets what a cgroup enables for its children, and makes and removes their limit files.
     pub fn enable(&mut self, path: &Path, enabled: ControllerSet, user: &User)
-        requires { has_row (tree_of self.old) path.now ≡ true }
+        requires there { has_row (tree_of self.old) path.now ≡ true }
+        requires fitted { AreFittedBelow (tree_of self.old) path.now }
         ensures { self.new ≡ change_each_held (enabling_held path.now enabled user.now) self.old }
     {
         let Some(place) = self.places.get(path, path.depth()) else {
@@ -170,9 +171,17 @@ impl Cgroups {
         // What `size` says bounds the counts.
         let _size = self.places.size();
         let link = self.links[place];
+        let had = self.nodes[place].cgroup.enabled;
         enable(&mut self.nodes, place, link.above, enabled);
         if link.below > 0 {
-            refit_children(&self.links, &mut self.nodes, place, enabled, user);
+            let fresh = Cgroup::made_by(user, enabled);
+            refit_children(
+                &self.links,
+                &mut self.nodes,
+                place,
+                differing(had, enabled),
+                &fresh,
+            );
         }
     }
 

@@ -1,12 +1,11 @@
 //! Cgroups at their places, and what is counted of their children and processes.
 ghost use Rattle.std.specs.Prelude.{◌≡◌, ◌<◌, length, slice_set};
-ghost use Rattle.cg_indexed.specs.Nodes.{Refits, new_node, node_at, more_if, less_if, uses_after, uses_of, with_cgroup, one_more_live, one_less_live, recounted, enabled_at};
+ghost use Rattle.cg_indexed.specs.Nodes.{Refits, new_node, node_at, more_if, less_if, uses_after, uses_of, with_cgroup, one_more_live, one_less_live, recounted, enabled_at, differing, with_files_from};
 ghost use Rattle.cg_indexed.specs.Links.{link_at};
 
 use crate::links::Link;
 use cg_cgroup::cgroup::Cgroup;
 use cg_cgroup::files::{Controller, ControllerSet};
-use cg_cgroup::user::User;
 
 /// How many children of a cgroup enable each controller.
 #[derive(Clone, Copy)]
@@ -131,22 +130,50 @@ pub fn enable(nodes: &mut [Node], at: usize, above: usize, enabled: ControllerSe
     }
 }
 
-/// Makes and removes the limit files of the cgroups below a place, by their links, as a parent that enables these
-/// controllers has them.
+/// The controllers that are in one set and not in the other.
+pub fn differing(had: ControllerSet, has: ControllerSet) -> ControllerSet
+    ensures { result ≡ differing had has }
+{
+    ControllerSet {
+        cpu: had.cpu != has.cpu,
+        memory: had.memory != has.memory,
+        pids: had.pids != has.pids,
+    }
+}
+
+/// Gives a cgroup the limit files of these controllers as another one has them, and reads nothing of it.
+fn take_files(cgroup: &mut Cgroup, changed: ControllerSet, from: &Cgroup)
+    ensures { cgroup.new ≡ with_files_from changed from.now cgroup.old }
+{
+    if changed.cpu {
+        cgroup.cpu_weight = from.cpu_weight;
+    }
+    if changed.memory {
+        cgroup.memory_min = from.memory_min;
+        cgroup.memory_low = from.memory_low;
+        cgroup.memory_high = from.memory_high;
+        cgroup.memory_max = from.memory_max;
+    }
+    if changed.pids {
+        cgroup.pids_max = from.pids_max;
+    }
+}
+
+/// Gives the cgroups below a place, by their links, the limit files of these controllers as a new one has them.
 pub fn refit_children(
     links: &[Link],
     nodes: &mut [Node],
     at: usize,
-    enabled: ControllerSet,
-    user: &User,
+    changed: ControllerSet,
+    fresh: &Cgroup,
 )
     requires { length nodes.old ≡ length links.now }
-    ensures { Refits links.now at enabled user.now nodes.old nodes.new }
+    ensures { Refits links.now at changed fresh.now nodes.old nodes.new }
 {
     for i in 0..links.len() {
         if links[i].above == at && i != at {
             let node = &mut nodes[i];
-            node.cgroup.refit(enabled, user);
+            take_files(&mut node.cgroup, changed, fresh);
         }
     }
 }

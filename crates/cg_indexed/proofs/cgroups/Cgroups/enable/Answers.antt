@@ -1,19 +1,23 @@
-use Rattle.std.proofs.Common.{◌≡◌, ◌<◌, ap, sym, ◌∙◌, subst, is_some, length, List, Some, true≢false, arith}
+use Rattle.std.proofs.Common.{◌≡◌, ◌<◌, ap, sym, ◌∙◌, subst, is_some, length, List, ℕ, Some, true, true≢false, arith}
 use Rattle.std.proofs.lemmas.List.{with_items_is, get_or_read}
 use Rattle.std.specs.FinMap as map
 use Rattle.std.specs.Vec.{with_items}
 use Rattle.cg_indexed.specs.Links.{no_link, link_at}
-use Rattle.cg_indexed.specs.Nodes.{enabled_at, Refits}
+use Rattle.cg_cgroup.specs.Paths.{Names, is_child}
+use Rattle.cg_cgroup.specs.Cgroups.{cgroup_made_by}
+use Rattle.cg_cgroup.specs.declared.cgroup.Cgroup.{Cgroup}
+use Rattle.cg_cgroup.specs.declared.files.ControllerSet.{ControllerSet}
+use Rattle.cg_indexed.specs.Nodes.{new_node, no_cgroup, node_at, differing, enabled_at, Refits}
 use Rattle.cg_indexed.specs.Kept.{held_of, values_of, AreKept, enabling_held, change_each_held}
 use Rattle.cg_indexed.specs.declared.links.Link.{Link}
 use Rattle.cg_indexed.specs.declared.nodes.Node.{Node}
-use Rattle.cg_indexed.proofs.Read.{whole_there, whole_place}
-use Rattle.cg_indexed.proofs.Enabled.{kept_refitted, held_refitted, kept_alone, held_alone}
+use Rattle.cg_indexed.proofs.Read.{fitted_is, whole_there, whole_place}
+use Rattle.cg_indexed.proofs.Enabled.{IsFitted, kept_refitted, held_refitted, kept_alone, held_alone}
 use Rattle.cg_indexed.proofs.cgroups.Cgroups.enable.Goals as goal
 
 pub unreachable-requires : goal.unreachable-requires
 unreachable-requires c =
-    true≢false (sym (whole_there c.self.inside.places c.self.inside.nodes.items c.args.self.now c.self.view_is c.args.path.now c.depth.result c.depth.ensures.depth c.requires) ∙ ap is_some (sym c.in_default.ensures))
+    true≢false (sym (whole_there c.self.inside.places c.self.inside.nodes.items c.args.self.now c.self.view_is c.args.path.now c.depth.result c.depth.ensures.depth c.requires.there) ∙ ap is_some (sym c.in_default.ensures))
 
 pub enable-requires-clause-parents : goal.enable-requires-clause-parents
 enable-requires-clause-parents c =
@@ -42,20 +46,43 @@ last_are : (c : goal.After-self-then-link-gt0-1) → (with_items (with_items c.s
 last_are c =
     with_items_is (with_items c.self.inside.nodes c.enable.new.nodes) c.refit_children.new.nodes (omega (arith, c.refit_children.auto.nodes, ap length c.deref_mut-then-link-gt0.ensures.value, (with_items c.self.inside.nodes c.enable.new.nodes).ok.0))
 
-refits : (c : goal.After-self-then-link-gt0-1) → Refits c.self.inside.links.items c.in-Some.place c.args.enabled c.args.user.now (enabled_at c.self.inside.nodes.items c.in-Some.place (link_at c.self.inside.links.items c.in-Some.place).above c.args.enabled) c.refit_children.new.nodes
+had_is : (c : goal.After-self-then-link-gt0-1) → c.index.result.now ≡ node_at c.self.inside.nodes.items c.in-Some.place
+had_is c =
+    let l = c.self.invariant.placed.within _ _ (place_is c) in
+    get_or_read c.self.inside.nodes.items c.in-Some.place c.index.result.now (omega (arith, l, c.self.invariant.paired)) c.index.ensures (new_node no_cgroup)
+
+changed_is : (c : goal.After-self-then-link-gt0-1) → c.differing.result ≡ differing (node_at c.self.inside.nodes.items c.in-Some.place).cgroup.enabled c.args.enabled
+changed_is c = c.differing.ensures ∙ (λ t. differing (had_is c t).cgroup.enabled c.args.enabled)
+
+fitted : (c : goal.After-self-then-link-gt0-1) → (q : Names) (j : ℕ) → map.get c.self.inside.places q ≡ Some j → is_child c.args.path.now q ≡ true
+    → IsFitted (node_at c.self.inside.nodes.items c.in-Some.place).cgroup.enabled (node_at c.self.inside.nodes.items j).cgroup
+fitted c = fitted_is c.self.inside.places c.self.inside.nodes.items c.args.self.now c.self.view_is c.args.path.now c.in-Some.place (place_is c) c.requires.fitted
+
+abbrev changed : (c : goal.After-self-then-link-gt0-1) → ControllerSet
+changed c = differing (node_at c.self.inside.nodes.items c.in-Some.place).cgroup.enabled c.args.enabled
+
+abbrev fresh : (c : goal.After-self-then-link-gt0-1) → Cgroup
+fresh c = cgroup_made_by c.args.user.now c.args.enabled
+
+abbrev after : (c : goal.After-self-then-link-gt0-1) → List Node
+after c = enabled_at c.self.inside.nodes.items c.in-Some.place (link_at c.self.inside.links.items c.in-Some.place).above c.args.enabled
+
+refits : (c : goal.After-self-then-link-gt0-1) → Refits c.self.inside.links.items c.in-Some.place (changed c) (fresh c) (after c) c.refit_children.new.nodes
 refits c =
-    subst (λ (ls : List Link). Refits ls c.in-Some.place c.args.enabled c.args.user.now (enabled_at c.self.inside.nodes.items c.in-Some.place (link_at c.self.inside.links.items c.in-Some.place).above c.args.enabled) c.refit_children.new.nodes) c.deref.ensures.value
-    (subst (λ (ns : List Node). Refits c.deref.result.now c.in-Some.place c.args.enabled c.args.user.now ns c.refit_children.new.nodes) (c.deref_mut-then-link-gt0.ensures.value ∙ nodes_are c) c.refit_children.ensures)
+    subst (λ (ls : List Link). Refits ls c.in-Some.place (changed c) (fresh c) (after c) c.refit_children.new.nodes) c.deref.ensures.value
+    (subst (λ (ns : List Node). Refits c.deref.result.now c.in-Some.place (changed c) (fresh c) ns c.refit_children.new.nodes) (c.deref_mut-then-link-gt0.ensures.value ∙ nodes_are c)
+    (subst (λ (row : Cgroup). Refits c.deref.result.now c.in-Some.place (changed c) row c.deref_mut-then-link-gt0.result.now c.refit_children.new.nodes) c.made_by-fresh.ensures
+    (subst (λ (set : ControllerSet). Refits c.deref.result.now c.in-Some.place set c.made_by-fresh.result c.deref_mut-then-link-gt0.result.now c.refit_children.new.nodes) (changed_is c) c.refit_children.ensures)))
 
 pub invariant_of-self : goal.invariant_of-self
 invariant_of-self c =
     subst (AreKept c.self.inside.places c.self.inside.links.items) (sym (last_are c))
-    (kept_refitted c.self.inside.places c.self.inside.links.items c.self.inside.nodes.items c.self.invariant (few c) c.args.path.now c.in-Some.place (place_is c) c.args.enabled c.args.user.now c.refit_children.new.nodes (refits c))
+    (kept_refitted c.self.inside.places c.self.inside.links.items c.self.inside.nodes.items c.self.invariant (few c) c.args.path.now c.in-Some.place (place_is c) c.args.enabled c.args.user.now (fitted c) c.refit_children.new.nodes (refits c))
 
 pub returns-then-link-gt0 : goal.returns-then-link-gt0
 returns-then-link-gt0 c =
     ap (values_of held_of c.self.inside.places) (last_are c)
-    ∙ held_refitted c.self.inside.places c.self.inside.links.items c.self.inside.nodes.items c.self.invariant (few c) c.args.path.now c.in-Some.place (place_is c) c.args.enabled c.args.user.now c.refit_children.new.nodes (refits c)
+    ∙ held_refitted c.self.inside.places c.self.inside.links.items c.self.inside.nodes.items c.self.invariant (few c) c.args.path.now c.in-Some.place (place_is c) c.args.enabled c.args.user.now (fitted c) c.refit_children.new.nodes (refits c)
     ∙ ap (change_each_held (enabling_held c.args.path.now c.args.enabled c.args.user.now)) c.self.view_is
 
 -- ---- without
