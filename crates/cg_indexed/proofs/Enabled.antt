@@ -23,10 +23,10 @@ use Rattle.std.proofs.lemmas.Bool.{lt-ltb}
 use Rattle.cg_tree.proofs.MapLaws.{entry_any, list_any-map}
 use Rattle.cg_tree.proofs.FormedEnabled.{is_child-itself}
 use Rattle.cg_indexed.specs.Links.{link_at}
-use Rattle.cg_indexed.specs.Nodes.{node_at, uses_of, recounted, enabling_node, enabled_at, differs, differing, with_files_from, with_cgroup, refitted_node, links_to, Refits}
+use Rattle.cg_indexed.specs.Nodes.{Node, node_at, uses_of, recounted, enabling_node, enabled_at, differs, differing, with_files_from, refitted_node, links_to, Refits}
 use Rattle.cg_indexed.specs.Kept.{held_of, enabled_of, values_of, child_uses, AreKept, enabling_held, change_each_held}
 use Rattle.cg_indexed.specs.declared.links.Link.{Link}
-use Rattle.cg_indexed.specs.declared.nodes.Node.{Node}
+use Rattle.cg_indexed.proofs.Kin.{kin_of_either}
 use Rattle.cg_indexed.proofs.Counts.{any-count, uses-remove, uses-put, few_uses, recount_exact, is_child-parents}
 use Rattle.cg_indexed.proofs.Values.{values_each, values_put, value_there, keys-values}
 use Rattle.cg_indexed.proofs.Changed.{node_set}
@@ -144,6 +144,10 @@ module _ (places : FinMap path_cmp ℕ) (links : List Link) (nodes : List Node) 
     | true ↦ paired_set
     | false ↦ length-set set above (recounted had enabled (node_at set above)) ∙ paired_set
   ]
+
+  kin_before : (q : Names) (j : ℕ) → map.get places q ≡ Some j → (a : ℕ) → (node_at after j).kin ≡ Some a → (node_at nodes j).kin ≡ Some a
+  kin_before q j has a is =
+      kin_of_either (same_path q p) (enabling_node enabled (node_at nodes i)) (node_at nodes j) a refl (sym (rest_after (λ n. n.kin) (λ n. refl) q j has ∙ ap (λ n. n.kin) (node_of_set q j has)) ∙ is)
 
   -- ---- the sets that are enabled, and how often
 
@@ -289,6 +293,7 @@ module _ (places : FinMap path_cmp ℕ) (links : List Link) (nodes : List Node) 
       uses = λ q j has controller.
           rest_last (λ n. uses_of n.uses controller) (λ n. refl) q j has ∙ uses_after_is q j has controller
           ∙ sym (ap (λ m. child_uses m q controller) sets_last ∙ uses-put sets p enabled q controller);
+      kin = λ q j has a is. kept.kin q j has a (kin_before q j has a (sym (rest_last (λ n. n.kin) (λ n. refl) q j has) ∙ is));
     }
 
   -- by what the calls of `enable` ensure
@@ -332,9 +337,9 @@ module _ (places : FinMap path_cmp ℕ) (links : List Link) (nodes : List Node) 
     refitted : (last : List Node) → Refits links i changed fresh after last → (q : Names) (j : ℕ) → map.get places q ≡ Some j → node_at last j ≡ cond (is_child p q) (fitted_node enabled user (node_at after j)) (node_at after j)
     refitted last r q j has =
         let l = kept.placed.within q j has in
-        r.each j (omega (arith, l, length_after)) ∙ ap (λ b. cond b (refitted_node changed fresh (node_at after j)) (node_at after j)) (links_to_is q j has)
+        r.each j (omega (arith, l, length_after)) (λ a is. kept.kin q j has a (kin_before q j has a is)) ∙ ap (λ b. cond b (refitted_node changed fresh (node_at after j)) (node_at after j)) (links_to_is q j has)
         ∙ elim (is_child p q) as (λ b. is_child p q ≡ b → cond b (refitted_node changed fresh (node_at after j)) (node_at after j) ≡ cond b (fitted_node enabled user (node_at after j)) (node_at after j)) [
-          | true ↦ λ child. ap (λ r. with_cgroup r (node_at after j)) (files_from had enabled user (node_at after j).cgroup (fitted_after q j has child))
+          | true ↦ λ child. ap (λ (r : Cgroup). record (node_at after j) { cgroup = r }) (files_from had enabled user (node_at after j).cgroup (fitted_after q j has child))
           | false ↦ λ e. refl
         ] refl
 

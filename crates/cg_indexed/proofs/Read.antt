@@ -17,10 +17,9 @@ use Rattle.cg_cgroup.proofs.Options.{is_some-mapped}
 use Rattle.cg_tree.proofs.MapLaws.{list_any-map}
 use Rattle.cg_tree.proofs.FormedParts.{enabled_at-row}
 use Rattle.cg_indexed.specs.Links.{link_at, is_full_link}
-use Rattle.cg_indexed.specs.Nodes.{node_at}
+use Rattle.cg_indexed.specs.Nodes.{Node, node_at}
 use Rattle.cg_indexed.specs.Kept.{Held, held_of, enabled_of, values_of, map_values, AreFittedBelow, cgroups_of, tree_of, child_uses, AreKept}
 use Rattle.cg_indexed.specs.declared.links.Link.{Link}
-use Rattle.cg_indexed.specs.declared.nodes.Node.{Node}
 use Rattle.cg_indexed.proofs.Counts.{any-count}
 use Rattle.cg_indexed.proofs.Values.{entries-mapped, get-mapped, keys-mapped, get-values, keys-values, same_maps, option_map-twice}
 

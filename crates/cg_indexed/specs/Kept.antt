@@ -13,9 +13,8 @@ use Rattle.cg_cgroup.specs.declared.files.ControllerSet.{ControllerSet}
 use Rattle.cg_cgroup.specs.declared.files.LimitFile.{LimitFile}
 use Rattle.cg_cgroup.specs.declared.cgroup.Cgroup.{Cgroup}
 use Rattle.cg_indexed.specs.Links.{link_at, ArePlaced}
-use Rattle.cg_indexed.specs.Nodes.{node_at, uses_of}
+use Rattle.cg_indexed.specs.Nodes.{Node, IsKin, node_at, uses_of}
 use Rattle.cg_indexed.specs.declared.links.Link.{Link}
-use Rattle.cg_indexed.specs.declared.nodes.Node.{Node}
 
 -- a cgroup, and how many live processes are counted at it
 pub record Held : Type 0 where
@@ -48,6 +47,8 @@ pub record AreKept (places : map.FinMap path_cmp ℕ) (links : List Link) (nodes
   pub descendants : (p : Names) (i : ℕ) → map.get places p ≡ Some i → (link_at links i).max_descendants ≡ (node_at nodes i).cgroup.max_descendants.value
   pub depths : (p : Names) (i : ℕ) → map.get places p ≡ Some i → (link_at links i).max_depth ≡ (node_at nodes i).cgroup.max_depth.value
   pub uses : (p : Names) (i : ℕ) → map.get places p ≡ Some i → (controller : Controller) → uses_of (node_at nodes i).uses controller ≡ child_uses (values_of enabled_of places nodes) p controller
+  -- what cgroups share is shared by children of one parent
+  pub kin : (p : Names) (i : ℕ) → map.get places p ≡ Some i → IsKin links i (node_at nodes i)
 
 -- ---- what callers see
 
