@@ -1,5 +1,5 @@
 -- A cgroup more.
-use Rattle.std.proofs.Common.{◌≡◌, ℕ, zero, suc, ◌+◌, ◌-◌, ◌<◌, ◌≢◌, true, false, cond, ◌&&◌, List, [], ◌∷◌, ◌++◌, length, count_by, take, refl, sym, ap, ◌∙◌, true≢false, Some, None, is_some, option_map, arith, ◌⊎◌, ⊎_elim, inl, inr}
+use Rattle.std.proofs.Common.{◌≡◌, ℕ, zero, suc, ◌+◌, ◌-◌, ◌<◌, ◌≢◌, true, false, cond, ◌&&◌, not, nat_eq, eq-eqb, eqb-true, List, [], ◌∷◌, ◌++◌, length, count_by, take, refl, sym, ap, ◌∙◌, true≢false, Some, None, Option, is_some, option_map, arith, ◌⊎◌, ⊎_elim, inl, inr}
 use Rattle.std.specs.Prelude.{slice_set}
 use Rattle.std.specs.List.{list_any}
 use Rattle.std.proofs.lemmas.Bool.{cases_Bool}
@@ -22,10 +22,11 @@ use Rattle.cg_cgroup.proofs.Options.{same_some, some_value}
 use Rattle.cg_tree.proofs.MapLaws.{any_entry, list_any-map}
 use Rattle.cg_tree.proofs.StateCounts.{count_below-with_row}
 use Rattle.cg_indexed.specs.Links.{no_link, link_at, new_link, ArePlaced, one_more, raised}
-use Rattle.cg_indexed.specs.Nodes.{new_node, no_cgroup, node_at, no_uses, uses_of, recounted}
+use Rattle.cg_indexed.specs.Nodes.{Node, IsKin, new_node, no_cgroup, node_at, no_uses, uses_of, recounted}
 use Rattle.cg_indexed.specs.Kept.{Held, held_of, enabled_of, values_of, child_uses, AreKept, new_held, tree_of}
 use Rattle.cg_indexed.specs.declared.links.Link.{Link}
-use Rattle.cg_indexed.specs.declared.nodes.Node.{Node}
+use Rattle.std.specs.Cmp.Derive.{both_true}
+use Rattle.cg_indexed.proofs.Kin.{kin_reread}
 use Rattle.cg_indexed.proofs.Counts.{count-none, uses-insert, few_uses, no_uses-childless, recount_exact, is_child-parents}
 use Rattle.cg_indexed.proofs.Values.{values-insert, get-put, values_same, values_put, value_none, keys-values}
 use Rattle.cg_indexed.proofs.Read.{paths_are, row_is}
@@ -78,7 +79,7 @@ module _ (places : FinMap path_cmp ℕ) (links : List Link) (nodes : List Node) 
   same_link j l = get_or_append_left links (link ∷ []) no_link j l
 
   same_node : (j : ℕ) → j < length links → node_at more_nodes j ≡ node_at nodes j
-  same_node j l = get_or_append_left nodes (node ∷ []) (new_node no_cgroup) j (omega (arith, l, kept.paired))
+  same_node j l = get_or_append_left nodes (node ∷ []) (new_node no_cgroup None) j (omega (arith, l, kept.paired))
 
   paired_more : length more_nodes ≡ length more_links
   paired_more = omega (arith, kept.paired, length-append nodes (node ∷ []), length-append links (link ∷ []))
@@ -97,6 +98,9 @@ module _ (places : FinMap path_cmp ℕ) (links : List Link) (nodes : List Node) 
     uses = λ p i is controller.
         ap (λ n. uses_of n.uses controller) (same_node i (kept.placed.within p i is)) ∙ kept.uses p i is controller
         ∙ ap (λ sets. child_uses sets p controller) (values_same enabled_of places nodes more_nodes (λ q j has. ap enabled_of (sym (same_node j (kept.placed.within q j has)))));
+    kin = λ p i is.
+        let l = kept.placed.within p i is in
+        kin_reread links more_links i (node_at nodes i) (node_at more_nodes i) (ap (λ n. n.kin) (same_node i l)) (ap (λ n. n.above) (same_link i l)) (kept.kin p i is);
   }
 
   pub held_more : values_of held_of places more_nodes ≡ values_of held_of places nodes
@@ -105,12 +109,13 @@ module _ (places : FinMap path_cmp ℕ) (links : List Link) (nodes : List Node) 
 -- ---- a path more
 
 module _ (places : FinMap path_cmp ℕ) (links : List Link) (nodes : List Node) (kept : AreKept places links nodes) (few : map.len places < 9223372036854775808)
-    (p : Names) (root : is_root p ≡ false) (none : map.get places p ≡ None) (i : ℕ) (parent_is : map.get places (parent p) ≡ Some i) (row : Cgroup) where
+    (p : Names) (root : is_root p ≡ false) (none : map.get places p ≡ None) (i : ℕ) (parent_is : map.get places (parent p) ≡ Some i) (row : Cgroup)
+    (share : Option ℕ) (parents : (a : ℕ) → share ≡ Some a → a ≡ i) where
   abbrev pushed_links : List Link
   pushed_links = links ++ new_link i row ∷ []
 
   abbrev pushed_nodes : List Node
-  pushed_nodes = nodes ++ new_node row ∷ []
+  pushed_nodes = nodes ++ new_node row share ∷ []
 
   abbrev k : ℕ
   k = length links
@@ -145,14 +150,14 @@ module _ (places : FinMap path_cmp ℕ) (links : List Link) (nodes : List Node) 
   new_link_there : link_at pushed_links k ≡ new_link i row
   new_link_there = get_or_at links (new_link i row) [] no_link k refl
 
-  new_node_there : node_at pushed_nodes k ≡ new_node row
-  new_node_there = get_or_at nodes (new_node row) [] (new_node no_cgroup) k kept.paired
+  new_node_there : node_at pushed_nodes k ≡ new_node row share
+  new_node_there = get_or_at nodes (new_node row share) [] (new_node no_cgroup None) k kept.paired
 
   old_link : (j : ℕ) → j < k → link_at pushed_links j ≡ link_at links j
-  old_link j l = same_link places links nodes kept (new_link i row) (new_node row) j l
+  old_link j l = same_link places links nodes kept (new_link i row) (new_node row share) j l
 
   old_node : (j : ℕ) → j < k → node_at pushed_nodes j ≡ node_at nodes j
-  old_node j l = same_node places links nodes kept (new_link i row) (new_node row) j l
+  old_node j l = same_node places links nodes kept (new_link i row) (new_node row share) j l
 
   placed_next : ArePlaced next pushed_links
   placed_next = record {
@@ -181,7 +186,7 @@ module _ (places : FinMap path_cmp ℕ) (links : List Link) (nodes : List Node) 
 
   node_after : (q : Names) (j : ℕ) → map.get next q ≡ Some j → node_at after_nodes j ≡ cond (same_path q (parent p)) (recounted no_controllers row.enabled (node_at pushed_nodes i)) (node_at pushed_nodes j)
   node_after q j is =
-      node_set next pushed_links placed_next (parent p) i parent_next pushed_nodes (recounted no_controllers row.enabled (node_at pushed_nodes i)) (paired_more places links nodes kept (new_link i row) (new_node row)) q j is
+      node_set next pushed_links placed_next (parent p) i parent_next pushed_nodes (recounted no_controllers row.enabled (node_at pushed_nodes i)) (paired_more places links nodes kept (new_link i row) (new_node row share)) q j is
 
   -- what neither changes
   kept_link : {A : Type 0} (g : Link → A) → ((l : Link) → g (one_more l) ≡ g l) → (q : Names) (j : ℕ) → map.get next q ≡ Some j → g (link_at after_links j) ≡ g (link_at pushed_links j)
@@ -196,13 +201,21 @@ module _ (places : FinMap path_cmp ℕ) (links : List Link) (nodes : List Node) 
         | false ↦ λ e. refl
       ] refl
 
+  kin_after : (q : Names) (j : ℕ) → map.get next q ≡ Some j → (node_at after_nodes j).kin ≡ (node_at pushed_nodes j).kin
+  kin_after q j is =
+      ap (λ n. n.kin) (node_after q j is)
+      ∙ elim (same_path q (parent p)) as (λ b. same_path q (parent p) ≡ b → (cond b (recounted no_controllers row.enabled (node_at pushed_nodes i)) (node_at pushed_nodes j)).kin ≡ (node_at pushed_nodes j).kin) [
+        | true ↦ λ e. ap (λ n. (node_at pushed_nodes n).kin) (same_some i j (sym parent_next ∙ ap (map.get next) (sym (same_path-is q (parent p) e)) ∙ is))
+        | false ↦ λ e. refl
+      ] refl
+
   cgroup_after : (q : Names) (j : ℕ) → map.get next q ≡ Some j → (node_at after_nodes j).cgroup ≡ (node_at pushed_nodes j).cgroup
   cgroup_after q j is = ap (λ (h : Held). h.cgroup) (row_after q j is)
 
   -- the map of what is read, one path more
-  map_next : {A : Type 0} (g : Node → A) → ((q : Names) (j : ℕ) → map.get next q ≡ Some j → g (node_at after_nodes j) ≡ g (node_at pushed_nodes j)) → values_of g next after_nodes ≡ map.insert (values_of g places nodes) p (g (new_node row))
+  map_next : {A : Type 0} (g : Node → A) → ((q : Names) (j : ℕ) → map.get next q ≡ Some j → g (node_at after_nodes j) ≡ g (node_at pushed_nodes j)) → values_of g next after_nodes ≡ map.insert (values_of g places nodes) p (g (new_node row share))
   map_next g same =
-      values_put g places next nodes after_nodes p k (g (new_node row)) next_get (same p k next_same ∙ ap g new_node_there)
+      values_put g places next nodes after_nodes p k (g (new_node row share)) next_get (same p k next_same ∙ ap g new_node_there)
       (λ q j apart has. same q j (next_other q (same_path-other q p apart) ∙ has) ∙ ap g (old_node j (kept.placed.within q j has)))
 
   pub held_next : values_of held_of next after_nodes ≡ map.insert (values_of held_of places nodes) p (new_held row)
@@ -299,12 +312,29 @@ module _ (places : FinMap path_cmp ℕ) (links : List Link) (nodes : List Node) 
       (λ w. ap g (old_link j w.2) ∙ old q j w.1 ∙ ap (λ n. h n.cgroup) (sym (old_node j w.2))) (which q j is)
       ∙ ap h (sym (cgroup_after q j is))
 
+  above_after : (q : Names) (j : ℕ) → map.get next q ≡ Some j → (link_at after_links j).above ≡ (link_at pushed_links j).above
+  above_after = kept_link (λ l. l.above) (λ l. refl)
+
+  new_kin : (q : Names) (j : ℕ) → map.get next q ≡ Some j → j ≡ k → IsKin after_links j (node_at after_nodes j)
+  new_kin q j is last a has =
+      let share_is : share ≡ Some a = sym (kin_after q j is ∙ ap (λ n. n.kin) (ap (node_at pushed_nodes) last ∙ new_node_there)) ∙ has in
+      let up : (link_at after_links j).above ≡ a = above_after q j is ∙ ap (λ l. l.above) (ap (link_at pushed_links) last ∙ new_link_there) ∙ sym (parents a share_is) in
+      let below = kept.placed.within (parent p) i parent_is in
+      both_true (eq-eqb (link_at after_links j).above a up)
+      (elim (nat_eq j a) as (λ b. nat_eq j a ≡ b → not b ≡ true) [ true ↦ λ e. let same = eqb-true j a e in absurd (omega (arith, same, last, parents a share_is, below)) | false ↦ λ e. refl ] refl)
+
+  kin_next : (q : Names) (j : ℕ) → map.get next q ≡ Some j → IsKin after_links j (node_at after_nodes j)
+  kin_next q j is =
+      ⊎_elim (λ h. new_kin q j is h.1)
+      (λ h. kin_reread links after_links j (node_at nodes j) (node_at after_nodes j) (kin_after q j is ∙ ap (λ n. n.kin) (old_node j h.2)) (above_after q j is ∙ ap (λ l. l.above) (old_link j h.2)) (kept.kin q j h.1)) (which q j is)
+
   pub kept_next : AreKept next after_links after_nodes
   kept_next = record {
     placed = placed_changed one_more (λ n. refl) next (length p) i pushed_links placed_next;
-    paired = length-set pushed_nodes i (recounted no_controllers row.enabled (node_at pushed_nodes i)) ∙ paired_more places links nodes kept (new_link i row) (new_node row) ∙ sym (changed_length one_more (λ n. refl) (length p) i pushed_links);
+    paired = length-set pushed_nodes i (recounted no_controllers row.enabled (node_at pushed_nodes i)) ∙ paired_more places links nodes kept (new_link i row) (new_node row share) ∙ sym (changed_length one_more (λ n. refl) (length p) i pushed_links);
     below = λ q j is. ap (λ n. n.below) (link_after q j is) ∙ counts q j is ∙ sym (count_next q);
     descendants = limit_next (λ l. l.max_descendants) (λ r. r.max_descendants.value) (λ l. refl) refl kept.descendants;
     depths = limit_next (λ l. l.max_depth) (λ r. r.max_depth.value) (λ l. refl) refl kept.depths;
     uses = uses_next;
+    kin = kin_next;
   }

@@ -9,12 +9,12 @@ use Rattle.cg_cgroup.specs.declared.cgroup.Cgroup.{Cgroup}
 use Rattle.cg_cgroup.proofs.PathOrder.{path_cmp_total, same_path-is}
 use Rattle.cg_cgroup.proofs.Options.{same_some}
 use Rattle.cg_tree.proofs.MapLaws.{any_entry, list_any-map}
+use Rattle.std.specs.Prelude.{is_none}
 use Rattle.std.specs.List.{list_any}
 use Rattle.cg_indexed.specs.Links.{link_at, new_link}
-use Rattle.cg_indexed.specs.Nodes.{node_at, new_node, no_uses, uses_of}
+use Rattle.cg_indexed.specs.Nodes.{Node, node_at, new_node, no_uses, uses_of}
 use Rattle.cg_indexed.specs.Kept.{held_of, enabled_of, values_of, child_uses, AreKept, new_held}
 use Rattle.cg_indexed.specs.declared.links.Link.{Link}
-use Rattle.cg_indexed.specs.declared.nodes.Node.{Node}
 use Rattle.cg_indexed.proofs.Counts.{count-none, no_uses-childless}
 use Rattle.cg_indexed.proofs.Values.{same_maps, get-put, get-values, value_none}
 
@@ -23,7 +23,7 @@ module _ (row : Cgroup) where
   first_links = new_link 0 row ∷ []
 
   abbrev first_nodes : List Node
-  first_nodes = new_node row ∷ []
+  first_nodes = new_node row None ∷ []
 
   abbrev one : FinMap path_cmp ℕ
   one = map.insert map.empty [] 0
@@ -72,6 +72,7 @@ module _ (row : Cgroup) where
         let o = only q j is in
         ap (λ k. uses_of (node_at first_nodes k).uses controller) o.1 ∙ nothing controller
         ∙ sym (ap (λ x. child_uses (values_of enabled_of one first_nodes) x controller) o.0 ∙ no_uses-childless (values_of enabled_of one first_nodes) [] [] controller (λ r child. value_none enabled_of one first_nodes r (no_other r child)));
+    kin = λ q j is a has. absurd (true≢false (ap is_none (sym (ap (λ k. (node_at first_nodes k).kin) (only q j is).1) ∙ has)));
   }
     where
       nothing : (controller : Controller) → uses_of no_uses controller ≡ 0

@@ -1,5 +1,5 @@
 -- Kept cgroups once what is at the place of one path changes.
-use Rattle.std.proofs.Common.{◌≡◌, ◌≢◌, ℕ, true, false, cond, List, length, get_or, refl, sym, ap, ◌∙◌, Some, arith}
+use Rattle.std.proofs.Common.{◌≡◌, ◌≢◌, ℕ, true, false, cond, ◌&&◌, not, nat_eq, List, length, get_or, refl, sym, ap, ◌∙◌, Some, None, arith}
 use Rattle.std.specs.Prelude.{slice_set}
 use Rattle.std.proofs.lemmas.List.{get_or-set_same, get_or-set_other, length-set}
 use Rattle.std.specs.FinMap as map
@@ -9,10 +9,10 @@ use Rattle.cg_cgroup.specs.declared.cgroup.Cgroup.{Cgroup}
 use Rattle.cg_cgroup.proofs.PathOrder.{same_path-is, same_path-other, same_path_refl}
 use Rattle.cg_cgroup.proofs.Options.{same_some}
 use Rattle.cg_indexed.specs.Links.{no_link, link_at, ArePlaced, with_limits}
-use Rattle.cg_indexed.specs.Nodes.{new_node, no_cgroup, node_at, uses_of, with_cgroup}
+use Rattle.cg_indexed.specs.Nodes.{Node, new_node, no_cgroup, node_at, uses_of, with_cgroup}
 use Rattle.cg_indexed.specs.Kept.{Held, held_of, enabled_of, values_of, child_uses, AreKept, with_row_of, change_held}
 use Rattle.cg_indexed.specs.declared.links.Link.{Link}
-use Rattle.cg_indexed.specs.declared.nodes.Node.{Node}
+use Rattle.cg_indexed.proofs.Kin.{kin_of_either}
 use Rattle.cg_indexed.proofs.Values.{values_same, values_change}
 
 -- ---- one place
@@ -32,7 +32,7 @@ module _ (places : FinMap path_cmp ℕ) (links : List Link) (placed : ArePlaced 
       ] refl
 
   pub node_set : (nodes : List Node) (x : Node) → length nodes ≡ length links → (q : Names) (j : ℕ) → map.get places q ≡ Some j → node_at (slice_set nodes i x) j ≡ cond (same_path q p) x (node_at nodes j)
-  node_set nodes x paired = element_set nodes (new_node no_cgroup) x paired
+  node_set nodes x paired = element_set nodes (new_node no_cgroup None) x paired
 
   pub link_set : (x : Link) (q : Names) (j : ℕ) → map.get places q ≡ Some j → link_at (slice_set links i x) j ≡ cond (same_path q p) x (link_at links j)
   link_set x = element_set links no_link x refl
@@ -70,7 +70,8 @@ module _ (places : FinMap path_cmp ℕ) (links links' : List Link) (nodes nodes'
     (descendants : (q : Names) (j : ℕ) → map.get places q ≡ Some j → (link_at links' j).max_descendants ≡ (node_at nodes' j).cgroup.max_descendants.value)
     (depths : (q : Names) (j : ℕ) → map.get places q ≡ Some j → (link_at links' j).max_depth ≡ (node_at nodes' j).cgroup.max_depth.value)
     (enabled : (q : Names) (j : ℕ) → map.get places q ≡ Some j → enabled_of (node_at nodes' j) ≡ enabled_of (node_at nodes j))
-    (uses : (q : Names) (j : ℕ) → map.get places q ≡ Some j → (node_at nodes' j).uses ≡ (node_at nodes j).uses) where
+    (uses : (q : Names) (j : ℕ) → map.get places q ≡ Some j → (node_at nodes' j).uses ≡ (node_at nodes j).uses)
+    (kin : (q : Names) (j : ℕ) → map.get places q ≡ Some j → (a : ℕ) → (node_at nodes' j).kin ≡ Some a → (node_at nodes j).kin ≡ Some a) where
   pub kept_reread : AreKept places links' nodes'
   kept_reread = record {
     placed = record {
@@ -85,12 +86,13 @@ module _ (places : FinMap path_cmp ℕ) (links links' : List Link) (nodes nodes'
     uses = λ p i is controller.
         ap (λ u. uses_of u controller) (uses p i is) ∙ kept.uses p i is controller
         ∙ ap (λ sets. child_uses sets p controller) (values_same enabled_of places nodes nodes' (λ q j has. sym (enabled q j has)));
+    kin = λ p i is a has. ap (λ x. nat_eq x a && not (nat_eq i a)) (above p i is) ∙ kept.kin p i is a (kin p i is a has);
   }
 
 -- ---- a node changed in what is kept by nothing else
 
 module _ (places : FinMap path_cmp ℕ) (links : List Link) (nodes : List Node) (kept : AreKept places links nodes) (p : Names) (i : ℕ) (is : map.get places p ≡ Some i) (x : Node)
-    (cgroup : x.cgroup ≡ (node_at nodes i).cgroup) (uses : x.uses ≡ (node_at nodes i).uses) where
+    (cgroup : x.cgroup ≡ (node_at nodes i).cgroup) (uses : x.uses ≡ (node_at nodes i).uses) (kin : x.kin ≡ (node_at nodes i).kin) where
   pub kept_node : AreKept places links (slice_set nodes i x)
   kept_node =
       let rows = kept_of_node places links kept.placed p i is (λ n. n.cgroup) nodes x kept.paired cgroup in
@@ -99,6 +101,7 @@ module _ (places : FinMap path_cmp ℕ) (links : List Link) (nodes : List Node) 
       (λ q j has. kept.depths q j has ∙ ap (λ r. r.max_depth.value) (sym (rows q j has)))
       (λ q j has. ap (λ r. r.enabled) (rows q j has))
       (kept_of_node places links kept.placed p i is (λ n. n.uses) nodes x kept.paired uses)
+      (λ q j has a of. sym (kept_of_node places links kept.placed p i is (λ n. n.kin) nodes x kept.paired kin q j has) ∙ of)
 
   pub held_node : (f : Held → Held) → held_of x ≡ f (held_of (node_at nodes i)) → values_of held_of places (slice_set nodes i x) ≡ change_held (values_of held_of places nodes) p f
   held_node f new =
@@ -133,6 +136,7 @@ module _ (places : FinMap path_cmp ℕ) (links : List Link) (nodes : List Node) 
       (limit_of (λ l. l.max_depth) (λ r. r.max_depth.value) refl kept.depths)
       (kept_of_node places links kept.placed p i is enabled_of nodes (with_cgroup row (node_at nodes i)) kept.paired same)
       (kept_of_node places links kept.placed p i is (λ n. n.uses) nodes (with_cgroup row (node_at nodes i)) kept.paired refl)
+      (λ q j has a of. kin_of_either (same_path q p) (with_cgroup row (node_at nodes i)) (node_at nodes j) a refl (sym (ap (λ n. n.kin) (node_set places links kept.placed p i is nodes (with_cgroup row (node_at nodes i)) kept.paired q j has)) ∙ of))
 
   pub held_put : values_of held_of places put_nodes ≡ change_held (values_of held_of places nodes) p (with_row_of row)
   held_put =

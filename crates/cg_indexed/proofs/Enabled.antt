@@ -1,5 +1,5 @@
 -- What a cgroup enables changes, and with it the files of its children.
-use Rattle.std.proofs.Common.{◌≡◌, ℕ, ◌+◌, ◌<◌, Bool, true, false, cond, ◌&&◌, not, nat_eq, nat_lt, List, length, refl, sym, ap, ◌∙◌, true≢false, Some, arith, eq-eqb, eqb-true}
+use Rattle.std.proofs.Common.{◌≡◌, ℕ, ◌+◌, ◌<◌, Bool, true, false, cond, ◌&&◌, not, nat_eq, nat_lt, List, length, refl, sym, ap, ◌∙◌, true≢false, Some, None, Option, is_some, unwrap_or, arith, eq-eqb, eqb-true}
 use Rattle.std.specs.Prelude.{slice_set}
 use Rattle.std.proofs.lemmas.List.{length-set, length-map}
 use Rattle.std.specs.Cmp.{first_so, second_so}
@@ -7,10 +7,12 @@ use Rattle.std.specs.FinMap as map
 use Rattle.std.specs.FinMap.{FinMap}
 use Rattle.cg_cgroup.specs.Paths.{Names, path_cmp, same_path, inside, below, is_child, parent, is_root}
 use Rattle.cg_cgroup.specs.Identity.{Identity}
-use Rattle.cg_cgroup.specs.Files.{enables}
-use Rattle.cg_cgroup.specs.Cgroups.{with_files_of}
+use Rattle.cg_cgroup.specs.Files.{enables, stands_under}
+use Rattle.cg_cgroup.specs.Cgroups.{file_of, file_made_by, with_files_of, cgroup_made_by}
 use Rattle.cg_cgroup.specs.declared.files.Controller.{Controller}
 use Rattle.cg_cgroup.specs.declared.files.ControllerSet.{ControllerSet}
+use Rattle.cg_cgroup.specs.declared.files.LimitFile.{LimitFile}
+use Rattle.cg_cgroup.specs.declared.files.LimitFile.TheVariants.{MaxDescendants, MaxDepth, CpuWeight, MemoryMin, MemoryLow, MemoryHigh, MemoryMax, PidsMax}
 use Rattle.cg_cgroup.specs.declared.cgroup.Cgroup.{Cgroup}
 use Rattle.cg_tree.specs.States.{enabling, enabling_these}
 use Rattle.cg_cgroup.proofs.PathOrder.{same_path-is, same_path_refl, same_path_comm, path_cmp-IsAntisymmetric}
@@ -21,10 +23,10 @@ use Rattle.std.proofs.lemmas.Bool.{lt-ltb}
 use Rattle.cg_tree.proofs.MapLaws.{entry_any, list_any-map}
 use Rattle.cg_tree.proofs.FormedEnabled.{is_child-itself}
 use Rattle.cg_indexed.specs.Links.{link_at}
-use Rattle.cg_indexed.specs.Nodes.{node_at, uses_of, recounted, enabling_node, enabled_at, refitted_node, links_to, Refits}
+use Rattle.cg_indexed.specs.Nodes.{Node, node_at, uses_of, recounted, enabling_node, enabled_at, differs, differing, with_files_from, refitted_node, links_to, Refits}
 use Rattle.cg_indexed.specs.Kept.{held_of, enabled_of, values_of, child_uses, AreKept, enabling_held, change_each_held}
 use Rattle.cg_indexed.specs.declared.links.Link.{Link}
-use Rattle.cg_indexed.specs.declared.nodes.Node.{Node}
+use Rattle.cg_indexed.proofs.Kin.{kin_of_either}
 use Rattle.cg_indexed.proofs.Counts.{any-count, uses-remove, uses-put, few_uses, recount_exact, is_child-parents}
 use Rattle.cg_indexed.proofs.Values.{values_each, values_put, value_there, keys-values}
 use Rattle.cg_indexed.proofs.Changed.{node_set}
@@ -34,6 +36,33 @@ pub below-is_child : (p q : Names) → is_child p q ≡ true → below p q ≡ t
 below-is_child p q child =
     let level = eqb-true (length q) (length p + 1) (second_so (inside p q) _ child) in
     both_true (first_so (inside p q) _ child) (lt-ltb (length p) (length q) (omega arith))
+
+-- ---- the files of controllers that change, where files stand as they should
+
+abbrev pub fitted_node : ControllerSet → Identity → Node → Node
+fitted_node enabled user node = record node { cgroup = with_files_of enabled user node.cgroup }
+
+file_from : {A : Type 0} (had has : Bool) (held : Option A) (made : A) → is_some held ≡ had → cond (differs had has) (cond has (Some made) None) held ≡ cond has (Some (unwrap_or held made)) None
+file_from true true None made h = absurd (true≢false (sym h))
+file_from true true (Some x) made h = refl
+file_from true false held made h = refl
+file_from false true None made h = refl
+file_from false true (Some x) made h = absurd (true≢false h)
+file_from false false None made h = refl
+file_from false false (Some x) made h = absurd (true≢false h)
+
+abbrev pub IsFitted : ControllerSet → Cgroup → Type 0
+IsFitted above row = (file : LimitFile) → is_some (file_of row file) ≡ stands_under above file
+
+files_from : (had enabled : ControllerSet) (user : Identity) (row : Cgroup) → IsFitted had row → with_files_from (differing had enabled) (cgroup_made_by user enabled) row ≡ with_files_of enabled user row
+files_from had enabled user row fitted = λ i. record row {
+  cpu_weight = file_from had.cpu enabled.cpu row.cpu_weight (file_made_by user CpuWeight) (fitted CpuWeight) i;
+  memory_min = file_from had.memory enabled.memory row.memory_min (file_made_by user MemoryMin) (fitted MemoryMin) i;
+  memory_low = file_from had.memory enabled.memory row.memory_low (file_made_by user MemoryLow) (fitted MemoryLow) i;
+  memory_high = file_from had.memory enabled.memory row.memory_high (file_made_by user MemoryHigh) (fitted MemoryHigh) i;
+  memory_max = file_from had.memory enabled.memory row.memory_max (file_made_by user MemoryMax) (fitted MemoryMax) i;
+  pids_max = file_from had.pids enabled.pids row.pids_max (file_made_by user PidsMax) (fitted PidsMax) i;
+}
 
 module _ (places : FinMap path_cmp ℕ) (links : List Link) (nodes : List Node) (kept : AreKept places links nodes) (few : map.len places < 9223372036854775808) (p : Names) (i : ℕ) (is : map.get places p ≡ Some i)
     (enabled : ControllerSet) (user : Identity) where
@@ -115,6 +144,10 @@ module _ (places : FinMap path_cmp ℕ) (links : List Link) (nodes : List Node) 
     | true ↦ paired_set
     | false ↦ length-set set above (recounted had enabled (node_at set above)) ∙ paired_set
   ]
+
+  kin_before : (q : Names) (j : ℕ) → map.get places q ≡ Some j → (a : ℕ) → (node_at after j).kin ≡ Some a → (node_at nodes j).kin ≡ Some a
+  kin_before q j has a is =
+      kin_of_either (same_path q p) (enabling_node enabled (node_at nodes i)) (node_at nodes j) a refl (sym (rest_after (λ n. n.kin) (λ n. refl) q j has ∙ ap (λ n. n.kin) (node_of_set q j has)) ∙ is)
 
   -- ---- the sets that are enabled, and how often
 
@@ -203,22 +236,22 @@ module _ (places : FinMap path_cmp ℕ) (links : List Link) (nodes : List Node) 
         | false ↦ λ e. refl
       ] refl
 
-  module _ (last : List Node) (long : length last ≡ length links) (refits : (q : Names) (j : ℕ) → map.get places q ≡ Some j → node_at last j ≡ cond (is_child p q) (refitted_node enabled user (node_at after j)) (node_at after j)) where
-    rest_last : {A : Type 0} (g : Node → A) → ((n : Node) → g (refitted_node enabled user n) ≡ g n) → (q : Names) (j : ℕ) → map.get places q ≡ Some j → g (node_at last j) ≡ g (node_at after j)
+  module _ (last : List Node) (long : length last ≡ length links) (refits : (q : Names) (j : ℕ) → map.get places q ≡ Some j → node_at last j ≡ cond (is_child p q) (fitted_node enabled user (node_at after j)) (node_at after j)) where
+    rest_last : {A : Type 0} (g : Node → A) → ((n : Node) → g (fitted_node enabled user n) ≡ g n) → (q : Names) (j : ℕ) → map.get places q ≡ Some j → g (node_at last j) ≡ g (node_at after j)
     rest_last g same q j has =
-        ap g (refits q j has) ∙ elim (is_child p q) as (λ b. g (cond b (refitted_node enabled user (node_at after j)) (node_at after j)) ≡ g (node_at after j)) [ true ↦ same (node_at after j) | false ↦ refl ]
+        ap g (refits q j has) ∙ elim (is_child p q) as (λ b. g (cond b (fitted_node enabled user (node_at after j)) (node_at after j)) ≡ g (node_at after j)) [ true ↦ same (node_at after j) | false ↦ refl ]
 
     cgroup_last : (q : Names) (j : ℕ) → map.get places q ≡ Some j → (node_at last j).cgroup ≡ enabling p enabled user q (node_at nodes j).cgroup
     cgroup_last q j has =
         ap (λ n. n.cgroup) (refits q j has)
-        ∙ elim (same_path q p) as (λ b. same_path q p ≡ b → (cond (is_child p q) (refitted_node enabled user (node_at after j)) (node_at after j)).cgroup
+        ∙ elim (same_path q p) as (λ b. same_path q p ≡ b → (cond (is_child p q) (fitted_node enabled user (node_at after j)) (node_at after j)).cgroup
         ≡ cond b (enabling_these enabled (node_at nodes j).cgroup) (cond (is_child p q) (with_files_of enabled user (node_at nodes j).cgroup) (node_at nodes j).cgroup)) [
           | true ↦ λ e.
-              ap (λ b. (cond b (refitted_node enabled user (node_at after j)) (node_at after j)).cgroup) (ap (is_child p) (same_path-is q p e) ∙ is_child-itself p)
+              ap (λ b. (cond b (fitted_node enabled user (node_at after j)) (node_at after j)).cgroup) (ap (is_child p) (same_path-is q p e) ∙ is_child-itself p)
               ∙ cgroup_after q j has ∙ ap (λ b. cond b (enabling_these enabled (node_at nodes j).cgroup) (node_at nodes j).cgroup) e
           | false ↦ λ e.
               let old = cgroup_after q j has ∙ ap (λ b. cond b (enabling_these enabled (node_at nodes j).cgroup) (node_at nodes j).cgroup) e in
-              elim (is_child p q) as (λ b. (cond b (refitted_node enabled user (node_at after j)) (node_at after j)).cgroup ≡ cond b (with_files_of enabled user (node_at nodes j).cgroup) (node_at nodes j).cgroup) [
+              elim (is_child p q) as (λ b. (cond b (fitted_node enabled user (node_at after j)) (node_at after j)).cgroup ≡ cond b (with_files_of enabled user (node_at nodes j).cgroup) (node_at nodes j).cgroup) [
                 | true ↦ ap (with_files_of enabled user) old
                 | false ↦ old
               ]
@@ -260,26 +293,58 @@ module _ (places : FinMap path_cmp ℕ) (links : List Link) (nodes : List Node) 
       uses = λ q j has controller.
           rest_last (λ n. uses_of n.uses controller) (λ n. refl) q j has ∙ uses_after_is q j has controller
           ∙ sym (ap (λ m. child_uses m q controller) sets_last ∙ uses-put sets p enabled q controller);
+      kin = λ q j has a is. kept.kin q j has a (kin_before q j has a (sym (rest_last (λ n. n.kin) (λ n. refl) q j has) ∙ is));
     }
 
   -- by what the calls of `enable` ensure
 
-  refitted : (last : List Node) → Refits links i enabled user after last → (q : Names) (j : ℕ) → map.get places q ≡ Some j → node_at last j ≡ cond (is_child p q) (refitted_node enabled user (node_at after j)) (node_at after j)
-  refitted last r q j has =
-      let l = kept.placed.within q j has in
-      r.each j (omega (arith, l, length_after)) ∙ ap (λ b. cond b (refitted_node enabled user (node_at after j)) (node_at after j)) (links_to_is q j has)
-
-  alone : (link_at links i).below ≡ 0 → (q : Names) (j : ℕ) → map.get places q ≡ Some j → node_at after j ≡ cond (is_child p q) (refitted_node enabled user (node_at after j)) (node_at after j)
-  alone nothing q j has = sym (ap (λ b. cond b (refitted_node enabled user (node_at after j)) (node_at after j)) (no_child nothing q j has))
-
-  pub kept_refitted : (last : List Node) → Refits links i enabled user after last → AreKept places links last
-  kept_refitted last r = kept_enabled last (r.len ∙ length_after) (refitted last r)
-
-  pub held_refitted : (last : List Node) → Refits links i enabled user after last → values_of held_of places last ≡ change_each_held (enabling_held p enabled user) (values_of held_of places nodes)
-  held_refitted last r = held_enabled last (r.len ∙ length_after) (refitted last r)
+  alone : (link_at links i).below ≡ 0 → (q : Names) (j : ℕ) → map.get places q ≡ Some j → node_at after j ≡ cond (is_child p q) (fitted_node enabled user (node_at after j)) (node_at after j)
+  alone nothing q j has = sym (ap (λ b. cond b (fitted_node enabled user (node_at after j)) (node_at after j)) (no_child nothing q j has))
 
   pub kept_alone : (link_at links i).below ≡ 0 → AreKept places links after
   kept_alone nothing = kept_enabled after length_after (alone nothing)
 
   pub held_alone : (link_at links i).below ≡ 0 → values_of held_of places after ≡ change_each_held (enabling_held p enabled user) (values_of held_of places nodes)
   held_alone nothing = held_enabled after length_after (alone nothing)
+
+  module _ (fitted : (q : Names) (j : ℕ) → map.get places q ≡ Some j → is_child p q ≡ true → IsFitted had (node_at nodes j).cgroup) where
+    abbrev changed : ControllerSet
+    changed = differing had enabled
+
+    abbrev fresh : Cgroup
+    fresh = cgroup_made_by user enabled
+
+    -- also once the path's own set has changed
+    fitted_after : (q : Names) (j : ℕ) → map.get places q ≡ Some j → is_child p q ≡ true → IsFitted had (node_at after j).cgroup
+    fitted_after q j has child file =
+        ap (λ r. is_some (file_of r file)) (cgroup_after q j has)
+        ∙ elim (same_path q p) as (λ b. is_some (file_of (cond b (enabling_these enabled (node_at nodes j).cgroup) (node_at nodes j).cgroup) file) ≡ is_some (file_of (node_at nodes j).cgroup file)) [
+          | true ↦ files_stay (node_at nodes j).cgroup file
+          | false ↦ refl
+        ]
+        ∙ fitted q j has child file
+      where
+        files_stay : (row : Cgroup) (f : LimitFile) → is_some (file_of (enabling_these enabled row) f) ≡ is_some (file_of row f)
+        files_stay row MaxDescendants = refl
+        files_stay row MaxDepth = refl
+        files_stay row CpuWeight = refl
+        files_stay row MemoryMin = refl
+        files_stay row MemoryLow = refl
+        files_stay row MemoryHigh = refl
+        files_stay row MemoryMax = refl
+        files_stay row PidsMax = refl
+
+    refitted : (last : List Node) → Refits links i changed fresh after last → (q : Names) (j : ℕ) → map.get places q ≡ Some j → node_at last j ≡ cond (is_child p q) (fitted_node enabled user (node_at after j)) (node_at after j)
+    refitted last r q j has =
+        let l = kept.placed.within q j has in
+        r.each j (omega (arith, l, length_after)) (λ a is. kept.kin q j has a (kin_before q j has a is)) ∙ ap (λ b. cond b (refitted_node changed fresh (node_at after j)) (node_at after j)) (links_to_is q j has)
+        ∙ elim (is_child p q) as (λ b. is_child p q ≡ b → cond b (refitted_node changed fresh (node_at after j)) (node_at after j) ≡ cond b (fitted_node enabled user (node_at after j)) (node_at after j)) [
+          | true ↦ λ child. ap (λ (r : Cgroup). record (node_at after j) { cgroup = r }) (files_from had enabled user (node_at after j).cgroup (fitted_after q j has child))
+          | false ↦ λ e. refl
+        ] refl
+
+    pub kept_refitted : (last : List Node) → Refits links i changed fresh after last → AreKept places links last
+    kept_refitted last r = kept_enabled last (r.len ∙ length_after) (refitted last r)
+
+    pub held_refitted : (last : List Node) → Refits links i changed fresh after last → values_of held_of places last ≡ change_each_held (enabling_held p enabled user) (values_of held_of places nodes)
+    held_refitted last r = held_enabled last (r.len ∙ length_after) (refitted last r)

@@ -2,6 +2,7 @@ pub mod TextKeys
 pub mod Climb
 pub mod Limits
 pub mod Refits
+pub mod Kin
 pub mod Values
 pub mod Counts
 pub mod Read
@@ -15,3 +16,4 @@ pub mod States
 pub mod Listed
 pub mod Depths
 pub mod Taken
+pub mod Seen

@@ -4,20 +4,22 @@ use Rattle.std.specs.List.{list_any}
 use Rattle.std.specs.FinMap as map
 use Rattle.std.specs.FinMap.{FinMap}
 use Rattle.cg_cgroup.specs.Paths.{Names, path_cmp, below, is_child}
-use Rattle.cg_cgroup.specs.Files.{enables}
+use Rattle.cg_cgroup.specs.Files.{enables, stands_under}
+use Rattle.cg_cgroup.specs.Cgroups.{file_of}
 use Rattle.cg_cgroup.specs.declared.files.Controller.{Controller}
 use Rattle.cg_cgroup.specs.declared.files.ControllerSet.{ControllerSet}
+use Rattle.cg_cgroup.specs.declared.files.LimitFile.{LimitFile}
 use Rattle.cg_cgroup.specs.declared.cgroup.Cgroup.{Cgroup}
 use Rattle.cg_tree.specs.States.{row_at, paths_of, count_below, child_enables}
 use Rattle.cg_tree.specs.WellFormed.{has_row}
 use Rattle.cg_tree.specs.Limits.{bars_child, is_full}
 use Rattle.cg_cgroup.proofs.Options.{is_some-mapped}
 use Rattle.cg_tree.proofs.MapLaws.{list_any-map}
+use Rattle.cg_tree.proofs.FormedParts.{enabled_at-row}
 use Rattle.cg_indexed.specs.Links.{link_at, is_full_link}
-use Rattle.cg_indexed.specs.Nodes.{node_at}
-use Rattle.cg_indexed.specs.Kept.{Held, held_of, enabled_of, values_of, map_values, cgroups_of, tree_of, child_uses, AreKept}
+use Rattle.cg_indexed.specs.Nodes.{Node, node_at}
+use Rattle.cg_indexed.specs.Kept.{Held, held_of, enabled_of, values_of, map_values, AreFittedBelow, cgroups_of, tree_of, child_uses, AreKept}
 use Rattle.cg_indexed.specs.declared.links.Link.{Link}
-use Rattle.cg_indexed.specs.declared.nodes.Node.{Node}
 use Rattle.cg_indexed.proofs.Counts.{any-count}
 use Rattle.cg_indexed.proofs.Values.{entries-mapped, get-mapped, keys-mapped, get-values, keys-values, same_maps, option_map-twice}
 
@@ -32,6 +34,13 @@ module _ (places : FinMap path_cmp ℕ) (nodes : List Node) (m : FinMap path_cmp
 
   pub there_is : (q : Names) → has_row (tree_of m) q ≡ is_some (map.get places q)
   there_is q = ap is_some (row_is q) ∙ is_some-mapped (λ i. (node_at nodes i).cgroup) (map.get places q)
+
+  -- a child's files stand as its parent has them
+  pub fitted_is : (p : Names) (i : ℕ) → map.get places p ≡ Some i → AreFittedBelow (tree_of m) p → (q : Names) (j : ℕ) → map.get places q ≡ Some j → is_child p q ≡ true
+      → (file : LimitFile) → is_some (file_of (node_at nodes j).cgroup file) ≡ stands_under (node_at nodes i).cgroup.enabled file
+  fitted_is p i is fitted q j has child file =
+      fitted q (node_at nodes j).cgroup child (row_is q ∙ ap (option_map (λ k. (node_at nodes k).cgroup)) has) file
+      ∙ ap (λ set. stands_under set file) (enabled_at-row (tree_of m) p (node_at nodes i).cgroup (row_is p ∙ ap (option_map (λ k. (node_at nodes k).cgroup)) is))
 
   -- by the depth that the path tells of itself
   pub whole_there : (q : Names) (len : ℕ) → len ≡ length q → has_row (tree_of m) q ≡ true → is_some (map.get places (take len q)) ≡ true

@@ -17,10 +17,10 @@ use Rattle.cg_tree.proofs.MapLaws.{entry_any, list_any-map}
 use Rattle.cg_tree.proofs.StateCounts.{count_below-without_row}
 use Rattle.cg_cgroup.proofs.Options.{same_some}
 use Rattle.cg_indexed.specs.Links.{link_at, ArePlaced, one_less, lowered}
-use Rattle.cg_indexed.specs.Nodes.{node_at, uses_of, recounted}
+use Rattle.cg_indexed.specs.Nodes.{Node, node_at, uses_of, recounted}
 use Rattle.cg_indexed.specs.Kept.{Held, held_of, enabled_of, values_of, child_uses, AreKept, tree_of}
 use Rattle.cg_indexed.specs.declared.links.Link.{Link}
-use Rattle.cg_indexed.specs.declared.nodes.Node.{Node}
+use Rattle.cg_indexed.proofs.Kin.{kin_reread}
 use Rattle.cg_indexed.proofs.Counts.{uses-remove, recount_fewer, is_child-parents}
 use Rattle.cg_indexed.proofs.Values.{values-remove, get-without, values_gone, value_there}
 use Rattle.cg_indexed.proofs.Read.{paths_are, row_is}
@@ -97,6 +97,14 @@ module _ (places : FinMap path_cmp ℕ) (links : List Link) (nodes : List Node) 
         | false ↦ λ e. refl
       ] refl
 
+  kin_after : (q : Names) (j : ℕ) → map.get next q ≡ Some j → (node_at after_nodes j).kin ≡ (node_at nodes j).kin
+  kin_after q j has =
+      ap (λ n. n.kin) (node_after q j has)
+      ∙ elim (same_path q (parent p)) as (λ b. same_path q (parent p) ≡ b → (cond b (recounted enabled no_controllers (node_at nodes i)) (node_at nodes j)).kin ≡ (node_at nodes j).kin) [
+        | true ↦ λ e. ap (λ n. (node_at nodes n).kin) (same_some i j (sym parent_left ∙ ap (map.get next) (sym (same_path-is q (parent p) e)) ∙ has))
+        | false ↦ λ e. refl
+      ] refl
+
   map_left : {A : Type 0} (g : Node → A) → ((q : Names) (j : ℕ) → map.get next q ≡ Some j → g (node_at after_nodes j) ≡ g (node_at nodes j)) → values_of g next after_nodes ≡ map.remove (values_of g places nodes) p
   map_left g same = values_gone g places next nodes after_nodes p (get-without places p) (λ q j apart has. same q j (next_other q (same_path-other q p apart) ∙ has))
 
@@ -156,4 +164,5 @@ module _ (places : FinMap path_cmp ℕ) (links : List Link) (nodes : List Node) 
     descendants = limit_left (λ l. l.max_descendants) (λ r. r.max_descendants.value) (λ l. refl) kept.descendants;
     depths = limit_left (λ l. l.max_depth) (λ r. r.max_depth.value) (λ l. refl) kept.depths;
     uses = uses_left;
+    kin = λ q j has. kin_reread links after_links j (node_at nodes j) (node_at after_nodes j) (kin_after q j has) (kept_link (λ l. l.above) (λ l. refl) q j has) (kept.kin q j (left q j has).1);
   }

@@ -25,7 +25,7 @@ use Rattle.cg_cgroup.proofs.Options.{some_value, same_some, is_some-mapped}
 use Rattle.cg_tree.proofs.MapLaws.{get-changed, change_value-there}
 use Rattle.cg_tree.proofs.StateLaws.{row_at-with_row-other, row_at-with_row-same}
 use Rattle.cg_tree.proofs.FormedParts.{enabled_at-row}
-use Rattle.cg_indexed.specs.Kept.{Held, cgroups_of, change_held, change_each_held, with_row_of, enabling_held, new_held}
+use Rattle.cg_indexed.specs.Kept.{Held, AreFittedBelow, cgroups_of, change_held, change_each_held, with_row_of, enabling_held, new_held}
 use Rattle.cg_indexed.proofs.Living.{get-change_held}
 use Rattle.cg_indexed.proofs.Values.{same_maps, get-mapped, values-insert, option_map-twice}
 
@@ -85,8 +85,14 @@ enabled_there held p row new is same =
     sym (option_map-twice (λ (r : Cgroup). r.enabled) (λ (h : Held). h.cgroup) (map.get held p)) ∙ ap (option_map (λ (r : Cgroup). r.enabled)) (sym (get-mapped (λ (h : Held). h.cgroup) held p) ∙ sym is)
     ∙ ap Some (sym same)
 
--- ---- where what a path enables stays, all stays
+-- ---- what a path enables and its children's files
 
+pub fitted_formed : (st : State) → IsWellFormed st → (p : Names) → AreFittedBelow st p
+fitted_formed st formed p q row child has file =
+    let above : enabled_above st q ≡ enabled_at st p = ap (λ b. cond b no_controllers (enabled_at st (parent q))) (is_root-is_child p q child) ∙ ap (enabled_at st) (parent-is_child p q child) in
+    (formed.rows q row has).files file ∙ ap (λ set. stands_under set file) above
+
+-- where what a path enables stays, all stays
 pub nothing_enabled : (st : State) → IsWellFormed st → (p : Names) (row : Cgroup) (enabled : ControllerSet) (user : Identity) → row_at st p ≡ Some row → row.enabled ≡ enabled → with_enabled st p enabled user ≡ st
 nothing_enabled st formed p row enabled user is same =
     ap (λ rows. record st { rows = rows }) (same_maps _ _ (λ q.
@@ -104,10 +110,7 @@ nothing_enabled st formed p row enabled user is same =
               ap (λ (set : ControllerSet). record r { enabled = set }) (sym own)
           | false ↦ λ e.
               elim (is_child p q) as (λ b. is_child p q ≡ b → cond b (with_files_of enabled user r) r ≡ r) [
-                | true ↦ λ child.
-                    let above : enabled_above st q ≡ enabled =
-                    ap (λ b. cond b no_controllers (enabled_at st (parent q))) (is_root-is_child p q child) ∙ ap (enabled_at st) (parent-is_child p q child) ∙ enabled_at-row st p row is ∙ same in
-                    with_files_of-same enabled user r (λ file. (formed.rows q r has).files file ∙ ap (λ set. stands_under set file) above)
+                | true ↦ λ child. with_files_of-same enabled user r (λ file. fitted_formed st formed p q r child has file ∙ ap (λ set. stands_under set file) (enabled_at-row st p row is ∙ same))
                 | false ↦ λ not_child. refl
               ] refl
         ] refl

@@ -1,18 +1,20 @@
 -- How cgroups are kept at places, and what is kept of each.
-use Rattle.std.specs.Prelude.{◌≡◌, ℕ, ◌+◌, ◌-◌, min, ◌&&◌, List, length, map as map_list, count_by, Some, None}
+use Rattle.std.specs.Prelude.{◌≡◌, ℕ, ◌+◌, ◌-◌, min, ◌&&◌, List, length, map as map_list, count_by, Some, None, is_some, true}
 use Rattle.std.specs.FinMap as map
 use Rattle.std.specs.FinSet as set
 use Rattle.cg_cgroup.specs.Paths.{Names, path_cmp, below, is_child}
 use Rattle.cg_cgroup.specs.Identity.{Identity}
-use Rattle.cg_cgroup.specs.Files.{no_controllers, enables}
-use Rattle.cg_tree.specs.States.{State, enabling}
+use Rattle.cg_cgroup.specs.Files.{no_controllers, enables, stands_under}
+use Rattle.cg_cgroup.specs.Cgroups.{file_of}
+use Rattle.cg_tree.specs.States.{State, row_at, enabling}
+use Rattle.cg_tree.specs.WellFormed.{enabled_at}
 use Rattle.cg_cgroup.specs.declared.files.Controller.{Controller}
 use Rattle.cg_cgroup.specs.declared.files.ControllerSet.{ControllerSet}
+use Rattle.cg_cgroup.specs.declared.files.LimitFile.{LimitFile}
 use Rattle.cg_cgroup.specs.declared.cgroup.Cgroup.{Cgroup}
 use Rattle.cg_indexed.specs.Links.{link_at, ArePlaced}
-use Rattle.cg_indexed.specs.Nodes.{node_at, uses_of}
+use Rattle.cg_indexed.specs.Nodes.{Node, IsKin, node_at, uses_of}
 use Rattle.cg_indexed.specs.declared.links.Link.{Link}
-use Rattle.cg_indexed.specs.declared.nodes.Node.{Node}
 
 -- a cgroup, and how many live processes are counted at it
 pub record Held : Type 0 where
@@ -45,6 +47,8 @@ pub record AreKept (places : map.FinMap path_cmp ℕ) (links : List Link) (nodes
   pub descendants : (p : Names) (i : ℕ) → map.get places p ≡ Some i → (link_at links i).max_descendants ≡ (node_at nodes i).cgroup.max_descendants.value
   pub depths : (p : Names) (i : ℕ) → map.get places p ≡ Some i → (link_at links i).max_depth ≡ (node_at nodes i).cgroup.max_depth.value
   pub uses : (p : Names) (i : ℕ) → map.get places p ≡ Some i → (controller : Controller) → uses_of (node_at nodes i).uses controller ≡ child_uses (values_of enabled_of places nodes) p controller
+  -- what cgroups share is shared by children of one parent
+  pub kin : (p : Names) (i : ℕ) → map.get places p ≡ Some i → IsKin links i (node_at nodes i)
 
 -- ---- what callers see
 
@@ -71,6 +75,10 @@ change_held held path f = elim (map.get held path) [ None ↦ held | Some h ↦ 
 -- the map with each value changed by its path
 abbrev pub change_each_held : (Names → Held → Held) → map.FinMap path_cmp Held → map.FinMap path_cmp Held
 change_each_held f held = map.from_sorted (map_list (λ e. (e.0, f e.0 e.1)) (map.entries held))
+
+-- The limit files of a cgroup's children stand as it has them.
+abbrev pub AreFittedBelow : State → Names → Type 0
+AreFittedBelow st path = (q : Names) (row : Cgroup) → is_child path q ≡ true → row_at st q ≡ Some row → (file : LimitFile) → is_some (file_of row file) ≡ stands_under (enabled_at st path) file
 
 abbrev pub cgroups_of : map.FinMap path_cmp Held → map.FinMap path_cmp Cgroup
 cgroups_of held = map_values (λ h. h.cgroup) held

@@ -7,10 +7,10 @@ ghost use Rattle.cg_cgroup.specs.Files.{enables};
 ghost use Rattle.cg_tree.specs.States.{row_at, count_below, has_child, child_enables, depth_below};
 ghost use Rattle.cg_tree.specs.WellFormed.{has_row};
 ghost use Rattle.cg_tree.specs.Limits.{NoneIsFull, IsNearestFull};
-ghost use Rattle.cg_indexed.specs.Kept.{tree_of, new_held, with_row_of, one_live_more, one_live_less, enabling_held, change_held, change_each_held};
+ghost use Rattle.cg_indexed.specs.Kept.{AreFittedBelow, tree_of, new_held, with_row_of, one_live_more, one_live_less, enabling_held, change_held, change_each_held};
 
 use crate::links::{Link, climb, lower, put_limits, raise};
-use crate::nodes::{Node, enable, lower_live, put, raise_live, recount, refit_children};
+use crate::nodes::{Nodes, differing, enable, lower_live, raise_live, recount};
 use crate::path_index::PathIndex;
 use cg_cgroup::cgroup::Cgroup;
 use cg_cgroup::files::{Controller, ControllerSet};
@@ -20,6 +20,9 @@ use cg_cgroup::user::User;
 use std::alloc::Global;
 use std::marker::Model;
 
+/// Below how few cgroups no children share one: what they share takes as much memory as one of them.
+const FEW: u64 = 16;
+
 /// Cgroups by path, each with the number of its live processes.
 ///
 /// Each cgroup has a place, which it keeps, and knows its parent's. A place that was a cgroup's is no other's.
@@ -27,7 +30,7 @@ use std::marker::Model;
 pub struct Cgroups {
     places: PathIndex,
     links: Vec<Link>,
-    nodes: Vec<Node>,
+    nodes: Nodes,
 }
 
 impl Model for Cgroups {
@@ -40,9 +43,9 @@ impl Model for Cgroups {
 
     ghost coded = { Prim.hlevel (codes, map.code) };
 
-    ghost view = { λ t. values_of held_of t.places t.nodes.items };
+    ghost view = { λ t. values_of held_of t.places t.nodes };
 
-    ghost invariant = { λ t. AreKept t.places t.links.items t.nodes.items };
+    ghost invariant = { λ t. AreKept t.places t.links.items t.nodes };
 }
 
 impl Cgroups {
@@ -54,8 +57,7 @@ impl Cgroups {
         places.insert(alloc, &Path::root(alloc), 0)?;
         let mut links = Vec::new(alloc);
         links.push(Link::new(0, &root))?;
-        let mut nodes = Vec::new(alloc);
-        nodes.push(Node::new(root))?;
+        let nodes = Nodes::new(alloc, root)?;
         Ok(Cgroups {
             places,
             links,
@@ -69,7 +71,7 @@ impl Cgroups {
         ensures { option_copied result ≡ row_at (tree_of self.now) (take len path.now) }
     {
         match self.places.get(path, len) {
-            Some(place) => Some(&self.nodes[place].cgroup),
+            Some(place) => Some(self.nodes.cgroup(place)),
             None => None,
         }
     }
@@ -83,7 +85,7 @@ impl Cgroups {
         let Some(place) = self.places.get(path, len) else {
             unreachable!()
         };
-        self.nodes[place].live
+        self.nodes.live(place)
     }
 
     /// Whether a child of a cgroup enables a controller.
@@ -95,7 +97,7 @@ impl Cgroups {
         let Some(place) = self.places.get(path, len) else {
             unreachable!()
         };
-        self.nodes[place].uses.of(controller) > 0
+        self.nodes.uses(place).of(controller) > 0
     }
 
     /// How many cgroups lie below a cgroup, at any depth.
@@ -133,7 +135,7 @@ impl Cgroups {
         let Some(place) = self.places.get(path, path.depth()) else {
             unreachable!()
         };
-        put(&mut self.nodes, place, cgroup);
+        self.nodes.put(place, cgroup);
         put_limits(&mut self.links, place, &cgroup);
     }
 
@@ -161,7 +163,8 @@ impl Cgroups {
 
     /// Sets what a cgroup enables for its children, and makes and removes their limit files.
     pub fn enable(&mut self, path: &Path, enabled: ControllerSet, user: &User)
-        requires { has_row (tree_of self.old) path.now ≡ true }
+        requires there { has_row (tree_of self.old) path.now ≡ true }
+        requires fitted { AreFittedBelow (tree_of self.old) path.now }
         ensures { self.new ≡ change_each_held (enabling_held path.now enabled user.now) self.old }
     {
         let Some(place) = self.places.get(path, path.depth()) else {
@@ -170,9 +173,13 @@ impl Cgroups {
         // What `size` says bounds the counts.
         let _size = self.places.size();
         let link = self.links[place];
+        let had = self.nodes.cgroup(place).enabled;
         enable(&mut self.nodes, place, link.above, enabled);
         if link.below > 0 {
-            refit_children(&self.links, &mut self.nodes, place, enabled, user);
+            let fresh = Cgroup::made_by(user, enabled);
+            let changed = differing(had, enabled);
+            self.nodes
+                .refit_children(&self.links, place, changed, &fresh);
         }
     }
 
@@ -190,9 +197,10 @@ impl Cgroups {
         let place = self.links.len();
         // What `size` says bounds the counts.
         let _size = self.places.size();
-        self.nodes.reserve(1)?;
-        self.links.push(Link::new(above, &cgroup))?;
-        let Ok(()) = self.nodes.push(Node::new(cgroup)) else {
+        let shares = self.links[above].below >= FEW;
+        self.links.reserve(1)?;
+        self.nodes.push(above, cgroup, shares)?;
+        let Ok(()) = self.links.push(Link::new(above, &cgroup)) else {
             unreachable!()
         };
         self.places.insert(alloc, path, place)?;
@@ -217,7 +225,7 @@ impl Cgroups {
             unreachable!()
         };
         let above = self.links[place].above;
-        let enabled = self.nodes[place].cgroup.enabled;
+        let enabled = self.nodes.cgroup(place).enabled;
         self.places.remove(path);
         lower(&mut self.links, above, path.depth());
         recount(&mut self.nodes, above, enabled, ControllerSet::none());
@@ -245,7 +253,7 @@ impl Cgroups {
         Ok(Cgroups {
             places: self.places.try_clone()?,
             links: Vec::from_slice(alloc, &self.links)?,
-            nodes: Vec::from_slice(alloc, &self.nodes)?,
+            nodes: self.nodes.try_clone(alloc)?,
         })
     }
 }

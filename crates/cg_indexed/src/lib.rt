@@ -1,6 +1,7 @@
 //! A tree of cgroups kept by places, found through their paths' texts, with kept counts.
 #![tactic(auto)]
 
+mod alike;
 pub mod cgroups;
 pub mod indexed;
 pub mod links;

@@ -1,4 +1,4 @@
-use Rattle.std.proofs.Common.{◌≡◌, ◌-◌, ◌<◌, ap, sym, ◌∙◌, subst, length, take, true≢false, is_some, Some, None, [], ◌∷◌, ◌++◌, arith}
+use Rattle.std.proofs.Common.{◌≡◌, ◌-◌, ◌<◌, ap, sym, ◌∙◌, subst, length, take, List, true≢false, is_some, Some, None, [], ◌∷◌, ◌++◌, arith}
 use Rattle.std.proofs.lemmas.List.{with_items_is, length-append}
 use Rattle.std.proofs.lemmas.Result.{err_from_is_err_and}
 use Rattle.std.specs.Prelude.{slice_set}
@@ -8,9 +8,8 @@ use Rattle.cg_cgroup.specs.Paths.{parent}
 use Rattle.cg_cgroup.specs.Files.{no_controllers}
 use Rattle.cg_cgroup.proofs.Options.{none_value}
 use Rattle.cg_indexed.specs.Links.{new_link, raised}
-use Rattle.cg_indexed.specs.Nodes.{new_node, node_at, recounted}
+use Rattle.cg_indexed.specs.Nodes.{Node, IsOneMore, new_node, node_at, recounted}
 use Rattle.cg_indexed.specs.Kept.{held_of, values_of, AreKept, new_held}
-use Rattle.cg_indexed.specs.declared.links.Link.{Link}
 use Rattle.cg_indexed.proofs.Read.{there_is}
 use Rattle.cg_indexed.proofs.Added.{kept_more, held_more, held_next, kept_next}
 use Rattle.cg_indexed.proofs.cgroups.Cgroups.add.Goals as goal
@@ -18,72 +17,76 @@ use Rattle.cg_indexed.proofs.cgroups.Cgroups.add.Goals as goal
 pub unreachable-requires : goal.unreachable-requires
 unreachable-requires c =
     let at : c.parent_len.result ≡ length c.args.path.now - 1 = omega (arith, c.parent_len.ensures) in
-    true≢false (sym c.requires.parent ∙ there_is c.self.inside.places c.self.inside.nodes.items c.args.self.now c.self.view_is (parent c.args.path.now)
+    true≢false (sym c.requires.parent ∙ there_is c.self.inside.places c.self.inside.nodes c.args.self.now c.self.view_is (parent c.args.path.now)
     ∙ ap (λ n. is_some (map.get c.self.inside.places (take n c.args.path.now))) (sym at) ∙ ap is_some (sym c.in_default.ensures))
 
 pub insert-requires : goal.insert-requires
-insert-requires c = sym (there_is c.self.inside.places c.self.inside.nodes.items c.args.self.now c.self.view_is c.args.path.now) ∙ c.requires.absent
+insert-requires c = sym (there_is c.self.inside.places c.self.inside.nodes c.args.self.now c.self.view_is c.args.path.now) ∙ c.requires.absent
 
 pub invariant_of-self-in_err-insert : goal.invariant_of-self-in_err-insert
 invariant_of-self-in_err-insert c =
-    subst (λ m. AreKept m c.push.new.self.items c.push-2.new.self.items) (sym c.in_err-insert.ensures.err)
-    (subst (λ ls. AreKept c.self.inside.places ls c.push-2.new.self.items) (sym c.in_ok-push.ensures.items)
-    (subst (AreKept c.self.inside.places (c.self.inside.links.items ++ c.new.result ∷ [])) (sym (c.in-Ok.ensures.items ∙ ap (λ ns. ns ++ c.new-2.result ∷ []) c.in_ok-reserve.ensures.items))
-    (kept_more c.self.inside.places c.self.inside.links.items c.self.inside.nodes.items c.self.invariant c.new.result c.new-2.result)))
+    let links = c.self.inside.links.items in
+    let one = c.in_ok-push.ensures.ok in
+    subst (λ m. AreKept m c.push-2.new.self.items c.push.new.self) (sym c.in_err-insert.ensures.err)
+    (subst (λ ls. AreKept c.self.inside.places ls c.push.new.self) (sym (c.in-Ok.ensures.items ∙ ap (λ ls. ls ++ c.new.result ∷ []) c.in_ok-reserve.ensures.items))
+    (subst (AreKept c.self.inside.places (links ++ c.new.result ∷ [])) (sym one.more) (kept_more c.self.inside.places links c.self.inside.nodes c.self.invariant c.new.result (new_node c.args.cgroup one.kin))))
 
 pub returns-in_err-insert-clause-err : goal.returns-in_err-insert-clause-err
 returns-in_err-insert-clause-err c =
     let p = err_from_is_err_and c.from_residual-in_err-insert.result c.from_residual-in_err-insert.ensures.1 in
+    let one = c.in_ok-push.ensures.ok in
     rw p.1
-    ((λ t. values_of held_of (c.in_err-insert.ensures.err t) ((c.in-Ok.ensures.items ∙ ap (λ ns. ns ++ c.new-2.result ∷ []) c.in_ok-reserve.ensures.items) t))
-    ∙ held_more c.self.inside.places c.self.inside.links.items c.self.inside.nodes.items c.self.invariant c.new.result c.new-2.result ∙ c.self.view_is)
+    ((λ t. values_of held_of (c.in_err-insert.ensures.err t) (one.more t))
+    ∙ held_more c.self.inside.places c.self.inside.links.items c.self.inside.nodes c.self.invariant c.new.result (new_node c.args.cgroup one.kin) ∙ c.self.view_is)
 
 pub recount-requires : goal.recount-requires
 recount-requires c =
     let l = c.self.invariant.placed.within _ c.in-Some.above (sym c.in-Some.ensures) in
-    omega (arith, l, c.self.invariant.paired, ap length (c.deref_mut-2.ensures.value ∙ c.in-Ok.ensures.items ∙ ap (λ ns. ns ++ c.new-2.result ∷ []) c.in_ok-reserve.ensures.items), length-append c.self.inside.nodes.items (c.new-2.result ∷ []))
+    let one = c.in_ok-push.ensures.ok in
+    omega (arith, l, c.self.invariant.paired, ap length one.more, length-append c.self.inside.nodes (new_node c.args.cgroup one.kin ∷ []))
 
 -- the tables after the calls
-pushed_links : (c : goal.After-self-2-1) → c.push.new.self.items ≡ c.self.inside.links.items ++ new_link c.in-Some.above c.args.cgroup ∷ []
-pushed_links c = c.in_ok-push.ensures.items ∙ ap (λ (l : Link). c.self.inside.links.items ++ l ∷ []) c.new.ensures
+one_is : (c : goal.After-recount) → IsOneMore c.in-Some.above c.args.cgroup c.self.inside.nodes c.push.new.self
+one_is c = c.in_ok-push.ensures.ok
 
-pushed_nodes : (c : goal.After-self-2-1) → c.push-2.new.self.items ≡ c.self.inside.nodes.items ++ new_node c.args.cgroup ∷ []
-pushed_nodes c = c.in-Ok.ensures.items ∙ (λ t. c.in_ok-reserve.ensures.items t ++ c.new-2.ensures t ∷ [])
+pushed_links : (c : goal.After-recount) → c.push-2.new.self.items ≡ c.self.inside.links.items ++ new_link c.in-Some.above c.args.cgroup ∷ []
+pushed_links c = c.in-Ok.ensures.items ∙ (λ t. c.in_ok-reserve.ensures.items t ++ c.new.ensures t ∷ [])
 
-links_are : (c : goal.After-self-2-1) → (with_items c.push.new.self c.raise.new.links).items ≡ raised (c.self.inside.links.items ++ new_link c.in-Some.above c.args.cgroup ∷ []) c.in-Some.above (length c.args.path.now)
+links_are : (c : goal.After-recount) → (with_items c.push-2.new.self c.raise.new.links).items ≡ raised (c.self.inside.links.items ++ new_link c.in-Some.above c.args.cgroup ∷ []) c.in-Some.above (length c.args.path.now)
 links_are c =
-    with_items_is c.push.new.self c.raise.new.links (omega (arith, c.raise.auto.links, ap length c.deref_mut.ensures.value, c.push.new.self.ok.0))
+    with_items_is c.push-2.new.self c.raise.new.links (omega (arith, c.raise.auto.links, ap length c.deref_mut.ensures.value, c.push-2.new.self.ok.0))
     ∙ c.raise.ensures ∙ (λ t. raised ((c.deref_mut.ensures.value ∙ pushed_links c) t) c.in-Some.above (c.depth.ensures.depth t))
 
-nodes_are : (c : goal.After-self-2-1) → (with_items c.push-2.new.self c.recount.new.nodes).items
-    ≡ slice_set (c.self.inside.nodes.items ++ new_node c.args.cgroup ∷ []) c.in-Some.above (recounted no_controllers c.args.cgroup.enabled (node_at (c.self.inside.nodes.items ++ new_node c.args.cgroup ∷ []) c.in-Some.above))
-nodes_are c =
-    with_items_is c.push-2.new.self c.recount.new.nodes (omega (arith, c.recount.auto.nodes, ap length c.deref_mut-2.ensures.value, c.push-2.new.self.ok.0))
-    ∙ c.recount.ensures ∙ (λ t. slice_set ((c.deref_mut-2.ensures.value ∙ pushed_nodes c) t) c.in-Some.above (recounted (c.none.ensures t) c.args.cgroup.enabled (node_at ((c.deref_mut-2.ensures.value ∙ pushed_nodes c) t) c.in-Some.above)))
+abbrev pushed_nodes : (c : goal.After-recount) → List Node
+pushed_nodes c = c.self.inside.nodes ++ new_node c.args.cgroup (one_is c).kin ∷ []
 
-table_is : (c : goal.After-self-2-1) → c.insert.new.self ≡ map.insert c.self.inside.places c.args.path.now (length c.self.inside.links.items)
+nodes_are : (c : goal.After-recount) → c.recount.new.nodes ≡ slice_set (pushed_nodes c) c.in-Some.above (recounted no_controllers c.args.cgroup.enabled (node_at (pushed_nodes c) c.in-Some.above))
+nodes_are c =
+    c.recount.ensures ∙ (λ t. slice_set ((one_is c).more t) c.in-Some.above (recounted (c.none.ensures t) c.args.cgroup.enabled (node_at ((one_is c).more t) c.in-Some.above)))
+
+table_is : (c : goal.After-recount) → c.insert.new.self ≡ map.insert c.self.inside.places c.args.path.now (length c.self.inside.links.items)
 table_is c = c.in_ok-insert.ensures.ok ∙ ap (map.insert c.self.inside.places c.args.path.now) (omega (arith, c.len-place.ensures, c.self.inside.links.ok.0))
 
-few : (c : goal.After-self-2-1) → map.len c.self.inside.places < 9223372036854775808
+few : (c : goal.After-recount) → map.len c.self.inside.places < 9223372036854775808
 few c = omega (arith, c.size-size.ensures.bound, c.size-size.ensures.small)
 
-none_there : (c : goal.After-self-2-1) → map.get c.self.inside.places c.args.path.now ≡ None
-none_there c = none_value _ (sym (there_is c.self.inside.places c.self.inside.nodes.items c.args.self.now c.self.view_is c.args.path.now) ∙ c.requires.absent)
+none_there : (c : goal.After-recount) → map.get c.self.inside.places c.args.path.now ≡ None
+none_there c = none_value _ (sym (there_is c.self.inside.places c.self.inside.nodes c.args.self.now c.self.view_is c.args.path.now) ∙ c.requires.absent)
 
-at_parent : (c : goal.After-self-2-1) → map.get c.self.inside.places (parent c.args.path.now) ≡ Some c.in-Some.above
+at_parent : (c : goal.After-recount) → map.get c.self.inside.places (parent c.args.path.now) ≡ Some c.in-Some.above
 at_parent c =
     let at : length c.args.path.now - 1 ≡ c.parent_len.result = omega (arith, c.parent_len.ensures) in
     ap (λ n. map.get c.self.inside.places (take n c.args.path.now)) at ∙ sym c.in-Some.ensures
 
 pub invariant_of-self-2 : goal.invariant_of-self-2
 invariant_of-self-2 c =
-    subst (λ m. AreKept m (with_items c.push.new.self c.raise.new.links).items (with_items c.push-2.new.self c.recount.new.nodes).items) (sym (table_is c))
-    (subst (λ ls. AreKept (map.insert c.self.inside.places c.args.path.now (length c.self.inside.links.items)) ls (with_items c.push-2.new.self c.recount.new.nodes).items) (sym (links_are c))
+    subst (λ m. AreKept m (with_items c.push-2.new.self c.raise.new.links).items c.recount.new.nodes) (sym (table_is c))
+    (subst (λ ls. AreKept (map.insert c.self.inside.places c.args.path.now (length c.self.inside.links.items)) ls c.recount.new.nodes) (sym (links_are c))
     (subst (AreKept (map.insert c.self.inside.places c.args.path.now (length c.self.inside.links.items)) _) (sym (nodes_are c))
-    (kept_next c.self.inside.places c.self.inside.links.items c.self.inside.nodes.items c.self.invariant (few c) c.args.path.now c.requires.not_root (none_there c) c.in-Some.above (at_parent c) c.args.cgroup)))
+    (kept_next c.self.inside.places c.self.inside.links.items c.self.inside.nodes c.self.invariant (few c) c.args.path.now c.requires.not_root (none_there c) c.in-Some.above (at_parent c) c.args.cgroup (one_is c).kin (one_is c).parents)))
 
 pub returns-clause-ok : goal.returns-clause-ok
 returns-clause-ok c =
     (λ t. values_of held_of (table_is c t) (nodes_are c t))
-    ∙ held_next c.self.inside.places c.self.inside.links.items c.self.inside.nodes.items c.self.invariant (few c) c.args.path.now c.requires.not_root (none_there c) c.in-Some.above (at_parent c) c.args.cgroup
+    ∙ held_next c.self.inside.places c.self.inside.links.items c.self.inside.nodes c.self.invariant (few c) c.args.path.now c.requires.not_root (none_there c) c.in-Some.above (at_parent c) c.args.cgroup (one_is c).kin (one_is c).parents
     ∙ ap (λ m. map.insert m c.args.path.now (new_held c.args.cgroup)) c.self.view_is

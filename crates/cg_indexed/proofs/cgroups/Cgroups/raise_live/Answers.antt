@@ -1,32 +1,23 @@
-use Rattle.std.proofs.Common.{◌≡◌, ap, sym, ◌∙◌, refl, subst, is_some, length, List, true≢false, arith}
-use Rattle.std.proofs.lemmas.List.{with_items_is}
-use Rattle.std.specs.Prelude.{slice_set}
-use Rattle.std.specs.Vec.{with_items}
+use Rattle.std.proofs.Common.{ap, sym, ◌∙◌, refl, subst, is_some, true≢false}
 use Rattle.cg_indexed.specs.Nodes.{node_at, one_more_live}
 use Rattle.cg_indexed.specs.Kept.{held_of, values_of, AreKept, one_live_more, change_held}
-use Rattle.cg_indexed.specs.declared.nodes.Node.{Node}
 use Rattle.cg_indexed.proofs.Read.{whole_there, whole_place}
 use Rattle.cg_indexed.proofs.Changed.{kept_node, held_node}
 use Rattle.cg_indexed.proofs.cgroups.Cgroups.raise_live.Goals as goal
 
 pub unreachable-requires : goal.unreachable-requires
 unreachable-requires c =
-    true≢false (sym (whole_there c.self.inside.places c.self.inside.nodes.items c.args.self.now c.self.view_is c.args.path.now c.depth.result c.depth.ensures.depth c.requires) ∙ ap is_some (sym c.in_default.ensures))
-
-nodes_are : (c : goal.After-self-1) → (with_items c.self.inside.nodes c.raise_live.new.nodes).items ≡ slice_set c.self.inside.nodes.items c.in-Some.place (one_more_live (node_at c.self.inside.nodes.items c.in-Some.place))
-nodes_are c =
-    with_items_is c.self.inside.nodes c.raise_live.new.nodes (omega (arith, c.raise_live.auto.nodes, ap length c.deref_mut.ensures.value, c.self.inside.nodes.ok.0))
-    ∙ c.raise_live.ensures ∙ ap (λ (ns : List Node). slice_set ns c.in-Some.place (one_more_live (node_at ns c.in-Some.place))) c.deref_mut.ensures.value
+    true≢false (sym (whole_there c.self.inside.places c.self.inside.nodes c.args.self.now c.self.view_is c.args.path.now c.depth.result c.depth.ensures.depth c.requires) ∙ ap is_some (sym c.in_default.ensures))
 
 pub invariant_of-self : goal.invariant_of-self
 invariant_of-self c =
-    subst (AreKept c.self.inside.places c.self.inside.links.items) (sym (nodes_are c))
-    (kept_node c.self.inside.places c.self.inside.links.items c.self.inside.nodes.items c.self.invariant c.args.path.now c.in-Some.place
-    (whole_place c.self.inside.places c.args.path.now c.depth.result c.in-Some.place c.depth.ensures.depth c.in-Some.ensures) (one_more_live (node_at c.self.inside.nodes.items c.in-Some.place)) refl refl)
+    subst (AreKept c.self.inside.places c.self.inside.links.items) (sym c.raise_live.ensures)
+    (kept_node c.self.inside.places c.self.inside.links.items c.self.inside.nodes c.self.invariant c.args.path.now c.in-Some.place
+    (whole_place c.self.inside.places c.args.path.now c.depth.result c.in-Some.place c.depth.ensures.depth c.in-Some.ensures) (one_more_live (node_at c.self.inside.nodes c.in-Some.place)) refl refl refl)
 
 pub returns : goal.returns
 returns c =
-    ap (values_of held_of c.self.inside.places) (nodes_are c)
-    ∙ held_node c.self.inside.places c.self.inside.links.items c.self.inside.nodes.items c.self.invariant c.args.path.now c.in-Some.place
-    (whole_place c.self.inside.places c.args.path.now c.depth.result c.in-Some.place c.depth.ensures.depth c.in-Some.ensures) (one_more_live (node_at c.self.inside.nodes.items c.in-Some.place)) refl refl one_live_more refl
+    ap (values_of held_of c.self.inside.places) c.raise_live.ensures
+    ∙ held_node c.self.inside.places c.self.inside.links.items c.self.inside.nodes c.self.invariant c.args.path.now c.in-Some.place
+    (whole_place c.self.inside.places c.args.path.now c.depth.result c.in-Some.place c.depth.ensures.depth c.in-Some.ensures) (one_more_live (node_at c.self.inside.nodes c.in-Some.place)) refl refl refl one_live_more refl
     ∙ ap (λ m. change_held m c.args.path.now one_live_more) c.self.view_is

@@ -7,7 +7,7 @@ use Rattle.std.specs.Vec.{with_items}
 use Rattle.cg_cgroup.specs.Paths.{is_child}
 use Rattle.cg_cgroup.specs.Files.{no_controllers}
 use Rattle.cg_indexed.specs.Links.{no_link, link_at, lowered}
-use Rattle.cg_indexed.specs.Nodes.{new_node, no_cgroup, node_at, recounted}
+use Rattle.cg_indexed.specs.Nodes.{node_at, recounted}
 use Rattle.cg_indexed.specs.Kept.{held_of, values_of, AreKept}
 use Rattle.cg_indexed.specs.declared.links.Link.{Link}
 use Rattle.cg_indexed.proofs.Read.{whole_there, whole_place, paths_are}
@@ -16,52 +16,49 @@ use Rattle.cg_indexed.proofs.cgroups.Cgroups.remove.Goals as goal
 
 pub unreachable-requires : goal.unreachable-requires
 unreachable-requires c =
-    true≢false (sym (whole_there c.self.inside.places c.self.inside.nodes.items c.args.self.now c.self.view_is c.args.path.now c.depth.result c.depth.ensures.depth c.requires.there) ∙ ap is_some (sym c.in_default.ensures))
+    true≢false (sym (whole_there c.self.inside.places c.self.inside.nodes c.args.self.now c.self.view_is c.args.path.now c.depth.result c.depth.ensures.depth c.requires.there) ∙ ap is_some (sym c.in_default.ensures))
 
 -- what was read before the change
-place_is : (c : goal.After-self-2-1) → map.get c.self.inside.places c.args.path.now ≡ Some c.in-Some.place
+place_is : (c : goal.After-recount) → map.get c.self.inside.places c.args.path.now ≡ Some c.in-Some.place
 place_is c = whole_place c.self.inside.places c.args.path.now c.depth.result c.in-Some.place c.depth.ensures.depth c.in-Some.ensures
 
-link_is : (c : goal.After-self-2-1) → c.index.result.now ≡ link_at c.self.inside.links.items c.in-Some.place
+link_is : (c : goal.After-recount) → c.index.result.now ≡ link_at c.self.inside.links.items c.in-Some.place
 link_is c = get_or_read c.self.inside.links.items c.in-Some.place c.index.result.now (c.self.invariant.placed.within _ _ (place_is c)) c.index.ensures no_link
 
-node_is : (c : goal.After-self-2-1) → c.index-2.result.now ≡ node_at c.self.inside.nodes.items c.in-Some.place
-node_is c =
-    let l = c.self.invariant.placed.within _ _ (place_is c) in
-    get_or_read c.self.inside.nodes.items c.in-Some.place c.index-2.result.now (omega (arith, l, c.self.invariant.paired)) c.index-2.ensures (new_node no_cgroup)
+pub cgroup-requires : goal.cgroup-requires
+cgroup-requires c =
+    let l = c.self.invariant.placed.within _ _ (whole_place c.self.inside.places c.args.path.now c.depth.result c.in-Some.place c.depth.ensures.depth c.in-Some.ensures) in
+    omega (arith, l, c.self.invariant.paired)
 
 pub recount-requires : goal.recount-requires
 recount-requires c =
     let here = whole_place c.self.inside.places c.args.path.now c.depth.result c.in-Some.place c.depth.ensures.depth c.in-Some.ensures in
     let l = c.self.invariant.placed.within _ _ (c.self.invariant.placed.above _ _ here) in
     let link : c.index.result.now ≡ link_at c.self.inside.links.items c.in-Some.place = get_or_read c.self.inside.links.items c.in-Some.place c.index.result.now (c.self.invariant.placed.within _ _ here) c.index.ensures no_link in
-    omega (arith, l, c.self.invariant.paired, ap length c.deref_mut-2.ensures.value, ap (λ (x : Link). x.above) link)
+    omega (arith, l, c.self.invariant.paired, ap (λ (x : Link). x.above) link)
 
-childless : (c : goal.After-self-2-1) → list_any (is_child c.args.path.now) (map.keys c.self.inside.places) ≡ false
-childless c = ap (list_any (is_child c.args.path.now)) (sym (paths_are c.self.inside.places c.self.inside.nodes.items c.args.self.now c.self.view_is)) ∙ c.requires.no_child
+childless : (c : goal.After-recount) → list_any (is_child c.args.path.now) (map.keys c.self.inside.places) ≡ false
+childless c = ap (list_any (is_child c.args.path.now)) (sym (paths_are c.self.inside.places c.self.inside.nodes c.args.self.now c.self.view_is)) ∙ c.requires.no_child
 
-links_are : (c : goal.After-self-2-1) → (with_items c.self.inside.links c.lower.new.links).items ≡ lowered c.self.inside.links.items (link_at c.self.inside.links.items c.in-Some.place).above (length c.args.path.now)
+links_are : (c : goal.After-recount) → (with_items c.self.inside.links c.lower.new.links).items ≡ lowered c.self.inside.links.items (link_at c.self.inside.links.items c.in-Some.place).above (length c.args.path.now)
 links_are c =
     with_items_is c.self.inside.links c.lower.new.links (omega (arith, c.lower.auto.links, ap length c.deref_mut.ensures.value, c.self.inside.links.ok.0))
     ∙ c.lower.ensures ∙ (λ t. lowered (c.deref_mut.ensures.value t) (link_is c t).above (c.depth-2.ensures.depth t))
 
-nodes_are : (c : goal.After-self-2-1) → (with_items c.self.inside.nodes c.recount.new.nodes).items
-    ≡ slice_set c.self.inside.nodes.items (link_at c.self.inside.links.items c.in-Some.place).above
-    (recounted (node_at c.self.inside.nodes.items c.in-Some.place).cgroup.enabled no_controllers (node_at c.self.inside.nodes.items (link_at c.self.inside.links.items c.in-Some.place).above))
-nodes_are c =
-    with_items_is c.self.inside.nodes c.recount.new.nodes (omega (arith, c.recount.auto.nodes, ap length c.deref_mut-2.ensures.value, c.self.inside.nodes.ok.0))
-    ∙ c.recount.ensures
-    ∙ (λ t. slice_set (c.deref_mut-2.ensures.value t) (link_is c t).above (recounted (node_is c t).cgroup.enabled (c.none.ensures t) (node_at (c.deref_mut-2.ensures.value t) (link_is c t).above)))
+nodes_are : (c : goal.After-recount) → c.recount.new.nodes
+    ≡ slice_set c.self.inside.nodes (link_at c.self.inside.links.items c.in-Some.place).above
+    (recounted (node_at c.self.inside.nodes c.in-Some.place).cgroup.enabled no_controllers (node_at c.self.inside.nodes (link_at c.self.inside.links.items c.in-Some.place).above))
+nodes_are c = c.recount.ensures ∙ (λ t. slice_set c.self.inside.nodes (link_is c t).above (recounted (c.cgroup.ensures t).enabled (c.none.ensures t) (node_at c.self.inside.nodes (link_is c t).above)))
 
 pub invariant_of-self : goal.invariant_of-self
 invariant_of-self c =
-    subst (λ m. AreKept m (with_items c.self.inside.links c.lower.new.links).items (with_items c.self.inside.nodes c.recount.new.nodes).items) (sym c.remove.ensures)
-    (subst (λ ls. AreKept (map.remove c.self.inside.places c.args.path.now) ls (with_items c.self.inside.nodes c.recount.new.nodes).items) (sym (links_are c))
+    subst (λ m. AreKept m (with_items c.self.inside.links c.lower.new.links).items c.recount.new.nodes) (sym c.remove.ensures)
+    (subst (λ ls. AreKept (map.remove c.self.inside.places c.args.path.now) ls c.recount.new.nodes) (sym (links_are c))
     (subst (AreKept (map.remove c.self.inside.places c.args.path.now) _) (sym (nodes_are c))
-    (kept_left c.self.inside.places c.self.inside.links.items c.self.inside.nodes.items c.self.invariant c.args.path.now c.requires.not_root c.in-Some.place (place_is c) (childless c))))
+    (kept_left c.self.inside.places c.self.inside.links.items c.self.inside.nodes c.self.invariant c.args.path.now c.requires.not_root c.in-Some.place (place_is c) (childless c))))
 
 pub returns : goal.returns
 returns c =
     (λ t. values_of held_of (c.remove.ensures t) (nodes_are c t))
-    ∙ held_left c.self.inside.places c.self.inside.links.items c.self.inside.nodes.items c.self.invariant c.args.path.now c.requires.not_root c.in-Some.place (place_is c) (childless c)
+    ∙ held_left c.self.inside.places c.self.inside.links.items c.self.inside.nodes c.self.invariant c.args.path.now c.requires.not_root c.in-Some.place (place_is c) (childless c)
     ∙ ap (λ m. map.remove m c.args.path.now) c.self.view_is

@@ -7,15 +7,18 @@ use Rattle.cg_rows.specs.RowsForm.{state_of_tables}
 use Rattle.cg_indexed.specs.Kept.{cgroups_of, change_each_held, enabling_held}
 use Rattle.cg_indexed.specs.Indexed.{state_of, IsIndexed}
 use Rattle.cg_indexed.proofs.Living.{counted_each}
-use Rattle.cg_indexed.proofs.States.{cgroups_each, nothing_enabled, same_sets}
+use Rattle.cg_indexed.proofs.States.{cgroups_each, fitted_formed, nothing_enabled, same_sets}
 use Rattle.cg_indexed.proofs.indexed.IndexedHierarchy.set_enabled.Goals as goal
 
 pub unreachable-requires : goal.unreachable-requires
 unreachable-requires c =
     true≢false (sym c.requires.there ∙ ap (λ (s : State). has_row s c.args.path.now) (sym c.self.view_is) ∙ ap (λ q. is_some (map.get (cgroups_of c.self.inside.cgroups) q)) (sym (take_all c.depth.result c.args.path.now (omega arith))) ∙ ap is_some (sym c.in_default.ensures))
 
-pub enable-requires : goal.enable-requires
-enable-requires c = ap (λ (s : State). has_row s c.args.path.now) c.self.view_is ∙ c.requires.there
+pub enable-requires-clause-fitted : goal.enable-requires-clause-fitted
+enable-requires-clause-fitted c = fitted_formed (state_of c.self.inside.cgroups c.self.inside.processes c.self.inside.controllers) c.self.invariant.formed c.args.path.now
+
+pub enable-requires-clause-there : goal.enable-requires-clause-there
+enable-requires-clause-there c = ap (λ (s : State). has_row s c.args.path.now) c.self.view_is ∙ c.requires.there
 
 next : (c : goal.After-enable) → state_of (change_each_held (enabling_held c.args.path.now c.args.enabled c.args.user.now) c.self.inside.cgroups) c.self.inside.processes c.self.inside.controllers ≡ with_enabled c.args.self.now c.args.path.now c.args.enabled c.args.user.now
 next c =

@@ -1,0 +1,14 @@
+-- Cgroups that are shared are shared by children, also once links or nodes change.
+use Rattle.std.proofs.Common.{◌≡◌, ℕ, ◌&&◌, not, nat_eq, List, sym, ap, ◌∙◌, true≢false, Some, None, cond, Bool, true, false}
+use Rattle.std.specs.Prelude.{is_none}
+use Rattle.cg_indexed.specs.Links.{link_at}
+use Rattle.cg_indexed.specs.Nodes.{Node, IsKin}
+use Rattle.cg_indexed.specs.declared.links.Link.{Link}
+
+pub kin_reread : (links links' : List Link) (j : ℕ) (n n' : Node) → n'.kin ≡ n.kin → (link_at links' j).above ≡ (link_at links j).above → IsKin links j n → IsKin links' j n'
+kin_reread links links' j n n' kin above old a is = ap (λ x. nat_eq x a && not (nat_eq j a)) above ∙ old a (sym kin ∙ is)
+
+-- one of its own is nobody's kin
+pub kin_of_either : (b : Bool) (n n' : Node) (a : ℕ) → n.kin ≡ None → (cond b n n').kin ≡ Some a → n'.kin ≡ Some a
+kin_of_either true n n' a own is = absurd (true≢false (ap is_none (sym own ∙ is)))
+kin_of_either false n n' a own is = is
