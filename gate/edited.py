@@ -1,7 +1,7 @@
 """The must-fail edits of a crate, and the functions that they change."""
 import functools, json, os, re
 
-MOST_IN_A_CHECK = 12
+MOST_IN_A_CHECK = 24
 FUNCTION = re.compile(r"( *)(?:pub(?:\([\w ]+\))? )?(?:const |unsafe )*fn (\w+)")
 BLOCK = re.compile(r"impl(?:<.*?>)? (?:(?:\w+::)*(?P<trait>\w+)(?:<.*>)? for )?(?P<type>\w+)")
 # How the prover says that a goal of a function is open, and that an answer in a proof file doesn't prove its goal.
