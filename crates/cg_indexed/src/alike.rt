@@ -6,13 +6,15 @@ use cg_cgroup::files::{ControllerSet, Limit};
 use cg_cgroup::user::Entry;
 
 fn same_entry(a: &Entry, b: &Entry) -> bool
-    ensures { result ≡ true → a.now ≡ b.now }
+    ensures same { result ≡ true → a.now ≡ b.now }
+    ensures found { a.now ≡ b.now → result ≡ true }
 {
     a.uid == b.uid && a.gid == b.gid && a.mode == b.mode
 }
 
 fn same_limit(a: Limit, b: Limit) -> bool
-    ensures { result ≡ true → a ≡ b }
+    ensures same { result ≡ true → a ≡ b }
+    ensures found { a ≡ b → result ≡ true }
 {
     match (a, b) {
         (Limit::Max, Limit::Max) => true,
@@ -22,13 +24,15 @@ fn same_limit(a: Limit, b: Limit) -> bool
 }
 
 fn same_file(a: &LimitEntry, b: &LimitEntry) -> bool
-    ensures { result ≡ true → a.now ≡ b.now }
+    ensures same { result ≡ true → a.now ≡ b.now }
+    ensures found { a.now ≡ b.now → result ≡ true }
 {
     same_entry(&a.entry, &b.entry) && same_limit(a.value, b.value)
 }
 
 fn same_held(a: &Option<LimitEntry>, b: &Option<LimitEntry>) -> bool
-    ensures { result ≡ true → a.now ≡ b.now }
+    ensures same { result ≡ true → a.now ≡ b.now }
+    ensures found { a.now ≡ b.now → result ≡ true }
 {
     match (a, b) {
         (Some(a), Some(b)) => same_file(a, b),
@@ -38,14 +42,16 @@ fn same_held(a: &Option<LimitEntry>, b: &Option<LimitEntry>) -> bool
 }
 
 fn same_set(a: ControllerSet, b: ControllerSet) -> bool
-    ensures { result ≡ true → a ≡ b }
+    ensures same { result ≡ true → a ≡ b }
+    ensures found { a ≡ b → result ≡ true }
 {
     a.cpu == b.cpu && a.memory == b.memory && a.pids == b.pids
 }
 
 /// Whether two cgroups are alike in all.
 pub fn are_alike(a: &Cgroup, b: &Cgroup) -> bool
-    ensures { result ≡ true → a.now ≡ b.now }
+    ensures same { result ≡ true → a.now ≡ b.now }
+    ensures found { a.now ≡ b.now → result ≡ true }
 {
     same_entry(&a.dir, &b.dir)
         && same_entry(&a.procs, &b.procs)
