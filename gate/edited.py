@@ -1,7 +1,7 @@
 """The must-fail edits of a crate, and the functions that they change."""
-import functools, json, os, re
+import collections, functools, json, os, re
 
-MOST_IN_A_CHECK = 24
+MOST_IN_A_CHECK = 32
 FUNCTION = re.compile(r"( *)(?:pub(?:\([\w ]+\))? )?(?:const |unsafe )*fn (\w+)")
 BLOCK = re.compile(r"impl(?:<.*?>)? (?:(?:\w+::)*(?P<trait>\w+)(?:<.*>)? for )?(?P<type>\w+)")
 # How the prover says that a goal of a function is open, and that an answer in a proof file doesn't prove its goal.
@@ -55,6 +55,10 @@ class Edit:
             found += here[-1:]
         return found
 
+    def names(self):
+        """Returns the names that the prover may give the functions that it changes."""
+        return {name for it in self.functions() for name in it["names"]}
+
     def keeps_heads(self):
         """Returns whether it changes what stands in bodies alone: clauses and types decide goals of other functions too."""
         for (path, line, old), (_, _, new) in zip(self.lines, self.pairs):
@@ -73,7 +77,7 @@ class Edit:
     def goes_beside(self, other):
         """Returns whether one check can try both: they change other functions, or each names a goal. A function's goals
         are tried on the clauses of those that it calls, also where these are not proved."""
-        ours, theirs = ({name for it in edit.functions() for name in it["names"]} for edit in (self, other))
+        ours, theirs = self.names(), other.names()
         if ours == theirs:
             return bool(self.goal and other.goal and self.goal != other.goal)
         return not ours & theirs
@@ -147,9 +151,11 @@ def texts_with(edits):
 
 
 def groups_of(edits):
-    """Returns the edits in groups of one check each. One outside bodies, or in a function of no known name, is alone."""
+    """Returns the edits in groups of one check each: first those of functions with many edits, which decide how many groups
+    it takes. One outside bodies, or in a function of no known name, is alone."""
+    rivals = collections.Counter(name for edit in edits for name in edit.names())
     groups, alone = [], []
-    for edit in edits:
+    for edit in sorted(edits, key=lambda it: -max(map(rivals.get, it.names()), default=0)):
         functions = edit.functions()
         if not functions or not all(it["names"] for it in functions) or not edit.keeps_heads():
             alone.append([edit])
