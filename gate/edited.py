@@ -85,7 +85,7 @@ class Edit:
     def open_goal(self, said):
         """Returns the first goal of an edited function that stays open. Outside functions any function's will do."""
         functions = self.functions()
-        folders = [name.split("::", 1)[1].replace("::", "/") for it in functions for name in it["names"]]
+        folders = [name.split("::", 1)[1].replace("::", "/") for name in self.names()]
         for line in said:
             goal, answer = OPEN.match(line), REFUSED_ANSWER.match(line)
             if not goal and not answer or self.goal and f"`{self.goal}`" not in line:
