@@ -7,7 +7,9 @@ BLOCK = re.compile(r"impl(?:<.*?>)? (?:(?:\w+::)*(?P<trait>\w+)(?:<.*>)? for )?(
 # How the prover says that a goal of a function is open, and that an answer in a proof file doesn't prove its goal.
 OPEN = re.compile(r"note: (src/\S+?):(\d+):\d+: (it is not proved that .*)")
 NOT_MET = r"`[^`]*`: (?:as printed, |computed as (?:a goal is|far as they go), |expected type |`(?:grind|omega|rw|search|simp)`:? ).*"
-REFUSED_ANSWER = re.compile(rf"\./proofs/(\S+)/(?:Answers|Invariants|Proof)\.antt:\d+:\d+: error: ({NOT_MET})")
+REFUSED_ANSWER = re.compile(rf"\./(proofs/\S+)/(?:Answers|Invariants|Proof)\.antt:\d+:\d+: error: ({NOT_MET})")
+# An error behind a function's answers: the prover then offers none for its open goals, which would take it as long again.
+NO_OFFER = "\nno-offer : error\n"
 
 
 def text_of(file):
@@ -59,6 +61,10 @@ class Edit:
         """Returns the names that the prover may give the functions that it changes."""
         return {name for it in self.functions() for name in it["names"]}
 
+    def folders(self):
+        """Returns where the proofs of the functions that it changes stand."""
+        return {f"proofs/{name.split('::', 1)[1].replace('::', '/')}" for name in self.names()}
+
     def keeps_heads(self):
         """Returns whether it changes what stands in bodies alone: clauses and types decide goals of other functions too."""
         for (path, line, old), (_, _, new) in zip(self.lines, self.pairs):
@@ -84,15 +90,14 @@ class Edit:
 
     def open_goal(self, said):
         """Returns the first goal of an edited function that stays open. Outside functions any function's will do."""
-        functions = self.functions()
-        folders = [name.split("::", 1)[1].replace("::", "/") for name in self.names()]
+        functions, folders = self.functions(), self.folders()
         for line in said:
             goal, answer = OPEN.match(line), REFUSED_ANSWER.match(line)
             if not goal and not answer or self.goal and f"`{self.goal}`" not in line:
                 continue
-            path, at = (goal[1], int(goal[2])) if goal else (f"proofs/{answer[1]}", 0)
+            path, at = (goal[1], int(goal[2])) if goal else (answer[1], 0)
             here = [it for it in functions if goal and it["file"] == path and it["first"] <= at <= it["last"]]
-            if here or not functions or answer and answer[1] in folders:
+            if here or not functions or path in folders:
                 return f"{path}:{at}: {goal[3]}" if goal else f"{path}: {answer[2]}"
         return None
 
@@ -148,6 +153,13 @@ def names_of(name, module, block, known):
 def texts_with(edits):
     """Returns the texts that these edits change, by path."""
     return functools.reduce(lambda texts, it: it.apply(texts), edits, {})
+
+
+def answers_with_errors(crate, edits):
+    """Returns the answers of the functions that these edits change, by path, with an error behind them."""
+    files = {f"{folder}/Answers.antt" for edit in edits for folder in edit.folders()}
+    there = {it: f"{crate.folder}/{it}" for it in files}
+    return {it: (text_of(there[it]) if os.path.exists(there[it]) else "") + NO_OFFER for it in files}
 
 
 def groups_of(edits):
