@@ -2,8 +2,10 @@
 import collections, functools, json, os, re
 
 MOST_IN_A_CHECK = 32
+# How an edit joins others in a check: in a function that others change too, in one of its own, or in a copy of one.
+IN_ONE_FUNCTION, BESIDE, IN_A_COPY = 1, 2, 3
 FUNCTION = re.compile(r"( *)(?:pub(?:\([\w ]+\))? )?(?:const |unsafe )*fn (\w+)")
-BLOCK = re.compile(r"impl(?:<.*?>)? (?:(?:\w+::)*(?P<trait>\w+)(?:<.*>)? for )?(?P<type>\w+)")
+BLOCK = re.compile(r"impl(?:<.*?>)? (?:(?:\w+::)*(?P<trait>\w+)(?:<.*>)? for )?(?P<type>\w+).*")
 # How the prover says that a goal of a function is open, and that an answer in a proof file doesn't prove its goal.
 OPEN = re.compile(r"note: (src/\S+?):(\d+):\d+: (it is not proved that .*)")
 NOT_MET = r"`[^`]*`: (?:as printed, |computed as (?:a goal is|far as they go), |expected type |`(?:grind|omega|rw|search|simp)`:? ).*"
@@ -22,6 +24,7 @@ class Edit:
 
     def __init__(self, crate, file):
         self.crate, self.name, self.pairs, self.verdict = crate, f"{crate.name}/{file.removesuffix('.edit')}", [], None
+        self.copy = None
         path = old = self.goal = ""
         for line in text_of(f"{crate.folder}/must-fail/{file}").split("\n"):
             word, _, text = line.partition(":")
@@ -36,19 +39,22 @@ class Edit:
 
     def apply(self, texts):
         """Returns the texts, by path, with this edit in them, and notes which lines it changes."""
-        texts, self.lines = {**texts}, []
+        texts, lines = {**texts}, []
         for path, old, new in self.pairs:
             text = texts.get(path) or text_of(f"{self.crate.folder}/{path}")
             if not path.startswith("src/") or not old or text.count(old) != 1:
                 raise ValueError(f"'{old}' is in {path} {text.count(old)} times, and not once in a file of src/")
-            self.lines.append((path, text.count("\n", 0, text.index(old)) + 1, old))
+            lines.append((path, text.count("\n", 0, text.index(old)) + 1, old))
             texts[path] = text.replace(old, new)
         if not self.pairs:
             raise ValueError("it has no 'old:' and 'new:' pair")
+        self.lines = lines
         return texts
 
     def functions(self):
         """Returns the functions that the edit changes, or none where it changes what lies outside functions."""
+        if self.copy:
+            return [self.copy]
         found = []
         for path, line, old in self.lines:
             here = [it for it in self.crate.functions if it["file"] == path and it["first"] <= line <= it["last"]]
@@ -63,7 +69,7 @@ class Edit:
 
     def folders(self):
         """Returns where the proofs of the functions that it changes stand."""
-        return {f"proofs/{name.split('::', 1)[1].replace('::', '/')}" for name in self.names()}
+        return {folder_of(name) for name in self.names()}
 
     def keeps_heads(self):
         """Returns whether it changes what stands in bodies alone: clauses and types decide goals of other functions too."""
@@ -80,9 +86,56 @@ class Edit:
             return next((it["name"] for it in self.functions()), "main")
         return path[len("src/") : -len(".rt")].removesuffix("/mod").replace("/", "::")
 
+    def can_be_copied(self):
+        """Returns whether it changes one function and nothing else, and a copy of that can stand beside it."""
+        first, *others = self.functions()
+        is_alone = len(others) == len(self.pairs) - 1 and all(it is first for it in others)
+        return is_alone and len(first["names"]) == 1 and not first["trait"]
+
+    def move_to_copy(self, number):
+        """Has the edit change a copy of its function at the file's end, under a name of its own."""
+        it = self.functions()[0]
+        name = f"{it['name']}_edited_{number}"
+        names = [re.sub(r"\w+$", name, it["names"][0])]
+        self.copy = {**it, "name": name, "names": names, "from": it}
+
+    def with_copy(self, texts):
+        """Returns the texts, by path, with the changed copy and what is written of its proof, and notes where it stands."""
+        path, was, name = self.copy["file"], self.copy["from"], self.copy["name"]
+        lines = self.apply({})[path].split("\n")[was["first"] - 1 : was["last"]]
+        text = re.sub(rf"\bfn {was['name']}\b", f"fn {name}", "\n".join(lines), count=1)
+        head, end = (f"{was['block']}\n", "\n}\n") if was["block"] else ("", "\n")
+        before = texts.get(path) or text_of(f"{self.crate.folder}/{path}")
+        first = before.count("\n") + head.count("\n") + 2
+        self.copy |= {"first": first, "body": first + was["body"] - was["first"], "last": first + len(lines) - 1}
+        return {**texts, path: f"{before}\n{head}{text}{end}", **self.proofs_of_copy()}
+
+    def proofs_of_copy(self):
+        was, found = folder_of(self.copy["from"]["names"][0]), {}
+        old, new = (f"Rattle.{self.crate.name}.{it.replace('/', '.')}." for it in (was, *self.folders()))
+        for file in ("Answers.antt", "Invariants.antt", "Proof.antt"):
+            if os.path.exists(f"{self.crate.folder}/{was}/{file}"):
+                [folder] = self.folders()
+                found[f"{folder}/{file}"] = text_of(f"{self.crate.folder}/{was}/{file}").replace(old, new)
+        return found
+
+    def is_in_bodies(self):
+        """Returns whether it changes bodies of functions of known names, and nothing else."""
+        functions = self.functions()
+        return bool(functions) and all(it["names"] for it in functions) and self.keeps_heads()
+
+    def way_into(self, group):
+        """Returns how the edit can join those of a check, the cheapest way first, or None where it can't."""
+        in_place = [it for it in group if not it.copy]
+        if len(group) == MOST_IN_A_CHECK:
+            return None
+        if not all(map(self.goes_beside, in_place)) or not can_be_applied([*in_place, self]):
+            return IN_A_COPY if self.can_be_copied() else None
+        return IN_ONE_FUNCTION if any(it.names() & self.names() for it in in_place) else BESIDE
+
     def goes_beside(self, other):
-        """Returns whether one check can try both: they change other functions, or each names a goal. A function's goals
-        are tried on the clauses of those that it calls, also where these are not proved."""
+        """Returns whether one check can try both in place: they change other functions, or each names a goal. A function's
+        goals are tried on the clauses of those that it calls, also where these are not proved."""
         ours, theirs = self.names(), other.names()
         if ours == theirs:
             return bool(self.goal and other.goal and self.goal != other.goal)
@@ -104,7 +157,7 @@ class Edit:
 
 class Crate:
     def __init__(self, folder, uses):
-        self.name, self.folder, self.uses = os.path.basename(folder), folder, uses
+        self.name, self.folder, self.uses, self.below = os.path.basename(folder), folder, uses, {*uses}
         self.is_library = os.path.isfile(f"{self.folder}/src/lib.rt")
         self.edits, self.functions = [], []
 
@@ -126,7 +179,7 @@ class Crate:
         parts = [self.name, *path[len("src/") : -len(".rt")].split("/")]
         module = "::".join(parts[:-1] if parts[-1] in ("lib", "mod") else parts)
         for first, line in enumerate(lines, 1):
-            block = BLOCK.match(line) if re.match(r"\w", line) else block
+            block = BLOCK.fullmatch(line) if re.match(r"\w", line) else block
             head = FUNCTION.match(line)
             if head:
                 below = (at for at in range(first, len(lines)) if re.match(rf" {{0,{len(head[1])}}}\}}", lines[at]))
@@ -136,8 +189,9 @@ class Crate:
                 while first > 1 and lines[first - 2] and not lines[first - 2].endswith(("{", "}", ";")):
                     first -= 1
                 names = names_of(head[2], module, block if head[1] else None, known)
+                under = {"block": block[0] if head[1] and block else "", "trait": head[1] and block and block["trait"]}
                 lines_of = {"file": path, "first": first, "body": body, "last": last}
-                found.append({**lines_of, "name": head[2], "names": names})
+                found.append({**lines_of, **under, "name": head[2], "names": names})
         return found
 
 
@@ -150,41 +204,47 @@ def names_of(name, module, block, known):
     return [it for it in parts if parts[it][-1] == name and re.fullmatch(under, parts[it][-2])]
 
 
+def folder_of(name):
+    """Returns where the proof of the function of a name stands."""
+    return f"proofs/{name.split('::', 1)[1].replace('::', '/')}"
+
+
 def texts_with(edits):
-    """Returns the texts that these edits change, by path."""
-    return functools.reduce(lambda texts, it: it.apply(texts), edits, {})
+    """Returns the texts that these edits change, by path: first of the functions themselves, and then of copies."""
+    texts = functools.reduce(lambda texts, it: it.apply(texts), (it for it in edits if not it.copy), {})
+    return functools.reduce(lambda texts, it: it.with_copy(texts), (it for it in edits if it.copy), texts)
 
 
-def answers_with_errors(crate, edits):
-    """Returns the answers of the functions that these edits change, by path, with an error behind them."""
+def with_errors(crate, edits, texts):
+    """Returns the texts with an error behind the answers of each function that these edits change."""
     files = {f"{folder}/Answers.antt" for edit in edits for folder in edit.folders()}
-    there = {it: f"{crate.folder}/{it}" for it in files}
-    return {it: (text_of(there[it]) if os.path.exists(there[it]) else "") + NO_OFFER for it in files}
+    there = {it: f"{crate.folder}/{it}" for it in files - {*texts} if os.path.exists(f"{crate.folder}/{it}")}
+    return texts | {it: (texts.get(it) or (text_of(there[it]) if it in there else "")) + NO_OFFER for it in files}
 
 
 def groups_of(edits):
-    """Returns the edits in groups of one check each: first those of functions with many edits, which decide how many groups
-    it takes. One outside bodies, or in a function of no known name, is alone."""
+    """Returns the edits in groups of one check each. Of those that would be in each other's way in a function one changes
+    the function and each other a copy of it. One outside bodies, or in a function of no known name, is alone."""
     rivals = collections.Counter(name for edit in edits for name in edit.names())
-    groups, alone = [], []
-    for edit in sorted(edits, key=lambda it: -max(map(rivals.get, it.names()), default=0)):
-        functions = edit.functions()
-        if not functions or not all(it["names"] for it in functions) or not edit.keeps_heads():
-            alone.append([edit])
-            continue
-        group = next((it for it in groups if can_join(edit, it)), [])
-        if not group:
-            groups.append(group)
-        group.append(edit)
-    return groups + alone
+    in_bodies = [it for it in edits if it.is_in_bodies()]
+    groups = [[] for _ in range(0, len(in_bodies), MOST_IN_A_CHECK)]
+    for edit in sorted(in_bodies, key=lambda it: (-max(map(rivals.get, it.names())), min(it.names()), it.can_be_copied())):
+        ways = [(edit.way_into(it), len(it), number) for number, it in enumerate(groups)]
+        way, _, number = min((it for it in ways if it[0]), default=(BESIDE, 0, len(groups)))
+        if number == len(groups):
+            groups.append([])
+        if way == IN_A_COPY:
+            edit.move_to_copy(len(groups[number]))
+        groups[number].append(edit)
+    return groups + [[it] for it in edits if it not in in_bodies]
 
 
-def can_join(edit, group):
+def can_be_applied(edits):
     try:
-        texts_with([*group, edit])
+        texts_with(edits)
     except ValueError:
         return False
-    return len(group) < MOST_IN_A_CHECK and all(map(edit.goes_beside, group))
+    return True
 
 
 def crates_of(top, wanted):
@@ -196,6 +256,8 @@ def crates_of(top, wanted):
             found[row[1]] = Crate(f"{top}/crates/{row[1]}", {*row[2].split()})
         elif line.partition("#")[0].strip():
             raise ValueError(f"crates.txt has a line that is not 'NAME: LIBRARY ..': {line}")
+    for it in found.values():
+        it.below = it.uses.union(*(found[name].below for name in it.uses if name in found))
     for name in wanted or found:
         found[name].read_edits()
     needed, ahead = set(), [it for it in found if found[it].edits]

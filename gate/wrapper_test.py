@@ -161,13 +161,13 @@ class WrapperTest(unittest.TestCase):
         ended = self.call("may", PATH="/usr/bin:/bin")
         self.assertEqual((ended.stdout, ended.returncode), ("", 70))
         self.assertIn("no rt on the PATH", ended.stderr)
-        self.assertIn("rattle-kit-13b", ended.stderr)
+        self.assertIn("rattle-kit-13f", ended.stderr)
 
     def test_a_build_that_fails_shows_all_that_was_said(self):
         write(f"{self.played}/fails", "")
         ended = self.call("may")
         self.assertEqual((ended.stdout, ended.returncode), ("", 70))
-        for line in ("error: no proof of it", "rattle-kit-13b", "some-other-kit"):
+        for line in ("error: no proof of it", "rattle-kit-13f", "some-other-kit"):
             self.assertIn(line, ended.stderr)
         self.assertEqual(os.listdir(self.temporary), [])
 

@@ -1,5 +1,5 @@
 -- Cgroups at their places, and what is counted of their children and processes.
-use Rattle.std.specs.Prelude.{◌≡◌, ℕ, ◌+◌, ◌-◌, ◌<◌, min, Bool, true, ◌&&◌, not, cond, nat_eq, List, [], ◌∷◌, ◌++◌, map, length, Option, Some, None, is_none, slice_set}
+use Rattle.std.specs.Prelude.{◌≡◌, ℕ, ◌+◌, ◌-◌, ◌<◌, min, Bool, true, ◌&&◌, not, cond, nat_eq, List, ◌++◌, map, length, Option, Some, None, is_none, slice_set}
 use Rattle.std.specs.Option.{option_map}
 use mathlib.Core.Bool.{beq}
 use Rattle.std.proofs.Common.{get_or}
@@ -99,11 +99,9 @@ slot_with_live live slot = record slot { live = live }
 abbrev pub slot_with_uses : Uses → Slot → Slot
 slot_with_uses uses slot = record slot { uses = uses }
 
--- one place more, with a cgroup that it may share with the other children of a place
-pub record IsOneMore (above : ℕ) (row : Cgroup) (old new : List Node) : Type 0 where
-  pub kin : Option ℕ
-  pub parents : (a : ℕ) → kin ≡ Some a → a ≡ above
-  pub more : new ≡ old ++ new_node row kin ∷ []
+-- whose children share the cgroup of a new place
+abbrev pub kin_if : Bool → ℕ → Option ℕ
+kin_if shares above = cond shares (Some above) None
 
 -- ---- what is counted
 

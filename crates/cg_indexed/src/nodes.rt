@@ -1,6 +1,6 @@
 //! Cgroups at their places, and what is counted of their children and processes.
-ghost use Rattle.std.specs.Prelude.{◌≡◌, ◌<◌, length, slice_set, [], ◌∷◌, None, IfOk, OnOk, OnErr};
-ghost use Rattle.cg_indexed.specs.Nodes.{Refits, RefitsShared, RefitsSlots, HasGrown, IsSharedAt, IsOneMore, new_node, new_slot, node_at, slot_at, more_if, less_if, uses_after, uses_of, with_cgroup, with_own, with_live, with_uses, slot_with_live, slot_with_uses, one_more_live, one_less_live, recounted, enabled_at, differing, with_files_from};
+ghost use Rattle.std.specs.Prelude.{◌≡◌, ◌<◌, length, slice_set, [], ◌∷◌, None, IfOk, OnOk, OnErr, ◌++◌};
+ghost use Rattle.cg_indexed.specs.Nodes.{Refits, RefitsShared, RefitsSlots, HasGrown, IsSharedAt, kin_if, new_node, new_slot, node_at, slot_at, more_if, less_if, uses_after, uses_of, with_cgroup, with_own, with_live, with_uses, slot_with_live, slot_with_uses, one_more_live, one_less_live, recounted, enabled_at, differing, with_files_from};
 
 use crate::alike::are_alike;
 use crate::links::Link;
@@ -188,10 +188,10 @@ impl Nodes {
         put_uses(&mut self.slots, at, uses);
     }
 
-    /// Adds a place with a cgroup, which it may share with other children of the place `above`. Fails where memory is
-    /// wanted.
+    /// Adds a place with a cgroup, which it shares with other children of the place `above` where `shares` says so. Fails
+    /// where memory is wanted.
     pub fn push(&mut self, above: usize, cgroup: Cgroup, shares: bool) -> Result<(), NoMemory>
-        ensures ok { OnOk result (IsOneMore above cgroup self.old self.new) }
+        ensures ok { OnOk result (self.new ≡ self.old ++ new_node cgroup (kin_if shares above) ∷ []) }
         ensures err { OnErr result (self.new ≡ self.old) }
     {
         if !shares {

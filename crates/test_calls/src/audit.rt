@@ -1,6 +1,7 @@
 //! `audit_bytes` on rows worked out by hand, on faults, and at writers that fail.
 use super::changed::{Base, Changed, MEMORY_MAX};
 use super::writers::{FailsOnce, TakesNone};
+use crate::samples::{DELEGATION, NO_PARENT};
 use cg_cli::arguments::UserIds;
 use cg_cli::audit::audit_bytes;
 use cg_cli::fault::CliFault;
@@ -9,7 +10,6 @@ use cg_text::tree::{Place, TreeFault};
 use std::alloc::Global;
 use std::process::Abort;
 use std::test::Fail;
-use test_samples::trees::{DELEGATION, NO_PARENT};
 
 /// The delegation, where the limit on the memory of `/c0` belongs to user 1001.
 const SECOND_USER: Changed = Changed {

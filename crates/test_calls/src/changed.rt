@@ -1,8 +1,8 @@
 //! Tree texts that differ from others at a few places.
+use crate::samples::{DELEGATION, EMPTY, PARENT_DELEGATED};
 use std::alloc::Global;
 use std::str::from_utf8;
 use std::test::Fail;
-use test_samples::trees::{DELEGATION, EMPTY, PARENT_DELEGATED};
 
 /// The first row of tree texts that enable memory at the root, up to its end.
 pub const ROOT: &str = "enabled = [\"memory\"]\n";

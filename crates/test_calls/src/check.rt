@@ -1,6 +1,7 @@
 //! `check_bytes` on rows worked out by hand, on faults, and at writers that fail and dawdle.
 use super::changed::{Base, Changed, MEMORY_MAX, ROOT};
 use super::writers::{ByteByByte, FailsOnce, TakesNone};
+use crate::samples::{DELEGATION, INTERNAL_PROCESS, NO_PARENT};
 use cg_cli::arguments::UserIds;
 use cg_cli::check::check_bytes;
 use cg_cli::fault::{CliFault, fault_text};
@@ -8,7 +9,6 @@ use cg_runs::fault::CheckFault;
 use cg_text::tree::{Place, TreeFault};
 use std::process::Abort;
 use std::test::Fail;
-use test_samples::trees::{DELEGATION, INTERNAL_PROCESS, NO_PARENT};
 
 /// What is said of user 1000 and a subtree.
 struct Row {

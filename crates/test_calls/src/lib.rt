@@ -18,7 +18,11 @@ mod replay;
 #[cfg(test)]
 mod replay_ends;
 #[cfg(test)]
+mod samples;
+#[cfg(test)]
 mod strangers;
+#[cfg(test)]
+mod vectors;
 #[cfg(test)]
 mod writers;
 #[cfg(test)]

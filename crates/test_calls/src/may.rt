@@ -1,5 +1,6 @@
 //! `may_bytes` on rows worked out by hand, and at writers that fail and dawdle.
 use super::writers::{ByteByByte, FailsOnce, TakesNone};
+use crate::samples::{DELEGATION, INTERNAL_PROCESS, NO_PARENT, PARENT_DELEGATED};
 use cg_cli::arguments::UserIds;
 use cg_cli::fault::{CliFault, fault_text};
 use cg_cli::may::may_bytes;
@@ -7,7 +8,6 @@ use cg_text::tree::{Place, TreeFault};
 use std::alloc::Global;
 use std::io::Write;
 use std::test::Fail;
-use test_samples::trees::{DELEGATION, INTERNAL_PROCESS, NO_PARENT, PARENT_DELEGATED};
 
 fn delegation<W: Write>(
     alloc: Global,

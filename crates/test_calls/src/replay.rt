@@ -1,6 +1,7 @@
 //! `replay_bytes` and `replay_from` on rows worked out by hand.
 use super::changed::{Base, Changed, MEMORY_MAX};
 use super::readers::{Pieces, Uneven};
+use crate::samples::{DELEGATION, DELEGATION_AND_PROCESS};
 use cg_cli::arguments::UserIds;
 use cg_cli::fault::CliFault;
 use cg_cli::replay::{replay_bytes, replay_from};
@@ -9,7 +10,6 @@ use cg_runs::fault::CheckFault;
 use std::alloc::{AllocError, Global};
 use std::process::Abort;
 use std::test::Fail;
-use test_samples::trees::{DELEGATION, DELEGATION_AND_PROCESS};
 
 /// Operations of a user, and what is said of them.
 #[derive(Drop)]

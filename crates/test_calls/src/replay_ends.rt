@@ -2,6 +2,7 @@
 //! fail and dawdle.
 use super::readers::{Again, Pieces};
 use super::writers::{ByteByByte, FailsOnce, TakesNone};
+use crate::samples::{DELEGATION, NO_PARENT};
 use cg_cli::arguments::UserIds;
 use cg_cli::fault::{CliFault, fault_text};
 use cg_cli::replay::{replay_bytes, replay_from};
@@ -10,7 +11,6 @@ use cg_text::tree::{Place, TreeFault};
 use std::alloc::{AllocError, Global};
 use std::io::{BufRead, Write};
 use std::test::Fail;
-use test_samples::trees::{DELEGATION, NO_PARENT};
 
 /// Operations of user 1000, and their report where `/c0` is watched.
 const REPLAYS: [(&[u8], &[u8]); 2] = [

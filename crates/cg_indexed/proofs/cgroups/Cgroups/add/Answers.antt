@@ -8,9 +8,10 @@ use Rattle.cg_cgroup.specs.Paths.{parent}
 use Rattle.cg_cgroup.specs.Files.{no_controllers}
 use Rattle.cg_cgroup.proofs.Options.{none_value}
 use Rattle.cg_indexed.specs.Links.{new_link, raised}
-use Rattle.cg_indexed.specs.Nodes.{Node, IsOneMore, new_node, node_at, recounted}
+use Rattle.cg_indexed.specs.Nodes.{Node, new_node, node_at, recounted}
 use Rattle.cg_indexed.specs.Kept.{held_of, values_of, AreKept, new_held}
 use Rattle.cg_indexed.proofs.Read.{there_is}
+use Rattle.cg_indexed.proofs.Kin.{IsOneMore, is_one_more}
 use Rattle.cg_indexed.proofs.Added.{kept_more, held_more, held_next, kept_next}
 use Rattle.cg_indexed.proofs.cgroups.Cgroups.add.Goals as goal
 
@@ -26,7 +27,7 @@ insert-requires c = sym (there_is c.self.inside.places c.self.inside.nodes c.arg
 pub invariant_of-self-in_err-insert : goal.invariant_of-self-in_err-insert
 invariant_of-self-in_err-insert c =
     let links = c.self.inside.links.items in
-    let one = c.in_ok-push.ensures.ok in
+    let one = is_one_more _ c.in_ok-push.ensures.ok in
     subst (λ m. AreKept m c.push-2.new.self.items c.push.new.self) (sym c.in_err-insert.ensures.err)
     (subst (λ ls. AreKept c.self.inside.places ls c.push.new.self) (sym (c.in-Ok.ensures.items ∙ ap (λ ls. ls ++ c.new.result ∷ []) c.in_ok-reserve.ensures.items))
     (subst (AreKept c.self.inside.places (links ++ c.new.result ∷ [])) (sym one.more) (kept_more c.self.inside.places links c.self.inside.nodes c.self.invariant c.new.result (new_node c.args.cgroup one.kin))))
@@ -34,7 +35,7 @@ invariant_of-self-in_err-insert c =
 pub returns-in_err-insert-clause-err : goal.returns-in_err-insert-clause-err
 returns-in_err-insert-clause-err c =
     let p = err_from_is_err_and c.from_residual-in_err-insert.result c.from_residual-in_err-insert.ensures.1 in
-    let one = c.in_ok-push.ensures.ok in
+    let one = is_one_more _ c.in_ok-push.ensures.ok in
     rw p.1
     ((λ t. values_of held_of (c.in_err-insert.ensures.err t) (one.more t))
     ∙ held_more c.self.inside.places c.self.inside.links.items c.self.inside.nodes c.self.invariant c.new.result (new_node c.args.cgroup one.kin) ∙ c.self.view_is)
@@ -42,12 +43,12 @@ returns-in_err-insert-clause-err c =
 pub recount-requires : goal.recount-requires
 recount-requires c =
     let l = c.self.invariant.placed.within _ c.in-Some.above (sym c.in-Some.ensures) in
-    let one = c.in_ok-push.ensures.ok in
+    let one = is_one_more _ c.in_ok-push.ensures.ok in
     omega (arith, l, c.self.invariant.paired, ap length one.more, length-append c.self.inside.nodes (new_node c.args.cgroup one.kin ∷ []))
 
 -- the tables after the calls
 one_is : (c : goal.After-recount) → IsOneMore c.in-Some.above c.args.cgroup c.self.inside.nodes c.push.new.self
-one_is c = c.in_ok-push.ensures.ok
+one_is c = is_one_more _ c.in_ok-push.ensures.ok
 
 pushed_links : (c : goal.After-recount) → c.push-2.new.self.items ≡ c.self.inside.links.items ++ new_link c.in-Some.above c.args.cgroup ∷ []
 pushed_links c = c.in-Ok.ensures.items ∙ (λ t. c.in_ok-reserve.ensures.items t ++ c.new.ensures t ∷ [])

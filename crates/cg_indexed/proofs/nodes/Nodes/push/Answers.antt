@@ -1,7 +1,7 @@
 use Rattle.std.proofs.Common.{◌≡◌, ap, sym, ◌∙◌, subst, Some, None, [], ◌∷◌, ◌++◌, arith}
 use Rattle.std.proofs.lemmas.Result.{err_from_is_err_and}
 use Rattle.cg_cgroup.proofs.Options.{same_some}
-use Rattle.cg_indexed.specs.Nodes.{new_node, new_slot, nodes_of, AreShared}
+use Rattle.cg_indexed.specs.Nodes.{kin_if, new_node, new_slot, nodes_of, AreShared}
 use Rattle.cg_indexed.specs.declared.nodes.Slot.{Slot}
 use Rattle.cg_indexed.proofs.Seen.{are_grown, are_more, seen_grown, seen_more, no_share}
 use Rattle.cg_indexed.proofs.nodes.Nodes.push.Goals as goal
@@ -50,10 +50,7 @@ invariant_of-self-2 c =
     (λ k is. omega (arith, c.in_ok-index.ensures.ok.within, same_some index k is)))
 
 pub returns-clause-ok : goal.returns-clause-ok
-returns-clause-ok c = record {
-  kin = Some c.args.above;
-  parents = λ a is. sym (same_some c.args.above a is);
-  more =
-      ap (nodes_of c.share.new.shared.items) (slots_are c) ∙ seen_more c.share.new.shared.items c.self.inside.slots.items c.args.cgroup c.args.above c.in_ok-index.index c.in_ok-index.ensures.ok.there
-      ∙ ap (λ ns. ns ++ new_node c.args.cgroup (Some c.args.above) ∷ []) (seen_grown c.self.inside.shared.items c.share.new.shared.items c.self.inside.slots.items c.self.invariant c.share.ensures.grows ∙ c.self.view_is);
-}
+returns-clause-ok c =
+    ap (nodes_of c.share.new.shared.items) (slots_are c) ∙ seen_more c.share.new.shared.items c.self.inside.slots.items c.args.cgroup c.args.above c.in_ok-index.index c.in_ok-index.ensures.ok.there
+    ∙ ap (λ ns. ns ++ new_node c.args.cgroup (Some c.args.above) ∷ []) (seen_grown c.self.inside.shared.items c.share.new.shared.items c.self.inside.slots.items c.self.invariant c.share.ensures.grows ∙ c.self.view_is)
+    ∙ ap (λ b. c.args.self.now ++ new_node c.args.cgroup (kin_if b c.args.above) ∷ []) (sym c.if-not-shares.false)

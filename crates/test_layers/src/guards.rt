@@ -1,0 +1,5 @@
+//! The guards: which one fails first, and what each of them stops.
+mod each_alone;
+mod first_guard;
+mod premises;
+mod trees;

@@ -1,0 +1,5 @@
+//! The two ways to keep a tree: whatever is done to both, they answer alike.
+mod alike;
+mod counts;
+mod random;
+mod runs;

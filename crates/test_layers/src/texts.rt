@@ -1,0 +1,3 @@
+//! Operation lines and the lines of outcomes.
+mod lines;
+mod outcomes;

@@ -1,4 +1,0 @@
-//! Tree texts that several crates of tests read.
-#![tactic(auto)]
-
-pub mod trees;
