@@ -90,7 +90,7 @@ class Edit:
         """Returns whether it changes one function and nothing else, and a copy of that can stand beside it."""
         first, *others = self.functions()
         is_alone = len(others) == len(self.pairs) - 1 and all(it is first for it in others)
-        return is_alone and len(first["names"]) == 1 and not first["trait"]
+        return is_alone and len(first["names"]) == 1 and not first["trait"] and not self.crate.cites(first["names"][0])
 
     def move_to_copy(self, number):
         """Has the edit change a copy of its function at the file's end, under a name of its own."""
@@ -172,6 +172,14 @@ class Crate:
         for at, _, files in os.walk(f"{self.folder}/src"):
             for file in files:
                 self.functions += self.functions_in(os.path.relpath(f"{at}/{file}", self.folder), known)
+
+    @functools.cache
+    def cites(self, name):
+        """Returns whether a proof file names modules of the proof of a function beside that proof's own: a copy has others."""
+        folder = folder_of(name)
+        own, modules = f"{self.folder}/{folder}", f"Rattle.{self.name}.{folder.replace('/', '.')}."
+        files = (f"{at}/{it}" for at, _, names in os.walk(f"{self.folder}/proofs") if at != own for it in names)
+        return any(modules in text_of(it) for it in files)
 
     def functions_in(self, path, known):
         """Returns the functions of a file in rt fmt's layout: each ends at the first brace below it at its depth."""
