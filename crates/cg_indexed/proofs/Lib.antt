@@ -1,4 +1,5 @@
 pub mod TextKeys
+mod Alike
 pub mod Climb
 pub mod Limits
 pub mod Refits

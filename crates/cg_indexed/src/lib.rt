@@ -1,7 +1,6 @@
 //! A tree of cgroups kept by places, found through their paths' texts, with kept counts.
 #![tactic(auto)]
 
-mod alike;
 pub mod cgroups;
 pub mod indexed;
 pub mod links;

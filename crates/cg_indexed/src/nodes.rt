@@ -1,8 +1,7 @@
 //! Cgroups at their places, and what is counted of their children and processes.
-ghost use Rattle.std.specs.Prelude.{◌≡◌, ◌<◌, length, slice_set, [], ◌∷◌, None, IfOk, OnOk, OnErr, ◌++◌};
+ghost use Rattle.std.specs.Prelude.{◌≡◌, true, ◌<◌, length, slice_set, [], ◌∷◌, None, IfOk, OnOk, OnErr, ◌++◌};
 ghost use Rattle.cg_indexed.specs.Nodes.{Refits, RefitsShared, RefitsSlots, HasGrown, IsSharedAt, kin_if, new_node, new_slot, node_at, slot_at, more_if, less_if, uses_after, uses_of, with_cgroup, with_own, with_live, with_uses, slot_with_live, slot_with_uses, one_more_live, one_less_live, recounted, enabled_at, differing, with_files_from};
 
-use crate::alike::are_alike;
 use crate::links::Link;
 use cg_cgroup::cgroup::Cgroup;
 use cg_cgroup::files::{Controller, ControllerSet};
@@ -267,6 +266,14 @@ fn share(
         cgroup: *cgroup,
     })?;
     Ok(index)
+}
+
+/// Whether two cgroups are alike in all.
+fn are_alike(a: &Cgroup, b: &Cgroup) -> bool
+    ensures same { result ≡ true → a.now ≡ b.now }
+    ensures found { a.now ≡ b.now → result ≡ true }
+{
+    a == b
 }
 
 fn put_own(slots: &mut [Slot], at: usize, cgroup: Cgroup)

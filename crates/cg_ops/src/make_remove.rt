@@ -23,10 +23,10 @@ pub fn mkdir_refusal<H: Hierarchy>(tree: &H, user: &User, path: &Path) -> Option
         return Some(Refusal::Exists);
     }
     let len = path.parent_len();
-    if above(tree, path).is_none() {
+    let Some(parent) = above(tree, path) else {
         return Some(Refusal::NoSuchCgroup { len });
-    }
-    if !writes_above(tree, user, path) {
+    };
+    if !user.may_write(&parent.dir) {
         return Some(Refusal::NoAccess {
             len,
             entry: EntryName::Dir,
