@@ -1,4 +1,4 @@
--- Cgroups that a derived `==` calls equal are the same.
+-- The derived `==` of cgroups says that they are the same, field by field.
 use Rattle.std.proofs.Common.{rules, ◌≡◌, subst, Bool, true, ◌&&◌, Option}
 use Rattle.cg_cgroup.specs.declared.user.Entry.{Entry}
 use Rattle.cg_cgroup.specs.declared.files.ControllerSet.{ControllerSet}
