@@ -1,17 +1,14 @@
 """The must-fail edits of a crate, and the functions that they change."""
-import collections, functools, json, os, re
+import collections, functools, os, re
+
+import crates
+import kit
 
 MOST_IN_A_CHECK = 32
 # How an edit joins others in a check: in a function that others change too, in one of its own, or in a copy of one.
 IN_ONE_FUNCTION, BESIDE, IN_A_COPY = 1, 2, 3
 FUNCTION = re.compile(r"( *)(?:pub(?:\([\w ]+\))? )?(?:const |unsafe )*fn (\w+)")
 BLOCK = re.compile(r"impl(?:<.*?>)? (?:(?:\w+::)*(?P<trait>\w+)(?:<.*>)? for )?(?P<type>\w+).*")
-# How the prover says that a goal of a function is open, and that an answer in a proof file doesn't prove its goal.
-OPEN = re.compile(r"note: (src/\S+?):(\d+):\d+: (it is not proved that .*)")
-NOT_MET = r"`[^`]*`: (?:as printed, |computed as (?:a goal is|far as they go), |expected type |`(?:grind|omega|rw|search|simp)`:? ).*"
-REFUSED_ANSWER = re.compile(rf"\./(proofs/\S+)/(?:Answers|Invariants|Proof)\.antt:\d+:\d+: error: ({NOT_MET})")
-# An error behind a function's answers: the prover then offers none for its open goals, which would take it as long again.
-NO_OFFER = "\nno-offer : error\n"
 
 
 def text_of(file):
@@ -145,7 +142,7 @@ class Edit:
         """Returns the first goal of an edited function that stays open. Outside functions any function's will do."""
         functions, folders = self.functions(), self.folders()
         for line in said:
-            goal, answer = OPEN.match(line), REFUSED_ANSWER.match(line)
+            goal, answer = kit.OPEN.match(line), kit.REFUSED_ANSWER.match(line)
             if not goal and not answer or self.goal and f"`{self.goal}`" not in line:
                 continue
             path, at = (goal[1], int(goal[2])) if goal else (answer[1], 0)
@@ -168,7 +165,7 @@ class Crate:
 
     def read_functions(self, rlib):
         """Finds the functions in the text, under the names that the kit keeps of a library for linking."""
-        known = {name for name, _ in json.loads(text_of(f"{rlib}/toolchain/mir.json"))} if self.is_library else {}
+        known = kit.names_of_functions(rlib) if self.is_library else {}
         for at, _, files in os.walk(f"{self.folder}/src"):
             for file in files:
                 self.functions += self.functions_in(os.path.relpath(f"{at}/{file}", self.folder), known)
@@ -227,7 +224,7 @@ def with_errors(crate, edits, texts):
     """Returns the texts with an error behind the answers of each function that these edits change."""
     files = {f"{folder}/Answers.antt" for edit in edits for folder in edit.folders()}
     there = {it: f"{crate.folder}/{it}" for it in files - {*texts} if os.path.exists(f"{crate.folder}/{it}")}
-    return texts | {it: (texts.get(it) or (text_of(there[it]) if it in there else "")) + NO_OFFER for it in files}
+    return texts | {it: (texts.get(it) or (text_of(there[it]) if it in there else "")) + kit.NO_OFFER for it in files}
 
 
 def groups_of(edits):
@@ -257,13 +254,7 @@ def can_be_applied(edits):
 
 def crates_of(top, wanted):
     """Returns the crates of crates.txt whose edits are wanted, and those below them, by name."""
-    found = {}
-    for line in text_of(f"{top}/crates.txt").split("\n"):
-        row = re.fullmatch(r"(\w+)\s*:\s*([\w ]*)", line.partition("#")[0].strip())
-        if row:
-            found[row[1]] = Crate(f"{top}/crates/{row[1]}", {*row[2].split()})
-        elif line.partition("#")[0].strip():
-            raise ValueError(f"crates.txt has a line that is not 'NAME: LIBRARY ..': {line}")
+    found = {name: Crate(f"{top}/crates/{name}", {*uses}) for name, uses in crates.read(top).items()}
     for it in found.values():
         it.below = it.uses.union(*(found[name].below for name in it.uses if name in found))
     for name in wanted or found:

@@ -1,203 +1,52 @@
-"""Tests of ./zirofen, the wrapper, over a small checkout and a toolchain that only plays its part."""
+"""Tests of ./zirofen and ./build over a small checkout, and a toolchain that only plays its part."""
 import os
 import shutil
 import signal
-import stat
 import subprocess
 import tempfile
 import time
 import unittest
 
-WRAPPER = os.path.join(os.path.dirname(os.path.dirname(os.path.abspath(__file__))), "zirofen")
+from checkout import CRATES, KIT, PROGRAM, Checkout, read, write
 
-CRATES = """# name: the libraries that it uses
-low: arrayvec
-middle: low toml
-beside: low
-zirofen: middle clap
-"""
-
-PROGRAM = '#!/bin/sh\n[ "$1" != --help ] || exit 0\necho "ran $*"\ncat\nexit 2\n'
-
-TOOLCHAIN = """#!/bin/sh
-if [ "$1" = version ]; then echo 'some-other-kit'; exit; fi
-echo "$$" >>"$PLAYED/starts"
-echo 'logic=proved functions=179'
-echo 'rt: waiting for another rt to finish in /somewhere' >&2
-echo 'so far: 3 of 9 functions checked; the verdict comes last' >&2
-mktemp >"$PLAYED/temporary"
-if [ -e "$PLAYED/slow" ]; then sleep 60 & echo $! >"$PLAYED/child"; wait; fi
-if [ -e "$PLAYED/fails" ]; then echo 'error: no proof of it' >&2; exit 1; fi
-mkdir -p out
-cp "$PLAYED/program" out/zirofen
-chmod +x out/zirofen
-shift
-[ "$1" = -- ] && shift
-out/zirofen "$@"
-"""
+NO_TOOLCHAIN = "/usr/bin:/bin"
+ENDING = (signal.SIGINT, signal.SIGTERM, signal.SIGHUP, signal.SIGQUIT, signal.SIGPIPE)
 
 
-def write(path, text, executable=False):
-    os.makedirs(os.path.dirname(path), exist_ok=True)
-    with open(path, "w") as out:
-        out.write(text)
-    if executable:
-        os.chmod(path, 0o755)
-
-
-def lives(pid):
-    """Whether a process runs still: one that has ended may be left as a zombie, where nobody waits for it."""
+def state(pid):
+    """A process's state, as a letter: Z where it has ended and nobody waited for it, nothing where it is gone."""
     try:
-        with open(f"/proc/{pid}/stat") as text:
-            return text.read().rpartition(")")[2].split()[0] != "Z"
+        with open(f"/proc/{pid}/stat", encoding="ascii", errors="replace") as text:
+            return text.read().rpartition(")")[2].split()[0]
     except OSError:
-        return False
+        return ""
+
+
+def take_signals():
+    """Takes signals as a terminal's programs do: a shell starts what it runs in the background with some ignored."""
+    for number in (*ENDING, signal.SIGTSTP):
+        signal.signal(number, signal.SIG_DFL)
 
 
 class WrapperTest(unittest.TestCase):
     def setUp(self):
-        folder = tempfile.TemporaryDirectory()
-        self.addCleanup(folder.cleanup)
-        self.room = folder.name
-        self.checkout = os.path.join(self.room, "check out")
-        self.played = os.path.join(self.room, "played")
-        self.temporary = os.path.join(self.room, "temporary")
-        os.makedirs(self.temporary)
-        for crate in ("low", "middle", "beside", "zirofen"):
-            write(f"{self.checkout}/crates/{crate}/src/lib.rt", crate)
-        write(f"{self.checkout}/crates.txt", CRATES)
-        shutil.copy(WRAPPER, self.checkout)
-        write(f"{self.played}/program", PROGRAM)
-        write(f"{self.played}/tools/rt", TOOLCHAIN, executable=True)
-        self.environment = dict(os.environ, PLAYED=self.played, TMPDIR=self.temporary,
-                                PATH=f"{self.played}/tools:{os.environ['PATH']}")
+        self.checkout = Checkout(self)
 
-    def call(self, *words, program=None, cwd=None, **environment):
-        return subprocess.run([program or f"{self.checkout}/zirofen", *words], input="given\n", text=True,
-                              capture_output=True, cwd=cwd or self.room, env={**self.environment, **environment})
+    def assert_ran(self, ended, words="may", name="released", silent=True):
+        self.assertEqual((ended.stdout, ended.returncode), (f"{name} ran {words}\ngiven\n", 2), ended.stderr)
+        if silent:
+            self.assertEqual(ended.stderr, "")
 
-    def builds(self):
-        """How often the toolchain was started."""
-        path = f"{self.played}/starts"
-        return len(open(path).readlines()) if os.path.exists(path) else 0
+    def assert_no_answer(self, ended, *told, lines=1):
+        self.assertEqual((ended.stdout, ended.returncode), ("", 70), ended.stderr)
+        for word in told:
+            self.assertIn(word, ended.stderr)
+        self.assertEqual(len(ended.stderr.splitlines()), lines, ended.stderr)
 
-    def touch(self, path, text):
-        """Writes a source as an editor does, some time after all that was built."""
-        write(f"{self.checkout}/{path}", text)
-        later = time.time() + 10
-        os.utime(f"{self.checkout}/{path}", (later, later))
-
-    def assert_ran(self, ended, words="may"):
-        self.assertEqual((ended.stdout, ended.returncode), (f"ran {words}\ngiven\n", 2), ended.stderr)
-
-    def test_first_call_builds_and_later_ones_do_not(self):
-        first = self.call("may", "--uid", "7")
-        self.assert_ran(first, "may --uid 7")
-        self.assertIn("20 minutes on 4 cores", first.stderr)
-        self.assertIn("2.4 GB", first.stderr)
-        later = self.call("may")
-        self.assert_ran(later)
-        self.assertEqual((later.stderr, self.builds()), ("", 1))
-
-    def test_progress_and_waiting_are_passed_on_and_the_rest_is_not(self):
-        said = self.call("may").stderr
-        self.assertIn("so far: 3 of 9 functions checked", said)
-        self.assertIn("rt: waiting for another rt", said)
-        self.assertNotIn("logic=", said)
-
-    def test_by_symbolic_links_from_anywhere(self):
-        os.symlink(f"{self.checkout}/zirofen", f"{self.room}/one")
-        os.symlink("one", f"{self.room}/two")
-        self.assert_ran(self.call("may", program=f"{self.room}/two", cwd="/"))
-        self.assert_ran(self.call("may", program="./two", CDPATH="/:.."))
-        self.assert_ran(self.call("may", program="./zirofen", cwd=self.checkout, CDPATH=f"{self.room}:/"))
-        self.assert_ran(self.call("may", program="two", PATH=f"{self.room}:{self.environment['PATH']}"))
-        self.assertEqual(self.builds(), 1)
-
-    def test_a_source_of_the_program_makes_it_stale(self):
-        self.call("may")
-        self.touch("crates/low/src/lib.rt", "changed")
-        self.assert_ran(self.call("may"))
-        self.assertEqual(self.builds(), 2)
-        self.touch("crates/middle/proofs/Lib.antt", "new")
-        self.assert_ran(self.call("may"))
-        self.assertEqual(self.builds(), 3)
-        os.remove(f"{self.checkout}/crates/middle/proofs/Lib.antt")
-        later = time.time() + 20
-        os.utime(f"{self.checkout}/crates/middle/proofs", (later, later))
-        self.assert_ran(self.call("may"))
-        self.assertEqual(self.builds(), 4)
-
-    def test_what_the_program_does_not_use_leaves_it_as_it_is(self):
-        self.call("may")
-        self.touch("crates/beside/src/lib.rt", "changed")
-        self.touch("crates/zirofen/stdout", "changed")
-        self.touch("crates.txt", CRATES + "further: low\n")
-        self.touch("crates/low/src/lib.rt", "low")
-        self.assert_ran(self.call("may"))
-        self.assertEqual(self.builds(), 1)
-        self.touch("crates.txt", CRATES.replace("zirofen:", "zirofen: beside"))
-        self.assert_ran(self.call("may"))
-        self.assertEqual(self.builds(), 2)
-
-    def test_a_checkout_that_is_built_is_only_read(self):
-        self.call("may")
-        before = self.listed(self.checkout)
-        for folder, _, _ in list(os.walk(self.checkout)):
-            os.chmod(folder, 0o555)
-        try:
-            ended = self.call("may", PATH="/usr/bin:/bin")
-        finally:
-            for folder, _, _ in list(os.walk(self.checkout)):
-                os.chmod(folder, 0o755)
-        self.assert_ran(ended)
-        self.assertEqual((ended.stderr, self.listed(self.checkout)), ("", before))
-
-    @staticmethod
-    def listed(folder):
-        return sorted((at, tuple(files), os.stat(at).st_mtime_ns) for at, _, files in os.walk(folder))
-
-    def test_a_missing_toolchain_is_named(self):
-        ended = self.call("may", PATH="/usr/bin:/bin")
-        self.assertEqual((ended.stdout, ended.returncode), ("", 70))
-        self.assertIn("no rt on the PATH", ended.stderr)
-        self.assertIn("rattle-kit-13f", ended.stderr)
-
-    def test_a_build_that_fails_shows_all_that_was_said(self):
-        write(f"{self.played}/fails", "")
-        ended = self.call("may")
-        self.assertEqual((ended.stdout, ended.returncode), ("", 70))
-        for line in ("error: no proof of it", "rattle-kit-13f", "some-other-kit"):
-            self.assertIn(line, ended.stderr)
-        self.assertEqual(os.listdir(self.temporary), [])
-
-    def test_nothing_is_left_of_a_build(self):
-        self.call("may")
-        self.assertEqual(os.listdir(self.temporary), [])
-
-    def test_an_interrupted_build_ends_its_children_and_leaves_nothing(self):
-        write(f"{self.played}/slow", "")
-        for number in (signal.SIGINT, signal.SIGTERM, signal.SIGHUP):
-            with self.subTest(number):
-                self.interrupt(number)
-        os.remove(f"{self.played}/slow")
-        self.assert_ran(self.call("may"))
-
-    def interrupt(self, number):
-        child = f"{self.played}/child"
-        started = subprocess.Popen([f"{self.checkout}/zirofen", "may"], stdin=subprocess.DEVNULL, text=True,
-                                   stdout=subprocess.PIPE, stderr=subprocess.PIPE, env=self.environment, cwd="/",
-                                   preexec_fn=take_signals)
-        self.wait_for(lambda: os.path.exists(child) and open(child).read().endswith("\n"))
-        sleeper = int(open(child).read())
-        started.send_signal(number)
-        said, told = started.communicate(timeout=20)
-        self.assertEqual((said, started.returncode), ("", -number), told)
-        self.assertIn("interrupted, and not built", told)
-        self.wait_for(lambda: not lives(sleeper))
-        self.assertEqual(os.listdir(self.temporary), [])
-        self.assertFalse(os.path.exists(f"{self.checkout}/crates/zirofen/out/zirofen"))
-        os.remove(child)
+    def assert_nothing_is_left(self):
+        self.assertEqual(os.listdir(self.checkout.temporary), [])
+        out = f"{self.checkout.top}/crates/zirofen/out"
+        self.assertEqual([name for name in ("zirofen", "MANIFEST") if os.path.exists(f"{out}/{name}")], [])
 
     def wait_for(self, holds):
         until = time.monotonic() + 20
@@ -206,10 +55,252 @@ class WrapperTest(unittest.TestCase):
             time.sleep(0.02)
 
 
-def take_signals():
-    """Takes signals as a terminal's programs do: a shell starts what it runs in the background with some ignored."""
-    for number in (signal.SIGINT, signal.SIGTERM, signal.SIGHUP):
-        signal.signal(number, signal.SIG_DFL)
+class ReleasedTest(WrapperTest):
+    def test_it_answers_at_once_without_a_toolchain(self):
+        before = self.checkout.listed()
+        self.assert_ran(self.checkout.call("may", "--uid", "7", PATH=NO_TOOLCHAIN), "may --uid 7")
+        self.assertEqual(self.checkout.listed(), before)
+        self.assertEqual(os.listdir(self.checkout.temporary), [])
+
+    def test_a_checkout_that_can_only_be_read(self):
+        before = self.checkout.listed()
+        for folder, _, _ in list(os.walk(self.checkout.top)):
+            os.chmod(folder, 0o555)
+        try:
+            ended = self.checkout.call("may", TMPDIR="/none", HOME="/none")
+        finally:
+            for folder, _, _ in list(os.walk(self.checkout.top)):
+                os.chmod(folder, 0o755)
+        self.assert_ran(ended)
+        self.assertEqual(self.checkout.listed(), before)
+
+    @unittest.skipUnless(os.geteuid() == 0, "takes another user")
+    def test_a_checkout_of_another_user(self):
+        os.chmod(self.checkout.room, 0o755)
+        words = ["setpriv", "--reuid", "65534", "--regid", "65534", "--clear-groups", f"{self.checkout.top}/zirofen", "may"]
+        self.assert_ran(subprocess.run(words, input="given\n", capture_output=True, text=True, cwd="/"))
+
+    def test_names_with_a_newline_a_star_and_a_dash(self):
+        for name in ("-n", "a\nb", "ends in one\n", "*", "$(x)"):
+            with self.subTest(name):
+                checkout = Checkout(self, name)
+                self.assert_ran(checkout.call("may", PATH=NO_TOOLCHAIN))
+                self.assert_ran(checkout.call("may", program="./zirofen", cwd=checkout.top))
+
+    def test_by_symbolic_links_from_anywhere(self):
+        checkout, room = self.checkout, self.checkout.room
+        os.symlink(f"{checkout.top}/zirofen", f"{room}/one")
+        os.symlink("one", f"{room}/two")
+        self.assert_ran(checkout.call("may", program=f"{room}/two", cwd="/"))
+        self.assert_ran(checkout.call("may", program="./two", CDPATH="/:.."))
+        self.assert_ran(checkout.call("may", program="./zirofen", cwd=checkout.top, CDPATH=f"{room}:/"))
+        self.assert_ran(checkout.call("may", program="two", PATH=f"{room}:{NO_TOOLCHAIN}"))
+
+    def test_contents_decide_and_no_clock(self):
+        checkout = self.checkout
+        checkout.change("crates/low/src/lib.rt", "low", seconds=100)
+        checkout.change("crates.txt", CRATES, seconds=100)
+        self.assert_ran(checkout.call("may"))
+        copy = f"{checkout.room}/copied"
+        shutil.copytree(checkout.top, copy, copy_function=shutil.copy)
+        self.assert_ran(checkout.call("may", program=f"{copy}/zirofen"))
+        self.assertEqual(checkout.builds(), 0)
+
+    def test_what_decides_no_byte_leaves_it_as_it_is(self):
+        checkout = self.checkout
+        checkout.change("crates/beside/src/lib.rt", "changed")
+        checkout.change("crates/low/specs/Lib.antt", "changed")
+        checkout.change("crates/low/proofs/Lib.antt", "changed")
+        checkout.change("crates/zirofen/stdout", "changed")
+        checkout.change("crates.txt", "further: low\n# a remark\n" + CRATES.replace("a comment", "another"))
+        self.assert_ran(checkout.call("may"))
+        self.assertEqual(checkout.builds(), 0)
+
+    def test_whatever_cannot_answer_is_one_line_and_70(self):
+        released = f"{self.checkout.top}/release/zirofen"
+        for name, text in (("empty", ""), ("cut", PROGRAM[:40]), ("foreign", PROGRAM.replace("ran", "fun"))):
+            with self.subTest(name):
+                write(released, text)
+                self.assert_no_answer(self.checkout.call("may"), "its bytes aren't those of its MANIFEST", "./build")
+        os.remove(released)
+        self.assert_no_answer(self.checkout.call("may"), "it isn't there")
+
+    def test_a_program_that_does_not_run_here(self):
+        loader = "echo 'zirofen: /lib/libc.so.6: version `GLIBC_2.34 not found' >&2; exit 1"
+        for name, text in (("an older C library", f"#!/bin/sh\n{loader}\n"), ("another version", PROGRAM.replace("0.3.1", "0.3.0")),
+                           ("a status", PROGRAM.replace("0.3.1'; exit", "0.3.1'; exit 1")), ("no such loader", "#!/none\n"),
+                           ("another processor", "\x7fELF\x02\x01\x01")):
+            with self.subTest(name):
+                self.checkout.release(text)
+                ended = self.checkout.call("may")
+                self.assert_no_answer(ended, "it doesn't run here")
+                if name == "an older C library":
+                    self.assertIn("GLIBC_2.34", ended.stderr)
+
+    def test_a_lost_run_bit(self):
+        os.chmod(f"{self.checkout.top}/release/zirofen", 0o644)
+        self.assert_no_answer(self.checkout.call("may"), "run bit")
+
+    @unittest.skipUnless(os.geteuid() == 0, "takes root")
+    def test_a_mount_without_execution(self):
+        mounted = tempfile.TemporaryDirectory()
+        self.addCleanup(mounted.cleanup)
+        if subprocess.run(["mount", "-t", "tmpfs", "-o", "noexec", "none", mounted.name], capture_output=True).returncode:
+            self.skipTest("nothing can be mounted")
+        try:
+            subprocess.run(["cp", "-a", f"{self.checkout.top}/.", mounted.name], check=True)
+            ended = self.checkout.call(f"{mounted.name}/zirofen", "may", program="bash")
+        finally:
+            subprocess.run(["umount", mounted.name], check=True)
+        self.assert_no_answer(ended, "without execution")
+
+
+class BuildTest(WrapperTest):
+    def test_a_source_that_differs_is_built_once(self):
+        self.checkout.change("crates/low/src/lib.rt", "changed", seconds=-1000)
+        first = self.checkout.call("may", "--uid", "7")
+        self.assert_ran(first, "may --uid 7", "built", silent=False)
+        for told in ("a source of this checkout isn't the released program's", "minutes on a machine of 4 cores", "2.4 GB"):
+            self.assertIn(told, first.stderr)
+        self.assert_ran(self.checkout.call("may", PATH=NO_TOOLCHAIN), name="built")
+        self.assertEqual(self.checkout.builds(), 1)
+
+    def test_each_source_counts(self):
+        changes = (("crates/low/src/lib.rt", "changed"), ("crates/middle/src/new.rt", ""),
+                   ("crates.txt", CRATES.replace("zirofen:", "zirofen: beside")), ("crates/beside/src/lib.rt", "changed"))
+        for built, (path, text) in enumerate(changes, 1):
+            self.checkout.change(path, text, seconds=-built)
+            self.assert_ran(self.checkout.call("may"), name="built", silent=False)
+            self.assertEqual(self.checkout.builds(), built)
+        os.remove(f"{self.checkout.top}/crates/middle/src/new.rt")
+        self.assert_ran(self.checkout.call("may"), name="built", silent=False)
+        self.assertEqual(self.checkout.builds(), len(changes) + 1)
+
+    def test_a_change_that_is_taken_back_is_answered_by_the_release(self):
+        self.checkout.change("crates/low/src/lib.rt", "changed")
+        self.checkout.call("may")
+        self.checkout.change("crates/low/src/lib.rt", "low")
+        self.assert_ran(self.checkout.call("may", PATH=NO_TOOLCHAIN))
+        self.checkout.change("crates/low/src/lib.rt", "changed")
+        self.assert_ran(self.checkout.call("may", PATH=NO_TOOLCHAIN), name="built")
+
+    def test_who_builds_his_own_has_it_as_long_as_it_is_of_these_sources(self):
+        ended = self.checkout.build()
+        self.assertEqual((ended.stdout, ended.returncode), ("", 0), ended.stderr)
+        self.assert_ran(self.checkout.call("may", PATH=NO_TOOLCHAIN), name="built")
+        self.checkout.change("crates/low/src/lib.rt", "changed")
+        self.assert_no_answer(self.checkout.call("may", PATH=NO_TOOLCHAIN), "no rt on the PATH", KIT, lines=2)
+
+    def test_a_built_program_that_is_unfit_is_built_anew(self):
+        self.checkout.change("crates/low/src/lib.rt", "changed")
+        self.checkout.call("may")
+        for built, text in enumerate(("", PROGRAM[:40], "#!/bin/sh\nexit 1\n"), 2):
+            write(f"{self.checkout.top}/crates/zirofen/out/zirofen", text)
+            self.assert_ran(self.checkout.call("may"), name="built", silent=False)
+            self.assertEqual(self.checkout.builds(), built)
+
+    def test_a_manifest_that_was_changed(self):
+        self.checkout.release(PROGRAM, sources="0" * 64)
+        self.assert_no_answer(self.checkout.call("may", PATH=NO_TOOLCHAIN), "no rt on the PATH", lines=2)
+        self.checkout.release(PROGRAM, version="0.3.2")
+        self.assert_no_answer(self.checkout.call("may"), "it doesn't run here")
+        os.remove(f"{self.checkout.top}/release/MANIFEST")
+        self.assert_no_answer(self.checkout.call("may", PATH=NO_TOOLCHAIN), "no rt on the PATH", lines=2)
+
+    def test_another_kit_is_named(self):
+        write(f"{self.checkout.played}/kit", "another-kit logic 2\n")
+        said = self.checkout.build().stderr
+        for told in ("another-kit logic 2", KIT, "rattle-kit-13b"):
+            self.assertIn(told, said)
+
+    def test_progress_and_waiting_are_passed_on_and_the_rest_is_not(self):
+        said = self.checkout.build().stderr
+        self.assertIn("so far: 3 of 9 functions checked", said)
+        self.assertIn("rt: waiting for another rt", said)
+        self.assertNotIn("logic=", said)
+
+    def test_a_checkout_that_cannot_be_written(self):
+        self.checkout.change("crates/low/src/lib.rt", "changed")
+        if os.geteuid() != 0:
+            os.chmod(f"{self.checkout.top}/crates/zirofen", 0o555)
+            self.assert_no_answer(self.checkout.call("may"), "can't be written", lines=2)
+
+    def test_a_build_that_fails_shows_all_that_was_said_and_leaves_nothing(self):
+        self.checkout.change("crates/low/src/lib.rt", "changed")
+        write(f"{self.checkout.played}/fails", "")
+        ended = self.checkout.call("may")
+        self.assertEqual((ended.stdout, ended.returncode), ("", 70))
+        self.assertIn("error: no proof of it", ended.stderr)
+        self.assert_nothing_is_left()
+
+    def test_a_source_that_changes_during_the_build(self):
+        write(f"{self.checkout.played}/changes", "")
+        ended = self.checkout.build()
+        self.assertEqual(ended.returncode, 1)
+        self.assertIn("a source was changed meanwhile", ended.stderr)
+        self.assert_nothing_is_left()
+
+    def test_nothing_is_left_of_a_build(self):
+        self.checkout.build()
+        self.assertEqual(os.listdir(self.checkout.temporary), [])
+
+    def test_a_release_is_written(self):
+        self.checkout.change("crates/low/src/lib.rt", "changed")
+        ended = self.checkout.build("--release")
+        self.assertEqual(ended.returncode, 0, ended.stderr)
+        shutil.rmtree(f"{self.checkout.top}/crates/zirofen/out")
+        self.assert_ran(self.checkout.call("may", PATH=NO_TOOLCHAIN), name="built")
+        self.assertEqual(sorted(os.listdir(f"{self.checkout.top}/release")), ["MANIFEST", "zirofen"])
+        self.assertEqual(self.checkout.build("--other").returncode, 2)
+
+
+class SignalTest(WrapperTest):
+    def setUp(self):
+        super().setUp()
+        self.checkout.change("crates/low/src/lib.rt", "changed")
+        write(f"{self.checkout.played}/slow", "")
+
+    def start(self):
+        """A call that builds, and the process that the toolchain waits for."""
+        child = f"{self.checkout.played}/child"
+        started = subprocess.Popen([f"{self.checkout.top}/zirofen", "may"], stdin=subprocess.DEVNULL, text=True,
+                                   stdout=subprocess.PIPE, stderr=subprocess.PIPE, env=self.checkout.environment, cwd="/",
+                                   preexec_fn=take_signals)
+        self.wait_for(lambda: os.path.exists(child) and read(child).endswith("\n"))
+        sleeper = int(read(child))
+        os.remove(child)
+        return started, sleeper
+
+    def test_an_interrupted_build_ends_its_children_and_leaves_nothing(self):
+        for number in ENDING:
+            with self.subTest(number):
+                started, sleeper = self.start()
+                started.send_signal(number)
+                said, told = started.communicate(timeout=20)
+                self.assertEqual((said, started.returncode), ("", -number), told)
+                self.assertIn("interrupted, and not built", told)
+                self.wait_for(lambda: state(sleeper) in ("", "Z"))
+                self.assert_nothing_is_left()
+
+    def test_a_build_that_is_stopped_goes_on(self):
+        started, sleeper = self.start()
+        started.send_signal(signal.SIGTSTP)
+        self.wait_for(lambda: state(started.pid) == "T" and state(sleeper) == "T")
+        started.send_signal(signal.SIGCONT)
+        self.wait_for(lambda: state(sleeper) == "S")
+        os.kill(sleeper, signal.SIGTERM)
+        said, told = started.communicate(timeout=20)
+        self.assertEqual((said, started.returncode), ("built ran may\n", 2), told)
+
+    def test_who_no_longer_reads_what_is_said_ends_it(self):
+        started, sleeper = self.start()
+        started.stderr.close()
+        started.send_signal(signal.SIGTERM)
+        started.stdout.read()
+        self.assertEqual(started.wait(20), -signal.SIGTERM)
+        started.stdout.close()
+        self.wait_for(lambda: state(sleeper) in ("", "Z"))
+        self.assert_nothing_is_left()
 
 
 if __name__ == "__main__":

@@ -7,6 +7,7 @@ import unittest
 from made_up import DELEGATED, TOP, MadeUpTest
 from zirofen_host.accounts import Account, Accounts, Group, Range
 from zirofen_host.delegations import Delegations
+from zirofen_host.fault import Fault
 from zirofen_host.processes import Process
 from zirofen_host.tree import Row, Tree, read_tree
 from zirofen_host.users import Entry, User
@@ -87,9 +88,13 @@ class DelegationsTest(unittest.TestCase):
 
     def test_more_groups_than_a_user_may_have(self):
         many = Accounts([Account("alice", 1000, 9)], [Group(gid, ["alice"]) for gid in range(100, 140)])
-        of = tree(Row("/a", **handed(1000, 139, 0o664)))
-        (uid, gids, _), = found(of, many)
-        self.assertEqual((uid, gids[0], len(gids), 139 in gids), (1000, 9, 32, True))
+        of = Delegations(tree(Row("/a", **handed(1000, 139, 0o664)), Row("/b", **handed(0, 138))), many)
+        (_, user), = of.find()
+        few, left_out = of.with_few_groups(user, {137})
+        self.assertEqual((few.uid, few.gids[0], len(few.gids), {137, 138, 139} - set(few.gids)), (1000, 9, 32, set()))
+        self.assertEqual(left_out, [])
+        of.gids_of_tree |= set(range(100, 140))
+        self.assertEqual(of.with_few_groups(user, set(range(130, 140)))[1], list(range(121, 130)))
 
 
 class RealTreesTest(unittest.TestCase):
@@ -130,6 +135,15 @@ class AccountsTest(unittest.TestCase):
         self.assertEqual(accounts.members_of(200012), [User(300002, (200012,))])
         self.assertEqual(accounts.subordinate_to(1000), [Range("alice", 100000, 10), Range("alice", 300000, 10)])
 
+    def test_subordinate_ids_that_overlap(self):
+        ranges = [Range("bob", 50, 100), Range("alice", 0, 1000), Range("alice", 60, 5), Range("carol", 200, 10)]
+        accounts = Accounts([Account("alice", 1000, 1)], [], ranges, [])
+        self.assertEqual(accounts.owners(ranges, 62), [("alice", 62), ("bob", 12), ("alice", 1002)])
+        self.assertEqual(accounts.owners(ranges, 205), [("alice", 205), ("carol", 5)])
+        self.assertEqual((accounts.owners(ranges, 1000), accounts.owners(ranges, 999)), ([], [("alice", 999)]))
+        self.assertEqual(accounts.persons(205), {205, 1000})
+        self.assertEqual(accounts.subordinate_to(1000), ranges[1:3])
+
     def test_running_processes(self):
         running = [Process(9, 62264, User(62264, (62264, 50)), False), Process(10, 1000, User(1000, (1000, 27)), False),
                    Process(11, 1000, User(0, (0,)), False)]
@@ -137,12 +151,13 @@ class AccountsTest(unittest.TestCase):
         self.assertEqual(accounts.users_of(62264), [User(62264, (62264, 50))])
         self.assertEqual(accounts.members_of(50), [User(62264, (62264, 50))])
         self.assertEqual(accounts.users_of(1000), [User(1000, (1000, 27))])
-        accounts.groups.append(Group(4, ["alice"]))
+        accounts = Accounts([Account("alice", 1000, 1000)], [Group(27, ["alice"]), Group(4, ["alice"])], processes=running)
         self.assertEqual(accounts.users_of(1000), [User(1000, (1000, 4, 27)), User(1000, (1000, 27))])
 
     def test_account_files(self):
         with tempfile.TemporaryDirectory() as folder:
-            self.assertEqual(Accounts.of_folder(folder).users_of(5), [User(5, ())])
+            with self.assertRaisesRegex(Fault, "neither passwd nor group"):
+                Accounts.of_folder(folder)
             for name, text in (("passwd", PASSWD + "+nis\nbroken:x:y:z::\n"), ("group", GROUP), ("subuid", SUBORDINATE)):
                 with open(f"{folder}/{name}", "w", encoding="ascii") as out:
                     out.write(text)
@@ -163,6 +178,23 @@ class ScriptTest(MadeUpTest):
         wanted = "1000\t1000,50\t/c0\n1000\t1000,50\t/c1\n"
         self.assertEqual(self.script(given=given).stdout, wanted)
         self.assertEqual(self.script("--tree", f"{TOP}/examples/delegation.toml").stdout, wanted)
+
+    def test_columns_that_a_loop_can_read(self):
+        self.host.accounts(passwd=PASSWD, group=GROUP)
+        given = "format = 2\ncontrollers = []\n[[cgroup]]\npath = '/'\n[[cgroup]]\npath = '/a'\ndir = { uid = 7 }\n"
+        self.assertEqual(self.script(given=given).stdout, "7\t-\t/a\n")
+
+    def test_groups_that_matter_and_dont_go_in(self):
+        names = [f"d{number}" for number in range(100, 140)]
+        self.host.accounts(passwd="alice:x:1000:1000::/:\n", group="".join(f"{name}:x:{name[1:]}:alice\n" for name in names))
+        rows = ["format = 2\ncontrollers = []\n[[cgroup]]\npath = '/'\n"]
+        for count, name in enumerate(names):
+            path = "/" + "/".join(names[:count + 1])
+            rows.append(f"[[cgroup]]\npath = '{path}'\nfiles = {{ 'cgroup.procs' = {{ gid = {name[1:]} }} }}\n")
+        ended = self.script(given="".join(rows) + f"[[cgroup]]\npath = '{path}/top'\ndir = {{ uid = 1000 }}\n")
+        self.assertEqual((ended.returncode, ended.stdout.count("\n")), (3, 1))
+        self.assertEqual(ended.stderr, "groups: uid 1000: 9 of his groups that stand in the tree left out: "
+                         "a user has 32 at most\n")
 
     def test_faults(self):
         for words, given in ((("--tree", f"{TOP}/none"), ""), ((), "no text of a tree"), ((), "format = 2\n")):

@@ -16,7 +16,8 @@ from zirofen_host.profile import LIMIT_FILES, parent_of  # noqa: E402
 from zirofen_host.snapshot import Snapshot  # noqa: E402
 from zirofen_host.users import Entry  # noqa: E402
 
-STATUS = "Name:\tmade up\nUid:\t{uid}\t{uid}\t{uid}\t{uid}\nGid:\t{gid}\t{gid}\t{gid}\t{gid}\nGroups:\t{groups}\n"
+STATUS = ("Name:\tmade up\nUid:\t{uid}\t{uid}\t{uid}\t{uid}\nGid:\t{gid}\t{gid}\t{gid}\t{gid}\nGroups:\t{groups}\n"
+          "CapEff:\t{capabilities:016x}\n")
 STAT = "{pid} (made) up) S 1 1 1 0 -1 {flags} 0 0 0\n"
 KERNEL_THREAD = 0x00200040
 DELEGATED = {"dir": 1000, "cgroup.procs": 1000, "cgroup.subtree_control": 1000}
@@ -32,10 +33,12 @@ class MadeUp:
         self.etc = os.path.join(folder, "etc")
         self.enabled = {}
         self.owners = {}
+        self.marks = {}
         for each in (self.mount, self.proc, self.etc):
             os.makedirs(each)
 
-    def cgroup(self, path, owners=None, modes=None, values=None, enabled="", pids=(), kind="domain", more=(), without=()):
+    def cgroup(self, path, owners=None, modes=None, values=None, enabled="", pids=(), kind="domain", more=(), without=(),
+               marks=()):
         """A cgroup. Owners are a uid or a pair of uid and gid by file; the directory's name is dir."""
         place = self.mount if path == "/" else self.mount + path
         os.makedirs(place, exist_ok=True)
@@ -47,13 +50,14 @@ class MadeUp:
             texts["cgroup.type"] = kind + "\n"
         texts.update({file: f"{default}\n" for file, (controller, default) in LIMIT_FILES.items()
                       if controller is None or controller in above})
-        texts.update({file: f"{value}\n" for file, value in (values or {}).items()})
         texts.update({file: "" for file in more})
+        texts.update({file: f"{value}\n" for file, value in (values or {}).items()})
         for file in set(texts) - set(without):
             with open(f"{place}/{file}", "w", encoding="ascii") as out:
                 out.write(texts[file])
             self.own(f"{place}/{file}", (owners or {}).get(file, 0), (modes or {}).get(file, 0o644))
         self.own(place, (owners or {}).get("dir", 0), (modes or {}).get("dir", 0o755))
+        self.marks[os.lstat(place).st_ino] = {name: b"1" for name in marks}
 
     def own(self, path, owner, mode):
         uid, gid = owner if isinstance(owner, tuple) else (owner, 0)
@@ -62,10 +66,13 @@ class MadeUp:
         os.chmod(path, mode)
         self.owners[os.lstat(path).st_ino] = Entry(uid, gid, mode)
 
-    def process(self, pid, uid=0, gid=0, groups=(), flags=0x400000):
+    def process(self, pid, uid=0, gid=0, groups=(), flags=0x400000, capabilities=0, namespace=None):
         os.makedirs(f"{self.proc}/{pid}")
         with open(f"{self.proc}/{pid}/status", "w", encoding="ascii") as out:
-            out.write(STATUS.format(uid=uid, gid=gid, groups=" ".join(map(str, groups))))
+            out.write(STATUS.format(uid=uid, gid=gid, groups=" ".join(map(str, groups)), capabilities=capabilities))
+        if namespace:
+            os.makedirs(f"{self.proc}/{pid}/ns")
+            os.symlink(f"user:[{namespace}]", f"{self.proc}/{pid}/ns/user")
         with open(f"{self.proc}/{pid}/stat", "w", encoding="ascii") as out:
             out.write(STAT.format(pid=pid, flags=flags))
 
@@ -86,7 +93,7 @@ class MadeUp:
         at = {}
         for pid, uid, path in tree.processes:
             at.setdefault(path, []).append(pid)
-            self.process(pid, uid)
+            self.process(pid, uid, gid=uid)
         for path in sorted(tree.rows, key=len):
             row = tree.rows[path]
             names = ("dir", "cgroup.procs", "cgroup.subtree_control", *tree.limit_files(path))
@@ -107,8 +114,11 @@ class MadeUp:
     def entry_of(self, status):
         return self.owners[status.st_ino]
 
+    def marks_of(self, folder):
+        return self.marks.get(os.lstat(folder).st_ino, {})
+
     def snapshot(self, only=None):
-        with mock.patch.object(mount, "entry_of", self.entry_of):
+        with mock.patch.object(mount, "entry_of", self.entry_of), mock.patch.object(mount, "marks_of", self.marks_of):
             return Snapshot(mount.steady_walk(self.mount, only), read_processes(self.proc))
 
     def read_accounts(self):

@@ -2,12 +2,16 @@
 import grp
 import os
 import pwd
-from collections import namedtuple
+from bisect import bisect_right
+from collections import defaultdict, namedtuple
+from functools import cached_property
+from itertools import accumulate
 
+from zirofen_host.fault import Fault
 from zirofen_host.users import User
 
 Account = namedtuple("Account", "name uid gid")
-Group = namedtuple("Group", "gid members")
+Group = namedtuple("Group", "gid members name", defaults=("",))
 Range = namedtuple("Range", "owner first count")
 
 
@@ -26,6 +30,31 @@ def read_ranges(path):
             (line[:3] for line in lines_of(path, 3)) if first.isdigit() and count.isdigit()]
 
 
+class Counted:
+    """Ranges in order, each with how many numbers its owner has in those before it as they were given."""
+
+    def __init__(self, ranges):
+        counts = defaultdict(int)
+        self.ranges = []
+        for each in ranges:
+            self.ranges.append((each.first, each.first + each.count, each.owner, counts[each.owner]))
+            counts[each.owner] += each.count
+        self.ranges.sort()
+        self.firsts = [first for first, _, _, _ in self.ranges]
+        # where ranges overlap, how far those up to each one go
+        self.furthest = list(accumulate((end for _, end, _, _ in self.ranges), max))
+
+    def owners(self, number):
+        found = []
+        place = bisect_right(self.firsts, number) - 1
+        while place >= 0 and self.furthest[place] > number:
+            first, end, owner, before = self.ranges[place]
+            if number < end:
+                found.append((owner, before + number - first))
+            place -= 1
+        return found[::-1]
+
+
 class Accounts:
     """The users that may stand behind a uid or a gid of an entry."""
 
@@ -34,14 +63,17 @@ class Accounts:
         self.groups = list(groups)
         self.subordinate_uids = list(subordinate_uids)
         self.subordinate_gids = list(subordinate_gids)
+        self._persons, self._counted = {}, {}
         self.running = {process.user for process in processes if process.user.uid != 0}
 
     @classmethod
     def of_folder(cls, folder, processes=()):
         """From the account files of a folder, which is /etc on a host."""
+        if not (os.path.isfile(f"{folder}/passwd") or os.path.isfile(f"{folder}/group")):
+            raise Fault(f"there are no accounts in {folder!r}: neither passwd nor group")
         accounts = [Account(name, int(uid), int(gid)) for name, _, uid, gid in
                     (line[:4] for line in lines_of(f"{folder}/passwd", 4)) if uid.isdigit() and gid.isdigit()]
-        groups = [Group(int(gid), members.split(",") if members else []) for _, _, gid, members in
+        groups = [Group(int(gid), members.split(",") if members else [], name) for name, _, gid, members in
                   (line[:4] for line in lines_of(f"{folder}/group", 4)) if gid.isdigit()]
         return cls(accounts, groups, read_ranges(f"{folder}/subuid"), read_ranges(f"{folder}/subgid"), processes)
 
@@ -49,7 +81,7 @@ class Accounts:
     def of_host(cls, processes=()):
         """From all that the host's own look-up lists, which may be more than its files."""
         accounts = [Account(each.pw_name, each.pw_uid, each.pw_gid) for each in pwd.getpwall()]
-        groups = [Group(each.gr_gid, each.gr_mem) for each in grp.getgrall()]
+        groups = [Group(each.gr_gid, each.gr_mem, each.gr_name) for each in grp.getgrall()]
         found = cls(accounts, groups, read_ranges("/etc/subuid"), read_ranges("/etc/subgid"), processes)
         for uid in {user.uid for user in found.running} - {each.uid for each in accounts}:
             found.look_up(uid)
@@ -67,12 +99,9 @@ class Accounts:
 
     def owners(self, ranges, number):
         """Whose ranges have a number, and its place in all that the owner has."""
-        found, counted = [], {}
-        for each in ranges:
-            if each.first <= number < each.first + each.count:
-                found.append((each.owner, counted.get(each.owner, 0) + number - each.first))
-            counted[each.owner] = counted.get(each.owner, 0) + each.count
-        return found
+        if id(ranges) not in self._counted:
+            self._counted[id(ranges)] = Counted(ranges)
+        return self._counted[id(ranges)].owners(number)
 
     def at_place(self, ranges, owner, place):
         """The number at a place of all that an owner has, or None."""
@@ -83,14 +112,24 @@ class Accounts:
                 place -= each.count
         return None
 
-    def user_of_account(self, account):
-        others = {group.gid for group in self.groups if account.name in group.members} - {account.gid}
-        return User(account.uid, (account.gid, *sorted(others)))
+    @cached_property
+    def known(self):
+        """The users of accounts and of running processes, by uid and by gid."""
+        gids = defaultdict(set)
+        for group in self.groups:
+            for member in group.members:
+                gids[member].add(group.gid)
+        by_uid, by_gid = defaultdict(set), defaultdict(set)
+        users = {User(each.uid, (each.gid, *sorted(gids[each.name] - {each.gid}))) for each in self.accounts}
+        for user in users | self.running:
+            by_uid[user.uid].add(user)
+            for gid in user.gids:
+                by_gid[gid].add(user)
+        return by_uid, by_gid
 
     def users_of(self, uid):
         """The users with a uid: of accounts, of running processes, of subordinate ids; else the uid alone."""
-        users = {self.user_of_account(account) for account in self.accounts if account.uid == uid}
-        users |= {user for user in self.running if user.uid == uid}
+        users = set(self.known[0].get(uid, ()))
         if not users:
             for owner, place in self.owners(self.subordinate_uids, uid):
                 gid = self.at_place(self.subordinate_gids, owner, place)
@@ -99,17 +138,42 @@ class Accounts:
 
     def members_of(self, gid):
         """The users in a group, root left out."""
-        users = {user for user in map(self.user_of_account, self.accounts) if gid in user.gids}
-        users |= {user for user in self.running if gid in user.gids}
+        users = set(self.known[1].get(gid, ()))
         for owner, place in self.owners(self.subordinate_gids, gid):
             uid = self.at_place(self.subordinate_uids, owner, place)
             users |= {User(gid if uid is None else uid, (gid,))}
         return distinct(user for user in users if user.uid != 0)
 
+    @cached_property
+    def names(self):
+        """The accounts' names by uid."""
+        names = {}
+        for account in self.accounts:
+            names.setdefault(account.uid, account.name)
+        return names
+
+    @cached_property
+    def uids(self):
+        return {account.name: account.uid for account in self.accounts}
+
+    def persons(self, uid):
+        """The uids of whoever stands behind a uid: his own, and that of whose subordinate ids it is one."""
+        if uid not in self._persons:
+            owners = {owner for owner, _ in self.owners(self.subordinate_uids, uid)}
+            self._persons[uid] = {uid} | {self.uids.get(owner, int(owner) if owner.isdigit() else uid) for owner in owners}
+        return self._persons[uid]
+
     def subordinate_to(self, uid):
         """The ranges of subordinate uids of an account."""
-        owners = {account.name for account in self.accounts if account.uid == uid} | {str(uid)}
-        return [each for each in self.subordinate_uids if each.owner in owners]
+        return self.ranges_by_uid.get(uid, [])
+
+    @cached_property
+    def ranges_by_uid(self):
+        found = defaultdict(list)
+        for each in self.subordinate_uids:
+            uid = self.uids.get(each.owner, int(each.owner) if each.owner.isdigit() else None)
+            found[uid].append(each)
+        return found
 
 
 def distinct(users):

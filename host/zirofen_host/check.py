@@ -1,85 +1,330 @@
-"""A snapshot, the delegations in it, and the program's answer for each."""
+"""A snapshot, everybody asked of everything in it, and what to make of the answers."""
 import os
-import subprocess
+import shutil
 import tempfile
-from collections import namedtuple
+from collections import defaultdict
+from functools import cached_property
 
-from zirofen_host.delegations import Delegations, accounts_of
+from zirofen_host import report as reporting
+from zirofen_host.asking import CONTAINED, Answer, Program, Refused, worst
+from zirofen_host.delegations import accounts_of
 from zirofen_host.fault import FAULT, Fault
-from zirofen_host.unseen import Unseen
+from zirofen_host.mount import MANAGERS_MARK
+from zirofen_host.names import Names, plain
+from zirofen_host.opened import Openings, read_kernel_list, what_differs
+from zirofen_host.profile import ANYBODY, CONTROL_FILES, KERNEL_LIST, SETTINGS, is_other_limit
+from zirofen_host.questions import Questions, unit_of
+from zirofen_host.shell import change_commands, closing_commands
+from zirofen_host.unseen import Line, Unseen
 
 HERE = os.path.dirname(os.path.dirname(os.path.realpath(__file__)))
 PROGRAM = os.path.join(os.path.dirname(HERE), "zirofen")
-
-CONTAINED, ESCAPES, UNSETTLED = 0, 1, 2
-# the worst first: an answer that is missing may be any
-WORST_FIRST = (FAULT, ESCAPES, UNSETTLED, CONTAINED)
-
-Answer = namedtuple("Answer", "status lines")
+# files that do something, or list what isn't a limit
+NO_VALUE = {"cgroup.threads", "cgroup.kill", "memory.reclaim"}
+OVER, UNKNOWN = "already-over", "unknown"
 
 
-def command(program, tree, delegation):
-    path, user = delegation
-    groups = [word for gid in user.gids for word in ("--gid", str(gid))]
-    return [program, "check", "--tree", tree, "--uid", str(user.uid), *groups, "--subtree", path]
+class Entry:
+    """What lets somebody in, with all whom it does and to what."""
+
+    def __init__(self, path, name, entry):
+        self.path, self.name, self.entry = path, name, entry
+        self.whom = defaultdict(set)
+        self.subtrees = set()
+        self.worst = None
+        # a pair of each class that it lets in, to be advised of
+        self.pairs = {}
+        self.changes = []
+
+    def add(self, user, subtree, answer):
+        self.subtrees.add(subtree)
+        by = user.class_of(self.entry) if self.entry else "owner"
+        number = {"owner": user.uid, "group": self.entry and self.entry.gid}.get(by)
+        self.whom[by, number].add(user.uid)
+        self.pairs.setdefault(by, (user, subtree))
+        if self.worst is None or worst({answer.status, self.worst[2].status}) != self.worst[2].status:
+            self.worst = user, subtree, answer
 
 
-def ask(program, tree, delegation):
-    """The program's answer; anything that isn't one of its three is a fault, whose line it is."""
-    try:
-        words = command(program, tree, delegation)
-        ended = subprocess.run(words, stdin=subprocess.DEVNULL, capture_output=True, text=True)
-    except OSError as error:
-        raise Fault(f"can't run {program}: {error.strerror}") from None
-    lines = ended.stdout.splitlines()
-    word = lines[0].split(" ")[0] if lines else ""
-    words = {CONTAINED: "contained", ESCAPES: "escapes", UNSETTLED: "unsettled"}
-    if words.get(ended.returncode) == word:
-        return Answer(ended.returncode, lines)
-    told = ended.stderr.splitlines() or [f"ended with status {ended.returncode}"]
-    return Answer(FAULT, [told[-1]])
+class Judged:
+    """The pairs that aren't contained, as what is above, what is the holders' own, and the entries that let in."""
+
+    def __init__(self, questions, answers, cut):
+        self.questions = questions
+        self.entries, self.above, self.faults = {}, {}, {}
+        # the worst answer of each uid that holds a subtree
+        self.own = {}
+        for each in cut:
+            line = f"{each.count} of his groups matter here, and the program takes 32: nothing was asked"
+            self.add(each.user, each.subtree, Answer(FAULT, [line]))
+        for (user, subtree), answer in sorted(answers.items(), key=lambda item: (item[0][1], item[0][0].uid != ANYBODY, item[0][0])):
+            self.add(user, subtree, answer)
+
+    def add(self, user, subtree, answer):
+        is_own, is_above = self.questions.holds(user, subtree), False
+        if answer.status == FAULT:
+            self.faults.setdefault((user, answer.lines[0]), []).append(subtree)
+        elif handed := self.questions.handed_above(user, subtree):
+            is_above = True
+            self.above.setdefault((user.uid, handed), set()).add(subtree)
+        else:
+            for path, name, entry in self.failing(user, subtree):
+                found = self.entries.setdefault((path, name), Entry(path, name, entry))
+                found.add(user, subtree, answer)
+        if is_own:
+            self.add_own(user, subtree, answer, is_above)
+
+    def add_own(self, user, subtree, answer, is_above):
+        """The worst of a uid's answers; what counts goes before what is expected."""
+        before = self.own.get((user.uid, subtree))
+        if before:
+            statuses = {before[1].status, answer.status}
+            is_worse = worst(statuses) != before[1].status if is_above == before[2] else before[2]
+        if not before or is_worse:
+            self.own[user.uid, subtree] = user, answer, is_above
+
+    def failing(self, user, subtree):
+        """The entries that a guard stands on and that he reaches; what the program told rests on one of these."""
+        found = []
+        for each in self.questions.guarded[subtree]:
+            entry = self.questions.delegations.entry(each.path, each.name)
+            if user.reaches(entry):
+                found.append((each.path, each.name, entry))
+        if self.questions.already_over(subtree):
+            found.append((subtree, OVER, None))
+        return found or [(subtree, UNKNOWN, None)]
 
 
-def ask_all(program, snapshot, delegations, kept=None):
-    """The answers on one text, which is kept where a file is named for it."""
+class Checked:
+    """A host that was asked, on its way to a report."""
+
+    def __init__(self, snapshot, options, program):
+        self.snapshot, self.options, self.program = snapshot, options, program
+        self.accounts = accounts_of(options, snapshot.running.values())
+        self.names = Names(self.accounts)
+        marks = {path: found.marks for path, found in snapshot.rows_found.items() if found.marks}
+        self.questions = Questions(snapshot.tree, self.accounts, marks)
+        plan, cut = self.questions.plan
+        self.asked = {user for users, _ in plan for user in users}
+        answers = program.ask(plan)
+        further = self.questions.further(answers)
+        self.asked |= {user for users, _ in further for user in users}
+        self.judged = Judged(self.questions, {**answers, **program.ask(further)}, cut)
+        self.is_asked = bool(plan or cut)
+        self.kernel_list = read_kernel_list(None if options.plain_folder else KERNEL_LIST)
+        self.changed = set()
+
+    def answers_of(self, subtree):
+        """What those who hold a subtree were answered, each answer once with whom it is of."""
+        groups = defaultdict(list)
+        for uid in sorted(self.questions.holders[subtree].uids):
+            asked = [user for user in self.asked_by_uid[uid] if self.questions.holds(user, subtree)]
+            asked = max(asked, key=lambda user: len(user.gids), default=None)
+            contained = (asked, Answer(CONTAINED, ["contained"]), False)
+            user, answer, is_above = self.judged.own.get((uid, subtree), contained)
+            if user is None:
+                raise Fault(f"uid {uid} holds {subtree} and wasn't asked of it: this helper is wrong")
+            groups[tuple(answer.lines), is_above].append((uid, user))
+        return [self.answer(subtree, lines, is_above, found) for (lines, is_above), found in sorted(groups.items())]
+
+    def answer(self, subtree, lines, is_above, found):
+        holders = self.questions.holders[subtree]
+        uids = [uid for uid, _ in found]
+        is_one = len(uids) == 1
+        gids = list(found[0][1].gids if found[0][1] else ()) if is_one else holders.ids if holders.by == "group" else []
+        who = ",".join(map(str, uids)) if len(uids) <= 3 else f"{len(uids)} users"
+        return {"who": who, "uids": uids[:reporting.SHOWN], "users": len(uids), "gids": gids, "lines": list(lines),
+                "is_above": is_above}
+
+    @cached_property
+    def asked_by_uid(self):
+        by_uid = defaultdict(list)
+        for user in sorted(self.asked):
+            by_uid[user.uid].append(user)
+        return by_uid
+
+    def subtree(self, path):
+        holders = self.questions.holders[path]
+        return {"path": path, "meant": self.questions.meant.get(path), "unit": unit_of(path),
+                "held_by": {"by": holders.by, "ids": holders.ids}, "answers": self.answers_of(path)}
+
+    def whom(self, found):
+        """Whom an entry lets in, by owner, group and everybody."""
+        told = []
+        for by, number, uids in found:
+            name = {"owner": self.names.user, "group": self.names.group}.get(by, lambda _: "everybody")(number)
+            users = [self.names.member(uid) for uid in sorted(uids)] if by == "group" else []
+            told.append({"by": by, "id": number, "name": name, "users": users})
+        return told
+
+    def entry(self, found):
+        user, subtree, answer = found.worst
+        whom = sorted((by, number, uids) for (by, number), uids in found.whom.items())
+        # an entry of others is everybody's; who of them was asked is among the users
+        is_own = self.questions.holds(user, subtree)
+        example = None if is_own else {"who": self.names.who(user), "uid": user.uid, "gids": list(user.gids),
+                                       "subtree": subtree, "lines": answer.lines}
+        return {"path": found.path, "entry": found.name, "owner": self.owner(found.entry), "answer": answer.lines[0].split(" ")[0],
+                "whom": self.whom(whom), "subtrees": sorted(found.subtrees), "example": example,
+                "changes": self.commands(found.changes),
+                "setting": setting_of(found.path, found.name)}
+
+    def owner(self, entry):
+        return {"uid": entry.uid, "gid": entry.gid, "mode": f"{entry.mode:03o}"} if entry else None
+
+    def advise(self):
+        """Asks for advice once for each class of each entry, and gives each entry the changes of it."""
+        if not self.program.has_advise:
+            return
+        covered, pairs = set(), []
+        for key, found in self.judged.entries.items():
+            for by, (user, subtree) in found.pairs.items():
+                if (key, by) not in covered:
+                    pairs.append((user, subtree))
+                    covered |= {((path, name), user.class_of(entry) if entry else by)
+                                for path, name, entry in self.judged.failing(user, subtree)}
+        for pair, advice in zip(pairs, self.program.at_once(self.advice, pairs)):
+            self.take_advice(pair, advice)
+
+    def advice(self, pair):
+        """What the program advises for a pair, or the line of its fault."""
+        try:
+            return [(words, changes, self.commands(changes)) for words, changes in self.program.advise(*pair)]
+        except (Refused, Fault) as fault:
+            return str(fault)
+
+    def take_advice(self, pair, advice):
+        if isinstance(advice, str):
+            self.judged.faults.setdefault((pair[0], advice), []).append(pair[1])
+            return
+        for words, changes, _ in advice:
+            found = self.judged.entries.get((words[1], words[2] if len(words) > 2 else OVER))
+            if found:
+                found.changes += changes
+
+    def commands(self, changes):
+        return change_commands(self.options.mount, changes, self.questions.delegations.entry)
+
+    def opened(self):
+        openings = Openings(self.snapshot, self.questions, self.kernel_list).find(self.judged.entries)
+        found = []
+        for each in openings:
+            self.changed.add((each.path, each.file))
+            found.append({"path": each.path, "file": each.file, "owner": self.owner(each.entry),
+                          "whom": self.whom([(whom.by, whom.id, whom.uids) for whom in each.whom]),
+                          "changes": closing_commands(self.options.mount, each.path, {each.file: each.entry}),
+                          "setting": setting_of(each.path, each.file)})
+        return found
+
+    def differs(self):
+        """What else isn't as the manager leaves it where its mark stands."""
+        found = []
+        for path, why in self.questions.meant.items():
+            if why != MANAGERS_MARK:
+                continue
+            differs = what_differs(self.snapshot, path, self.kernel_list)
+            told = self.changed | set(self.judged.entries)
+            differs = {name: entry for name, entry in differs.items() if (path, name) not in told}
+            if differs:
+                unit = unit_of(path)
+                setting = f"Delegate= and User= of {unit}" if unit else None
+                found.append({"path": path, "entries": sorted(differs), "setting": setting,
+                              "changes": closing_commands(self.options.mount, path, differs)})
+        return found
+
+    def faults(self):
+        return [{"who": self.names.who(user), "uid": user.uid, "gids": list(user.gids), "fault": line,
+                 "subtrees": subtrees} for (user, line), subtrees in self.judged.faults.items()]
+
+    def above(self):
+        return [{"who": self.names.user(uid), "uid": uid, "handed": handed, "subtrees": sorted(subtrees)}
+                for (uid, handed), subtrees in sorted(self.judged.above.items())]
+
+    def unseen(self, mounts):
+        systemctl = None if self.options.plain_folder or not os.path.isdir("/run/systemd/system") else shutil.which("systemctl")
+        lines = Unseen(self.snapshot, self.questions, self.names, self.options.proc, systemctl).lines()
+        if "nsdelegate" in mounts.options(self.options.mount):
+            lines.append(Line("nsdelegate", "", "the mount has it: what runs in a cgroup namespace is kept in there, "
+                              "safer than the answers"))
+        return [line._asdict() for line in lines]
+
+    def report(self, mounts):
+        """The value of the report, with its status."""
+        report = reporting.base(self.program.version, self.options.mount)
+        report["asked"] = self.is_asked
+        report["has_advice"] = self.program.has_advise
+        self.advise()
+        report["subtrees"] = [self.subtree(path) for path in self.questions.subtrees]
+        report["entries"] = [self.entry(found) for _, found in sorted(self.judged.entries.items())]
+        report["opened"] = self.opened()
+        report["faults"] = self.faults()
+        report["differs"] = self.differs()
+        report["above"] = self.above()
+        report["unseen"] = self.unseen(mounts)
+        report["snapshot"] = [{"kind": note.kind, "place": note.place, "text": note.detail} for note in self.snapshot.notes]
+        report["status"] = reporting.status_of(report)
+        return report
+
+    def host(self):
+        """Users, groups, cgroups and processes, from which a page or a tree can be drawn."""
+        users = {user.uid for user in self.asked} | {uid for _, uid, _ in self.snapshot.tree.processes}
+        return {"users": [{"uid": uid, "name": self.accounts.names.get(uid),
+                           "groups": [list(user.gids) for user in self.asked_by_uid.get(uid, ())]} for uid in sorted(users)],
+                "groups": [{"gid": gid, "name": name} for gid, name in sorted(self.names.groups.items())],
+                "cgroups": [self.cgroup(path) for path in sorted(self.snapshot.rows_found, key=lambda path: path.split("/"))],
+                "processes": [self.process(*each) for each in sorted(self.snapshot.tree.processes)]}
+
+    def process(self, pid, uid, at):
+        process = self.snapshot.running[pid]
+        return {"pid": pid, "uid": uid, "at": at, "name": plain(process.name), "capabilities": list(process.capabilities)}
+
+    def cgroup(self, path):
+        row, found = self.snapshot.tree.rows[path], self.snapshot.rows_found[path]
+        carried = {name: {**self.owner(row.entry(name)), **({"value": row.values[name]} if name in row.values else {})}
+                   for name in (*CONTROL_FILES, *self.snapshot.tree.limit_files(path))}
+        others = {name: {**self.owner(entry), "value": self.text_of(path, name)} for name, entry in found.files.items()
+                  if is_other_limit(name)}
+        return {"path": path, "dir": self.owner(row.directory), "enabled": list(row.enabled), "unit": unit_of(path),
+                "marks": {name: value.decode("ascii", "replace") for name, value in sorted(found.marks.items())},
+                "files": {**carried, **others}}
+
+    def text_of(self, path, name):
+        """What a file has beside the tree text, or nothing where it can't be read; it isn't read twice as the others are."""
+        if name in NO_VALUE:
+            return None
+        try:
+            with open(f"{self.options.mount}{path}/{name}", encoding="ascii", errors="replace") as opened:
+                return opened.read().strip()
+        except OSError:
+            return None
+
+
+def setting_of(path, name):
+    """The setting of a unit that brings back what a file has."""
+    unit, setting = unit_of(path), SETTINGS.get(name)
+    return f"{setting} of {unit}" if unit and setting else None
+
+
+def add_program_arguments(parser):
+    """The options of every script that asks the program."""
+    parser.add_argument("--keep", metavar="FILE", help="where the tree text is left, for further questions")
+    parser.add_argument("--zirofen", metavar="PROGRAM", default=os.environ.get("ZIROFEN", PROGRAM),
+                        help="the program, also by the environment's ZIROFEN (the wrapper beside this folder)")
+
+
+def in_text(snapshot, options, ask):
+    """Calls with the program and the snapshot's text, which is kept where a file is named for it."""
     with tempfile.TemporaryDirectory() as folder:
-        tree = kept or os.path.join(folder, "tree.toml")
+        tree = options.keep or os.path.join(folder, "tree.toml")
         with open(tree, "w", encoding="ascii") as out:
             out.write(snapshot.text())
-        return [ask(program, tree, delegation) for delegation in delegations]
-
-
-def table(delegations, answers):
-    """Columns of uid, groups, answer and path, which may be long; what an answer shows stands below it."""
-    rows = [("UID", "GIDS", "ANSWER", "PATH")]
-    rows += [(str(each.user.uid), ",".join(map(str, each.user.gids)) or "-", answer.lines[0], each.path)
-             for each, answer in zip(delegations, answers)]
-    widths = [max(len(row[column]) for row in rows) for column in range(3)]
-    further = [()] + [answer.lines[1:] for answer in answers]
-    for row, below in zip(rows, further):
-        yield "  ".join([word.ljust(width) for word, width in zip(row, widths)] + [row[3]])
-        yield from (f"    {line}" for line in below)
-
-
-def unseen_lines(snapshot, accounts, delegations, mounts, options):
-    """What was looked at by nobody, for each delegation and for all."""
-    unseen = Unseen(snapshot, accounts, delegations, options.proc)
-    for each in delegations:
-        for line in unseen.lines(each):
-            yield f"{each.user.uid} {each.path}: {line.kind}: {line.text}"
-    if "nsdelegate" in mounts.options(options.mount):
-        yield "nsdelegate: the mount has it: what runs in a cgroup namespace is kept in there, safer than the answers"
-    yield from (f"snapshot: {line}" for line in snapshot.note_lines())
+        return ask(Program(options.zirofen, tree))
 
 
 def report(snapshot, mounts, options):
-    """The lines of the report, and its status."""
-    accounts = accounts_of(options, snapshot.running.values())
-    delegations = Delegations(snapshot.tree, accounts).find()
-    answers = ask_all(options.zirofen, snapshot, delegations, options.keep)
-    lines = list(table(delegations, answers)) if delegations else ["no delegation was found"]
-    lines += ["", "What none of these answers looks at (docs/HOSTS.md):"]
-    # users that differ in their groups alone have most of these lines in common
-    lines += dict.fromkeys(unseen_lines(snapshot, accounts, delegations, mounts, options))
-    found = {answer.status for answer in answers}
-    return lines, next((status for status in WORST_FIRST if status in found), CONTAINED)
+    """The value of the report on a host."""
+    def ask(program):
+        checked = Checked(snapshot, options, program)
+        value = checked.report(mounts)
+        return {**value, **checked.host()} if options.json else value
+    return in_text(snapshot, options, ask)

@@ -3,11 +3,11 @@ import sys
 from collections import namedtuple
 
 from zirofen_host.accounts import Accounts
-from zirofen_host.profile import ANYBODY, CONTROL_FILES, MOST_GROUPS, parent_of
+from zirofen_host.profile import ANYBODY, HANDED_OVER, MOST_GROUPS, ancestors, parent_of
 from zirofen_host.users import User
 
 Delegation = namedtuple("Delegation", "path user")
-HANDED_OVER = ("dir", *CONTROL_FILES)
+Guarded = namedtuple("Guarded", "guard path name")
 
 
 class Delegations:
@@ -31,14 +31,15 @@ class Delegations:
 
     def candidates(self, row):
         """The users that a row's entries may mean."""
-        users = set()
-        for entry in self.entries(row):
-            if entry.uid:
-                users.update(self.users("uid", entry.uid))
-            if entry.mode & 0o020:
-                users.update(self.users("gid", entry.gid))
-            if entry.mode & 0o002:
-                users.add(User(ANYBODY, ()))
+        return {user for entry in set(self.entries(row)) for user in self.users_at(entry)}
+
+    def users_at(self, entry):
+        """The users who reach an entry, as far as it names them."""
+        users = list(self.users("uid", entry.uid)) if entry.uid else []
+        if entry.mode & 0o020:
+            users += self.users("gid", entry.gid)
+        if entry.mode & 0o002:
+            users.append(User(ANYBODY, ()))
         return users
 
     def users(self, kind, number):
@@ -47,29 +48,47 @@ class Delegations:
             found = self.accounts.users_of(number) if kind == "uid" else self.accounts.members_of(number)
             if kind == "gid" and number and not found:
                 found = [User(ANYBODY, (number,))]
-            self.known[kind, number] = [self.with_few_groups(user) for user in found]
+            self.known[kind, number] = found
         return self.known[kind, number]
 
-    def with_few_groups(self, user):
-        """No more groups than a user of the program may have: those go first that the tree has nowhere."""
-        if len(user.gids) <= MOST_GROUPS:
-            return user
-        others = sorted(user.gids[1:], key=lambda gid: gid not in self.gids_of_tree)
-        return User(user.uid, (user.gids[0], *sorted(others[:MOST_GROUPS - 1])))
+    def guarded(self, subtree):
+        """The entries that a containment of a subtree stands on, in the order of the guards."""
+        parent = parent_of(subtree)
+        yield from (Guarded("common-ancestor", place, "cgroup.procs") for place in ancestors(subtree))
+        yield from (Guarded("limit-file", subtree, file) for file in self.tree.limit_files(subtree))
+        yield Guarded("parent-control", parent, "cgroup.subtree_control")
+        yield Guarded("parent-dir", parent, "dir")
+
+    def entry(self, path, name):
+        return self.tree.rows[path].entry(name)
 
     def reached(self, user, path):
         row = self.tree.rows[path]
         return {name for name in HANDED_OVER if user.reaches(row.entry(name))}
 
-    def is_handed(self, user, path):
-        """Whether he reaches a part of a delegation that he doesn't one level up, or a limit though nothing is his there.
+    def reached_newly(self, user, path):
+        """What is handed over at a cgroup, of which he doesn't reach the same one level up.
         What is his at the root counts as handed to him at each cgroup below it, since the root is no subtree."""
         parent = parent_of(path)
-        above = set() if parent == "/" else self.reached(user, parent)
-        if self.reached(user, path) - above:
+        return self.reached(user, path) - (set() if parent == "/" else self.reached(user, parent))
+
+    def is_handed(self, user, path):
+        """Whether he reaches a part of a delegation that he doesn't one level up, or a limit though nothing is his there."""
+        if self.reached_newly(user, path):
             return True
+        parent = parent_of(path)
+        above = set() if parent == "/" else self.reached(user, parent)
         row = self.tree.rows[path]
         return not above and any(user.reaches(row.entry(file)) for file in self.tree.limit_files(path))
+
+    def with_few_groups(self, user, first):
+        """No more groups than a user of the program may have, and which of the tree's were left out: those of `first` go in
+        before others of the tree, and these before groups that the tree has nowhere."""
+        if len(user.gids) <= MOST_GROUPS:
+            return user, []
+        others = sorted(user.gids[1:], key=lambda gid: (gid not in first, gid not in self.gids_of_tree))
+        left_out = [gid for gid in others[MOST_GROUPS - 1:] if gid in self.gids_of_tree]
+        return User(user.uid, (user.gids[0], *sorted(others[:MOST_GROUPS - 1]))), left_out
 
 
 def add_account_arguments(parser):
@@ -83,10 +102,23 @@ def accounts_of(options, processes):
     return Accounts.of_host(processes)
 
 
-def line(delegation):
-    gids = ",".join(map(str, delegation.user.gids))
-    return f"{delegation.user.uid}\t{gids}\t{delegation.path}\n"
+def line(path, user):
+    gids = ",".join(map(str, user.gids)) or "-"
+    return f"{user.uid}\t{gids}\t{path}\n"
 
 
 def write_lines(delegations):
-    sys.stdout.writelines(map(line, delegations))
+    """A line for each, and one on standard error for a user whose groups don't all go in. Whether all that matter do."""
+    found = delegations.find()
+    first = {delegations.entry(each.path, each.name).gid for path in {each.path for each in found}
+             for each in delegations.guarded(path)}
+    cut, all_matter = {}, True
+    for path, user in found:
+        user, left_out = delegations.with_few_groups(user, first)
+        all_matter = all_matter and first.isdisjoint(left_out)
+        cut.update({user.uid: len(left_out)} if left_out else {})
+        sys.stdout.write(line(path, user))
+    for uid, count in sorted(cut.items()):
+        print(f"groups: uid {uid}: {count} of his groups that stand in the tree left out: a user has {MOST_GROUPS} at most",
+              file=sys.stderr)
+    return all_matter

@@ -26,4 +26,8 @@ def run(name, main):
     except OSError as error:
         print(f"{name}: {error}", file=sys.stderr)
         status = FAULT
+    except Exception as error:
+        # a traceback would end with 1, which is another answer's status
+        print(f"{name}: a fault of this helper: {error!r}", file=sys.stderr)
+        status = FAULT
     sys.exit(status)

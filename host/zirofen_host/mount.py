@@ -11,6 +11,7 @@ from zirofen_host.users import Entry
 # the number of the cgroup namespace that a kernel begins with
 FIRST_NAMESPACE = "cgroup:[4026531835]"
 WHOLE_UID_MAP = ["0", "0", "4294967295"]
+MANAGERS_MARK, OWNERS_MARK = MARKS = ("trusted.delegate", "user.delegate")
 MOST_WALKS = 20
 # a kernel takes no path from 4096 bytes on, that of a file in the folder included
 LONGEST_FOLDER = 4000
@@ -25,11 +26,12 @@ class Found:
     enabled: list
     available: list
     kind: str
+    marks: dict
     pids: list
 
     def key(self):
         """What two walks have to agree on; processes come and go."""
-        return self.directory, self.files, self.texts, self.enabled, self.available, self.kind
+        return self.directory, self.files, self.texts, self.enabled, self.available, self.kind, self.marks
 
 
 class Vanished(Exception):
@@ -89,7 +91,7 @@ class Walk:
         return Found(directory=entry_of(os.lstat(full)), files=files, texts=texts,
                      enabled=text_of(full, "cgroup.subtree_control").split(),
                      available=text_of(full, "cgroup.controllers").split(),
-                     kind=kind, pids=pids_of(full)), names
+                     kind=kind, marks=marks_of(full), pids=pids_of(full)), names
 
     def children(self, path, names):
         """The paths below that are to be walked; the others are written down as left out."""
@@ -125,6 +127,17 @@ class Walk:
 
 def entry_of(status):
     return Entry(status.st_uid, status.st_gid, stat.S_IMODE(status.st_mode))
+
+
+def marks_of(folder):
+    """The marks of delegation that a service manager sets: `trusted.` ones are root's, `user.` ones any owner's."""
+    try:
+        return {name: os.getxattr(folder, name) for name in os.listxattr(folder) if name in MARKS}
+    except OSError as error:
+        # none any more, or a file system that has no attributes
+        if error.errno in (errno.ENODATA, errno.ENOTSUP):
+            return {}
+        raise
 
 
 def text_of(folder, file):

@@ -7,7 +7,12 @@ from zirofen_host.users import User
 KERNEL_THREAD = 0x00200000
 WRITES = os.O_WRONLY | os.O_RDWR
 
-Process = namedtuple("Process", "pid uid user is_kernel_thread")
+# capabilities by which a process passes over owners, or becomes who does, by their numbers in CapEff
+CAPABILITIES = {0: "CHOWN", 1: "DAC_OVERRIDE", 3: "FOWNER", 6: "SETGID", 7: "SETUID", 16: "SYS_MODULE", 17: "SYS_RAWIO",
+                19: "SYS_PTRACE", 21: "SYS_ADMIN"}
+FIRST_USER_NAMESPACE = "user:[4026531837]"
+
+Process = namedtuple("Process", "pid uid user is_kernel_thread name capabilities", defaults=("", ()))
 
 
 def status_fields(text):
@@ -26,7 +31,17 @@ def read_process(proc, pid):
     gid = int(fields["Gid"][1])
     others = [int(group) for group in fields.get("Groups", ()) if int(group) != gid]
     return Process(pid, int(fields["Uid"][0]), User(int(fields["Uid"][1]), (gid, *others)),
-                   flags & KERNEL_THREAD != 0)
+                   flags & KERNEL_THREAD != 0, " ".join(fields.get("Name", ())), capabilities_of(proc, pid, fields))
+
+
+def capabilities_of(proc, pid, fields):
+    """Those that count on the host: a user namespace's own don't reach outside of it."""
+    bits = int(fields.get("CapEff", ("0",))[0], 16)
+    names = tuple(name for number, name in CAPABILITIES.items() if bits >> number & 1)
+    try:
+        return names if not names or os.readlink(f"{proc}/{pid}/ns/user") == FIRST_USER_NAMESPACE else ()
+    except OSError:
+        return names
 
 
 def read_processes(proc):

@@ -24,6 +24,29 @@ MOST_PROCESSES = 4096
 LONGEST_PATH = 4095
 MOST_GROUPS = 32
 
+# what is handed over with a subtree's top: the kernel's own list where it has one, in KERNEL_LIST
+HANDED_OVER = ("dir", *CONTROL_FILES)
+KERNEL_LIST = "/sys/kernel/cgroup/delegate"
+USUAL_LIST = (*CONTROL_FILES, "cgroup.threads", "memory.oom.group", "memory.reclaim")
+
+# files that nobody sets anything by, whatever their owner and mode; pressure files only wake who waits on them
+_READ_ONLY = re.compile(r"(.*\.)?(controllers|events|events\.local|stat|stat\.local|numa_stat|current|peak|capacity"
+                        r"|effective|isolated|slabinfo|pressure)\Z")
+# limits beside the profile's own
+_OTHER_LIMIT = re.compile(r"cgroup\.(freeze|kill|type|threads)|cpu\.(max|max\.burst|idle|weight\.nice|uclamp\.(min|max))"
+                          r"|memory\.(swap\.(max|high)|zswap\.(max|writeback)|oom\.group|reclaim)"
+                          r"|io\.(max|weight|latency|bfq\.weight|prio\.class)"
+                          r"|cpuset\.(cpus|mems)(\.partition|\.exclusive)?"
+                          r"|(hugetlb|rdma|misc|dmem)\.(.*\.)?(max|min|low)\Z")
+
+# the settings of a unit that bring a file's value back
+SETTINGS = {"cgroup.max.descendants": None, "cgroup.max.depth": None, "cpu.weight": "CPUWeight=",
+            "memory.min": "MemoryMin=", "memory.low": "MemoryLow=", "memory.high": "MemoryHigh=",
+            "memory.max": "MemoryMax=", "pids.max": "TasksMax=", "cpu.max": "CPUQuota=", "cpu.idle": "CPUWeight=",
+            "cpu.weight.nice": "CPUWeight=", "memory.swap.max": "MemorySwapMax=", "memory.zswap.max": "MemoryZSwapMax=",
+            "io.weight": "IOWeight=", "io.latency": "IODeviceLatencyTargetSec=", "io.max": "IOReadBandwidthMax= and its like",
+            "cpuset.cpus": "AllowedCPUs=", "cpuset.mems": "AllowedMemoryNodes="}
+
 # stands for a user of whom nothing is known but what everybody may do
 ANYBODY = 65534
 
@@ -33,6 +56,18 @@ _NAME = re.compile(rb"[\x21-\x2e\x30-\x7e]{1,255}\Z")
 def is_name(name):
     """Whether bytes are a cgroup's name in a tree text."""
     return _NAME.match(name) is not None and name.decode("ascii") not in RESERVED_NAMES
+
+
+def is_set_by(file, entry):
+    """Whether something is set by writing a file, as far as its name and its mode tell."""
+    if file in CONTROL_FILES or file in LIMIT_FILES or _OTHER_LIMIT.match(file):
+        return True
+    return not _READ_ONLY.match(file) and bool(entry.mode & 0o222)
+
+
+def is_other_limit(file):
+    """Whether a file is a limit that a tree text doesn't carry."""
+    return bool(_OTHER_LIMIT.match(file)) and file not in LIMIT_FILES
 
 
 def accepts(file, value):
@@ -52,6 +87,12 @@ def is_inside(path, subtree):
     """Whether a path is that of a subtree or of what is below it."""
     slash = "/" if isinstance(path, str) else b"/"
     return subtree == slash or path == subtree or path.startswith(subtree + slash)
+
+
+def ancestors(path):
+    """The proper ancestors, the nearest first."""
+    while (path := parent_of(path)) is not None:
+        yield path
 
 
 def shown(path):

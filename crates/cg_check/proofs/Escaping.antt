@@ -31,8 +31,8 @@ use Rattle.cg_runs.proofs.BrokenLaws.{whole-broken, broken-whole}
 use Rattle.cg_tries.specs.Tries.{opening_of, opening, with_opening, plain_tries}
 use Rattle.cg_tries.specs.Escapes.{breaks, first_escape, IsUnbroken}
 use Rattle.cg_tries.proofs.Seen.{is_empty, empty_is, breaks-run}
-use Rattle.cg_check.specs.Opened.{opened_state, is_free, unless_free}
-use Rattle.cg_check.proofs.Openings.{unbroken-opened, subtree-opened, first_escape-is}
+use Rattle.cg_check.specs.Opened.{is_free}
+use Rattle.cg_check.proofs.Openings.{opened_state, unless_free, unbroken-opened, subtree-opened, first_escape-is}
 
 -- ---- the opening
 

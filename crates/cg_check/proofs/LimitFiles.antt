@@ -40,7 +40,6 @@ use Rattle.cg_tries.specs.Tries.{other_value, set_tries, control_tries, plain_tr
 use Rattle.cg_tries.specs.Escapes.{breaks, first_escape}
 use Rattle.cg_tries.proofs.Seen.{is_empty, empty_is, keeps, breaks-run}
 use Rattle.cg_tries.proofs.Single.{set_try}
-use Rattle.cg_check.specs.Opened.{opened_state}
 use Rattle.cg_check.proofs.Lists.{all-append, all-flat_map, all-present, all-each}
 use Rattle.cg_check.specs.Answers.{answer_from, answer, MayBeUnsettled}
 use Rattle.cg_check.specs.declared.answer.Answer.TheVariants.{Escapes, Unsettled}
@@ -48,7 +47,7 @@ use Rattle.cg_check.proofs.Escaping.{escape-over}
 use Rattle.cg_check.proofs.AnswerLaws.{escape-answer}
 use Rattle.cg_check.proofs.Wider.{IsWider, wider-itself, wider-all, IsOpening, writes-bit}
 use Rattle.cg_check.proofs.Monotone.{both_none}
-use Rattle.cg_check.proofs.Openings.{opened-bit, opening-of_one, free_allowed, wider-opened, opened-breaks}
+use Rattle.cg_check.proofs.Openings.{opened_state, opened-bit, opening-of_one, free_allowed, wider-opened, opened-breaks}
 
 -- ---- lists
 

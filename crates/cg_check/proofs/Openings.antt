@@ -17,7 +17,7 @@ use Rattle.cg_tree.specs.States.{State, row_at, entry_at}
 use Rattle.cg_tree.specs.WellFormed.{IsWellFormed}
 use Rattle.cg_ops.specs.Clauses.{present, first}
 use Rattle.cg_ops.specs.Bars.{bars}
-use Rattle.cg_ops.specs.Steps.{HasMode, HaveModes}
+use Rattle.cg_ops.specs.Steps.{after_all, HasMode, HaveModes}
 use Rattle.cg_ops.specs.declared.operation.Op.{Op}
 use Rattle.cg_ops.specs.declared.operation.Op.TheVariants.{Chmod, Move, Mkdir, Rmdir, Control, Set}
 use Rattle.cg_ops.proofs.StepFormed.{formed-after_all}
@@ -26,14 +26,24 @@ use Rattle.cg_guards.specs.Guarding.{IsSubtree}
 use Rattle.cg_runs.specs.Held.{by_user}
 use Rattle.cg_tries.specs.Tries.{other_value, set_tries, control_tries, move_tries, probe, numbers_from, probe_tries_at, probe_tries, plain_tries, opening_of, opening, with_opening}
 use Rattle.cg_tries.specs.Escapes.{breaks, first_escape, IsUnbroken}
-use Rattle.cg_tries.specs.Finding.{allowed, changes_enabled}
+use Rattle.cg_tries.specs.Finding.{allowed}
+use Rattle.cg_tries.proofs.Controls.{changes_enabled}
 use Rattle.cg_tries.proofs.Seen.{unbroken-alike}
 use Rattle.cg_tries.proofs.Single.{nothing_bars}
-use Rattle.cg_check.specs.Opened.{opened_state, is_free, unless_free}
+use Rattle.cg_check.specs.Opened.{is_free}
 use Rattle.cg_check.proofs.Lists.{all-flat_map, all-present, all-both, all-each, find-same, find-all, find-passes}
 use Rattle.cg_check.proofs.Wider.{IsWider, wider-itself, wider-all, IsOpening, alike-wider, breaks-opening}
 use Rattle.cg_check.proofs.Tried.{with_true, has_effect, IsTried, IsExact, exact-plain_tries}
 use Rattle.cg_check.proofs.Monotone.{passes_at-stays, move-stays, mkdir-stays, rmdir-stays, set-stays, control-stays}
+
+-- what the opening leaves
+abbrev pub opened_state : State → Identity → Names → State
+opened_state st user subtree = after_all st (by_user user (opening st user subtree))
+
+-- the operations as they are, or with others before them
+abbrev pub unless_free : Bool → List Op → List Op → List Op
+unless_free true opening ops = ops
+unless_free false opening ops = opening ++ ops
 
 -- ---- the opening
 

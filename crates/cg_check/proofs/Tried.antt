@@ -16,10 +16,10 @@ use Rattle.cg_guards.specs.Limits.{limits}
 use Rattle.cg_guards.specs.Guarding.{IsSubtree}
 use Rattle.cg_tries.specs.Tries.{other_value, set_tries, change_of, control_tries, across, move_tries, probe, numbers_from, free_probe, is_inside, probe_tries_at, probe_tries, plain_tries}
 use Rattle.cg_tries.specs.Escapes.{breaks, IsUnbroken}
-use Rattle.cg_tries.specs.Finding.{allowed, changes_enabled, passes_at}
+use Rattle.cg_tries.specs.Finding.{allowed, passes_at}
 use Rattle.cg_tries.proofs.Seen.{is_empty, breaks-run}
 use Rattle.cg_tries.proofs.Single.{set_try, rmdir_try, move_try}
-use Rattle.cg_tries.proofs.Controls.{control_try}
+use Rattle.cg_tries.proofs.Controls.{changes_enabled, control_try}
 use Rattle.cg_check.specs.Opened.{is_free}
 use Rattle.cg_check.proofs.Lists.{all-append, all-flat_map, all-present, all-map_filter, find-passes}
 use Rattle.cg_tries.proofs.Probes.{probe_try}

@@ -1,18 +1,11 @@
 -- How the first escape is found in the opened tree. Nothing in it has to be believed.
-use Rattle.std.specs.Prelude.{Bool, true, false, ◌&&◌, List, [], ◌∷◌, ◌++◌}
-use Rattle.cg_cgroup.specs.Paths.{Names, parent}
+use Rattle.std.specs.Prelude.{Bool, false, ◌&&◌, List, [], ◌∷◌}
+use Rattle.cg_cgroup.specs.Paths.{parent}
 use Rattle.cg_cgroup.specs.Identity.{Identity}
 use Rattle.cg_tree.specs.States.{State}
-use Rattle.cg_ops.specs.Steps.{after_all}
 use Rattle.cg_ops.specs.declared.operation.Op.{Op}
 use Rattle.cg_ops.specs.declared.operation.Op.TheVariants.{Mkdir}
-use Rattle.cg_runs.specs.Held.{by_user}
-use Rattle.cg_tries.specs.Tries.{opening}
 use Rattle.cg_tries.specs.Finding.{allowed, passes_at}
-
--- what the opening leaves
-abbrev pub opened_state : State → Identity → Names → State
-opened_state st user subtree = after_all st (by_user user (opening st user subtree))
 
 -- a try begins with an operation that nothing bars, and a process may pass to a cgroup that it makes
 abbrev pub is_free : State → Identity → List Op → Bool
@@ -20,8 +13,3 @@ is_free st user [] = false
 is_free st user (op ∷ []) = allowed st user op
 is_free st user (Mkdir path ∷ op ∷ ops) = allowed st user (Mkdir path) && passes_at st user (parent path)
 is_free st user (other ∷ op ∷ ops) = false
-
--- the operations as they are, or with others before them
-abbrev pub unless_free : Bool → List Op → List Op → List Op
-unless_free true opening ops = ops
-unless_free false opening ops = opening ++ ops

@@ -3,7 +3,7 @@ use cg_guards::guard::Failed;
 use cg_tries::operations::Operations;
 
 /// Whether a subtree is contained against a user.
-#[derive(Debug, Drop)]
+#[derive(Debug, PartialEq, Drop)]
 pub enum Answer {
     /// Whatever the user does, the subtree is held.
     Contained,
@@ -14,7 +14,7 @@ pub enum Answer {
 }
 
 /// Whether each subtree of a list is contained against each user of a list.
-#[derive(Debug, Drop)]
+#[derive(Debug, PartialEq, Drop)]
 pub enum AllAnswer {
     /// Every user with every subtree.
     Contained,

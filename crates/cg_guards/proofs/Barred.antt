@@ -28,7 +28,7 @@ use Rattle.cg_ops.specs.declared.outcome.Refusal.TheVariants.{NoSuchCgroup, NoSu
 use Rattle.cg_ops.proofs.ClauseLaws.{no_parts, no_unless, no_absent, no_present}
 use Rattle.cg_guards.specs.Guards.{limit_file, limit_files, parent_control, parent_dir, guarded_entries, guarded_entry, is_chmod_of, sets_guarded_mode}
 use Rattle.cg_guards.specs.Guarding.{IsSubtree, AreUnreached}
-use Rattle.cg_guards.proofs.Sound.{IsSound}
+use Rattle.cg_guards.specs.Sound.{IsSound}
 use Rattle.cg_guards.proofs.GuardedEntries.{contains-alone, limit_files-has, never_written, never_owned}
 
 module _ (st : State) (user : Identity) (subtree : Names) (sound : IsSound st) (sub : IsSubtree st subtree) where

@@ -45,6 +45,28 @@ depth-limit : (st : State) (subtree : Names) → fits_depth st subtree ≡ fits_
 depth-limit st subtree =
     elim (row_at st subtree) as (λ found. elim found [ None ↦ true | Some row ↦ is_within_limit (depth_below st subtree) row.max_depth.value ] ≡ fits_in (depth_below st subtree) (option_and_then (λ row. value_in row MaxDepth) found)) [ None ↦ refl | Some row ↦ refl ]
 
+in-most : (count : ℕ) (limit : Option Limit) → fits_in count limit ≡ true → (most : ℕ) → limit ≡ Some (At most) → count ≤ most
+in-most count limit h most is = leb-true count most (sym (ap (fits_in count) is) ∙ h)
+
+most-in : (count : ℕ) (limit : Option Limit) → ((most : ℕ) → limit ≡ Some (At most) → count ≤ most) → fits_in count limit ≡ true
+most-in count None within = refl
+most-in count (Some Max) within = refl
+most-in count (Some (At most)) within = le-leb count most (within most refl)
+
+-- a count fits exactly where it is no more than a limit that is a number
+module _ (st : State) (subtree : Names) where
+  pub descendants-most : fits_descendants st subtree ≡ true → (most : ℕ) → limits st subtree MaxDescendants ≡ Some (At most) → count_below st subtree ≤ most
+  descendants-most h = in-most (count_below st subtree) (limits st subtree MaxDescendants) (sym (descendants-limit st subtree) ∙ h)
+
+  pub most-descendants : ((most : ℕ) → limits st subtree MaxDescendants ≡ Some (At most) → count_below st subtree ≤ most) → fits_descendants st subtree ≡ true
+  most-descendants within = descendants-limit st subtree ∙ most-in (count_below st subtree) (limits st subtree MaxDescendants) within
+
+  pub depth-most : fits_depth st subtree ≡ true → (most : ℕ) → limits st subtree MaxDepth ≡ Some (At most) → depth_below st subtree ≤ most
+  depth-most h = in-most (depth_below st subtree) (limits st subtree MaxDepth) (sym (depth-limit st subtree) ∙ h)
+
+  pub most-depth : ((most : ℕ) → limits st subtree MaxDepth ≡ Some (At most) → depth_below st subtree ≤ most) → fits_depth st subtree ≡ true
+  most-depth within = depth-limit st subtree ∙ most-in (depth_below st subtree) (limits st subtree MaxDepth) within
+
 fewer : (less count : ℕ) (limit : Option Limit) → less ≤ count → fits_in count limit ≡ true → fits_in less limit ≡ true
 fewer less count None le h = refl
 fewer less count (Some Max) le h = refl

@@ -1,6 +1,10 @@
 -- No process crosses the edge of a subtree where the user writes no cgroup.procs above it.
-use Rattle.std.proofs.Common.{◌≡◌, ℕ, ◌<◌, Bool, true, false, cond, not, List, [], ◌∷◌, length, take, filter, nat_eq, refl, sym, ap, ◌∙◌, true≢false, Option, Some, None, is_some, option_map, option_and_then, ⊎_elim, arith, take-take, eqb-true}
+use Rattle.std.proofs.Common.{◌≡◌, ◌≢◌, ℕ, ◌<◌, Bool, true, false, cond, not, ◌||◌, List, [], ◌∷◌, length, take, filter, nat_eq, refl, sym, ap, ◌∙◌, true≢false, Option, Some, None, is_some, option_map, option_and_then, ⊎_elim, arith, take-take, eqb-true}
 use Rattle.std.proofs.lemmas.Bool.{cases_lt, true_from_ne_false, false_from_ne_true}
+use Rattle.std.specs.List.{list_any}
+use Rattle.std.specs.Ordering.{nat_cmp, eq_by_cmp}
+use Rattle.std.specs.Cmp.{unsigned_ties}
+use Rattle.std.specs.FinMap.{contains_key-keys}
 use Rattle.cg_cgroup.specs.Paths.{Names, inside, common}
 use Rattle.cg_cgroup.specs.Identity.{Identity}
 use Rattle.cg_cgroup.specs.Users.{writes}
@@ -26,7 +30,8 @@ use Rattle.cg_ops.proofs.StepEffects.{process_at-after}
 use Rattle.cg_guards.specs.Edge.{is_crossed, crossing}
 use Rattle.cg_guards.specs.Guards.{ancestor, ancestors}
 use Rattle.cg_guards.specs.Guarding.{IsSubtree, AreUnreached}
-use Rattle.cg_guards.proofs.Sound.{IsSound, take-there}
+use Rattle.cg_guards.specs.Sound.{IsSound}
+use Rattle.cg_guards.proofs.Sound.{take-there}
 use Rattle.cg_guards.proofs.GuardedEntries.{ancestors-has, never_written}
 
 -- ---- paths
@@ -135,3 +140,25 @@ none-crosses st new subtree = filter_none (λ pid. is_crossed subtree (place_at 
 
 pub none-crosses-same : (st : State) (subtree : Names) → crossing st st subtree ≡ []
 none-crosses-same st subtree = none-crosses st st subtree (λ q. stays-there subtree (place_at st q))
+
+-- ---- what no crossing says
+
+-- a PID that passes is left by a filter
+not_filtered : (p : ℕ → Bool) (pids : List ℕ) (pid : ℕ) → list_any (eq_by_cmp nat_cmp pid) pids ≡ true → p pid ≡ true → filter p pids ≢ []
+not_filtered p [] pid h passed none = true≢false (sym h)
+not_filtered p (first ∷ pids) pid h passed none =
+    elim (eq_by_cmp nat_cmp pid first) as (λ b. eq_by_cmp nat_cmp pid first ≡ b → (b || list_any (eq_by_cmp nat_cmp pid) pids) ≡ true → ⊥) [
+      | true ↦ λ is _. filtered_some _ _ (sym (ap (λ b. cond b (first ∷ filter p pids) (filter p pids)) (ap p (sym (eqb-true pid first (unsigned_ties pid first ∙ is))) ∙ passed)) ∙ none)
+      | false ↦ λ _ rest. elim (p first) as (λ b. cond b (first ∷ filter p pids) (filter p pids) ≡ [] → ⊥) [
+        | true ↦ λ none. filtered_some _ _ none
+        | false ↦ λ none. not_filtered p pids pid rest passed none
+      ] none
+    ] refl h
+  where
+    filtered_some : (x : ℕ) (xs : List ℕ) → x ∷ xs ≢ []
+    filtered_some x xs e = cc
+
+-- a live process on the other side of the edge crosses it
+pub crosses-some : (st new : State) (subtree : Names) (pid : ℕ) → is_some (process_at st pid) ≡ true → is_crossed subtree (place_at st pid) (place_at new pid) ≡ true → crossing st new subtree ≢ []
+crosses-some st new subtree pid live crossed =
+    not_filtered (λ p. is_crossed subtree (place_at st p) (place_at new p)) (pids_of st) pid (sym (contains_key-keys st.live pid) ∙ live) crossed

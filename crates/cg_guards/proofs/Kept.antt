@@ -17,11 +17,11 @@ use Rattle.cg_ops.proofs.Allowed.{allowed_mkdir}
 use Rattle.cg_ops.proofs.StepEffects.{has_row-after, value_at-after}
 use Rattle.cg_guards.specs.Limits.{limits, fits_descendants, fits_depth}
 use Rattle.cg_guards.specs.Guards.{Guarded, is_chmod_of, sets_guarded_mode, guarded_entries, over_failures, GuardsHold}
-use Rattle.cg_guards.specs.Guarding.{IsSubtree, AreUntouched, IsKept}
+use Rattle.cg_guards.specs.Guarding.{IsSubtree, AreUntouched, OpensGuarded, IsKept}
 use Rattle.cg_guards.specs.declared.guard.Guard.TheVariants.{AlreadyOver}
-use Rattle.cg_guards.proofs.Sound.{IsSound}
+use Rattle.cg_guards.specs.Sound.{IsSound}
 use Rattle.cg_guards.proofs.GuardedEntries.{Holding, holding, hold-untouched}
-use Rattle.cg_guards.proofs.Untouched.{after-cases, there-other, untouched-after}
+use Rattle.cg_guards.proofs.Untouched.{after-cases, there-other, untouched-after, untouched-unopened}
 use Rattle.cg_guards.proofs.Barred.{control-other, rmdir-other, set-other, chmod-other}
 use Rattle.cg_guards.proofs.Crossing.{crosses, none-crosses, none-crosses-same}
 use Rattle.cg_guards.proofs.Counts.{fits-after}
@@ -102,3 +102,14 @@ kept-after st user subtree op sound sub hold =
 pub untouched-guarded : (st : State) (user : Identity) (subtree : Names) (op : Op) → IsSound st → IsSubtree st subtree → GuardsHold st user subtree → AreUntouched st (after st user op) subtree
 untouched-guarded st user subtree op sound sub hold =
     after-cases st user op (λ new. AreUntouched st new subtree) (untouched st user subtree sound sub (holding st user subtree hold) op) (λ k d _. refl)
+
+-- the guards against a user, once anyone has made a step
+pub hold-unopened : (st : State) (user other : Identity) (subtree : Names) (op : Op) → IsSound st → IsSubtree st subtree → GuardsHold st user subtree → has_row (after st other op) subtree ≡ true
+    → limits (after st other op) subtree ≡ limits st subtree → ¬ (OpensGuarded st other op subtree) → GuardsHold (after st other op) user subtree
+hold-unopened st user other subtree op sound sub hold there same shut =
+    let held = holding st user subtree hold in
+    after-cases st other op (λ new. GuardsHold new user subtree)
+    (λ free.
+    let fits = fits-after st other subtree op sub.0 free same held.descendants held.depth in
+    hold-untouched st (after st other op) user subtree hold (untouched-unopened st other subtree op sound sub there same shut) (over (after st other op) subtree fits.0 fits.1))
+    hold

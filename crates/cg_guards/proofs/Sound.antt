@@ -1,4 +1,4 @@
--- The part of well-formedness that containment stands on. Every step keeps it, whatever mode a chmod sets.
+-- Every step keeps a tree sound, whatever mode a chmod sets.
 use Rattle.std.proofs.Common.{◌≡◌, ℕ, Bool, true, false, cond, ◌||◌, nat_eq, refl, sym, ap, ◌∙◌, subst, true≢false, Option, Some, None, is_some, option_map, take}
 use Rattle.std.proofs.lemmas.Bool.{false_from_ne_true}
 use Rattle.cg_cgroup.specs.Paths.{Names, parent, same_path, is_root, is_child}
@@ -20,18 +20,13 @@ use Rattle.cg_ops.specs.declared.operation.Op.TheVariants.{Move, Control, Mkdir,
 use Rattle.cg_ops.proofs.Allowed.{allowed_mkdir, allowed_rmdir}
 use Rattle.cg_ops.proofs.StepFormed.{after-by}
 use Rattle.cg_ops.proofs.StepEffects.{fork-by, has_row-after, process_at-after, used-after}
+use Rattle.cg_guards.specs.Sound.{IsSound}
 
 abbrev HasParents : State → Type 0
 HasParents st = (path : Names) → has_row st path ≡ true → has_row st (parent path) ≡ true
 
 abbrev AreUsed : State → Type 0
 AreUsed st = (pid : ℕ) → is_some (process_at st pid) ≡ true → is_used st pid ≡ true
-
-pub record IsSound (st : State) : Type 0 where
-  -- each cgroup but the root is a directory of another
-  pub parents : (path : Names) → has_row st path ≡ true → has_row st (parent path) ≡ true
-  -- the PID of a live process counts as used
-  pub used : (pid : ℕ) → is_some (process_at st pid) ≡ true → is_used st pid ≡ true
 
 pub sound-formed : (st : State) → IsWellFormed st → IsSound st
 sound-formed st whole = record {

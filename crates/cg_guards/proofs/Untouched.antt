@@ -28,8 +28,9 @@ use Rattle.cg_ops.proofs.StepFormed.{after-by, after-allowed}
 use Rattle.cg_ops.proofs.StepEffects.{entry_at-after}
 use Rattle.cg_guards.specs.Limits.{limits}
 use Rattle.cg_guards.specs.Guards.{Guarded, guarded_entries, guarded_entry, is_chmod_of, sets_guarded_mode}
-use Rattle.cg_guards.specs.Guarding.{IsSubtree, AreUntouched}
-use Rattle.cg_guards.proofs.Sound.{IsSound, sound-after, take-there}
+use Rattle.cg_guards.specs.Guarding.{IsSubtree, AreUntouched, OpensGuarded}
+use Rattle.cg_guards.specs.Sound.{IsSound}
+use Rattle.cg_guards.proofs.Sound.{sound-after, take-there}
 use Rattle.cg_guards.proofs.GuardedEntries.{all_guarded}
 
 -- a step, by what holds where nothing bars it
@@ -117,3 +118,11 @@ untouched-after st user subtree (Chmod at name mode) sound sub there same shut =
     let others = All-from_recursion (λ guarded. is_chmod_of subtree (Chmod at name mode) guarded ≡ false) (guarded_entries subtree) (any_none (is_chmod_of subtree (Chmod at name mode)) (guarded_entries subtree) shut) in
     All-weaker (λ guarded. is_chmod_of subtree (Chmod at name mode) guarded ≡ false) (λ guarded. guarded_entry (after st user (Chmod at name mode)) subtree guarded ≡ guarded_entry st subtree guarded)
     (λ guarded other. entry_at-after st user (Chmod at name mode) (take guarded.len subtree) guarded.name other) (guarded_entries subtree) others
+
+-- the same where a chmod of a guarded entry may be refused
+pub untouched-unopened : (st : State) (user : Identity) (subtree : Names) (op : Op) → IsSound st → IsSubtree st subtree → has_row (after st user op) subtree ≡ true
+    → limits (after st user op) subtree ≡ limits st subtree → ¬ (OpensGuarded st user op subtree) → AreUntouched st (after st user op) subtree
+untouched-unopened st user subtree op sound sub there same shut =
+    after-cases st user op (λ new. AreUntouched st new subtree)
+    (λ free. untouched-after st user subtree op sound sub there same (false_from_ne_true (sets_guarded_mode subtree op) (λ sets. shut (free, sets))))
+    (stays st subtree)

@@ -3,3 +3,4 @@ pub mod Edge
 pub mod Guards
 pub mod Guarding
 pub mod GuardedUsers
+pub mod Sound

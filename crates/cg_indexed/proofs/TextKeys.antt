@@ -1,9 +1,9 @@
 -- A table under the texts of paths is a map from paths.
 use Rattle.std.proofs.Common.{◌≡◌, ℕ, ◌+◌, ◌≤◌, length, arith, Bool, true, false, cond, List, [], ◌∷◌, map as map_list, Some, None, Option, Less, Equal, Greater, is_some, string_bytes, String, refl, sym, ap, ◌∙◌, subst, true≢false}
 use Rattle.std.specs.List.{AllByRecursion, AllZip}
-use Rattle.std.specs.Map.{remove_entry}
+use Rattle.std.specs.Map.{lookup, remove_entry}
 use Rattle.std.specs.Str.{bytes_eq}
-use Rattle.std.specs.BTreeMap.{insert_entry}
+use Rattle.std.specs.BTreeMap.{is_at, insert_entry}
 use Rattle.std.specs.Ordering.{nat_cmp, is_eq, match_ordering}
 use Rattle.std.specs.String.{string_cmp}
 use Rattle.std.specs.Cmp.Lexicographic.{slice_cmp}
@@ -20,7 +20,11 @@ use Rattle.cg_cgroup.proofs.PathOrder.{path_cmp_total, path_cmp-IsAntisymmetric,
 use Rattle.cg_cgroup.proofs.PathAt.{path_at-text}
 use Rattle.cg_cgroup.proofs.Options.{same_some}
 use Rattle.cg_cgroup.proofs.PathLaws.{path_text-injective}
-use Rattle.cg_indexed.specs.TextKeys.{number_of, numbers_of, number_at, IsText, HasText, AreTexts}
+use Rattle.cg_indexed.specs.TextKeys.{number_of, numbers_of, IsText, HasText, AreTexts}
+
+-- the number under a text
+abbrev pub number_at : List (String Global × ℕ) → List ℕ → Option ℕ
+number_at es text = lookup (is_at (λ k. slice_cmp nat_cmp text (string_bytes k))) es
 
 same_key : (q : Names) (t : List ℕ) → IsPath q → IsText t → eq_by_cmp path_cmp q (names_at t) ≡ bytes_eq (path_text q) t
 same_key q t h is =

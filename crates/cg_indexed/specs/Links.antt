@@ -1,6 +1,5 @@
 -- Links from places to those of the parents, and what a climb along them changes and finds.
-use Rattle.std.specs.Prelude.{◌≡◌, ℕ, zero, suc, ◌+◌, ◌-◌, ◌<◌, min, Bool, not, ◌&&◌, cond, nat_lt, Option, List, length, Some, None, slice_set}
-use Rattle.std.proofs.Common.{get_or}
+use Rattle.std.specs.Prelude.{◌≡◌, ℕ, zero, suc, ◌+◌, ◌-◌, ◌<◌, min, Bool, not, ◌&&◌, cond, nat_lt, Option, List, length, get_or, Some, None, slice_set}
 use Rattle.std.specs.FinMap as map
 use Rattle.cg_cgroup.specs.Paths.{Names, path_cmp, parent}
 use Rattle.cg_tree.specs.Limits.{is_under}

@@ -1,8 +1,7 @@
 -- Cgroups at their places, and what is counted of their children and processes.
-use Rattle.std.specs.Prelude.{◌≡◌, ℕ, ◌+◌, ◌-◌, ◌<◌, min, Bool, true, ◌&&◌, not, cond, nat_eq, List, ◌++◌, map, length, Option, Some, None, is_none, slice_set}
+use Rattle.std.specs.Prelude.{◌≡◌, ℕ, ◌+◌, ◌-◌, ◌<◌, min, Bool, true, ◌&&◌, not, cond, nat_eq, List, ◌++◌, map, length, get_or, Option, Some, None, is_none, slice_set}
 use Rattle.std.specs.Option.{option_map}
 use mathlib.Core.Bool.{beq}
-use Rattle.std.proofs.Common.{get_or}
 use Rattle.cg_cgroup.specs.Files.{no_controllers}
 use Rattle.cg_tree.specs.States.{enabling_these}
 use Rattle.cg_cgroup.specs.declared.user.Entry.{Entry}

@@ -172,7 +172,7 @@ impl Nodes {
     }
 
     /// Counts so many live processes at a place.
-    pub fn set_live(&mut self, at: usize, live: u64)
+    fn set_live(&mut self, at: usize, live: u64)
         requires { at < length self.old }
         ensures { self.new ≡ slice_set self.old at (with_live live (node_at self.old at)) }
     {
@@ -180,7 +180,7 @@ impl Nodes {
     }
 
     /// Counts so many children of a place that enable each controller.
-    pub fn set_uses(&mut self, at: usize, uses: Uses)
+    fn set_uses(&mut self, at: usize, uses: Uses)
         requires { at < length self.old }
         ensures { self.new ≡ slice_set self.old at (with_uses uses (node_at self.old at)) }
     {

@@ -21,13 +21,15 @@ pub fn step_is_all_or_nothing()
         → bars st user op ≡ bar ∷ others → after st user op ≡ st }
 {}
 
-/// A step keeps a tree well-formed, where a chmod's mode is one.
+/// A step keeps a tree well-formed, where the mode of a chmod is at most 0o777. An `Op` holds no other, since it holds a
+/// `Mode`; an operation of a run may name any number, and a greater one would stand in the tree.
 pub fn step_keeps_form()
     ensures { (st : State) (user : Identity) (op : Op)
         → IsWellFormed st → HasMode op → IsWellFormed (after st user op) }
 {}
 
-/// A run keeps a tree well-formed, where each chmod's mode is one.
+/// A run keeps a tree well-formed, where the mode of each chmod is at most 0o777. The laws of guards and runs ask this of no
+/// run: what they stand on is kept by a chmod to whatever number.
 pub fn run_keeps_form()
     ensures { (st : State) (deeds : List Deed)
         → IsWellFormed st → HaveModes deeds → IsWellFormed (after_all st deeds) }

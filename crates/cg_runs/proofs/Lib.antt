@@ -5,3 +5,4 @@ pub mod StrangerLaws
 pub mod ShortcutLaws
 pub mod ReplayLaws
 pub mod CountLaws
+pub mod ThroughoutLaws

@@ -15,7 +15,8 @@ use Rattle.cg_ops.proofs.StepFormed.{after-barred}
 use Rattle.cg_guards.specs.Limits.{limits, fits_descendants, fits_depth}
 use Rattle.cg_guards.specs.Guards.{GuardsHold, over_failures}
 use Rattle.cg_guards.specs.Guarding.{IsSubtree, AreUntouched}
-use Rattle.cg_guards.proofs.Steps.{IsSound, sound-formed, sound-after, kept-after, untouched-guarded, hold-untouched}
+use Rattle.cg_guards.specs.Sound.{IsSound}
+use Rattle.cg_guards.proofs.Steps.{sound-formed, sound-after, kept-after, untouched-guarded, hold-untouched}
 use Rattle.cg_guards.proofs.Crossing.{none-crosses-same}
 use Rattle.cg_runs.specs.Verdicts.{or_later, verdict_from}
 use Rattle.cg_runs.specs.Held.{IsHeld, by_user, IsContained, AreBy}

@@ -26,7 +26,7 @@ use Rattle.cg_ops.proofs.StepFormed.{after-allowed}
 use Rattle.cg_ops.proofs.StepEffects.{has_row-after, value_at-after}
 use Rattle.cg_guards.specs.Limits.{Limits as LimitMap, limits, same_limits, fits_descendants, fits_depth}
 use Rattle.cg_guards.specs.Edge.{is_crossed, crossing}
-use Rattle.cg_guards.proofs.Sound.{IsSound}
+use Rattle.cg_guards.specs.Sound.{IsSound}
 use Rattle.cg_guards.proofs.Counts.{fits-after}
 use Rattle.cg_guards.proofs.Crossing.{kept, fork-crosses, exit-crosses, none-crosses}
 use Rattle.cg_runs.specs.Verdicts.{broken_since}

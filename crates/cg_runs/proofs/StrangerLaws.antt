@@ -1,5 +1,5 @@
 -- Who breaks a subtree whose guards hold for some users: another.
-use Rattle.std.proofs.Common.{◌≡◌, ◌≢◌, ℕ, suc, ◌+◌, true, false, List, [], ◌∷◌, Some, refl, sym, ap, ◌∙◌, arith}
+use Rattle.std.proofs.Common.{◌≡◌, ◌≢◌, ℕ, suc, ◌+◌, true, false, List, [], ◌∷◌, Some, refl, sym, ap, ◌∙◌, true≢false, arith}
 use Rattle.std.specs.Prelude.{slice_get}
 use Rattle.std.specs.List.{Contains}
 use Rattle.cg_cgroup.specs.Paths.{Names}
@@ -11,8 +11,8 @@ use Rattle.cg_ops.specs.Steps.{after, Deed}
 use Rattle.cg_ops.specs.declared.operation.Op.{Op}
 use Rattle.cg_guards.specs.Limits.{limits}
 use Rattle.cg_guards.specs.Guards.{sets_guarded_mode}
-use Rattle.cg_guards.specs.Guarding.{IsSubtree}
-use Rattle.cg_guards.proofs.Steps.{untouched-after}
+use Rattle.cg_guards.specs.Guarding.{IsSubtree, OpensGuarded}
+use Rattle.cg_guards.proofs.Steps.{untouched-unopened}
 use Rattle.cg_runs.specs.Verdicts.{broken, or_later, verdict_from, verdict}
 use Rattle.cg_runs.specs.Strangers.{GuardsHoldForAll, OnlyTheseOpen, IsOfStranger}
 use Rattle.cg_runs.specs.declared.verdict.Clause.{Clause}
@@ -33,13 +33,13 @@ same_steps steps other clause found h = cc
 
 module _ (users : List Identity) (start : State) (subtree : Names) where
   -- a step that breaks nothing leaves the guards, where only these users open them
-  guarded-any : (st : State) → IsGuarded users start st subtree → (user : Identity) (op : Op) → (bars st user op ≡ [] → sets_guarded_mode subtree op ≡ true → Contains users user)
+  guarded-any : (st : State) → IsGuarded users start st subtree → (user : Identity) (op : Op) → (OpensGuarded st user op subtree → Contains users user)
       → IsWhole (limits start subtree) st (after st user op) subtree → IsGuarded users start (after st user op) subtree
   guarded-any st at user op opens whole =
       elim (bars st user op) as (λ found. bars st user op ≡ found → IsGuarded users start (after st user op) subtree) [
         | [] ↦ λ free. elim (sets_guarded_mode subtree op) as (λ sets. sets_guarded_mode subtree op ≡ sets → IsGuarded users start (after st user op) subtree) [
-          | true ↦ λ sets. guarded-own users start subtree st at user (opens free sets) op
-          | false ↦ λ sets. guarded-on users start subtree st at user op (untouched-after st user subtree op at.sound at.is whole.there (whole.limits ∙ sym at.limits) sets) whole
+          | true ↦ λ sets. guarded-own users start subtree st at user (opens (free, sets)) op
+          | false ↦ λ sets. guarded-on users start subtree st at user op (untouched-unopened st user subtree op at.sound at.is whole.there (whole.limits ∙ sym at.limits) (λ both. true≢false (sym both.1 ∙ sets))) whole
         ] refl
         | bar ∷ others ↦ λ is. guarded-barred users start subtree st at user op bar others is
       ] refl

@@ -12,7 +12,7 @@ use Rattle.cg_ops.specs.declared.outcome.Outcome.{Outcome}
 use Rattle.cg_ops.specs.declared.outcome.Outcome.TheVariants.{Done}
 use Rattle.cg_guards.specs.Limits.{Limits as LimitMap, limits, same_limits, fits_descendants, fits_depth}
 use Rattle.cg_guards.specs.Edge.{is_crossed}
-use Rattle.cg_guards.proofs.Sound.{IsSound}
+use Rattle.cg_guards.specs.Sound.{IsSound}
 use Rattle.cg_runs.specs.Replays.{Progress}
 use Rattle.cg_runs.specs.declared.verdict.Clause.{Clause}
 use Rattle.cg_runs.specs.declared.verdict.Clause.TheVariants.{Gone, Crossed, Limits}

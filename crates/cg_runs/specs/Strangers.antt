@@ -1,12 +1,12 @@
 -- Users whose guards hold, and all the others.
-use Rattle.std.specs.Prelude.{◌≡◌, ℕ, suc, true, List, [], ◌∷◌, Some, slice_get}
+use Rattle.std.specs.Prelude.{◌≡◌, ℕ, suc, List, [], ◌∷◌, Some, slice_get}
 use Rattle.std.specs.List.{Contains}
 use Rattle.cg_cgroup.specs.Paths.{Names}
 use Rattle.cg_cgroup.specs.Identity.{Identity}
 use Rattle.cg_tree.specs.States.{State}
-use Rattle.cg_ops.specs.Bars.{bars}
 use Rattle.cg_ops.specs.Steps.{after, Deed}
-use Rattle.cg_guards.specs.Guards.{GuardsHold, sets_guarded_mode}
+use Rattle.cg_guards.specs.Guards.{GuardsHold}
+use Rattle.cg_guards.specs.Guarding.{OpensGuarded}
 
 -- The guards of a subtree hold for each of these users.
 abbrev pub GuardsHoldForAll : State → List Identity → Names → Type 0
@@ -16,7 +16,7 @@ GuardsHoldForAll st users subtree = (user : Identity) → Contains users user �
 abbrev pub OnlyTheseOpen : List Identity → State → List Deed → Names → Type 0
 OnlyTheseOpen users st [] subtree = Unit {0}
 OnlyTheseOpen users st (deed ∷ deeds) subtree =
-    (bars st deed.0 deed.1 ≡ [] → sets_guarded_mode subtree deed.1 ≡ true → Contains users deed.0)
+    (OpensGuarded st deed.0 deed.1 subtree → Contains users deed.0)
     × OnlyTheseOpen users (after st deed.0 deed.1) deeds subtree
 
 -- The deed that makes up so many is there, counted from 1, and its user isn't one of these.

@@ -1,5 +1,5 @@
 //! Laws of runs, over the definitions alone. The contract of each function is the law; none does anything.
-ghost use Rattle.std.specs.Prelude.{◌≡◌, ◌≢◌, ◌⊎◌, ℕ, true, List, [], ◌∷◌, ◌++◌};
+ghost use Rattle.std.specs.Prelude.{◌≡◌, ◌≢◌, ◌↔◌, ◌⊎◌, ℕ, true, List, [], ◌∷◌, ◌++◌};
 ghost use Rattle.cg_cgroup.specs.Paths.{Names};
 ghost use Rattle.cg_cgroup.specs.Identity.{Identity};
 ghost use Rattle.cg_tree.specs.States.{State};
@@ -9,12 +9,24 @@ ghost use Rattle.cg_ops.specs.declared.operation.Op.{Op};
 ghost use Rattle.cg_guards.specs.Guards.{GuardsHold};
 ghost use Rattle.cg_guards.specs.Guarding.{IsSubtree};
 ghost use Rattle.cg_runs.specs.Verdicts.{verdict};
-ghost use Rattle.cg_runs.specs.Held.{IsHeld, IsContained, AreBy};
+ghost use Rattle.cg_runs.specs.Held.{IsHeld, by_user, IsContained, AreBy};
+ghost use Rattle.cg_runs.specs.Throughout.{IsHeldThroughout};
 ghost use Rattle.cg_runs.specs.Replays.{Progress, stepped, IsRunOf};
 ghost use Rattle.cg_runs.specs.Strangers.{GuardsHoldForAll, OnlyTheseOpen, IsOfStranger};
 ghost use Rattle.cg_runs.specs.declared.verdict.Clause.{Clause};
 ghost use Rattle.cg_runs.specs.declared.verdict.Clause.TheVariants.{Descendants, Depth};
 ghost use Rattle.cg_runs.specs.declared.verdict.Verdict.TheVariants.{Broken};
+
+/// The verdict on a run is kept exactly where at the start and after each step the subtree is there, its limits are those
+/// of the start and both its counts are within them, and no step takes a process over its edge. `IsHeldThroughout` says it
+/// of the run's states one by one, with no loop over steps and no order of clauses. So a subtree is contained against a
+/// user exactly where this is so over every list of his operations.
+pub fn held_is_every_state_and_step()
+    ensures held { (st : State) (deeds : List Deed) (subtree : Names)
+        → IsHeld st deeds subtree ↔ IsHeldThroughout st deeds subtree }
+    ensures contained { (st : State) (user : Identity) (subtree : Names)
+        → IsContained st user subtree ↔ ((ops : List Op) → IsHeldThroughout st (by_user user ops) subtree) }
+{}
 
 /// Where the guards of a subtree hold for a user, it is contained against him: whatever he does, in whatever order, no
 /// step of his breaks it.

@@ -110,11 +110,4 @@ impl<H: Hierarchy> Replay<H> {
     {
         self.verdict
     }
-
-    /// The tree as it is now.
-    pub fn tree(&self) -> &H
-        ensures { H.state result.now ≡ self.now.state }
-    {
-        &self.tree
-    }
 }

@@ -27,7 +27,7 @@ use Rattle.cg_runs.specs.Verdicts.{broken}
 use Rattle.cg_runs.specs.declared.verdict.Clause.{Clause}
 use Rattle.cg_tries.specs.Tries.{change_of}
 use Rattle.cg_tries.specs.Escapes.{breaks, IsUnbroken}
-use Rattle.cg_tries.specs.Finding.{allowed, changes_enabled}
+use Rattle.cg_tries.specs.Finding.{allowed}
 use Rattle.cg_tries.proofs.Seen.{seen, IsAlike, is_empty, step-alike}
 use Rattle.cg_tries.proofs.Single.{step_breaks, one_operation, limits_stay, nothing_bars, where_so}
 
@@ -66,6 +66,10 @@ now_enabled on Pids enabled = refl
 negated : (b : Bool) → not b ≡ false → true ≡ b
 negated true h = refl
 negated false h = absurd (true≢false h)
+
+-- the change isn't without effect where these are enabled
+abbrev pub changes_enabled : Bool → Controller → ControllerSet → Bool
+changes_enabled on controller enabled = cond on (not (enables enabled controller)) (enables enabled controller)
 
 -- a change without effect leaves what is enabled
 same_enabled : (on : Bool) (controller : Controller) (enabled : ControllerSet) → changes_enabled on controller enabled ≡ false → enabled_by on controller enabled ≡ enabled

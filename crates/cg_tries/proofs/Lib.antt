@@ -6,6 +6,7 @@ pub mod Probes
 pub mod Walks
 pub mod Levels
 pub mod ProbeNames
+pub mod FreeProbes
 pub mod ProbeWalk
 pub mod ProbeLaws
 pub mod PlainTries

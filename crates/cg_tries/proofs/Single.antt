@@ -1,11 +1,8 @@
 -- A try of one operation breaks where it is allowed and its step breaks.
-use Rattle.std.proofs.Common.{◌≡◌, ℕ, Bool, true, false, cond, not, ◌&&◌, ◌||◌, ◌≢◌, List, [], ◌∷◌, map, filter, Option, Some, None, is_some, option_map, nat_eq, refl, sym, ap, ◌∙◌, true≢false, arith}
+use Rattle.std.proofs.Common.{◌≡◌, ℕ, Bool, true, false, cond, not, ◌&&◌, ◌≢◌, List, [], ◌∷◌, Option, Some, None, is_some, option_map, nat_eq, refl, sym, ap, ◌∙◌, true≢false, arith}
 use Rattle.std.proofs.lemmas.Bool.{and_from, eqb-true, eqb-false}
 use Rattle.std.proofs.Math.Bool.{and-true}
-use Rattle.std.specs.List.{list_any, list_all}
-use Rattle.std.specs.Ordering.{nat_cmp, eq_by_cmp}
-use Rattle.std.specs.Cmp.{unsigned_ties}
-use Rattle.std.specs.FinMap.{contains_key-keys}
+use Rattle.std.specs.List.{list_all}
 use Rattle.cg_cgroup.specs.Paths.{Names, inside}
 use Rattle.cg_cgroup.specs.Identity.{Identity}
 use Rattle.cg_cgroup.specs.Files.{all_files}
@@ -16,7 +13,7 @@ use Rattle.cg_cgroup.specs.declared.files.LimitFile.TheVariants.{MaxDescendants,
 use Rattle.cg_cgroup.proofs.Options.{mapped_from, same_some}
 use Rattle.cg_cgroup.proofs.PathOrder.{same_path_refl}
 use Rattle.cg_cgroup.proofs.CgroupLaws.{same_file-refl}
-use Rattle.cg_tree.specs.States.{State, row_at, process_at, place_at, pids_of, with_value, with_place, placed_at, without_row}
+use Rattle.cg_tree.specs.States.{State, row_at, process_at, place_at, with_value, with_place, placed_at, without_row}
 use Rattle.cg_tree.specs.WellFormed.{has_row}
 use Rattle.cg_tree.proofs.StateLaws.{row_at-without_row, process_at-with_place-same}
 use Rattle.cg_tree.proofs.StateEntries.{value_at-with_value}
@@ -28,10 +25,12 @@ use Rattle.cg_ops.specs.Next.{next}
 use Rattle.cg_ops.specs.declared.operation.Op.{Op}
 use Rattle.cg_ops.specs.declared.operation.Op.TheVariants.{Move, Rmdir, Set}
 use Rattle.cg_guards.specs.Limits.{limits, same_limit, same_value, same_limits}
-use Rattle.cg_guards.specs.Edge.{is_crossed, crossing}
+use Rattle.cg_guards.specs.Edge.{is_crossed}
+use Rattle.cg_guards.proofs.Crossing.{crosses-some}
 use Rattle.cg_runs.specs.Verdicts.{broken}
 use Rattle.cg_runs.specs.declared.verdict.Clause.{Clause}
-use Rattle.cg_runs.specs.declared.verdict.Clause.TheVariants.{Gone, Crossed, Limits}
+use Rattle.cg_runs.specs.declared.verdict.Clause.TheVariants.{Gone, Limits}
+use Rattle.cg_runs.proofs.BrokenLaws.{broken-whole}
 use Rattle.cg_tries.specs.Tries.{other_value}
 use Rattle.cg_tries.specs.Escapes.{breaks, IsUnbroken}
 use Rattle.cg_tries.specs.Finding.{allowed}
@@ -136,30 +135,10 @@ set_try st user subtree file value whole is = where_allowed st user subtree (Set
 
 -- ---- move
 
--- a PID that passes is left by a filter
-not_filtered : (p : ℕ → Bool) (pids : List ℕ) (pid : ℕ) → list_any (eq_by_cmp nat_cmp pid) pids ≡ true → p pid ≡ true → filter p pids ≢ []
-not_filtered p [] pid h passed none = true≢false (sym h)
-not_filtered p (first ∷ pids) pid h passed none =
-    elim (eq_by_cmp nat_cmp pid first) as (λ b. eq_by_cmp nat_cmp pid first ≡ b → (b || list_any (eq_by_cmp nat_cmp pid) pids) ≡ true → ⊥) [
-      | true ↦ λ is _. filtered_some _ _ (sym (ap (λ b. cond b (first ∷ filter p pids) (filter p pids)) (ap p (sym (eqb-true pid first (unsigned_ties pid first ∙ is))) ∙ passed)) ∙ none)
-      | false ↦ λ _ rest. elim (p first) as (λ b. cond b (first ∷ filter p pids) (filter p pids) ≡ [] → ⊥) [
-        | true ↦ λ none. filtered_some _ _ none
-        | false ↦ λ none. not_filtered p pids pid rest passed none
-      ] none
-    ] refl h
-  where
-    filtered_some : (x : ℕ) (xs : List ℕ) → x ∷ xs ≢ []
-    filtered_some x xs e = cc
-
-mapped_none : {A B : Type 0} (f : A → B) (xs : List A) → map f xs ≡ [] → xs ≡ []
-mapped_none f [] h = refl
-mapped_none f (x ∷ xs) h = cc
-
 -- a live process on the other side of the edge breaks the subtree
 pub crossing_breaks : (st new : State) (subtree : Names) (pid : ℕ) → is_some (process_at st pid) ≡ true → is_crossed subtree (place_at st pid) (place_at new pid) ≡ true → broken st st new subtree ≢ []
 crossing_breaks st new subtree pid live crossed none =
-    let empty = mapped_none Crossed (crossing st new subtree) (no_parts _ _ (no_parts _ _ (no_parts _ _ (no_parts _ _ none).0).0).0).1 in
-    not_filtered (λ p. is_crossed subtree (place_at st p) (place_at new p)) (pids_of st) pid (sym (contains_key-keys st.live pid) ∙ live) crossed empty
+    crosses-some st new subtree pid live crossed (broken-whole (limits st subtree) st new subtree none).edge
 
 pub move_try : (st : State) (user : Identity) (subtree : Names) (pid : ℕ) (place path : Names) → IsUnbroken st subtree → place_at st pid ≡ Some place → cond (inside subtree place) (not (inside subtree path)) (inside subtree path) ≡ true
     → breaks st user subtree (Move pid path ∷ []) ≡ allowed st user (Move pid path)

@@ -9,7 +9,6 @@ use Rattle.cg_cgroup.specs.declared.files.Limit.{Limit}
 use Rattle.cg_cgroup.specs.declared.files.Limit.TheVariants.{Max, At}
 use Rattle.cg_cgroup.specs.declared.files.LimitFile.{LimitFile}
 use Rattle.cg_cgroup.specs.declared.files.Controller.{Controller}
-use Rattle.cg_cgroup.specs.declared.files.ControllerSet.{ControllerSet}
 use Rattle.cg_tree.specs.States.{State, row_at, place_at, paths_of, pids_of, count_below}
 use Rattle.cg_tree.specs.WellFormed.{enabled_at}
 use Rattle.cg_ops.specs.Clauses.{first}
@@ -22,10 +21,6 @@ use Rattle.cg_tries.specs.Tries.{other_value, change_of, probe, free_probe, is_i
 -- nothing bars the operation
 abbrev pub allowed : State → Identity → Op → Bool
 allowed st user op = not (is_some (first (bars st user op)))
-
--- the change isn't without effect where these are enabled
-abbrev pub changes_enabled : Bool → Controller → ControllerSet → Bool
-changes_enabled on controller enabled = cond on (not (enables enabled controller)) (enables enabled controller)
 
 -- the list of an operation alone, where it is allowed
 abbrev pub if_allowed : State → Identity → Op → Option (List Op)

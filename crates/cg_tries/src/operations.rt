@@ -21,6 +21,19 @@ impl Model for Operations {
     ghost view = { λ o. o.items.items };
 }
 
+impl PartialEq for Operations {
+    ghost use Rattle.std.specs.Cmp.Lexicographic.{pointwise, lists_per};
+    ghost use Rattle.cg_ops.specs.contracts.operation.OpPartialEq.TheImpl.Laws.{laws-law};
+
+    ghost eq = { pointwise ⟦<Op as PartialEq>⟧.eq };
+
+    ghost laws = { lists_per laws-law };
+
+    fn eq(&self, other: &Operations) -> bool {
+        self.items == other.items
+    }
+}
+
 impl Operations {
     /// No operation.
     pub fn new(alloc: Global) -> Operations
@@ -32,7 +45,7 @@ impl Operations {
     }
 
     /// One operation. Fails where memory is wanted.
-    pub fn only(alloc: Global, op: Op) -> Result<Operations, NoMemory>
+    pub(crate) fn only(alloc: Global, op: Op) -> Result<Operations, NoMemory>
         ensures { IfOk result (λ operations. operations ≡ op ∷ []) }
     {
         let mut operations = Operations::new(alloc);

@@ -1,6 +1,6 @@
 //! `audit_bytes` on rows worked out by hand, on faults, and at writers that fail.
 use super::changed::{Base, Changed, MEMORY_MAX};
-use super::writers::{FailsOnce, TakesNone};
+use super::writers::{ByteByByte, FailsOnce, TakesNone};
 use crate::samples::{DELEGATION, NO_PARENT};
 use cg_cli::arguments::UserIds;
 use cg_cli::audit::audit_bytes;
@@ -206,5 +206,19 @@ fn a_failed_write_leaves_the_front_of_the_report(rt: HostRuntime) -> Result<(), 
         Err(CliFault::Write)
     );
     assert_eq!(rt; out.asked, 1);
+    let mut out = ByteByByte {
+        taken: Vec::new(rt.alloc()),
+    };
+    assert_eq!(rt;
+        audit_bytes(
+            rt.alloc(),
+            tree.as_bytes(),
+            users.as_slice(),
+            &["/c0"],
+            &mut out
+        ),
+        Ok(1)
+    );
+    assert_eq!(rt; out.taken.as_slice(), report.as_slice());
     Ok(())
 }

@@ -38,7 +38,7 @@ impl Read for FailsAfter {
     }
 }
 
-/// Shows a text in pieces of a size, counts how often it was asked, and fails at one ask.
+/// Shows a text in pieces of a size, counts how often it was asked, and is interrupted at one ask.
 #[derive(Drop)]
 pub struct Pieces<'a> {
     pub rest: &'a [u8],

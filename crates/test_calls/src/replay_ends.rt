@@ -251,3 +251,30 @@ fn a_failed_write_leaves_a_part_of_the_report(rt: HostRuntime) {
     assert_eq!(rt; replay(rt.alloc(), b"", &mut out), Ok(0));
     assert_eq!(rt; out.asked, 0);
 }
+
+/// The same where the operations come from a reader, a byte at a time.
+#[test]
+fn a_failed_write_behind_a_reader_leaves_a_part_of_the_report(rt: HostRuntime) {
+    for (ops, report) in REPLAYS {
+        for room in 0..report.len() {
+            let mut out = FailsOnce::new(rt.alloc(), room);
+            let ending = watched_reader(rt.alloc(), &mut Pieces::new(ops, 1), &mut out);
+            assert_eq!(rt; ending, Err(CliFault::Write));
+            assert_eq!(rt; out.taken.as_slice(), &report[..room]);
+        }
+        let mut out = TakesNone { asked: 0 };
+        let ending = watched_reader(rt.alloc(), &mut Pieces::new(ops, 1), &mut out);
+        assert_eq!(rt; ending, Err(CliFault::Write));
+        assert_eq!(rt; out.asked, 1);
+        let mut out = ByteByByte {
+            taken: Vec::new(rt.alloc()),
+        };
+        let ending = watched_reader(rt.alloc(), &mut Pieces::new(ops, 1), &mut out);
+        assert_eq!(rt; ending, Ok(0));
+        assert_eq!(rt; out.taken.as_slice(), report);
+    }
+    let mut out = TakesNone { asked: 0 };
+    let ending = replay_reader(rt.alloc(), &mut Pieces::new(b"", 1), &mut out);
+    assert_eq!(rt; ending, Ok(0));
+    assert_eq!(rt; out.asked, 0);
+}

@@ -5,7 +5,7 @@ use std::alloc::Global;
 use std::io;
 use std::io::{ErrorKind, Write};
 
-/// Takes `room` bytes, fails once, and takes every byte from then on.
+/// Takes `room` bytes, is interrupted once, and takes every byte from then on.
 #[derive(Drop)]
 pub struct FailsOnce {
     pub taken: Vec<u8>,

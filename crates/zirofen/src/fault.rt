@@ -1,12 +1,13 @@
 //! Why the program ends without a command's status.
-ghost use Rattle.std.specs.Prelude.{◌≡◌, ◌⊎◌};
-ghost use Rattle.zirofen.specs.declared.fault.Fault.TheVariants.{Usage, Cli};
+ghost use Rattle.std.specs.Prelude.{◌≡◌};
+ghost use Rattle.zirofen.specs.Faults.{lifted};
+ghost use Rattle.zirofen.specs.declared.fault.Fault.TheVariants.{Cli};
 ghost use Rattle.cg_cli.specs.declared.fault.CliFault.TheVariants.{NoMemory as MemoryFault};
 
+use arguments::fault::ArgumentsFault;
 use cg_cli::fault::{CliFault, fault_text};
 use cg_cli::write::write_whole;
-use clap::error::ErrorKind;
-use std::alloc::{AllocError, AllocFailed, Global};
+use std::alloc::{AllocError, Global};
 use std::io;
 use std::io::Write;
 
@@ -61,23 +62,13 @@ impl From<AllocError> for Fault {
     }
 }
 
-impl<T: Drop> From<AllocFailed<T>> for Fault {
-    ghost from_gives = { λ _ fault. fault ≡ Cli MemoryFault };
+impl From<ArgumentsFault> for Fault {
+    ghost from_gives = { λ inner fault. fault ≡ lifted inner };
 
-    fn from(_failed: AllocFailed<T>) -> Fault {
-        Fault::Cli(CliFault::NoMemory)
-    }
-}
-
-/// A command line that was refused.
-impl From<clap::Error> for Fault {
-    ghost from_gives = { λ _ fault. (fault ≡ Usage) ⊎ (fault ≡ Cli MemoryFault) };
-
-    fn from(error: clap::Error) -> Fault {
-        if error.kind() == ErrorKind::OutOfMemory {
-            Fault::Cli(CliFault::NoMemory)
-        } else {
-            Fault::Usage
+    fn from(inner: ArgumentsFault) -> Fault {
+        match inner {
+            ArgumentsFault::Usage => Fault::Usage,
+            ArgumentsFault::NoMemory => Fault::Cli(CliFault::NoMemory),
         }
     }
 }

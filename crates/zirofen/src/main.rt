@@ -1,21 +1,23 @@
-//! Zirofen's command line.
+//! Zirofen's program: a request of the command line is carried out.
 #![tactic(auto)]
 
-mod arguments;
+mod again;
 mod fault;
-mod named_user;
 mod run;
 
+use again::Again;
 use std::process::ExitCode;
 
 /// The status of a fault.
 const FAULT: u8 = 3;
 
 fn main(rt: HostRuntime) -> ExitCode {
-    match run::run(&rt, rt.stdin(), &mut rt.stdout()) {
+    let mut out = Again { inner: rt.stdout() };
+    match run::run(&rt, rt.stdin(), &mut out) {
         Ok(status) => ExitCode::from(status),
         Err(fault) => {
-            fault.print(rt.alloc(), &mut rt.stderr());
+            let mut errors = Again { inner: rt.stderr() };
+            fault.print(rt.alloc(), &mut errors);
             ExitCode::from(FAULT)
         }
     }

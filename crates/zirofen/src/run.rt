@@ -1,6 +1,16 @@
-//! The run of a command: its arguments, its tree, and the call that answers.
-use crate::arguments::{self, Audit, Check, May, Replay};
+//! A request is carried out: its tree, its files, and the call that answers.
+ghost use Rattle.std.specs.Prelude.{◌≡◌, ◌⊎◌, [], map, Ok, Err, IfOk, IfErr};
+ghost use Rattle.std.specs.Option.{option_map};
+ghost use Rattle.std.specs.Io.Buffered.{writer_buffer, writer_contents};
+ghost use Rattle.std.specs.Io.KnownBytes.{Keeps};
+ghost use Rattle.cg_cli.specs.Replays.{closed, lines_report};
+ghost use Rattle.cg_cli.specs.Replaying.{ReplaysFrom};
+ghost use Rattle.zirofen.specs.Requests.{IsTree, ids_of};
+
+use crate::again::Again;
 use crate::fault::Fault;
+use arguments::named_user::NamedUser;
+use arguments::request::{Audit, Check, May, Replay, Request};
 use cg_cli::arguments::UserIds;
 use cg_cli::audit::audit_bytes;
 use cg_cli::check::check_bytes;
@@ -9,14 +19,13 @@ use cg_cli::input::read_input;
 use cg_cli::may::may_bytes;
 use cg_cli::replay::replay_from;
 use cg_cli::write::write_whole;
-use clap::ArgMatches;
 use std::alloc::Global;
 use std::env;
 use std::fs::File;
-use std::io::{BufReader, BufWriter, Read, Write};
+use std::io::{BufRead, BufReader, BufWriter, Read, Write};
 use std::rt::{Env, Files};
 
-/// Runs the command that the program's arguments name, and gives its status.
+/// Carries out what the program's arguments ask for, and gives its status.
 ///
 /// The tree is read from `input` where no file is named, and the report goes to `out`.
 pub fn run<R: AllocGlobal + Env + Files, I: Read + Drop, W: Write>(
@@ -26,36 +35,32 @@ pub fn run<R: AllocGlobal + Env + Files, I: Read + Drop, W: Write>(
 ) -> Result<u8, Fault> {
     let alloc = rt.alloc();
     let words: Vec<String> = env::args(rt).map_err(Fault::of_words)?.collect(alloc)?;
-    let status = match arguments::command(alloc)?.try_get_matches_from(words.as_slice()) {
-        Ok(matches) => command(rt, &matches, input, out)?,
-        Err(error) if error.use_stderr() => return Err(Fault::from(error)),
-        Err(help) => show_help(alloc, &help, out)?,
-    };
-    out.flush().map_err(|_| CliFault::Write)?;
-    Ok(status)
+    let request = Request::from_words(alloc, words.as_slice())?;
+    let status = carried_out(rt, &request, input, out)?;
+    match out.flush() {
+        Ok(()) => Ok(status),
+        Err(_) => Err(Fault::Cli(CliFault::Write)),
+    }
 }
 
-fn show_help<W: Write>(alloc: Global, help: &clap::Error, out: &mut W) -> Result<u8, Fault> {
-    let text = format!(in alloc; "{help}")?;
-    write_whole(out, text.as_bytes()).map_err(CliFault::from)?;
-    Ok(0)
-}
-
-fn command<R: AllocGlobal + Files, I: Read + Drop, W: Write>(
+fn carried_out<R: AllocGlobal + Files, I: Read + Drop, W: Write>(
     rt: &R,
-    matches: &ArgMatches<'_>,
+    request: &Request<'_>,
     input: I,
     out: &mut W,
-) -> Result<u8, Fault> {
-    match matches.subcommand() {
-        Some(("may", given)) => may(rt, &May::from_matches(rt.alloc(), given)?, input, out),
-        Some(("check", given)) => check(rt, &Check::from_matches(rt.alloc(), given)?, input, out),
-        Some(("audit", given)) => audit(rt, &Audit::from_matches(rt.alloc(), given)?, input, out),
-        Some(("replay", given)) => {
-            replay(rt, &Replay::from_matches(rt.alloc(), given)?, input, out)
-        }
-        _ => Err(Fault::Usage),
+) -> Result<u8, CliFault> {
+    match request {
+        Request::Help(text) => shown(text.as_str(), out),
+        Request::May(request) => may(rt, request, input, out),
+        Request::Check(request) => check(rt, request, input, out),
+        Request::Audit(request) => audit(rt, request, input, out),
+        Request::Replay(request) => replay(rt, request, input, out),
     }
+}
+
+fn shown<W: Write>(text: &str, out: &mut W) -> Result<u8, CliFault> {
+    write_whole(out, text.as_bytes())?;
+    Ok(0)
 }
 
 fn may<R: AllocGlobal + Files, I: Read + Drop, W: Write>(
@@ -63,20 +68,17 @@ fn may<R: AllocGlobal + Files, I: Read + Drop, W: Write>(
     request: &May<'_>,
     input: I,
     out: &mut W,
-) -> Result<u8, Fault> {
+) -> Result<u8, CliFault> {
     let tree = tree_text(rt, request.tree, input)?;
-    let user = UserIds {
-        uid: request.uid,
-        gids: request.gids.as_slice(),
-    };
-    Ok(may_bytes(
+    let user = ids(&request.user);
+    may_bytes(
         rt.alloc(),
         tree.as_slice(),
         user,
         request.pid,
         request.to,
         out,
-    )?)
+    )
 }
 
 fn check<R: AllocGlobal + Files, I: Read + Drop, W: Write>(
@@ -84,13 +86,10 @@ fn check<R: AllocGlobal + Files, I: Read + Drop, W: Write>(
     request: &Check<'_>,
     input: I,
     out: &mut W,
-) -> Result<u8, Fault> {
+) -> Result<u8, CliFault> {
     let tree = tree_text(rt, request.tree, input)?;
-    let user = UserIds {
-        uid: request.uid,
-        gids: request.gids.as_slice(),
-    };
-    Ok(check_bytes(rt.alloc(), tree.as_slice(), user, request.subtree, out)?)
+    let user = ids(&request.user);
+    check_bytes(rt.alloc(), tree.as_slice(), user, request.subtree, out)
 }
 
 fn audit<R: AllocGlobal + Files, I: Read + Drop, W: Write>(
@@ -98,20 +97,16 @@ fn audit<R: AllocGlobal + Files, I: Read + Drop, W: Write>(
     request: &Audit<'_>,
     input: I,
     out: &mut W,
-) -> Result<u8, Fault> {
-    let alloc = rt.alloc();
+) -> Result<u8, CliFault> {
     let tree = tree_text(rt, request.tree, input)?;
-    let mut users = Vec::new(alloc);
-    for user in request.users.iter() {
-        users.push(user.ids())?;
-    }
-    Ok(audit_bytes(
-        alloc,
+    let users = all_ids(rt.alloc(), request.users.as_slice())?;
+    audit_bytes(
+        rt.alloc(),
         tree.as_slice(),
         users.as_slice(),
         request.subtrees.as_slice(),
         out,
-    )?)
+    )
 }
 
 fn replay<R: AllocGlobal + Files, I: Read + Drop, W: Write>(
@@ -119,41 +114,88 @@ fn replay<R: AllocGlobal + Files, I: Read + Drop, W: Write>(
     request: &Replay<'_>,
     input: I,
     out: &mut W,
-) -> Result<u8, Fault> {
+) -> Result<u8, CliFault> {
     let alloc = rt.alloc();
     let tree = tree_text(rt, request.tree, input)?;
-    let opened = File::open(rt, request.ops).map_err(|error| CliFault::of_read(&error))?;
-    let mut ops = BufReader::new(alloc, opened).map_err(|error| CliFault::of_read(&error))?;
-    let mut report = BufWriter::new(alloc, out).map_err(|error| CliFault::of_read(&error))?;
-    let user = UserIds {
-        uid: request.uid,
-        gids: request.gids.as_slice(),
+    let inner = opened(rt, request.ops)?;
+    let Ok(mut ops) = BufReader::new(alloc, Again { inner }) else {
+        return Err(CliFault::NoMemory);
     };
-    let ended = replay_from(
+    let Ok(mut report) = BufWriter::new(alloc, out) else {
+        return Err(CliFault::NoMemory);
+    };
+    let ended = replayed(alloc, tree.as_slice(), request, &mut ops, &mut report);
+    let ended = flushed(ended, &mut report);
+    let _ = report.into_parts();
+    ended
+}
+
+/// Replays what a reader gives.
+fn replayed<R: BufRead, W: Write>(
+    alloc: Global,
+    tree: &[u8],
+    request: &Replay<'_>,
+    ops: &mut R,
+    report: &mut W,
+) -> Result<u8, CliFault>
+    ensures { ReplaysFrom closed
+        (lines_report tree.now request.now.user.uid request.now.user.gids.items (option_map (λ path. path.now) request.now.subtree))
+        (R.remaining ops.old) (R.remaining ops.new) (W.contents report.old) (W.contents report.new) result }
+{
+    replay_from(
         alloc,
-        tree.as_slice(),
-        user,
+        tree,
+        ids(&request.user),
         request.subtree,
-        &mut ops,
-        &mut report,
-    );
-    Ok(flushed(ended, report)?)
+        ops,
+        report,
+    )
 }
 
 /// How a call ended whose report is held in a buffer: its own fault comes before the flush's. Where a write has failed
 /// already, nothing more is written.
 fn flushed<W: Write + Drop>(
     ended: Result<u8, CliFault>,
-    mut report: BufWriter<W>,
-) -> Result<u8, CliFault> {
-    let flushed = match ended {
-        Err(CliFault::Write) => Ok(()),
-        _ => report.flush(),
-    };
-    let _ = report.into_parts();
-    let status = ended?;
-    flushed.map_err(|_| CliFault::Write)?;
-    Ok(status)
+    report: &mut BufWriter<W>,
+) -> Result<u8, CliFault>
+    ensures fault { IfErr ended (λ fault. result ≡ Err fault) }
+    ensures status { IfOk ended (λ status. ((result ≡ Ok status) × (writer_buffer report.new ≡ [])) ⊎ (result ≡ Err CliFault.Write)) }
+    ensures failed { ended ≡ Err CliFault.Write → report.new ≡ report.old }
+    ensures kept { Keeps (writer_contents W.contents report.old) (writer_contents W.contents report.new) }
+{
+    match ended {
+        Err(CliFault::Write) => Err(CliFault::Write),
+        Err(fault) => {
+            let _ = report.flush();
+            Err(fault)
+        }
+        Ok(status) => match report.flush() {
+            Ok(()) => Ok(status),
+            Err(_) => Err(CliFault::Write),
+        },
+    }
+}
+
+/// The user as a call takes him.
+fn ids(user: &NamedUser) -> UserIds<'_>
+    ensures uid { result.uid ≡ user.now.uid }
+    ensures gids { result.gids.now ≡ user.now.gids.items }
+{
+    UserIds {
+        uid: user.uid,
+        gids: user.gids.as_slice(),
+    }
+}
+
+fn all_ids<'a>(alloc: Global, users: &'a [NamedUser]) -> Result<Vec<UserIds<'a>>, CliFault>
+    ensures ids { IfOk result (λ all. map (λ user. (user.uid, user.gids.now)) all.items ≡ map ids_of users.now) }
+    ensures fault { IfErr result (λ fault. fault ≡ CliFault.NoMemory) }
+{
+    let mut all = Vec::new(alloc);
+    for user in users {
+        all.push(ids(user))?;
+    }
+    Ok(all)
 }
 
 /// The text of the tree: of the file where one is named, and else of the input.
@@ -161,12 +203,21 @@ fn tree_text<R: AllocGlobal + Files, I: Read + Drop>(
     rt: &R,
     file: Option<&str>,
     input: I,
-) -> Result<Vec<u8>, CliFault> {
+) -> Result<Vec<u8>, CliFault>
+    ensures text { IfOk result (λ text. IsTree file.entry (I.remaining input) text.items) }
+    ensures fault { IfErr result (λ fault. (fault ≡ CliFault.Read) ⊎ (fault ≡ CliFault.NoMemory)) }
+{
     match file {
         None => read_input(rt.alloc(), input),
-        Some(name) => read_input(
-            rt.alloc(),
-            File::open(rt, name).map_err(|error| CliFault::of_read(&error))?,
-        ),
+        Some(name) => read_input(rt.alloc(), opened(rt, name)?),
+    }
+}
+
+fn opened<R: Files>(rt: &R, name: &str) -> Result<R::File, CliFault>
+    ensures { IfErr result (λ fault. (fault ≡ CliFault.Read) ⊎ (fault ≡ CliFault.NoMemory)) }
+{
+    match File::open(rt, name) {
+        Ok(file) => Ok(file),
+        Err(error) => Err(CliFault::of_read(&error)),
     }
 }

@@ -17,7 +17,7 @@ pub fn cut(text: &str) -> Option<(&str, &str)>
 
 /// The number that a word writes in decimal digits, without leading zeros.
 #[tactic(auto, unfolding(crate::specs::LineReading::number_at))]
-pub fn number_of(word: &str) -> Option<u64>
+fn number_of(word: &str) -> Option<u64>
     ensures { result ≡ number_at word.now }
 {
     if word.starts_with('+') {

@@ -1,8 +1,7 @@
 use Rattle.std.proofs.Common.{take, ap, sym, ◌∙◌}
 use Rattle.std.specs.FinMap as map
 use Rattle.cg_cgroup.proofs.PathNames.{IsPath-take}
-use Rattle.cg_indexed.specs.TextKeys.{number_at}
-use Rattle.cg_indexed.proofs.TextKeys.{get-numbers}
+use Rattle.cg_indexed.proofs.TextKeys.{number_at, get-numbers}
 use Rattle.cg_indexed.proofs.path_index.PathIndex.get.Goals as goal
 
 pub returns : goal.returns

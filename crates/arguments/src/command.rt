@@ -1,7 +1,5 @@
 //! The command line, as `clap` reads it.
-use crate::fault::Fault;
-use crate::named_user::NamedUser;
-use clap::{Arg, ArgAction, ArgMatches, Command, value_parser};
+use clap::{Arg, ArgAction, Command, value_parser};
 use std::alloc::{AllocError, Global};
 
 const VERSION: &str = "0.1.0";
@@ -59,7 +57,7 @@ Example:
   ok";
 
 /// The command line of the program.
-pub fn command<'a>(alloc: Global) -> Result<Command<'a>, AllocError> {
+pub(crate) fn command<'a>(alloc: Global) -> Result<Command<'a>, AllocError> {
     Command::new(alloc, "zirofen")
         .about("Checks what a user may do in a tree of cgroups")
         .version(VERSION)
@@ -178,112 +176,4 @@ fn gid_argument<'a>(alloc: Global) -> Arg<'a> {
         .value_parser(value_parser!(u32))
         .action(ArgAction::Append)
         .help("A group of the user, up to 32 times; the first is the primary one")
-}
-
-/// One migration: whether a user may move a process to a cgroup.
-#[derive(Drop)]
-pub struct May<'a> {
-    pub tree: Option<&'a str>,
-    pub uid: u32,
-    pub gids: Vec<u32>,
-    pub pid: u32,
-    pub to: &'a str,
-}
-
-impl<'a> May<'a> {
-    /// What was given to the command.
-    pub fn from_matches(alloc: Global, matches: &ArgMatches<'a>) -> Result<May<'a>, Fault> {
-        Ok(May {
-            tree: matches.get_str("tree"),
-            uid: number(matches, "uid")?,
-            gids: numbers(alloc, matches, "gid")?,
-            pid: number(matches, "pid")?,
-            to: matches.get_str("to").ok_or(Fault::Usage)?,
-        })
-    }
-}
-
-/// Whether a subtree is contained against a user.
-#[derive(Drop)]
-pub struct Check<'a> {
-    pub tree: Option<&'a str>,
-    pub uid: u32,
-    pub gids: Vec<u32>,
-    pub subtree: &'a str,
-}
-
-impl<'a> Check<'a> {
-    /// What was given to the command.
-    pub fn from_matches(alloc: Global, matches: &ArgMatches<'a>) -> Result<Check<'a>, Fault> {
-        Ok(Check {
-            tree: matches.get_str("tree"),
-            uid: number(matches, "uid")?,
-            gids: numbers(alloc, matches, "gid")?,
-            subtree: matches.get_str("subtree").ok_or(Fault::Usage)?,
-        })
-    }
-}
-
-/// Whether several subtrees are contained against several users.
-#[derive(Drop)]
-pub struct Audit<'a> {
-    pub tree: Option<&'a str>,
-    pub users: Vec<NamedUser>,
-    pub subtrees: Vec<&'a str>,
-}
-
-impl<'a> Audit<'a> {
-    /// What was given to the command.
-    pub fn from_matches(alloc: Global, matches: &ArgMatches<'a>) -> Result<Audit<'a>, Fault> {
-        let mut users = Vec::new(alloc);
-        for word in matches.get_strs("uid").ok_or(Fault::Usage)? {
-            users.push(NamedUser::from_word(alloc, word)?)?;
-        }
-        let mut subtrees = Vec::new(alloc);
-        for subtree in matches.get_strs("subtree").ok_or(Fault::Usage)? {
-            subtrees.push(*subtree)?;
-        }
-        Ok(Audit {
-            tree: matches.get_str("tree"),
-            users,
-            subtrees,
-        })
-    }
-}
-
-/// Operations that a user makes one after another.
-#[derive(Drop)]
-pub struct Replay<'a> {
-    pub tree: Option<&'a str>,
-    pub uid: u32,
-    pub gids: Vec<u32>,
-    pub ops: &'a str,
-    pub subtree: Option<&'a str>,
-}
-
-impl<'a> Replay<'a> {
-    /// What was given to the command.
-    pub fn from_matches(alloc: Global, matches: &ArgMatches<'a>) -> Result<Replay<'a>, Fault> {
-        Ok(Replay {
-            tree: matches.get_str("tree"),
-            uid: number(matches, "uid")?,
-            gids: numbers(alloc, matches, "gid")?,
-            ops: matches.get_str("ops").ok_or(Fault::Usage)?,
-            subtree: matches.get_str("subtree"),
-        })
-    }
-}
-
-fn number(matches: &ArgMatches<'_>, name: &str) -> Result<u32, Fault> {
-    matches.get_one(name).ok_or(Fault::Usage)
-}
-
-fn numbers(alloc: Global, matches: &ArgMatches<'_>, name: &str) -> Result<Vec<u32>, Fault> {
-    let mut numbers = Vec::new(alloc);
-    if let Some(values) = matches.get_many::<u32>(name) {
-        for value in values {
-            numbers.push(value.map_err(|_| Fault::Usage)?)?;
-        }
-    }
-    Ok(numbers)
 }

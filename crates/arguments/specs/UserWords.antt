@@ -1,0 +1,40 @@
+-- The words that name users. Own.
+use Rattle.std.specs.Prelude.{ℕ, ◌^◌, Bool, ◌==◌, ◌&&◌, nat_lt, cond, List, [], ◌∷◌, length, Option, Some, None, option_and_then}
+use Rattle.std.specs.Option.{option_map}
+use Rattle.std.specs.List.{position_or_len, before_first, after_first, slice_split}
+use Rattle.std.specs.Str.{all_ascii_digits}
+use Rattle.std.specs.Str.Parse.{digits_value}
+
+abbrev pub is_comma : ℕ → Bool
+is_comma b = b == 44
+
+abbrev pub is_colon : ℕ → Bool
+is_colon b = b == 58
+
+-- what is before the first byte of a kind, and what is behind it
+abbrev pub cut : (ℕ → Bool) → List ℕ → Option (List ℕ × List ℕ)
+cut test text = cond (nat_lt (position_or_len test text) (length text)) (Some (before_first test text, after_first test text)) None
+
+-- A uid or a gid: decimal digits, one or more, that write a number of 32 bits.
+abbrev pub is_id : List ℕ → Bool
+is_id word = all_ascii_digits word && nat_lt 0 (length word) && nat_lt (digits_value 10 word) (2 ^ 32)
+
+unfoldable pub id_at : List ℕ → Option ℕ
+id_at word = cond (is_id word) (Some (digits_value 10 word)) None
+
+-- ids, a word each
+abbrev pub ids_at : List (List ℕ) → Option (List ℕ)
+ids_at [] = Some []
+ids_at (word ∷ words) = option_and_then (λ id. option_map (λ ids. id ∷ ids) (ids_at words)) (id_at word)
+
+-- a uid, and gids between which commas stand
+abbrev pub user_with : List ℕ × List ℕ → Option (ℕ × List ℕ)
+user_with parts = option_and_then (λ uid. option_map (λ gids. (uid, gids)) (ids_at (slice_split is_comma parts.1))) (id_at parts.0)
+
+-- a uid, and no gids
+abbrev pub user_alone : List ℕ → Option (ℕ × List ℕ)
+user_alone word = option_map (λ uid. (uid, [])) (id_at word)
+
+-- A user is UID, or UID:GID,GID..
+abbrev pub user_at : List ℕ → Option (ℕ × List ℕ)
+user_at word = elim (cut is_colon word) [ None ↦ user_alone word | Some parts ↦ user_with parts ]

@@ -1,0 +1,7 @@
+//! The command line of `zirofen`: its words in, a request out.
+#![tactic(auto)]
+
+mod command;
+pub mod fault;
+pub mod named_user;
+pub mod request;

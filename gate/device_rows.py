@@ -1,0 +1,157 @@
+"""The rows that gate/devices runs: of each command each kind of answer, of each format, and each kind of fault."""
+import collections, subprocess
+
+Row = collections.namedtuple("Row", "command words tree out err status")
+
+# each on the tree of examples/NAME.toml, which is standard input, or a file where --tree stands in the words
+ANSWERS = (
+    ("delegation", "may --uid 1000 --pid 11 --to /c0/c01", 0, "granted"),
+    ("delegation", "may --tree {tree} --uid 1000 --gid 5 --gid 6 --pid 10 --to /c0/c00", 1, "refused no-access / cgroup.procs"),
+    ("delegation", "may --uid 1000 --pid 99 --to /c0/c00", 1, "refused no-such-process 99"),
+    ("delegation", "may --uid 1000 --pid 11 --to /zz", 1, "refused no-such-cgroup /zz"),
+    ("parent-delegated", "may --tree {tree} --uid 1000 --pid 20 --to /p", 1, "refused internal-process /p"),
+    ("delegation-ancestor-group", "may --uid 1000 --gid 50 --pid 10 --to /c0/c00", 0, "granted"),
+    ("delegation", "check --uid 1000 --subtree /c0", 0, "contained"),
+    ("delegation-ancestor-group", "check --tree {tree} --uid 1000 --subtree /c0", 0, "contained"),
+    ("delegation-over-limit", "check --uid 1000 --subtree /c0", 1, "escapes"),
+    ("delegation-limit-writable", "check --uid 1000 --subtree /c0", 1, "escapes|set /c0 memory.max max"),
+    ("delegation-ancestor-group", "check --uid 1000 --gid 50 --subtree /c0", 1, "escapes|move 10 /c0"),
+    ("delegation-ancestor-owned", "check --uid 1000 --subtree /c0", 1, "escapes|chmod / cgroup.procs 646|move 10 /c0"),
+    ("parent-delegated", "check --tree {tree} --uid 1000 --subtree /p/s", 1, "escapes|mkdir /p/probe0|move 20 /p/probe0"),
+    ("delegation-parent-directory", "check --uid 1000 --subtree /c0", 2, "unsettled parent-dir /"),
+    ("parent-procs-owned", "check --uid 1000 --subtree /p/s", 2, "unsettled common-ancestor /p"),
+    ("delegation", "audit --uid 1000 --uid 1001:5,6 --subtree /c0 --subtree /c1", 0, "contained"),
+    ("delegation-ancestor-group", "audit --tree {tree} --uid 1000 --subtree /c0", 0, "contained"),
+    ("delegation-second-user", "audit --uid 1000 --uid 1001 --subtree /c0 --subtree /c1", 1,
+     "pair 1001 /c0|escapes|set /c0 memory.max max"),
+    ("delegation-parent-directory", "audit --uid 1000 --subtree /c0", 2, "pair 1000 /c0|unsettled parent-dir /"),
+    ("delegation", "replay --uid 1000 --ops {filled}", 0,
+     "ok|ok|ok|ok|ok|refused descendant-limit /c0|refused no-access /c0 memory.max|refused no-access / cgroup.procs"),
+    ("delegation", "replay --tree {tree} --uid 1000 --subtree /c0 --ops {filled}", 0,
+     "ok|ok|ok|ok|ok|refused descendant-limit /c0|refused no-access /c0 memory.max|refused no-access / cgroup.procs|kept"),
+    ("host-service-chown", "replay --uid 890 --gid 890 --ops {chown}", 0, "ok|ok"),
+    ("delegation", "replay --uid 1000 --subtree /c0 --ops {none}", 0, "kept"),
+    ("delegation", "replay --uid 1000 --ops {none}", 0, ""),
+    ("empty-parent-directory", "replay --uid 1000 --subtree /c0 --ops {gone}", 1, "ok|ok|broken 1 gone"),
+    ("delegation-over-limit", "replay --uid 1000 --subtree /c0 --ops {none}", 1, "broken 0 descendants"),
+)
+
+# each on the tree of the delegation
+FAULTS = (
+    ("may --uid x --pid 11 --to /c0", "usage", ""),
+    ("frobnicate", "usage", ""),
+    ("audit --uid 1000:, --subtree /c0", "usage", ""),
+    ("may --uid 0 --pid 11 --to /c0/c01", "uid", ""),
+    ("audit --uid 1000:{groups} --subtree /c0", "gid", ""),
+    ("may --uid 1000 --pid 0 --to /c0/c01", "pid", ""),
+    ("check --uid 1000 --subtree c0", "path", ""),
+    ("check --uid 1000 --subtree /", "subtree root", ""),
+    ("audit --uid 1000 --subtree /c0 --subtree /zz", "subtree missing", ""),
+    ("replay --uid 1000 --subtree /zz --ops {none}", "subtree missing", ""),
+    ("may --tree {folder} --uid 1000 --pid 11 --to /c0/c01", "read", ""),
+    ("check --tree {folder}/missing --uid 1000 --subtree /c0", "read", ""),
+    ("replay --uid 1000 --ops {folder}", "read", ""),
+    ("replay --uid 1000 --ops {folder}/missing", "read", ""),
+    ("replay --uid 1000 --subtree /c0 --ops {cut}", "line 2 cut", "ok"),
+    ("replay --uid 1000 --ops {bad}", "line 2 bad-word", "ok"),
+    ("replay --uid 1000 --ops {long}", "line 2 too-long", "ok"),
+    ("replay --uid 1000 --ops {many}", "too-many-steps", "|".join(65536 * ["refused no-such-process 99"])),
+)
+
+TOP = 'format = 1\ncontrollers = ["cpu"]\n'
+ROOT = '[[cgroup]]\npath = "/"\nenabled = ["cpu"]\n'
+BASE = TOP + ROOT
+
+# a tree text with each fault, in either format
+TREES = (
+    ("not-toml", "format = "),
+    ("shape top", "format = 1\n"),
+    ("format", "format = 3\ncontrollers = []\n"),
+    ("no-root", "format = 2\ncontrollers = []\n"),
+    ("too-many", "format = 1\ncontrollers = []\n" + 4097 * "[[cgroup]]\n"),
+    ("shape cgroup 2", BASE + '[[cgroup]]\npath = "/a"\nx = 1\n'),
+    ("shape process 1", BASE + "[[process]]\npid = 1\nuid = 1\n"),
+    ("bad-controller top", 'format = 1\ncontrollers = ["io"]\n'),
+    ("bad-path cgroup 2", BASE + '[[cgroup]]\npath = "/a/"\n'),
+    ("bad-controller cgroup 2", BASE + '[[cgroup]]\npath = "/a"\nenabled = ["io"]\n'),
+    ("bad-entry cgroup 2", BASE + '[[cgroup]]\npath = "/a"\ndir = { mode = 0o1000 }\n'),
+    ("bad-value cgroup 2", BASE + '[[cgroup]]\npath = "/a"\nfiles = { "cpu.weight" = { value = 0 } }\n'),
+    ("duplicate cgroup 3", BASE + 2 * '[[cgroup]]\npath = "/a"\n'),
+    ("no-parent cgroup 2", BASE + '[[cgroup]]\npath = "/a/b"\n'),
+    ("top-down cgroup 1", "format = 2\ncontrollers = []\n" + ROOT),
+    ("no-such-file cgroup 2", BASE + '[[cgroup]]\npath = "/a"\nfiles = { "pids.max" = { value = 1 } }\n'),
+    ("bad-pid process 1", BASE + '[[process]]\npid = 0\nuid = 1\nat = "/"\n'),
+    ("bad-entry process 1", BASE + '[[process]]\npid = 1\nuid = -1\nat = "/"\n'),
+    ("duplicate-pid process 2", BASE + 2 * '[[process]]\npid = 1\nuid = 1\nat = "/"\n'),
+    ("no-such-place process 1", BASE + '[[process]]\npid = 1\nuid = 1\nat = "/zz"\n'),
+    ("internal-process process 1",
+     BASE + '[[cgroup]]\npath = "/a"\nenabled = ["cpu"]\n[[process]]\npid = 1\nuid = 1\nat = "/a"\n'),
+    ("too-long", 16777217 * "\n"),
+)
+
+OPERATIONS = {
+    "none": "",
+    "gone": "rmdir /c0\nmkdir /c0\n",
+    "cut": "exit 11\nmkdir /c0/a",
+    "bad": "exit 11\nmkdir c0\n",
+    "long": "exit 11\n" + 8193 * "x",
+    "many": 65537 * "exit 99\n",
+}
+
+# what a command whose report is long is run on; what it writes where nothing fails is its row
+WHOLE = (("upgrade", "delegation"), ("upgrade", "delegation-ancestor-group"), ("upgrade", "three-delegations"))
+COMMANDS = ("may", "check", "audit", "replay", "upgrade")
+HELP = ("--help", "--version", "may --help", "replay --help")
+
+
+def lines(words):
+    """The lines that bars part, each with its newline."""
+    return "".join(line + "\n" for line in words.split("|") if line).encode()
+
+
+def asked(program, words, tree):
+    """A row of what the program writes where nothing fails, which isn't a fault."""
+    with open(tree, "rb") as text:
+        ended = subprocess.run([program, *words], stdin=text, capture_output=True, check=True)
+    return Row(words[0] if tree != "/dev/null" else "help", words, tree, ended.stdout, b"", 0)
+
+
+def named(top, folder):
+    """What stands for the names in braces."""
+    names = {"folder": folder, "groups": ",".join(33 * ["7"]), "filled": f"{top}/examples/delegation-filled.ops",
+             "chown": f"{top}/examples/host-service-chown.ops"}
+    for name, text in OPERATIONS.items():
+        names[name] = f"{folder}/{name}.ops"
+        with open(names[name], "w", encoding="ascii") as file:
+            file.write(text)
+    return names
+
+
+def tree_faults(folder):
+    """Faults of trees, by each command in turn."""
+    commands = (["may", "--uid", "1000", "--pid", "11", "--to", "/c0"], ["check", "--uid", "1000", "--subtree", "/c0"],
+                ["audit", "--uid", "1000", "--subtree", "/c0"], ["replay", "--uid", "1000", "--ops", f"{folder}/none.ops"])
+    for place, (fault, text) in enumerate(TREES):
+        words, tree = commands[place % len(commands)], f"{folder}/{place}.toml"
+        with open(tree, "w", encoding="ascii") as file:
+            file.write(text)
+        yield Row(words[0], words, tree, b"", f"fault: tree {fault}\n".encode(), 3)
+
+
+def rows_of(program, top, folder):
+    """All rows. A command whose rows are what it writes has them where the program lists it."""
+    names = named(top, folder)
+    rows = []
+    for tree, words, status, out in ANSWERS:
+        file = f"{top}/examples/{tree}.toml"
+        words = words.format(tree=file, **names).split()
+        rows.append(Row(words[0], words, None if "--tree" in words else file, lines(out), b"", status))
+    for words, fault, out in FAULTS:
+        words = words.format(**names).split()
+        command = words[0] if words[0] in COMMANDS else "none"
+        rows.append(Row(command, words, f"{top}/examples/delegation.toml", lines(out), f"fault: {fault}\n".encode(), 3))
+    rows += tree_faults(folder)
+    rows += [asked(program, words.split(), "/dev/null") for words in HELP]
+    rows += [asked(program, [command], f"{top}/examples/{tree}.toml") for command, tree in WHOLE
+             if f"\n  {command} ".encode() in rows[-len(HELP)].out]
+    return rows

@@ -1,0 +1,128 @@
+#!/usr/bin/env python3
+"""Plays the program's part: it answers by the guards alone, so that whatever isn't contained is unsettled, or an escape
+where a limit file is open. What it can is told by the environment: MADE_UP=all,advise, or 70 for the status
+of a wrapper that has nothing built. A subtree named odd is a fault,
+and each call is written into the file CALLS."""
+import contextlib
+import io
+import os
+import subprocess
+import sys
+
+HERE = os.path.dirname(os.path.realpath(__file__))
+sys.dont_write_bytecode = True
+sys.path.insert(0, os.path.dirname(HERE))
+
+from zirofen_host.accounts import Accounts  # noqa: E402
+from zirofen_host.questions import Questions  # noqa: E402
+from zirofen_host.tree import read_tree  # noqa: E402
+from zirofen_host.users import User  # noqa: E402
+
+
+def can(what):
+    return what in os.environ.get("MADE_UP", "").split(",")
+
+
+def play(words):
+    """A run in this process, as subprocess tells of one."""
+    out, err = io.StringIO(), io.StringIO()
+    with contextlib.redirect_stdout(out), contextlib.redirect_stderr(err):
+        status = main(list(words))
+    return subprocess.CompletedProcess(words, status, out.getvalue(), err.getvalue())
+
+
+def options(words):
+    found = {}
+    for key, value in zip(words[::2], words[1::2]):
+        found.setdefault(key, []).append(value)
+    return found
+
+
+def user_of(word):
+    uid, _, gids = word.partition(":")
+    return User(int(uid), tuple(map(int, gids.split(",") if gids else ())))
+
+
+def failing(questions, user, subtree):
+    for each in questions.delegations.guarded(subtree):
+        entry = questions.delegations.entry(each.path, each.name)
+        if user.reaches(entry):
+            yield each, entry
+
+
+def answer(questions, user, subtree):
+    found = list(failing(questions, user, subtree))
+    if not found:
+        return 0, ["contained"]
+    each, _ = found[0]
+    if each.guard == "limit-file":
+        return 1, ["escapes", f"set {subtree} {each.name} 0"]
+    return 2, [f"unsettled {each.guard} {each.path}"]
+
+
+def audit(questions, users, subtrees, is_all):
+    statuses = [0]
+    for word in users:
+        for subtree in subtrees:
+            status, lines = answer(questions, user_of(word), subtree)
+            if status:
+                statuses.append(status)
+                print("\n".join([f"pair {word if is_all else word.split(':')[0]} {subtree}", *lines]))
+                if not is_all:
+                    return status
+    if statuses == [0]:
+        print("contained")
+    return 1 if 1 in statuses else max(statuses)
+
+
+def advise(questions, user, subtree):
+    found = list(failing(questions, user, subtree))
+    for each, entry in found:
+        by = user.class_of(entry)
+        print(f"fails {each.guard} {each.path} {each.name} {entry.uid}:{entry.gid} {entry.mode:03o} {by}")
+        if by == "owner":
+            print(f"chown {each.path} {each.name} 0:{entry.gid}")
+        else:
+            print(f"chmod {each.path} {each.name} {entry.mode & (0o757 if by == 'group' else 0o775):03o}")
+    if not found:
+        print("contained")
+    return 1 if found else 0
+
+
+def fault(line, status=3):
+    print(line, file=sys.stderr)
+    print("a second line", file=sys.stderr)
+    return status
+
+
+def main(words):
+    with open(os.environ["CALLS"], "a", encoding="ascii") as calls:
+        calls.write(" ".join(words) + "\n")
+    if words[-1] == "--help":
+        print("Commands:\n  check   x\n  audit   x\n" + ("  advise  x\n" if can("advise") else "")
+              if len(words) == 1 else "Options:\n  --tree <FILE>\n" + ("  --all  x\n" if can("all") else ""))
+        return 0
+    if words == ["--version"]:
+        print("made-up 1.0")
+        return 0
+    if can("70"):
+        return fault("zirofen: not built: there is no rt on the PATH", 70)
+    is_all = words[1] == "--all"
+    given = options(words[2 if is_all else 1:])
+    if any(path.endswith("/odd") for path in given["--subtree"]):
+        return fault("fault: subtree missing")
+    with open(given["--tree"][0], encoding="ascii") as text:
+        tree = read_tree(text.read())
+    questions = Questions(tree, Accounts(), {})
+    if words[0] == "audit":
+        return audit(questions, given["--uid"], given["--subtree"], is_all)
+    user = User(int(given["--uid"][0]), tuple(map(int, given.get("--gid", ()))))
+    if words[0] == "advise":
+        return advise(questions, user, given["--subtree"][0])
+    status, lines = answer(questions, user, given["--subtree"][0])
+    print("\n".join(lines))
+    return status
+
+
+if __name__ == "__main__":
+    sys.exit(main(sys.argv[1:]))

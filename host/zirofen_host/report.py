@@ -1,0 +1,156 @@
+"""The report on a host, as one value that JSON can carry, and its lines, which are made of that value alone."""
+import itertools
+import os
+import time
+
+from zirofen_host.asking import CONTAINED, ESCAPES, UNSETTLED, WORDS
+
+VERSION = 1
+NOTHING_ASKED = 4
+# names in a line; where there are more, it tells how many
+SHOWN = 8
+ANSWERS = {status: word for word, status in WORDS.items()}
+
+
+def base(program, mount):
+    """What the report is of."""
+    names = os.uname()
+    return {"version": VERSION, "program": program, "host": names.nodename, "kernel": f"{names.sysname} {names.release}",
+            "time": time.strftime("%Y-%m-%dT%H:%M:%SZ", time.gmtime()), "mount": mount}
+
+
+def status_of(report):
+    """The worst that a report tells of."""
+    answers = {each["answer"] for entry in report["entries"] for each in (entry,)}
+    if report["faults"]:
+        return 3
+    if report["opened"] or ANSWERS[ESCAPES] in answers:
+        return ESCAPES
+    if ANSWERS[UNSETTLED] in answers:
+        return UNSETTLED
+    return CONTAINED if report["asked"] else NOTHING_ASKED
+
+
+def some(names):
+    more = f" and {len(names) - SHOWN} more" if len(names) > SHOWN else ""
+    return " ".join(names[:SHOWN]) + more
+
+
+def whom_text(whom):
+    """Whom an entry lets in."""
+    texts = []
+    for each in whom:
+        if each["by"] == "others":
+            texts.append("everybody")
+        elif each["by"] == "group":
+            texts.append(f"{each['name']}: {some(each['users'])}" if each["users"] else each["name"])
+        else:
+            texts.append(each["name"])
+    return ", ".join(texts)
+
+
+def owner_text(entry):
+    return f"{entry['uid']}:{entry['gid']} {entry['mode']}"
+
+
+def gids_text(gids):
+    return ",".join(map(str, gids)) or "-"
+
+
+def rows_of(subtree):
+    """The table's rows of a subtree: one for each answer of whoever holds it."""
+    for each in subtree["answers"]:
+        if each["is_above"]:
+            yield each["who"], gids_text(each["gids"]), f"above: {each['lines'][0]}", subtree["path"], ()
+        else:
+            yield each["who"], gids_text(each["gids"]), each["lines"][0], subtree["path"], each["lines"][1:]
+    if not subtree["answers"]:
+        yield "-", "-", "held by root alone", subtree["path"], ()
+
+
+def table(report):
+    """Columns of who holds a subtree, his groups, the answer and the path, which may be long; what it shows stands below."""
+    rows = [("UID", "GIDS", "ANSWER", "PATH", ())]
+    rows += [row for subtree in report["subtrees"] for row in rows_of(subtree)]
+    widths = [max(len(row[column]) for row in rows) for column in range(3)]
+    for row in rows:
+        yield "  ".join([word.ljust(width) for word, width in zip(row, widths)] + [row[3]])
+        yield from (f"    {line}" for line in row[4])
+
+
+def together(commands):
+    """Commands of one word and one mode or owner in one line."""
+    found = {}
+    for command in dict.fromkeys(commands):
+        words = command.split(" ", 2)
+        key = tuple(words[:2]) if words[0] in ("chown", "chmod") else (command,)
+        found.setdefault(key, []).extend(words[2:] if len(key) == 2 else ())
+    return [" ".join([*key, *places]) for key, places in found.items()]
+
+
+def what_to_change(found):
+    """What mends findings at one place, and what brings their values back."""
+    yield from (f"    change: {command}" for command in together(command for each in found for command in each["changes"]))
+    settings = dict.fromkeys(each["setting"] for each in found if each["setting"])
+    if settings:
+        yield f"    setting, at the next start: {', '.join(settings)}"
+
+
+def entry_lines(entries):
+    """The entries at one place that let in the same to the same."""
+    entry = entries[0]
+    what = " ".join(f"{each['entry']} ({owner_text(each['owner'])})" if each["owner"] else each["entry"] for each in entries)
+    yield f"{entry['path']} {what}: {entry['answer']}, by {whom_text(entry['whom'])}, of {some(entry['subtrees'])}"
+    example = entry["example"]
+    if example:
+        yield f"    by {example['who']} of {example['subtree']}: {example['lines'][0]}"
+        yield from (f"    {line}" for line in example["lines"][1:])
+    yield from what_to_change(entries)
+
+
+def alike(found, *keys):
+    """Findings in lists of those that follow one another and don't differ in these keys."""
+    return [list(each) for _, each in itertools.groupby(found, key=lambda each: [each[key] for key in keys])]
+
+
+def finding_lines(report):
+    """Everything that counts, and then what doesn't."""
+    for entries in alike(report["entries"], "path", "answer", "whom", "subtrees", "example"):
+        yield from entry_lines(entries)
+    for opened in alike(report["opened"], "path", "whom"):
+        yield from (f"opened {each['path']} {each['file']} by {whom_text(each['whom'])}" for each in opened)
+        yield from what_to_change(opened)
+    for each in report["faults"]:
+        yield f"fault: {each['who']} of {some(each['subtrees'])}: {each['fault']}"
+    if report["entries"] and not report["has_advice"]:
+        yield "what to change of an entry isn't told: this program has no advise"
+    for each in report["differs"]:
+        yield f"differs {each['path']}: {some(each['entries'])}: not as a service manager leaves it"
+        yield from what_to_change([each])
+
+
+def place_text(each):
+    return ": ".join(word for word in (each["kind"], each["place"], each["text"]) if word)
+
+
+def lines_of(report):
+    """The report as it is printed."""
+    if report["subtrees"]:
+        yield from table(report)
+    if not report["asked"]:
+        yield "nothing was found to ask: no subtree and user of which containment could be asked"
+    found = list(finding_lines(report))
+    if found:
+        yield ""
+        yield "What lets somebody in, each once; opened and differs were seen by this helper and aren't proved:"
+        yield from found
+    if report["above"]:
+        yield ""
+        yield "What lies below what was handed to somebody is open to him, and isn't counted:"
+        yield from (f"above: {each['who']}, below {each['handed']}: {some(each['subtrees'])}" for each in report["above"])
+    yield ""
+    yield "What none of these answers looks at (docs/HOSTS.md):"
+    yield from map(place_text, report["unseen"])
+    yield from (f"snapshot: {place_text(each)}" for each in report["snapshot"])
+    if not report["unseen"] and not report["snapshot"]:
+        yield "this host tells of nothing"

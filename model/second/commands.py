@@ -1,0 +1,278 @@
+"""A second model of Zirofen: operation lines, command lines and reports. Written from docs/MODEL.md and docs/FORMATS.md
+alone, and from no code of crates/; keep it so.
+"""
+import re
+
+from . import rules
+from .rules import text_of
+from .texts import Fault, LAST_ID, LONGEST_LINE, MOST_GIDS, MOST_STEPS, tree_of
+
+NUMBER = r"0|[1-9][0-9]*"
+# of each command its options: whether one must be there, and whether it may come again
+OPTIONS = {
+    "may": {"--tree": "", "--uid": "must", "--gid": "again", "--pid": "must", "--to": "must"},
+    "check": {"--tree": "", "--uid": "must", "--gid": "again", "--subtree": "must"},
+    "audit": {"--tree": "", "--uid": "must again", "--subtree": "must again", "--all": "flag"},
+    "replay": {"--tree": "", "--uid": "must", "--gid": "again", "--ops": "must", "--subtree": ""},
+    "upgrade": {"--tree": ""},
+    "advise": {"--tree": "", "--uid": "must", "--gid": "again", "--subtree": "must"},
+}
+
+
+def operation_of(line):
+    """The operation of a line without its newline, or None."""
+    try:
+        words = line.decode("ascii").split(" ")
+    except UnicodeDecodeError:
+        return None
+    kind, rest = words[0], words[1:]
+    if kind == "control" and rest:
+        read = [rules.path_of(rest[0]), tuple(map(change_word, rest[1:]))]
+        return None if read[0] is None or None in read[1] else (kind, *read)
+    forms = {"move": (pid_word, rules.path_of), "mkdir": (rules.path_of,), "rmdir": (rules.path_of,), "fork": (pid_word, pid_word),
+             "set": (rules.path_of, limit_word, value_word), "exit": (pid_word,), "chmod": (rules.path_of, entry_word, mode_word)}
+    if len(forms.get(kind, ())) != len(rest) or kind not in forms:
+        return None
+    read = [form(word) for form, word in zip(forms[kind], rest)]
+    return None if None in read else (kind, *read)
+
+
+def pid_word(word):
+    found = int(word) if re.fullmatch(NUMBER, word) else 0
+    return found if 1 <= found <= rules.LAST_PID else None
+
+
+def change_word(word):
+    return (word[0], word[1:]) if word[:1] in ("+", "-") and word[1:] in rules.CONTROLLERS else None
+
+
+def limit_word(word):
+    return word if word in rules.LIMIT_FILES else None
+
+
+def value_word(word):
+    if word == rules.MAX:
+        return word
+    return int(word) if re.fullmatch(NUMBER, word) and int(word) < 2 ** 64 else None
+
+
+def entry_word(word):
+    return word if word in rules.STANDING or word in rules.LIMIT_FILES else None
+
+
+def mode_word(word):
+    return int(word, 8) if re.fullmatch("[0-7]{3}", word) else None
+
+
+def spelling(operation):
+    kind, *rest = operation
+    if kind == "control":
+        return " ".join([kind, text_of(rest[0]), *(sign + controller for sign, controller in rest[1])])
+    words = [text_of(part) if isinstance(part, tuple) else str(part) for part in rest]
+    if kind == "chmod":
+        words[2] = f"{rest[2]:03o}"
+    return " ".join([kind, *words])
+
+
+def lines_of(data):
+    """Each line's operation; raises the fault that ends them."""
+    *lines, end = data.split(b"\n")
+    for number, line in enumerate(lines + ([end] if end else []), 1):
+        if number > MOST_STEPS:
+            raise Fault("too-many-steps")
+        if len(line) > LONGEST_LINE:
+            raise Fault(f"line {number} too-long")
+        if number > len(lines):
+            raise Fault(f"line {number} cut")
+        operation = operation_of(line)
+        if operation is None:
+            raise Fault(f"line {number} bad-word")
+        yield operation
+
+
+# Command lines
+
+
+class Call:
+    """A command with its options: of each its words, in order."""
+
+    def __init__(self, words):
+        if not words or words[0] not in OPTIONS:
+            raise Fault("usage")
+        self.command, self.given = words[0], {}
+        rest = iter(words[1:])
+        for word in rest:
+            self.take(word, rest)
+        for option, kind in OPTIONS[self.command].items():
+            given = self.given.get(option, [])
+            if "must" in kind and not given or "again" not in kind and len(given) > 1:
+                raise Fault("usage")
+        self.users = self.read_users()
+        self.pid = plain_number(self.given["--pid"][0]) if self.command == "may" else None
+
+    def take(self, word, rest):
+        option, equals, value = word.partition("=")
+        kind = OPTIONS[self.command].get(option)
+        if kind is None or (kind == "flag" and equals):
+            raise Fault("usage")
+        if kind != "flag" and not equals:
+            value = next(rest, None)
+            if value is None or re.match("-.", value):
+                raise Fault("usage")
+        self.given.setdefault(option, []).append(value)
+
+    def read_users(self):
+        if self.command == "audit":
+            return [listed_user(word) for word in self.given["--uid"]]
+        if self.command == "upgrade":
+            return []
+        return [(plain_number(self.given["--uid"][0]), tuple(map(plain_number, self.given.get("--gid", []))))]
+
+    def one(self, option):
+        return self.given.get(option, [None])[0]
+
+    def subtrees(self):
+        return self.given.get("--subtree", [])
+
+
+def plain_number(word):
+    if not re.fullmatch(r"\+?[0-9]+", word) or int(word) > LAST_ID:
+        raise Fault("usage")
+    return int(word)
+
+
+def listed_user(word):
+    if not re.fullmatch("[0-9]+(:[0-9]+(,[0-9]+)*)?", word):
+        raise Fault("usage")
+    uid, *gids = [int(number) for number in re.split("[:,]", word)]
+    if max(uid, *gids, 0) > LAST_ID:
+        raise Fault("usage")
+    return uid, tuple(gids)
+
+
+# Reports
+
+
+def respond(words, stdin, files):
+    """The lines of standard output, the status and the first line of standard error. A tree that is read from what isn't a
+    file is None in `files`, and so is a folder's name, which opens and can't be read, with the value False."""
+    lines = []
+    try:
+        return lines, report(words, stdin, files, lines), ""
+    except Fault as fault:
+        return lines, 3, f"fault: {fault}"
+
+
+def report(words, stdin, files, lines):
+    call = Call(words)
+    tree = stdin if call.one("--tree") is None else files.get(call.one("--tree"))
+    if not isinstance(tree, bytes) or call.command == "replay" and files.get(call.one("--ops")) is None:
+        raise Fault("read")
+    test_arguments(call)
+    state = tree_of(tree)
+    tops = [subtree_of(state, word) for word in call.subtrees()]
+    return REPORTS[call.command](call, state, tops, files, lines)
+
+
+def test_arguments(call):
+    for uid, gids in call.users:
+        if uid == 0:
+            raise Fault("uid")
+        if len(gids) > MOST_GIDS:
+            raise Fault("gid")
+    if call.pid is not None and not 1 <= call.pid <= rules.LAST_PID:
+        raise Fault("pid")
+    if any(rules.path_of(word) is None for word in [*call.given.get("--to", []), *call.subtrees()]):
+        raise Fault("path")
+
+
+def subtree_of(state, word):
+    path = rules.path_of(word)
+    if path == ():
+        raise Fault("subtree root")
+    if path not in state.cgroups:
+        raise Fault("subtree missing")
+    return path
+
+
+def may(call, state, _tops, _files, lines):
+    found = rules.bars(state, call.users[0], ("move", call.pid, rules.path_of(call.one("--to"))))
+    lines.append(f"refused {found[0]}" if found else "granted")
+    return 1 if found else 0
+
+
+def answer_lines(answer):
+    kind, *rest = answer
+    if kind == "escapes":
+        return [kind] + [spelling(operation) for operation in rest[0]]
+    return [kind] if kind == "contained" else [f"{kind} {rest[0]} {text_of(rest[1])}"]
+
+
+STATUS = {"contained": 0, "escapes": 1, "unsettled": 2}
+
+
+def check(call, state, tops, _files, lines):
+    answer = rules.answer(state, call.users[0], tops[0])
+    lines += answer_lines(answer)
+    return STATUS[answer[0]]
+
+
+def audit(call, state, tops, _files, lines):
+    listed = "--all" in call.given
+    kinds = set()
+    for user in dict.fromkeys(call.users):
+        for top in dict.fromkeys(tops):
+            answer = rules.answer(state, user, top)
+            if answer[0] != "contained":
+                gids = ":" + ",".join(map(str, user[1])) if listed and user[1] else ""
+                lines += [f"pair {user[0]}{gids} {text_of(top)}", *answer_lines(answer)]
+                kinds.add(answer[0])
+                if not listed:
+                    return STATUS[answer[0]]
+    if not kinds:
+        lines.append("contained")
+    return STATUS[min(kinds, key=["escapes", "unsettled"].index, default="contained")]
+
+
+def replay(call, state, tops, files, lines):
+    if files[call.one("--ops")] is False:
+        raise Fault("read")
+    states = [state]
+    for operation in lines_of(files[call.one("--ops")]):
+        state, refusal = rules.step(state, call.users[0], operation)
+        lines.append(f"refused {refusal}" if refusal else "ok")
+        states.append(state)
+    if not tops:
+        return 0
+    lines.append(rules.verdict(states, tops[0]))
+    return 0 if lines[-1] == "kept" else 1
+
+
+def advise(call, state, tops, _files, lines):
+    for failure in rules.failures(state, call.users[0], tops[0]):
+        reason, changes = rules.reason_and_changes(state, call.users[0], tops[0], failure)
+        lines += [reason, *changes]
+    if lines:
+        return 1
+    lines.append("contained")
+    return 0
+
+
+def upgrade(_call, state, _tops, _files, lines):
+    """One element in place of lines: the document that is written, whose spelling is the library's."""
+    rows = [full_row(path, state.cgroups[path]) for path in sorted(state.cgroups)]
+    processes = [{"pid": pid, "uid": uid, "at": text_of(path)} for pid, (uid, path) in sorted(state.live.items())]
+    lines.append({"format": 2, "controllers": [c for c in rules.CONTROLLERS if c in state.controllers], "cgroup": rows,
+                  "process": processes})
+    return 0
+
+
+def full_row(path, cgroup):
+    files = {name: {"uid": entry.uid, "gid": entry.gid, "mode": entry.mode} for name, entry in cgroup.entries.items()}
+    for name, value in cgroup.values.items():
+        files[name]["value"] = value
+    enabled = [c for c in rules.CONTROLLERS if c in cgroup.enabled]
+    return {"path": text_of(path), "enabled": enabled, "dir": files.pop(rules.DIR), "files": files}
+
+
+REPORTS = {"may": may, "check": check, "audit": audit, "replay": replay, "advise": advise, "upgrade": upgrade}

@@ -1,0 +1,482 @@
+"""A second model of Zirofen: the rules. Written from docs/MODEL.md and docs/FORMATS.md alone, and from no code of crates/.
+
+Keep it so: whoever changes it reads these two pages and nothing below crates/, since what was written from the code repeats
+the code's mistakes. It is plain and slow: each count is taken anew from all paths, and each try of an answer is carried out.
+
+A path is a tuple of names. A user is (uid, gids). A state and what it holds are never changed: a step makes another state.
+"""
+from dataclasses import dataclass, replace
+
+CONTROLLERS = ("cpu", "memory", "pids")
+MOST = 2 ** 63 - 1
+MAX = "max"
+# each limit file, in the order used everywhere: its controller, default, least and greatest number, whether it takes `max`
+LIMIT_FILES = {
+    "cgroup.max.descendants": (None, MAX, 0, MOST, True),
+    "cgroup.max.depth": (None, MAX, 0, MOST, True),
+    "cpu.weight": ("cpu", 100, 1, 10000, False),
+    "memory.min": ("memory", 0, 0, MOST, True),
+    "memory.low": ("memory", 0, 0, MOST, True),
+    "memory.high": ("memory", MAX, 0, MOST, True),
+    "memory.max": ("memory", MAX, 0, MOST, True),
+    "pids.max": ("pids", MAX, 0, MOST, True),
+}
+DESCENDANTS, DEPTH = "cgroup.max.descendants", "cgroup.max.depth"
+DIR, PROCS, CONTROL = "dir", "cgroup.procs", "cgroup.subtree_control"
+STANDING = (DIR, PROCS, CONTROL)
+RESERVED = {"cgroup.controllers", PROCS, CONTROL, *LIMIT_FILES}
+LONGEST_PATH, LONGEST_NAME = 4095, 255
+LAST_PID = 4194303
+DIR_MODE, FILE_MODE = 0o755, 0o644
+
+
+@dataclass(frozen=True)
+class Entry:
+    uid: int = 0
+    gid: int = 0
+    mode: int = FILE_MODE
+
+
+@dataclass(frozen=True)
+class Cgroup:
+    """`entries` and `values` by name: the directory, the control files and the limit files that stand, and their values."""
+    entries: dict
+    values: dict
+    enabled: frozenset = frozenset()
+
+
+@dataclass(frozen=True)
+class State:
+    """`cgroups` by path, `live` from a PID to (uid, path), `used` the PIDs that a process ever had."""
+    controllers: frozenset
+    cgroups: dict
+    live: dict
+    used: frozenset
+
+
+def text_of(path):
+    return "/" + "/".join(path)
+
+
+def path_of(text):
+    """The path that a text spells, or None."""
+    if text == "/":
+        return ()
+    names = text.split("/")
+    if names[0] != "" or len(names) == 1 or len(text) > LONGEST_PATH:
+        return None
+    return tuple(names[1:]) if all(is_name(name) for name in names[1:]) else None
+
+
+def is_name(name):
+    is_word = 1 <= len(name) <= LONGEST_NAME and all(0x21 <= ord(letter) <= 0x7E for letter in name)
+    return is_word and name not in (".", "..") and name not in RESERVED
+
+
+def inside(path, top):
+    return path[:len(top)] == top
+
+
+def below(state, top):
+    return [path for path in state.cgroups if inside(path, top) and path != top]
+
+
+def children(state, top):
+    return [path for path in below(state, top) if len(path) == len(top) + 1]
+
+
+def depth_below(state, top):
+    return max((len(path) - len(top) for path in below(state, top)), default=0)
+
+
+def common(one, other):
+    length = 0
+    while length < min(len(one), len(other)) and one[length] == other[length]:
+        length += 1
+    return one[:length]
+
+
+def upwards(path):
+    """The path and its ancestors, the nearest first."""
+    return [path[:length] for length in range(len(path), -1, -1)]
+
+
+def owns(user, entry):
+    return entry.uid == user[0]
+
+
+def class_of(user, entry):
+    if owns(user, entry):
+        return "owner"
+    return "group" if entry.gid in user[1] else "others"
+
+
+def writes(user, entry):
+    bit = {"owner": 0o200, "group": 0o020, "others": 0o002}[class_of(user, entry)]
+    return entry.mode & bit != 0
+
+
+def reaches(user, entry):
+    return writes(user, entry) or owns(user, entry)
+
+
+def made_by(user, mode):
+    return Entry(user[0], user[1][0] if user[1] else 0, mode)
+
+
+def available(state, path):
+    return state.cgroups[path[:-1]].enabled if path else state.controllers
+
+
+def files_at(state, path):
+    """The limit files that belong at a path, in their order."""
+    brought = state.cgroups[path[:-1]].enabled if path else frozenset()
+    return [file for file, (controller, *_) in LIMIT_FILES.items() if controller is None or controller in brought]
+
+
+def default_of(file):
+    return LIMIT_FILES[file][1]
+
+
+def accepts(file, value):
+    _, _, least, greatest, takes_max = LIMIT_FILES[file]
+    return takes_max if value == MAX else least <= value <= greatest
+
+
+def lives_at(state, path):
+    return any(place == path for _, place in state.live.values())
+
+
+# Operations: ("move", pid, path), ("control", path, ((sign, controller), ..)), ("mkdir", path), ("rmdir", path),
+# ("set", path, file, value), ("fork", parent, child), ("exit", pid), ("chmod", path, entry, mode).
+
+
+def entry_bar(state, user, path, name):
+    return [] if writes(user, state.cgroups[path].entries[name]) else [f"no-access {text_of(path)} {name}"]
+
+
+def bars(state, user, operation):
+    """The clauses that an operation fails, in order."""
+    return BARS[operation[0]](state, user, *operation[1:])
+
+
+def missing(state, path):
+    return [] if path in state.cgroups else [f"no-such-cgroup {text_of(path)}"]
+
+
+def move_bars(state, user, pid, to):
+    found = missing(state, to)
+    if to in state.cgroups:
+        found += entry_bar(state, user, to, PROCS)
+    if pid not in state.live:
+        found.append(f"no-such-process {pid}")
+    else:
+        found += entry_bar(state, user, common(state.live[pid][1], to), PROCS)
+    if to and to in state.cgroups and state.cgroups[to].enabled:
+        found.append(f"internal-process {text_of(to)}")
+    return found
+
+
+def effective(changes):
+    """Of several changes on one controller the last."""
+    return {controller: sign for sign, controller in changes}
+
+
+def enabled_after(state, path, changes):
+    last = effective(changes)
+    enabled = state.cgroups[path].enabled
+    return frozenset(c for c in CONTROLLERS if last.get(c, "+" if c in enabled else "-") == "+")
+
+
+def control_bars(state, user, path, changes):
+    if path not in state.cgroups:
+        return missing(state, path)
+    found = entry_bar(state, user, path, CONTROL)
+    last = effective(changes)
+    for controller in CONTROLLERS:
+        used = any(controller in state.cgroups[child].enabled for child in children(state, path))
+        if last.get(controller) == "+" and controller not in available(state, path):
+            found.append(f"not-available {controller}")
+        if last.get(controller) == "-" and controller in state.cgroups[path].enabled and used:
+            found.append(f"child-uses {controller}")
+    if path and enabled_after(state, path, changes) - state.cgroups[path].enabled and lives_at(state, path):
+        found.append(f"internal-process {text_of(path)}")
+    return found
+
+
+def limit_bars(state, parent):
+    """What bars a further child of a cgroup: of each ancestor, the nearest first, its descendants and then its depth."""
+    found = []
+    for top in upwards(parent):
+        values = state.cgroups[top].values
+        if values[DESCENDANTS] != MAX and len(below(state, top)) >= values[DESCENDANTS]:
+            found.append(f"descendant-limit {text_of(top)}")
+        if values[DEPTH] != MAX and len(parent) - len(top) >= values[DEPTH]:
+            found.append(f"depth-limit {text_of(top)}")
+    return found
+
+
+def mkdir_bars(state, user, path):
+    if path in state.cgroups:
+        return [f"exists {text_of(path)}"]
+    parent = path[:-1]
+    return missing(state, parent) or entry_bar(state, user, parent, DIR) + limit_bars(state, parent)
+
+
+def rmdir_bars(state, user, path):
+    if not path:
+        return ["root-cgroup"]
+    if path not in state.cgroups:
+        return missing(state, path)
+    found = entry_bar(state, user, path[:-1], DIR)
+    if children(state, path):
+        found.append(f"has-children {text_of(path)}")
+    if lives_at(state, path):
+        found.append(f"has-processes {text_of(path)}")
+    return found
+
+
+def set_bars(state, user, path, file, value):
+    found = missing(state, path)
+    if not found and file not in state.cgroups[path].values:
+        found.append(f"no-such-file {text_of(path)} {file}")
+    elif not found:
+        found += entry_bar(state, user, path, file)
+    return found if accepts(file, value) else found + [f"bad-value {file}"]
+
+
+def fork_bars(state, user, parent, child):
+    return exit_bars(state, user, parent) + ([f"pid-used {child}"] if child in state.used else [])
+
+
+def exit_bars(state, user, pid):
+    if pid not in state.live:
+        return [f"no-such-process {pid}"]
+    return [] if state.live[pid][0] == user[0] else [f"not-yours {pid}"]
+
+
+def chmod_bars(state, user, path, name, _mode):
+    if path not in state.cgroups:
+        return missing(state, path)
+    if name not in state.cgroups[path].entries:
+        return [f"no-such-file {text_of(path)} {name}"]
+    return [] if owns(user, state.cgroups[path].entries[name]) else [f"not-owner {text_of(path)} {name}"]
+
+
+BARS = {"move": move_bars, "control": control_bars, "mkdir": mkdir_bars, "rmdir": rmdir_bars, "set": set_bars,
+        "fork": fork_bars, "exit": exit_bars, "chmod": chmod_bars}
+
+
+def next_state(state, user, operation):
+    """The state after an operation that nothing bars."""
+    return NEXT[operation[0]](state, user, *operation[1:])
+
+
+def with_cgroup(state, path, cgroup):
+    return replace(state, cgroups={**state.cgroups, path: cgroup})
+
+
+def after_move(state, _user, pid, to):
+    return replace(state, live={**state.live, pid: (state.live[pid][0], to)})
+
+
+def refitted(state, user, path):
+    """A cgroup with the limit files that belong at it: one that stands is kept, one that comes is the user's."""
+    old = state.cgroups[path]
+    entries = {name: old.entries[name] for name in STANDING}
+    values = {}
+    for file in files_at(state, path):
+        entries[file] = old.entries.get(file, made_by(user, FILE_MODE))
+        values[file] = old.values.get(file, default_of(file))
+    return replace(old, entries=entries, values=values)
+
+
+def after_control(state, user, path, changes):
+    state = with_cgroup(state, path, replace(state.cgroups[path], enabled=enabled_after(state, path, changes)))
+    for child in children(state, path):
+        state = with_cgroup(state, child, refitted(state, user, child))
+    return state
+
+
+def after_mkdir(state, user, path):
+    entries = {DIR: made_by(user, DIR_MODE), PROCS: made_by(user, FILE_MODE), CONTROL: made_by(user, FILE_MODE)}
+    state = with_cgroup(state, path, Cgroup(entries, {}))
+    return with_cgroup(state, path, refitted(state, user, path))
+
+
+def after_rmdir(state, _user, path):
+    return replace(state, cgroups={other: cgroup for other, cgroup in state.cgroups.items() if other != path})
+
+
+def after_set(state, _user, path, file, value):
+    old = state.cgroups[path]
+    return with_cgroup(state, path, replace(old, values={**old.values, file: value}))
+
+
+def after_fork(state, _user, parent, child):
+    return replace(state, live={**state.live, child: state.live[parent]}, used=state.used | {child})
+
+
+def after_exit(state, _user, pid):
+    return replace(state, live={other: process for other, process in state.live.items() if other != pid})
+
+
+def after_chmod(state, _user, path, name, mode):
+    old = state.cgroups[path]
+    return with_cgroup(state, path, replace(old, entries={**old.entries, name: replace(old.entries[name], mode=mode)}))
+
+
+NEXT = {"move": after_move, "control": after_control, "mkdir": after_mkdir, "rmdir": after_rmdir, "set": after_set,
+        "fork": after_fork, "exit": after_exit, "chmod": after_chmod}
+
+
+def step(state, user, operation):
+    """The state after an operation, and its refusal or None."""
+    found = bars(state, user, operation)
+    return (state, found[0]) if found else (next_state(state, user, operation), None)
+
+
+# Subtrees
+
+
+def crossing(before, after, top):
+    """The processes that live in both states and are inside in one alone, rising."""
+    both = sorted(before.live.keys() & after.live.keys())
+    return [pid for pid in both if inside(before.live[pid][1], top) != inside(after.live[pid][1], top)]
+
+
+def over(state, top):
+    """The limits of a cgroup that it is over, with what is there."""
+    values = state.cgroups[top].values
+    there = {DESCENDANTS: len(below(state, top)), DEPTH: depth_below(state, top)}
+    return {file: count for file, count in there.items() if values[file] != MAX and count > values[file]}
+
+
+def broken(limits, before, after, top):
+    """The first thing that a step breaks of a subtree whose limits at the start of the run are given, or None."""
+    if top not in after.cgroups:
+        return "gone"
+    crossed = crossing(before, after, top)
+    if crossed:
+        return f"crossed {crossed[0]}"
+    if after.cgroups[top].values != limits:
+        return "limits"
+    exceeded = over(after, top)
+    if DESCENDANTS in exceeded:
+        return "descendants"
+    return "depth" if DEPTH in exceeded else None
+
+
+def verdict(states, top):
+    """Over the states of a run, the first of which is its start."""
+    limits = states[0].cgroups[top].values
+    for number, after in enumerate(states):
+        what = broken(limits, states[max(number - 1, 0)], after, top)
+        if what:
+            return f"broken {number} {what}"
+    return "kept"
+
+
+def guarded(state, top):
+    """The guarded entries in order: each guard with the cgroup and the name of its entry."""
+    found = [("common-ancestor", path, PROCS) for path in upwards(top)[1:]]
+    found += [("limit-file", top, file) for file in LIMIT_FILES if file in state.cgroups[top].values]
+    return found + [("parent-control", top[:-1], CONTROL), ("parent-dir", top[:-1], DIR)]
+
+
+def failures(state, user, top):
+    """The guards that fail, in order, each with the cgroup and the entry: None for already-over."""
+    found = [each for each in guarded(state, top) if reaches(user, state.cgroups[each[1]].entries[each[2]])]
+    return found + ([("already-over", top, None)] if over(state, top) else [])
+
+
+def other_value(file, value):
+    if file == "cpu.weight":
+        return 1 if value == 100 else 100
+    return 0 if value == MAX else MAX
+
+
+def plain_tries(state, top):
+    yield []
+    for file in files_at(state, top):
+        yield [("set", top, file, other_value(file, state.cgroups[top].values[file]))]
+    for controller in CONTROLLERS:
+        yield [("control", top[:-1], (("-", controller),))]
+        yield [("control", top[:-1], (("+", controller),))]
+    yield [("rmdir", top)]
+    for pid in sorted(state.live):
+        is_in = inside(state.live[pid][1], top)
+        yield from ([("move", pid, path)] for path in sorted(state.cgroups) if inside(path, top) != is_in)
+    yield from probes(state, top)
+
+
+def probes(state, top):
+    for ancestor in upwards(top)[1:]:
+        number = 0
+        while ancestor + (f"probe{number}",) in state.cgroups:
+            number += 1
+        probe = ancestor + (f"probe{number}",)
+        if len(text_of(probe)) <= LONGEST_PATH:
+            for pid in sorted(state.live):
+                if inside(state.live[pid][1], top):
+                    yield [("mkdir", probe), ("move", pid, probe)]
+
+
+def opening(state, user, top):
+    found = []
+    for _, path, name in guarded(state, top):
+        entry = state.cgroups[path].entries[name]
+        if owns(user, entry) and not writes(user, entry):
+            found.append(("chmod", path, name, entry.mode | 0o200))
+    return found
+
+
+def tries(state, user, top):
+    opened = opening(state, user, top)
+    for operations in plain_tries(state, top):
+        yield operations
+        if opened:
+            yield opened + operations
+
+
+def breaks(state, user, top, operations):
+    states = [state]
+    for operation in operations:
+        states.append(step(states[-1], user, operation)[0])
+    return verdict(states, top) != "kept"
+
+
+def answer(state, user, top):
+    """("contained",), ("escapes", operations) or ("unsettled", guard, path)."""
+    failed = failures(state, user, top)
+    if not failed:
+        return ("contained",)
+    for operations in tries(state, user, top):
+        if breaks(state, user, top, operations):
+            return ("escapes", operations)
+    return ("unsettled", failed[0][0], failed[0][1])
+
+
+# Advice: for each guard that fails its reason, and the changes that mend it
+
+
+def reason_and_changes(state, user, top, failure):
+    guard, path, name = failure
+    if name is None:
+        reason = f"fails already-over {text_of(top)}"
+        return reason, [f"set {text_of(top)} {file} {count}" for file, count in over(state, top).items()]
+    entry = state.cgroups[path].entries[name]
+    where, by = f"{text_of(path)} {name}", class_of(user, entry)
+    reason = f"fails {guard} {where} {entry.uid}:{entry.gid} {entry.mode:03o} {by}"
+    return reason, entry_changes(user, entry, where)
+
+
+def entry_changes(user, entry, where):
+    changes = []
+    if owns(user, entry):
+        entry = replace(entry, uid=0)
+        changes.append(f"chown {where} {entry.uid}:{entry.gid}")
+    if writes(user, entry):
+        bit = 0o020 if class_of(user, entry) == "group" else 0o002
+        changes.append(f"chmod {where} {entry.mode & ~bit:03o}")
+    return changes

@@ -1,0 +1,84 @@
+"""Tests of what model/run and model/hostile stand on; they need no program."""
+import json
+import os
+import random
+import sys
+import tomllib
+import unittest
+
+sys.path.insert(0, os.path.dirname(os.path.dirname(os.path.abspath(__file__))))
+from second import commands, rules, texts
+from trials import cases, labels, programs, spelling, trees, wrong
+
+ALL = frozenset([*commands.OPTIONS, "audit --all"])
+EXAMPLES = os.path.join(os.path.dirname(os.path.abspath(__file__)), "../../examples")
+
+
+def example(name):
+    with open(os.path.join(EXAMPLES, name), "rb") as text:
+        return text.read()
+
+
+class ModelTest(unittest.TestCase):
+    def ask(self, words, tree, ops=b""):
+        lines, status, fault = commands.respond(words.split(" "), example(tree), {"ops": ops})
+        return lines + ([fault] if fault else []), status
+
+    def test_examples(self):
+        check = "check --uid 1000 --subtree /c0"
+        self.assertEqual(self.ask(check, "delegation.toml"), (["contained"], 0))
+        self.assertEqual(self.ask(check, "delegation-ancestor-owned.toml"),
+                         (["escapes", "chmod / cgroup.procs 646", "move 10 /c0"], 1))
+        self.assertEqual(self.ask(check, "delegation-parent-directory.toml"), (["unsettled parent-dir /"], 2))
+        self.assertEqual(self.ask(check, "delegation-over-limit.toml"), (["escapes"], 1))
+        self.assertEqual(self.ask("replay --uid 1000 --subtree /c0 --ops ops", "delegation.toml", b"exit 11\nexit"),
+                         (["ok", "fault: line 2 cut"], 3))
+
+    def test_advice_names_the_class_and_the_least_change(self):
+        entry = rules.Entry(1000, 5, 0o664)
+        self.assertEqual(rules.entry_changes((1000, (5,)), entry, "/ dir"), ["chown / dir 0:5", "chmod / dir 644"])
+        self.assertEqual(rules.entry_changes((1000, ()), entry, "/ dir"), ["chown / dir 0:5"])
+        self.assertEqual(rules.entry_changes((1001, ()), rules.Entry(0, 5, 0o666), "/ dir"), ["chmod / dir 664"])
+
+    def test_texts_that_are_new_in_toml_1_1_are_left_open(self):
+        for new in ('x = "\\e"', 'x = "\\x41"', "x = { a = 1,\n}", "x = { a = 1, }", "x = 07:32", "a = " + "[" * 90):
+            with self.assertRaises(texts.Unsure, msg=new):
+                texts.tree_of(new.encode())
+        with self.assertRaises(texts.Fault):
+            texts.tree_of(b"x = ")
+
+
+class TrialsTest(unittest.TestCase):
+    def test_each_wrong_model_differs_by_one_line_that_stands(self):
+        self.assertGreaterEqual(len(wrong.TURNED), 20)
+        for number in range(len(wrong.TURNED)):
+            wrong.respond_of(number)
+
+    def test_each_spelling_spells_the_document(self):
+        for number in range(100):
+            rng = random.Random(number)
+            parts = trees.random_tree(rng).document(rng)
+            read = tomllib.loads(spelling.document(rng, parts).decode("utf-8").removeprefix("\ufeff"))
+            self.assertEqual(read, parts)
+
+    def test_a_case_is_made_again_by_its_seed_and_from_its_record(self):
+        for number in range(20):
+            case = cases.random_case("seed", number, ALL)
+            self.assertEqual(case, cases.random_case("seed", number, ALL))
+            self.assertEqual(case, cases.Case.of_record(json.loads(json.dumps(case.as_record()))))
+
+    def test_a_difference_is_seen(self):
+        expected = (["ok", "kept"], 0, "")
+        self.assertEqual(programs.difference((b"ok\nkept\n", 0, b""), expected), "")
+        for written in ((b"ok\nkept", 0, b""), (b"ok\nkept\n", 1, b""), (b"ok\nkept\n", 0, b"fault: read\n"), (b"", -11, b"")):
+            self.assertNotEqual(programs.difference(written, expected), "", written)
+        self.assertEqual(programs.form_fault((b"", 3, b"fault: tree not-toml\n")), "")
+        for written in ((b"", 3, b""), (b"", -11, b""), (b"", 4, b"fault: usage\n"), (b"", 3, b"oh\nfault: usage\n")):
+            self.assertNotEqual(programs.form_fault(written), "", written)
+
+    def test_all_that_is_wanted_can_be_said(self):
+        self.assertEqual(len(set(labels.wanted(ALL))), len(labels.wanted(ALL)))
+
+
+if __name__ == "__main__":
+    unittest.main()

@@ -1,0 +1,349 @@
+"""Random cases: a command line, a tree text and operations, weighted so that each answer and fault comes up."""
+import random
+from dataclasses import dataclass, field
+
+from second import commands, rules, texts
+from second.rules import text_of
+from trials import faults, spelling, trees
+
+TREE, OPS = "tree.toml", "list.ops"
+
+
+@dataclass
+class Case:
+    """What the program is given: words, standard input, and the files beside it; `folder` is a folder there."""
+    words: list
+    stdin: bytes = b""
+    files: dict = field(default_factory=dict)
+    full: bool = False
+
+    def as_record(self):
+        return {"words": self.words, "stdin": self.stdin.decode("latin-1"), "full": self.full,
+                "files": {name: data.decode("latin-1") for name, data in self.files.items()}}
+
+    @staticmethod
+    def of_record(record):
+        files = {name: data.encode("latin-1") for name, data in record["files"].items()}
+        return Case(record["words"], record["stdin"].encode("latin-1"), files, record["full"])
+
+    def expected(self, respond=commands.respond):
+        """The lines of standard output, the status and the first line of standard error; raises texts.Unsure."""
+        lines, status, fault = respond(self.words, self.stdin, {**self.files, "folder": False})
+        if self.full and lines and not fault:
+            return [], 3, "fault: write"
+        return lines, status, fault
+
+
+def random_case(seed, number, known):
+    """The case of a seed and a number, of the commands that the program has."""
+    rng = random.Random(f"{seed} {number}")
+    tree = trees.random_tree(rng)
+    parts = tree.document(rng)
+    faulty = rng.random() < 0.22
+    if faulty:
+        faults.turn_document(rng, parts)
+    data = spelling.document(rng, parts)
+    if rng.random() < 0.05:
+        data = faults.turn_bytes(rng, data)
+    if rng.random() < 0.002:
+        data += b"\n" * (texts.MOST_BYTES + 1 - len(data))
+    able = [name for name in MAKERS if name.removesuffix(" alone") in known]
+    command = rng.choices(able, [WEIGHTS[name] for name in able])[0]
+    case = Case(MAKERS[command](rng, tree, state_of(data)))
+    if command.startswith("replay"):
+        case.files[OPS] = operations(rng, tree, data, case.words)
+    if rng.random() < 0.5:
+        case.stdin = data
+    else:
+        case.files[TREE] = data
+        case.words[1:1] = ["--tree", TREE]
+    if rng.random() < 0.09:
+        turn_words(rng, case)
+    case.full = command != "replay" and rng.random() < 0.01
+    return case
+
+
+def state_of(data):
+    try:
+        return texts.tree_of(data)
+    except (texts.Fault, texts.Unsure):
+        return None
+
+
+def path_word(rng, tree, state):
+    """Mostly a path of the tree, else one beside it or no path."""
+    chance = rng.random()
+    paths = list(state.cgroups) if state else list(tree.rows)
+    if chance < 0.85:
+        return text_of(rng.choice(paths))
+    if chance < 0.96:
+        return text_of(rng.choice(paths) + (rng.choice(trees.NAMES),))
+    return rng.choice(["", "a", "/a/", "//", "/.", "/zz/y", "/cgroup.procs", "/pids.max/a", "/é", "/" + "a" * 256])
+
+
+def user_words(user):
+    return ["--uid", str(user[0])] + [word for gid in user[1] for word in ("--gid", str(gid))]
+
+
+def subtree_word(rng, tree, state):
+    return text_of(tree.subtree) if tree.subtree and rng.random() < 0.8 else path_word(rng, tree, state)
+
+
+def asked_user(rng, tree):
+    return tree.user if rng.random() < 0.85 else trees.user_of(rng)
+
+
+def may_words(rng, tree, state):
+    live = [process["pid"] for process in tree.processes if "pid" in process] or [7]
+    pid = rng.choice(live) if rng.random() < 0.87 else rng.choice([98, 4194303, 0, 4194304])
+    user = asked_user(rng, tree)
+    to = path_word(rng, tree, state)
+    if state and rng.random() < 0.6:
+        written = [path for path, cgroup in state.cgroups.items() if rules.writes(user, cgroup.entries[rules.PROCS])]
+        full = [path for path in written if path and state.cgroups[path].enabled]
+        to = text_of(rng.choice(full if full and rng.random() < 0.4 else written)) if written else to
+    return ["may", *user_words(user), "--pid", str(pid), "--to", to]
+
+
+def check_words(rng, tree, state):
+    return ["check", *user_words(asked_user(rng, tree)), "--subtree", subtree_word(rng, tree, state)]
+
+
+def advise_words(rng, tree, state):
+    return ["advise", *check_words(rng, tree, state)[1:]]
+
+
+def audit_words(rng, tree, state):
+    words = ["audit"]
+    for _ in range(rng.choice([1, 1, 2, 3, 4])):
+        uid, gids = rng.choice([tree.user, trees.user_of(rng)])
+        zeros = rng.choice(["", "", "", "00"])
+        words += ["--uid", f"{zeros}{uid}" + (":" + ",".join(map(str, gids)) if gids else "")]
+    for _ in range(rng.choice([1, 1, 2, 3])):
+        words += ["--subtree", subtree_word(rng, tree, state)]
+    return words
+
+
+def all_words(rng, tree, state):
+    return [*audit_words(rng, tree, state), "--all"]
+
+
+def replay_words(rng, tree, state):
+    return [*replay_alone_words(rng, tree, state), "--subtree", subtree_word(rng, tree, state)]
+
+
+def replay_alone_words(rng, tree, _state):
+    return ["replay", *user_words(asked_user(rng, tree)), "--ops", OPS]
+
+
+def upgrade_words(_rng, _tree, _state):
+    return ["upgrade"]
+
+
+MAKERS = {"may": may_words, "check": check_words, "audit": audit_words, "audit --all": all_words, "advise": advise_words,
+          "replay": replay_words, "replay alone": replay_alone_words, "upgrade": upgrade_words}
+WEIGHTS = {"may": 14, "check": 30, "audit": 12, "audit --all": 8, "advise": 12, "replay": 28, "replay alone": 6, "upgrade": 5}
+
+
+# Operations
+
+
+def operations(rng, tree, data, words):
+    """A list of operations, most of which are chosen in the tree that those before them leave."""
+    if rng.random() < 0.012:
+        count = rng.choice([texts.MOST_STEPS, texts.MOST_STEPS + 1]) if rng.random() < 0.7 else texts.MOST_STEPS - 1
+        return b"exit 99\n" * count + rng.choice([b"", b"\n", b"x"])
+    state, lines = state_of(data), []
+    user = asked_in(words)
+    if state:
+        lines = escape_lines(rng, state, user, tree)
+        for _ in range(rng.choice([0, 1, 3, 6, 10, 16])):
+            operation = random_operation(rng, tree, state, user)
+            state = rules.step(state, user, operation)[0]
+            lines.append(commands.spelling(operation).encode("ascii"))
+    if rng.random() < 0.12:
+        lines.insert(rng.randrange(len(lines) + 1), bad_line(rng, lines))
+    return b"".join(line + b"\n" for line in lines) + (rng.choice([b"exit 7", b"x", b" "]) if rng.random() < 0.04 else b"")
+
+
+def asked_in(words):
+    numbers = [(words[at - 1], int(words[at])) for at in range(1, len(words)) if words[at - 1] in ("--uid", "--gid")]
+    return numbers[0][1], tuple(number for option, number in numbers if option == "--gid")
+
+
+def escape_lines(rng, state, user, tree):
+    if rng.random() > 0.3 or tree.subtree not in state.cgroups or not tree.subtree:
+        return []
+    answer = rules.answer(state, user, tree.subtree)
+    found = answer[1] if answer[0] == "escapes" else rng.choice(list(rules.plain_tries(state, tree.subtree)))
+    return [commands.spelling(operation).encode("ascii") for operation in found]
+
+
+def random_operation(rng, tree, state, user):
+    kind = rng.choices(list(OPERATIONS), [5, 6, 6, 4, 4, 3, 2, 4])[0]
+    return (kind, *OPERATIONS[kind](rng, tree, state, user))
+
+
+def some_path(rng, state, new=0.06):
+    path = rng.choice(list(state.cgroups))
+    return path + (rng.choice(trees.NAMES),) if rng.random() < new else path
+
+
+def some_pid(rng, state, user):
+    """Mostly a live one, and of these mostly one of the user's."""
+    own = [pid for pid, (uid, _) in state.live.items() if uid == user[0]]
+    if rng.random() < 0.85 and state.live:
+        return rng.choice(own if own and rng.random() < 0.5 else list(state.live))
+    return rng.choice(trees.PIDS)
+
+
+def entry_where(rng, state, holds):
+    """A path and an entry of it for which something holds, where there is one; mostly."""
+    found = [(path, name) for path, cgroup in state.cgroups.items() for name, entry in cgroup.entries.items() if holds(entry)]
+    if found and rng.random() < 0.7:
+        return rng.choice(found)
+    return some_path(rng, state, 0.2), rng.choice([*rules.STANDING, *rules.LIMIT_FILES])
+
+
+def written_path(rng, state, user, name):
+    """Mostly a path whose entry the user writes."""
+    written = [path for path, cgroup in state.cgroups.items() if rules.writes(user, cgroup.entries[name])]
+    return rng.choice(written) if written and rng.random() < 0.6 else some_path(rng, state)
+
+
+def some_control(rng, _tree, state, user):
+    path = written_path(rng, state, user, rules.CONTROL)
+    if path in state.cgroups and state.cgroups[path].enabled and rng.random() < 0.3:
+        return path, (("-", rng.choice(sorted(state.cgroups[path].enabled))),)
+    able = [c for c in rules.CONTROLLERS if path in state.cgroups and c in rules.available(state, path)]
+    controllers = able if able and rng.random() < 0.7 else rules.CONTROLLERS
+    return path, tuple((rng.choice("++-"), rng.choice(controllers)) for _ in range(rng.choice([0, 1, 1, 1, 2, 3, 4])))
+
+
+def some_child(rng, _tree, state, user):
+    if rng.random() < 0.1:
+        return (some_path(rng, state) + ("zz", "y"),)
+    parent = written_path(rng, state, user, rules.DIR)
+    return (parent + (rng.choice(trees.NAMES),) if rng.random() < 0.9 else parent,)
+
+
+def some_removal(rng, _tree, state, user):
+    bare = [path for path in state.cgroups if path and not rules.children(state, path)]
+    own = [path for path in state.cgroups if path and rules.writes(user, state.cgroups[path[:-1]].entries[rules.DIR])]
+    return (rng.choice(rng.choice([bare, own]) or list(state.cgroups)) if rng.random() < 0.7 else some_path(rng, state),)
+
+
+def some_value(rng, _tree, state, user):
+    path, file = entry_where(rng, state, lambda entry: rules.writes(user, entry))
+    if file in rules.STANDING:
+        file = rng.choice(list(rules.LIMIT_FILES)[:3])
+    return path, file, rng.choice([rules.MAX, *trees.NUMBERS, 2 ** 63, 2 ** 64 - 1])
+
+
+def some_mode(rng, _tree, state, user):
+    path, name = entry_where(rng, state, lambda entry: rules.owns(user, entry))
+    return path, name, rng.choice([0o000, 0o222, 0o444, 0o644, 0o755, 0o666, 0o777, 0o070])
+
+
+OPERATIONS = {
+    "move": lambda rng, _tree, state, user: (some_pid(rng, state, user), some_path(rng, state)),
+    "control": some_control,
+    "mkdir": some_child,
+    "rmdir": some_removal,
+    "set": some_value,
+    "fork": lambda rng, _tree, state, user: (some_pid(rng, state, user), rng.choice([*state.used, 500, 500, 501])),
+    "exit": lambda rng, _tree, state, user: (some_pid(rng, state, user),),
+    "chmod": some_mode,
+}
+
+
+def bad_line(rng, lines):
+    """A line that is no operation's, too long or near to it."""
+    near = rng.choice(lines) if lines else b"exit 7"
+    return rng.choice([
+        b"", b" ", near + b" ", near + b"\r", b" " + near, near.replace(b" ", b"  ", 1), near.upper(), b"move 010 /", b"move 0 /",
+        b"move 4194304 /", b"move +7 /", b"mkdir a", b"mkdir /cgroup.procs", b"mkdir /\xc3\xa9", b"control", b"control / +",
+        b"control / + cpu", b"control / +io", b"set / cgroup.procs 1", b"set / pids.max 00", b"set / pids.max -1",
+        b"set / pids.max 18446744073709551616", b"chmod / dir 0755", b"chmod / dir 75", b"chmod / dir 789", b"fork 7", b"exit",
+        b"\xff", near + b"\0", b"exit 7 ", b"exit -0", b"exit 07", b"x" * 8192, b"x" * 8193, b"mkdir /" + b"a" * 8186,
+        b"control /" + b" +cpu" * 1635 + b" +memory", b"control /" + b" +pids" * 1364])
+
+
+# Command lines that are turned
+
+
+def turn_words(rng, case):
+    TURNS[rng.randrange(len(TURNS))](rng, case)
+
+
+def replace_after(case, option, word):
+    if option in case.words:
+        case.words[case.words.index(option) + 1] = word
+
+
+def turn_number(rng, case):
+    option = rng.choice(["--uid", "--uid", "--gid", "--pid"])
+    replace_after(case, option, rng.choice(["x", "", "4294967296", "1e3", "0x10", " 5", "5 ", "1.0", "99999999999999999999"]))
+
+
+def spell_number(rng, case):
+    option = rng.choice(["--uid", "--gid", "--pid"])
+    replace_after(case, option, rng.choice(["+1000", "01000", "0001000", "+0"]))
+
+
+def many_groups(rng, case):
+    if case.words[0] == "audit":
+        replace_after(case, "--uid", "1000:" + ",".join(map(str, range(rng.choice([32, 33])))))
+    else:
+        case.words += [word for gid in range(rng.choice([32, 33])) for word in ("--gid", str(gid))]
+
+
+def odd_listed_user(rng, case):
+    replace_after(case, "--uid", rng.choice(["1000:", "1000:1,", "1000: 5", ":5", "1000:,", "1000:4294967296", "1000:+5", "0:5",
+                                             "1000:5:6", "0001000:007"]))
+
+
+def uid_0(rng, case):
+    replace_after(case, "--uid", rng.choice(["0", "00"]))
+
+
+def odd_pid(rng, case):
+    replace_after(case, "--pid", rng.choice(["0", "4194304", "4294967295"]))
+
+
+def odd_path(rng, case):
+    replace_after(case, rng.choice(["--to", "--subtree"]), rng.choice(["", "c0", "/a/", "/cgroup.procs", "/é", "/a b"]))
+
+
+def odd_subtree(rng, case):
+    replace_after(case, "--subtree", rng.choice(["/", "/nowhere"]))
+
+
+def lose_word(rng, case):
+    del case.words[rng.randrange(len(case.words))]
+
+
+def double_option(rng, case):
+    options = [at for at in range(1, len(case.words) - 1) if case.words[at].startswith("--")]
+    if options:
+        at = rng.choice(options)
+        case.words += case.words[at:at + 2]
+
+
+def unknown_word(rng, case):
+    case.words.insert(rng.randrange(len(case.words) + 1), rng.choice(["--nothing", "extra", "--uidd"]))
+
+
+def join_option(rng, case):
+    options = [at for at in range(1, len(case.words) - 1) if case.words[at].startswith("--") and case.words[at] != "--all"]
+    if options:
+        at = rng.choice(options)
+        case.words[at:at + 2] = [f"{case.words[at]}={case.words[at + 1]}"]
+
+
+def no_file(rng, case):
+    replace_after(case, rng.choice(["--tree", "--ops"]), rng.choice(["none.toml", "folder", "none/none", ""]))
+
+
+TURNS = [turn_number, spell_number, many_groups, odd_listed_user, uid_0, odd_pid, odd_path, odd_subtree, lose_word, double_option,
+         unknown_word, join_option, no_file]

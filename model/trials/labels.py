@@ -1,0 +1,113 @@
+"""What a case shows: its command, answer, guards, clauses and faults, each as a label that is counted."""
+import re
+
+from second import commands, rules
+from trials.cases import OPS, TREE, state_of
+
+CLAUSES = {
+    "move": ["ok", "no-such-cgroup", "no-access destination", "no-such-process", "no-access common ancestor", "internal-process"],
+    "control": ["ok", "no-such-cgroup", "no-access", "not-available", "child-uses", "internal-process"],
+    "mkdir": ["ok", "exists", "no-such-cgroup", "no-access", "descendant-limit", "depth-limit"],
+    "rmdir": ["ok", "root-cgroup", "no-such-cgroup", "no-access", "has-children", "has-processes"],
+    "set": ["ok", "no-such-cgroup", "no-such-file", "no-access", "bad-value"],
+    "fork": ["ok", "no-such-process", "not-yours", "pid-used"],
+    "exit": ["ok", "no-such-process", "not-yours"],
+    "chmod": ["ok", "no-such-cgroup", "no-such-file", "not-owner"],
+}
+GUARDS = ["common-ancestor", "limit-file", "parent-control", "parent-dir", "already-over"]
+TRIES = ["nothing", "set", "control", "rmdir", "move", "mkdir move"]
+TREE_FAULTS = """too-long, not-toml, shape top, format, too-many, shape cgroup, shape process, bad-controller top, bad-path cgroup,
+bad-controller cgroup, bad-entry cgroup, bad-value cgroup, duplicate cgroup, no-root, no-parent cgroup, top-down cgroup,
+no-such-file cgroup, bad-pid process, bad-entry process, duplicate-pid process, no-such-place process, internal-process process"""
+FAULTS = ["usage", "uid", "gid", "pid", "path", "subtree root", "subtree missing", "line too-long", "line cut", "line bad-word",
+          "too-many-steps", "read", "write", *("tree " + name for name in re.split(r",\s+", TREE_FAULTS))]
+STATUSES = {"may": 2, "check": 3, "audit": 3, "audit --all": 3, "replay": 2, "upgrade": 1, "advise": 2}
+
+
+def wanted(known):
+    """Each label that has to come up."""
+    labels = [f"{name}: status {status}" for name, most in STATUSES.items() if name in known for status in [*range(most), 3]]
+    labels += [f"operation {kind}: {outcome}" for kind, outcomes in CLAUSES.items() for outcome in outcomes]
+    labels += [f"may: {outcome}" for outcome in ["granted", *CLAUSES["move"][1:]]]
+    labels += [f"verdict: {word}" for word in ["kept", "gone", "crossed", "limits", "descendants", "depth"]]
+    labels += [f"check: {guard} fails first" for guard in [*GUARDS, "none"]]
+    labels += [f"check: escapes by {name}" for name in TRIES]
+    labels += [f"check: escapes by an opening and {name}" for name in TRIES[1:]]
+    labels += [f"check: unsettled {GUARDS[at]}" for at in (0, 2, 3)]
+    if "advise" in known:
+        labels += [f"advise: {guard} by {reason}" for guard in GUARDS[:4] for reason in ("owner", "group", "others")]
+        labels += ["advise: already-over"] + [f"advise: change {change}" for change in ("chown", "chmod", "chown chmod", "set")]
+    return labels + [f"fault: {name}" for name in FAULTS]
+
+
+def labels_of(case, expected):
+    """The labels of a case with the lines, the status and the fault that it should give."""
+    lines, status, fault = expected
+    name = " ".join(case.words[:1] + ["--all"] * ("--all" in case.words)) if case.words else ""
+    found = [f"{name}: status {status}"] if name in STATUSES else []
+    if fault:
+        found.append(re.sub(r"(cgroup|process|line) \d+", r"\1", fault))
+    if name == "replay" and OPS in case.files:
+        found += replay_labels(case, lines)
+    if not fault and name in LABELS:
+        found += LABELS[name](case, lines)
+    return found
+
+
+def replay_labels(case, lines):
+    found = set()
+    for spelled, line in zip(case.files[OPS].split(b"\n"), lines):
+        operation = commands.operation_of(spelled)
+        if operation:
+            found.add(f"operation {operation[0]}: {outcome_of(operation[:1] + operation[1:], line)}")
+    if lines and lines[-1].startswith(("kept", "broken")):
+        found.add("verdict: " + lines[-1].split(" ")[2 if lines[-1] != "kept" else 0])
+    return sorted(found)
+
+
+def outcome_of(operation, line):
+    if line == "ok":
+        return line
+    words = line.split(" ")
+    if operation[0] == "move" and words[1] == "no-access":
+        return "no-access " + ("destination" if words[2] == rules.text_of(operation[2]) else "common ancestor")
+    return words[1]
+
+
+def may_labels(case, lines):
+    to = rules.path_of(next(case.words[at + 1] for at, word in enumerate(case.words) if word == "--to")
+                       if "--to" in case.words else case.words[-1].partition("=")[2])
+    return ["may: " + (lines[0] if lines[0] == "granted" else outcome_of(("move", 0, to or ()), lines[0]))]
+
+
+def check_labels(case, lines):
+    call = commands.Call(case.words)
+    state = state_of(case.files.get(TREE, case.stdin))
+    failed = rules.failures(state, call.users[0], rules.path_of(call.one("--subtree")))
+    found = [f"check: {failed[0][0] if failed else 'none'} fails first"]
+    kinds = [line.split(" ")[0] for line in lines[1:]]
+    if lines[0] == "escapes":
+        by = " ".join(kind for kind in kinds if kind != "chmod") or "nothing"
+        found.append("check: escapes by " + ("an opening and " if "chmod" in kinds else "") + by)
+    elif lines[0] != "contained":
+        found.append(f"check: {' '.join(lines[0].split(' ')[:2])}")
+    return found
+
+
+def advise_labels(_case, lines):
+    found, changes = set(), []
+    for line in lines[::-1]:
+        words = line.split(" ")
+        if words[0] != "fails":
+            changes.insert(0, words[0])
+            continue
+        if words[1] == "already-over":
+            found.add("advise: already-over")
+        else:
+            found.add(f"advise: {words[1]} by {words[-1]}")
+        found.add("advise: change " + " ".join(dict.fromkeys(changes)))
+        changes = []
+    return sorted(found)
+
+
+LABELS = {"may": may_labels, "check": check_labels, "advise": advise_labels}

@@ -1,0 +1,114 @@
+"""Runs a program on cases, and compares what it writes with what it should."""
+import functools
+import os
+import re
+import resource
+import shutil
+import signal
+import subprocess
+import tempfile
+import tomllib
+
+from second import commands
+
+SECONDS = 60
+
+
+def known_commands(program):
+    """The commands that a program lists in its help, and `audit --all` where its help has it."""
+    lines = help_of(program)
+    listed = lines[lines.index("Commands:") + 1:]
+    names = {line.split()[0] for line in listed[:listed.index("")]} & commands.OPTIONS.keys()
+    if any(re.search(r"--all\b", line) for line in help_of(program, "audit")):
+        names |= {"audit --all"}
+    return frozenset(names)
+
+
+def help_of(program, *words):
+    said = subprocess.run([program, *words, "--help"], capture_output=True, text=True, check=True)
+    return said.stdout.splitlines() + [""]
+
+
+class Room:
+    """A folder in which a program is run, with as many bytes of stack as are said; it holds a folder named so."""
+
+    def __init__(self, program, stack=None):
+        self.program = program
+        self.limit = stack and functools.partial(resource.setrlimit, resource.RLIMIT_STACK, (stack, stack))
+        self.at = tempfile.mkdtemp()
+        os.mkdir(os.path.join(self.at, "folder"))
+
+    def __enter__(self):
+        return self
+
+    def __exit__(self, *_):
+        shutil.rmtree(self.at)
+
+    def run(self, case):
+        """Standard output, the status and standard error of a case."""
+        for name, data in case.files.items():
+            with open(os.path.join(self.at, name), "wb") as out:
+                out.write(data)
+        with open("/dev/full" if case.full else os.devnull, "wb") as full:
+            written = self.start(case, full if case.full else subprocess.PIPE)
+        for name in case.files:
+            os.remove(os.path.join(self.at, name))
+        return written
+
+    def start(self, case, stdout):
+        try:
+            ended = subprocess.run([self.program, *case.words], cwd=self.at, input=case.stdin, stdout=stdout,
+                                   stderr=subprocess.PIPE, timeout=SECONDS, preexec_fn=self.limit)
+        except subprocess.TimeoutExpired:
+            return b"", -signal.SIGALRM, b"took too long"
+        return ended.stdout or b"", ended.returncode, ended.stderr
+
+    def further(self, case, written):
+        """What a text that was written again should give: itself."""
+        if case.words[:1] != ["upgrade"] or written[1] != 0:
+            return ""
+        again = subprocess.run([self.program, "upgrade"], input=written[0], capture_output=True, timeout=SECONDS)
+        return "" if again.stdout == written[0] else "the upgrade of what was written is another text"
+
+
+def expected_of(case, respond=commands.respond):
+    """What a case should give, or None where the model doesn't say."""
+    try:
+        return case.expected(respond)
+    except Exception as fault:
+        # a wrong model has classes of its own
+        if type(fault).__name__ == "Unsure":
+            return None
+        raise
+
+
+def difference(written, expected):
+    """What of a run differs from what was expected, or ''."""
+    stdout, status, stderr = written
+    lines, wanted, fault = expected
+    first = stderr.partition(b"\n")[0].decode("utf-8", "replace")
+    right = status == wanted and (first == fault if fault else all(line[:2] == b"  " for line in stderr.splitlines()))
+    if right and same_report(stdout, lines):
+        return ""
+    shown = "\n".join(map(str, lines))
+    return f"expected status {wanted} {fault}\n{shown}\nthere is {status} {first}\n{stdout.decode('utf-8', 'replace')}"
+
+
+def same_report(stdout, lines):
+    if lines and isinstance(lines[0], dict):
+        try:
+            return tomllib.loads(stdout.decode("ascii")) == lines[0]
+        except ValueError:
+            return False
+    return stdout == "".join(line + "\n" for line in lines).encode("ascii")
+
+
+FAULT = re.compile(rb"fault: [a-z]+[a-z0-9 -]*\n")
+
+
+def form_fault(written):
+    """What is wrong with the form of a run about which nothing else is known, or ''."""
+    stdout, status, stderr = written
+    if status == 3 and FAULT.match(stderr) or status in (0, 1, 2) and not stderr:
+        return ""
+    return f"status {status}, standard error {stderr[:200]!r}"

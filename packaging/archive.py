@@ -1,0 +1,69 @@
+"""Archives whose bytes depend on what is in them alone: no clock, no owner, no order of a folder."""
+import gzip
+import hashlib
+import io
+import lzma
+import tarfile
+from collections import namedtuple
+
+# seconds since 1970 that each file is said to be of: a date would change with each release, and says nothing
+MOMENT = 1577836800
+
+# one file of a package: where it is installed, without the first slash
+File = namedtuple("File", "path mode data")
+
+
+def header(name, mode, kind=tarfile.REGTYPE, size=0):
+    made = tarfile.TarInfo(name)
+    made.mode, made.type, made.size, made.mtime = mode, kind, size, MOMENT
+    made.uname = made.gname = "root"
+    return made
+
+
+def folders_of(files):
+    """Every folder above a file, each before what is in it."""
+    found = set()
+    for file in files:
+        parts = file.path.split("/")[:-1]
+        found |= {"/".join(parts[:end]) for end in range(1, len(parts) + 1)}
+    return sorted(found)
+
+
+def tar(files, prefix="./"):
+    out = io.BytesIO()
+    with tarfile.open(fileobj=out, mode="w", format=tarfile.GNU_FORMAT) as archive:
+        if prefix == "./":
+            archive.addfile(header("./", 0o755, tarfile.DIRTYPE))
+        for folder in folders_of(files):
+            archive.addfile(header(f"{prefix}{folder}/", 0o755, tarfile.DIRTYPE))
+        for file in sorted(files):
+            archive.addfile(header(prefix + file.path, file.mode, size=len(file.data)), io.BytesIO(file.data))
+    return out.getvalue()
+
+
+def gz(data):
+    return gzip.compress(data, compresslevel=9, mtime=0)
+
+
+def xz(data):
+    return lzma.compress(data, format=lzma.FORMAT_XZ, check=lzma.CHECK_CRC64, preset=9)
+
+
+def ar(members):
+    """A Debian package's outer archive: names and contents, in their order."""
+    out = [b"!<arch>\n"]
+    for name, data in members:
+        out.append(f"{name:<16}{MOMENT:<12}{0:<6}{0:<6}{0o100644:<8o}{len(data):<10}`\n".encode())
+        out.append(data + b"\n" * (len(data) % 2))
+    return b"".join(out)
+
+
+def md5(data):
+    return hashlib.md5(data, usedforsecurity=False).hexdigest()
+
+
+def debian_package(control, files):
+    """The package with this text of its control file, and these files."""
+    sums = "".join(f"{md5(file.data)}  {file.path}\n" for file in sorted(files))
+    about = [File("control", 0o644, control.encode()), File("md5sums", 0o644, sums.encode())]
+    return ar([("debian-binary", b"2.0\n"), ("control.tar.xz", xz(tar(about))), ("data.tar.xz", xz(tar(files)))])

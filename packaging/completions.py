@@ -1,0 +1,101 @@
+"""Completions for bash, zsh and fish, written from what --help says."""
+import re
+from collections import namedtuple
+
+OPTION = re.compile(r"\s+(?:(-\w), )?(--[\w-]+)(?: <([^>]*)>)?(?:\.\.\.)?(?:\s\s+(.*))?")
+
+# value: what is named after it, or nothing; FILE is completed by names of files
+Option = namedtuple("Option", "name value told")
+
+
+def commands_of(said):
+    """The commands that a help lists, each with what is said of it."""
+    lines = said.split("\n")
+    first = lines.index("Commands:") + 1
+    rows = (line.split(None, 1) for line in lines[first:lines.index("", first)])
+    return {name: told[0] if told else "" for name, *told in rows}
+
+
+def options_of(said):
+    """The options that a help lists."""
+    lines = said.split("\n")
+    rows = (OPTION.fullmatch(line) for line in lines[lines.index("Options:") + 1:])
+    return [Option(row[2], row[3] or "", (row[4] or "").strip()) for row in rows if row]
+
+
+def read(help_of):
+    """The commands and their options, where `help_of(*words)` gives what --help says behind these words."""
+    return {name: (told, options_of(help_of(name))) for name, told in commands_of(help_of()).items() if name != "help"}
+
+
+def bash(program, commands):
+    cases = []
+    for name, (_, options) in commands.items():
+        cases.append(f"        {name}) options='{' '.join(option.name for option in options)}' ;;")
+    values = sorted({option.name for _, options in commands.values() for option in options if option.value})
+    files = sorted({option.name for _, options in commands.values() for option in options if option.value == "FILE"})
+    return f"""# completions of {program} for bash, written from its --help
+_{program.replace("-", "_")}() {{
+    local word=${{COMP_WORDS[COMP_CWORD]}} before=${{COMP_WORDS[COMP_CWORD-1]}} options
+    if [ "$COMP_CWORD" -eq 1 ]; then
+        mapfile -t COMPREPLY < <(compgen -W '{" ".join(commands)} help --help --version' -- "$word")
+        return
+    fi
+    case $before in
+        {"|".join(files) or "--"}) mapfile -t COMPREPLY < <(compgen -f -- "$word"); return ;;
+        {"|".join(it for it in values if it not in files) or "--"}) return ;;
+    esac
+    case ${{COMP_WORDS[1]}} in
+{chr(10).join(cases)}
+        help) options='{" ".join(commands)}' ;;
+    esac
+    mapfile -t COMPREPLY < <(compgen -W "$options" -- "$word")
+}}
+complete -o filenames -F _{program.replace("-", "_")} {program}
+"""
+
+
+def quoted(text):
+    return "'" + text.replace("'", "'\\''") + "'"
+
+
+def zsh(program, commands):
+    listed = "\n".join(f"        {quoted(name + ':' + told.replace(':', chr(92) + ':'))}" for name, (told, _) in commands.items())
+    cases = []
+    for name, (_, options) in commands.items():
+        words = []
+        for it in options:
+            told = it.told.replace("[", "(").replace("]", ")").replace(":", "\\:")
+            action = f":{it.value.lower().replace('[', '').replace(']', '').replace(':', ' ')}:" if it.value else ""
+            words.append(quoted(f"*{it.name}[{told}]{action}{'_files' if it.value == 'FILE' else ' ' if action else ''}"))
+        cases.append(f"        {name}) _arguments {' '.join(words)} ;;")
+    return f"""#compdef {program}
+# completions of {program} for zsh, written from its --help
+_{program.replace("-", "_")}() {{
+    local -a commands
+    commands=(
+{listed}
+    )
+    if (( CURRENT == 2 )); then
+        _describe command commands
+        return
+    fi
+    local command=$words[2]
+    shift words
+    (( CURRENT-- ))
+    case $command in
+{chr(10).join(cases)}
+    esac
+}}
+_{program.replace("-", "_")} "$@"
+"""
+
+
+def fish(program, commands):
+    lines = [f"# completions of {program} for fish, written from its --help", f"complete -c {program} -f"]
+    for name, (told, options) in commands.items():
+        lines.append(f"complete -c {program} -n __fish_use_subcommand -a {name} -d {quoted(told)}")
+        for it in options:
+            value = " -r -F" if it.value == "FILE" else " -x" if it.value else ""
+            lines.append(f"complete -c {program} -n '__fish_seen_subcommand_from {name}' -l {it.name[2:]}{value} -d {quoted(it.told)}")
+    return "\n".join(lines) + "\n"

@@ -1,0 +1,177 @@
+"""Tests of ./package: what is installed, byte for byte the same each time, and held against docs and --help."""
+import gzip
+import importlib.machinery
+import importlib.util
+import io
+import os
+import re
+import shutil
+import subprocess
+import sys
+import tarfile
+import tempfile
+import unittest
+
+TOP = os.path.dirname(os.path.dirname(os.path.abspath(__file__)))
+
+
+def script(name):
+    """A script of the checkout as a module."""
+    loader = importlib.machinery.SourceFileLoader(name, f"{TOP}/{name}")
+    made = importlib.util.module_from_spec(importlib.util.spec_from_loader(name, loader))
+    loader.exec_module(made)
+    return made
+
+
+package = script("package")
+
+
+def run(*words, **more):
+    return subprocess.run(words, capture_output=True, text=True, stdin=subprocess.DEVNULL, **more)
+
+
+def members(data):
+    """What is in a Debian package's outer archive, by name."""
+    found, at = {}, len("!<arch>\n")
+    while at < len(data):
+        head = data[at:at + 60].decode()
+        size = int(head[48:58])
+        found[head[:16].strip()] = data[at + 60:at + 60 + size]
+        at += 60 + size + size % 2
+    return found
+
+
+class PackageTest(unittest.TestCase):
+    @classmethod
+    def setUpClass(cls):
+        cls.folder = tempfile.TemporaryDirectory()
+        cls.addClassCleanup(cls.folder.cleanup)
+        cls.made = f"{cls.folder.name}/made"
+        ended = run(sys.executable, f"{TOP}/package", cls.made, cwd="/")
+        assert ended.returncode == 0, ended.stderr
+        cls.files = {file.path: file for file in package.installed(cls.version())}
+
+    @staticmethod
+    def version():
+        return package.manifest()["version"]
+
+    def archive(self, suffix):
+        [name] = [it for it in os.listdir(self.made) if it.endswith(suffix)]
+        with open(f"{self.made}/{name}", "rb") as it:
+            return it.read()
+
+    def test_twice_the_same_bytes(self):
+        again = f"{self.folder.name}/again"
+        run(sys.executable, f"{TOP}/package", again, env={**os.environ, "TZ": "Asia/Tokyo", "LC_ALL": "C", "COLUMNS": "40"})
+        self.assertEqual(sorted(os.listdir(again)), sorted(os.listdir(self.made)))
+        for name in os.listdir(again):
+            with open(f"{again}/{name}", "rb") as one, open(f"{self.made}/{name}", "rb") as other:
+                self.assertEqual(one.read(), other.read(), name)
+
+    def test_sums(self):
+        self.assertEqual(run("sha256sum", "-c", "--quiet", "SHA256SUMS", cwd=self.made).returncode, 0)
+
+    def test_the_program_is_the_released_one(self):
+        data = members(self.archive(".deb"))
+        with tarfile.open(fileobj=io.BytesIO(data["data.tar.xz"])) as files:
+            program = files.extractfile("./usr/bin/zirofen")
+            self.assertEqual(program.read(), package.read("release/zirofen"))
+            for file in files:
+                self.assertEqual((file.uid, file.gid, file.mtime), (0, 0, 1577836800))
+                self.assertIn(file.mode, (0o755, 0o644))
+        with tarfile.open(fileobj=io.BytesIO(self.archive(".tar.gz"))) as files:
+            self.assertEqual(len([it for it in files if it.isfile()]), len(self.files))
+
+    @unittest.skipUnless(shutil.which("dpkg-deb"), "there is no dpkg-deb")
+    def test_dpkg_reads_it(self):
+        [name] = [it for it in os.listdir(self.made) if it.endswith(".deb")]
+        said = run("dpkg-deb", "--field", f"{self.made}/{name}", "Package", "Version", "Architecture", "Depends").stdout
+        for told in ("Package: zirofen", f"Version: {self.version()}", "Architecture: amd64", "libc6 (>= 2.34)"):
+            self.assertIn(told, said)
+        out = f"{self.folder.name}/out"
+        self.assertEqual(run("dpkg-deb", "--extract", f"{self.made}/{name}", out).returncode, 0)
+        self.assertEqual(run(f"{out}/usr/bin/zirofen", "--version").stdout, f"zirofen {self.version()}\n")
+
+    @unittest.skipUnless(shutil.which("lintian"), "there is no lintian")
+    def test_lintian_has_nothing_above_information(self):
+        [name] = [it for it in os.listdir(self.made) if it.endswith(".deb")]
+        said = run("lintian", "--allow-root", f"{self.made}/{name}")
+        self.assertEqual([line for line in said.stdout.splitlines() if line[:2] in ("E:", "W:")], [], said.stderr)
+
+    def page(self, path):
+        return gzip.decompress(self.files[f"usr/share/man/{path}.gz"].data).decode()
+
+    def shown(self, path):
+        """A page as it is read, without its breaks of lines."""
+        how = {"input": self.page(path), "capture_output": True, "text": True}
+        said = subprocess.run(["groff", "-man", "-Tutf8", "-P-cbou", "-rLL=400n", "-rHY=0"], **how)
+        self.assertEqual(said.stderr, "", path)
+        return re.sub(r"\s+", " ", said.stdout)
+
+    @unittest.skipUnless(shutil.which("groff"), "there is no groff")
+    def test_pages_say_what_help_and_docs_say(self):
+        shown = self.shown("man1/zirofen.1")
+        for words in ((), *((name,) for name in package.commands())):
+            for line in package.program_help(*words).split("\n"):
+                self.assertIn(re.sub(r"\s+", " ", line.strip()), shown)
+        shown = self.shown("man8/zirofen-host.8")
+        for name in package.helpers():
+            for line in package.host_help(name).split("\n"):
+                self.assertIn(re.sub(r"\s+", " ", line.strip()), shown)
+        shown = self.shown("man5/zirofen-tree.5")
+        for word in re.findall(r"^\| `([^`|]+)`", package.manual.section(package.docs("FORMATS.md"), "Tree text"), re.M):
+            self.assertIn(word, shown)
+
+    def test_completions_have_each_command_and_option(self):
+        known = package.completions.read(package.program_help)
+        self.assertEqual(list(known), package.commands())
+        for name, (_, options) in known.items():
+            wanted = set(re.findall(r"^ +(?:-\w, )?(--[\w-]+)", package.program_help(name).split("Options:")[1], re.M))
+            self.assertEqual({it.name for it in options}, wanted)
+
+    def complete(self, shell, *words):
+        """What a shell offers behind these words of a command line."""
+        files = {it: path for path in self.files for it in ("bash", "zsh", "fish") if f"/{it}" in path and "completions" in path}
+        source = f"{self.folder.name}/{shell}"
+        with open(source, "wb") as out:
+            out.write(self.files[files[shell]].data)
+        if shell == "fish":
+            said = run("fish", "-c", f"source {source}; complete -C 'zirofen {' '.join(words)}'").stdout
+            return {line.split("\t")[0] for line in said.splitlines()}
+        listed = " ".join(f"'{it}'" for it in ("zirofen", *words))
+        code = f". {source}; COMP_WORDS=({listed}); COMP_CWORD={len(words)}; _zirofen; printf '%s\\n' \"${{COMPREPLY[@]}}\""
+        return set(run("bash", "-c", code).stdout.split())
+
+    def test_completions_are_offered_by_real_shells(self):
+        for shell in filter(shutil.which, ("bash", "fish")):
+            with self.subTest(shell):
+                self.assertLessEqual({"may", "check", "audit", "replay"}, self.complete(shell, ""))
+                self.assertLessEqual({"--uid", "--subtree", "--tree"}, self.complete(shell, "check", "--"))
+                self.assertNotIn("--subtree", self.complete(shell, "may", "--"))
+        if shutil.which("zsh"):
+            path = next(path for path in self.files if "zsh" in path)
+            with open(f"{self.folder.name}/_zirofen", "wb") as out:
+                out.write(self.files[path].data)
+            self.assertEqual(run("zsh", "-n", f"{self.folder.name}/_zirofen").stderr, "")
+
+    def test_what_help_names_is_installed(self):
+        for words in ((), *((name,) for name in package.commands())):
+            for path in re.findall(r"/usr/share/\S+", package.program_help(*words)):
+                self.assertIn(path.strip("/.,"), {"/".join(it.split("/")[:end]) for it in self.files for end in range(1, 9)})
+
+    def host(self, *words):
+        environment = {**os.environ, "ZIROFEN_HELPERS": f"{TOP}/host", "ZIROFEN": f"{TOP}/release/zirofen"}
+        return run(sys.executable, f"{TOP}/packaging/zirofen-host", *words, env=environment)
+
+    def test_one_command_for_the_helpers(self):
+        self.assertEqual(self.host("--version").stdout, f"zirofen-host {self.version()}\n")
+        said = self.host("--help")
+        for name in package.helpers():
+            self.assertIn(f"  {name} ", said.stdout)
+            self.assertEqual(self.host(name, "--help").returncode, 0)
+        for words in ((), ("none",), ("../package",)):
+            self.assertEqual((self.host(*words).stdout, self.host(*words).returncode), ("", 3))
+
+
+if __name__ == "__main__":
+    unittest.main()
