@@ -87,10 +87,11 @@ class Browser:
     def value(self, expression):
         return self.call("Runtime.evaluate", expression=expression, returnByValue=True)["result"].get("value")
 
-    def picture(self, file, height=None):
+    def picture(self, file, height=None, scale=1):
         """A picture of the page, from its top as far as it goes or to a height."""
         size = self.call("Page.getLayoutMetrics")["cssContentSize"]
-        clip = {"x": 0, "y": 0, "width": size["width"], "height": min(size["height"], height or size["height"]), "scale": 1}
+        clip = {"x": 0, "y": 0, "width": size["width"], "height": min(size["height"], height or size["height"]),
+                "scale": scale}
         shown = self.call("Page.captureScreenshot", format="png", clip=clip, captureBeyondViewport=True)
         with open(file, "wb") as out:
             out.write(base64.b64decode(shown["data"]))

@@ -50,11 +50,24 @@ def items(of, kind="li"):
 
 def sentence_case(told):
     """A sentence's beginning; a name stays as it is."""
-    return told[0].upper() + told[1:] if told.startswith(("everybody", "members")) else told
+    return told[0].upper() + told[1:] if told.startswith(("anybody", "everybody", "a member", "members")) else told
+
+
+def paragraph(told):
+    return f"<p>{text(told)}</p>" if told else ""
 
 
 def commands(lines):
     return f'<pre tabindex="0">{text(chr(10).join(lines))}</pre>' if lines else ""
+
+
+def settings_by_unit(settings):
+    """Settings as sentences list them, those of one unit together."""
+    units = {}
+    for setting in dict.fromkeys(settings):
+        name, _, unit = setting.rpartition(" of ")
+        units.setdefault(unit, []).append(name)
+    return [f"{words.listed(names)} of {unit}" for unit, names in units.items()]
 
 
 class Finding:
@@ -81,21 +94,26 @@ class Finding:
         if self.kind == DIFFERS:
             return f"{code(part['path'])} isn't as a service manager leaves it"
         if self.kind == FAULT:
-            return f"No answer for {text(part['who'])}"
+            return f"No answer of {self.titled(part['subtrees'][0])}"
         if self.kind == OPENED:
             return f"{text(sentence_case(words.who(part['whom'])))} set{'s' if words.is_one(part['whom']) else ''} limits of {code(part['path'])}"
         unknown = "breaks" if self.kind == ESCAPES else "may break"
         verb, behind = words.broken(self.steps.breaks) if self.steps else (unknown, "")
         somebody = self.escape.who if self.escape else words.who(part["whom"])
         if self.steps and self.steps.breaks[0] == "over":
-            return f"{code(self.escape.subtree)} {verb}{behind}"
-        return f"{text(somebody)} {verb} {code(self.escape.subtree if self.escape else part['subtrees'][0])}{behind}"
+            return f"{self.titled(self.escape.subtree)} {verb}{behind}"
+        return f"{text(sentence_case(somebody))} {verb} {self.titled(self.escape.subtree if self.escape else part['subtrees'][0])}{behind}"
+
+    def titled(self, subtree):
+        """A subtree, and how many more the finding is of; of an escape the one that was broken alone."""
+        others = 0 if self.steps else len(self.parts[0]["subtrees"]) - 1
+        return code(subtree) + (f" and {words.count(others, 'other')}" if others else "")
 
     def what(self):
         """Each part of the report's, once: in a sentence, or below one where there are more."""
         items = [f' id="{self.page.id}-{self.finding.key}-{number + 1}">{self.part(part)}'
                  for number, part in zip(self.finding.numbers, self.parts)]
-        if self.kind in (FAULT, DIFFERS) or len(items) > 1:
+        if len(items) > 1:
             lead = f"<p>{self.lead()}:</p>\n" if self.finding.key in ("entries", "opened") else ""
             return lead + "<ul>\n" + "\n".join(f"<li{item}</li>" for item in items) + "\n</ul>"
         return f"<p{items[0]}</p>"
@@ -109,9 +127,9 @@ class Finding:
 
     def part(self, part):
         if self.kind == FAULT:
-            return f"Of {self.places(part['subtrees'])}: {code(part['fault'])}"
+            return f"{text(part['who'])}: {code(part['fault'])}"
         if self.kind == DIFFERS:
-            return f"More than its owner has {', '.join(map(code, part['entries']))}."
+            return f"Who owns or writes these isn't as it leaves them: {', '.join(map(code, part['entries']))}."
         entry = part.get("entry") or part["file"]
         if entry in words.NO_ENTRY:
             return f"{text(words.NO_ENTRY[entry])}: {code(part['path'])}, {text(words.who(part['whom']))}."
@@ -125,10 +143,9 @@ class Finding:
 
     def of(self):
         """The subtrees that it opens, where the title doesn't name the one, and what an unsettled guard means."""
-        if self.finding.key != "entries":
-            return ""
-        subtrees = self.parts[0]["subtrees"]
-        told = f"<p>The subtrees are {self.places(subtrees)}.</p>" if len(subtrees) > 1 else ""
+        subtrees = self.parts[0].get("subtrees", ())
+        told = f"<p>It lets in to {self.places(subtrees)}.</p>" if len(subtrees) > 1 and self.kind != FAULT else ""
+        told += f"<p>The subtrees are {self.places(subtrees)}.</p>" if len(subtrees) > 1 and self.kind == FAULT else ""
         if self.kind == UNSETTLED and self.escape:
             told += f"<p>No operations were found that break it, and it isn't shown to hold: {text(words.guard(self.escape.lines[0]))}.</p>"
         return told
@@ -159,7 +176,7 @@ class Finding:
 
     def change(self):
         changes = together(command for part in self.parts for command in part.get("changes", ()))
-        settings = dict.fromkeys(part["setting"] for part in self.parts if part.get("setting"))
+        settings = settings_by_unit(part["setting"] for part in self.parts if part.get("setting"))
         if not changes and not settings:
             is_missing = self.finding.key == "entries" and not self.host.report["has_advice"]
             return "<p>What to change isn't told: the program of this report has no advise.</p>" if is_missing else ""
@@ -264,7 +281,7 @@ class HostPage:
             return "<p>This host tells of nothing.</p>"
         heading = self.level(3)
         return "\n".join(f"<{heading}>{'Left out of the tree text: ' if key == 'snapshot' else ''}{text(kind)}</{heading}>"
-                         f"<p>{text(words.WHAT_NO_ANSWER_SEES.get(kind, ''))}</p><ul>\n{chr(10).join(lines)}\n</ul>"
+                         f"{paragraph(words.WHAT_NO_ANSWER_SEES.get(kind))}<ul>\n{chr(10).join(lines)}\n</ul>"
                          for (key, kind), lines in kinds.items())
 
     def overview(self):

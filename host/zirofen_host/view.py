@@ -64,7 +64,7 @@ class Host:
     def findings(self):
         """What to mend: entries at one place that let in the same to the same are one; the gravest first."""
         found = [*self.together("entries", "path", "answer", "whom", "subtrees", "example"),
-                 *self.together("opened", "path", "whom"), *self.together("faults", "who", "fault"), *self.together("differs", "path")]
+                 *self.together("opened", "path", "whom"), *self.together("faults", "fault", "subtrees"), *self.together("differs", "path")]
         return sorted(found, key=lambda each: (*STANDINGS, DIFFERS).index(each.kind))
 
     def together(self, key, *same):
