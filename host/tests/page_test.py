@@ -267,7 +267,8 @@ class SavedTest(unittest.TestCase):
 
     def test_places_stand_in_the_tree(self):
         for key, spoil in (("subtrees", {"path": "/none"}), ("entries", {"subtrees": ["/none"]}), ("processes", {"at": "/none"}),
-                           ("cgroups", {"path": "/none/x"}), ("cgroups", {"path": "/init.scope"})):
+                           ("cgroups", {"path": "/none/x"}), ("cgroups", {"path": "/init.scope"}), ("cgroups", {"path": "<script>"}),
+                           ("cgroups", {"path": "/batch.slice/"}), ("cgroups", {"path": ""})):
             report = example.kept()
             report[key][1 if len(report[key]) > 1 else 0].update(spoil)
             with self.assertRaisesRegex(Fault, "^x: "):

@@ -78,8 +78,16 @@ class TreeTest(unittest.TestCase):
         self.assertEqual(lines[1], "/user.slice/user-1001.slice")
         self.assertIn("├─user@1001.service  ✓ contained", lines)
         self.assertNotIn("system.slice", "\n".join(lines))
+        self.assertIn("The whole host has 8 delegations: 5 shown to be contained; 4 findings open", lines)
+        self.assertFalse([line for line in lines if "opened" in line])
         with self.assertRaisesRegex(Fault, "there is no cgroup '/none' in the report"):
             drawn(example.kept(), only="/none")
+
+    def test_the_readme_shows_a_part(self):
+        with open(f"{TOP}/README.md", encoding="ascii") as page:
+            _, _, shown = page.read().partition("    sudo host/tree --only /user.slice\n")
+        lines = drawn(example.kept(), 80, True, only="/user.slice")
+        self.assertTrue(shown.startswith("".join(f"    {line}\n" for line in lines[1:lines.index("")]) + "\n"), lines)
 
     def test_a_long_name_keeps_its_end(self):
         report = example.kept()

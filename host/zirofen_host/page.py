@@ -144,8 +144,7 @@ class Finding:
     def of(self):
         """The subtrees that it opens, where the title doesn't name the one, and what an unsettled guard means."""
         subtrees = self.parts[0].get("subtrees", ())
-        told = f"<p>It lets in to {self.places(subtrees)}.</p>" if len(subtrees) > 1 and self.kind != FAULT else ""
-        told += f"<p>The subtrees are {self.places(subtrees)}.</p>" if len(subtrees) > 1 and self.kind == FAULT else ""
+        told = f"<p>The subtrees are {self.places(subtrees)}.</p>" if len(subtrees) > 1 else ""
         if self.kind == UNSETTLED and self.escape:
             told += f"<p>No operations were found that break it, and it isn't shown to hold: {text(words.guard(self.escape.lines[0]))}.</p>"
         return told
@@ -218,23 +217,25 @@ class HostPage:
         """How the host stands, at once."""
         delegations, contained, _ = self.host.numbers
         number = sum(any(kind == self.kind for kind, _ in self.host.standing[path]) for path in self.host.subtrees)
-        of = f"{number} of {words.count(delegations, 'delegation')}"
+        every = words.count(delegations, "delegation")
         if self.kind == ESCAPES:
-            return f"{of} can be broken by somebody whom {'it' if number == 1 else 'they'} should hold."
+            return f"{number} of {every} can be broken by somebody whom {'it' if number == 1 else 'they'} should hold."
         if self.kind == OPENED:
-            count = sum(len(each.parts) for each in self.host.findings if each.kind == OPENED)
-            return f"{words.count(count, 'limit stands', 'limits stand')} open to somebody, and {contained} of {words.count(delegations, 'delegation')} " \
-                   f"{'is' if contained == 1 else 'are'} shown to be contained."
+            limits = sum(len(each.parts) for each in self.host.findings if each.kind == OPENED)
+            return (f"{words.count(limits, 'limit stands', 'limits stand')} open to somebody, and {contained} of {every} "
+                    f"{'is' if contained == 1 else 'are'} shown to be contained.")
         if self.kind == UNSETTLED:
-            return f"{of} {'is' if number == 1 else 'are'} not settled: an entry stands open, and nothing was found that breaks the subtree."
+            return (f"{number} of {every} {'is' if number == 1 else 'are'} not settled: an entry stands open, and nothing was found "
+                    "that breaks the subtree.")
         if self.kind == FAULT:
-            return f"{of} {'has' if number == 1 else 'have'} no answer for somebody."
+            return f"{number} of {every} {'has' if number == 1 else 'have'} no answer for somebody."
         if self.kind == NOT_ASKED:
             return "Nothing was found to ask: no subtree and user of which containment could be asked."
         if contained < delegations:
-            return f"{contained} of {words.count(delegations, 'delegation')} are shown to be contained, and the others lie in what was handed to the same person."
-        return f"All {words.count(delegations, 'delegation')} are shown to be contained: nobody who was asked can break one, whatever he does." \
-            if delegations != 1 else "The one delegation is shown to be contained: nobody who was asked can break it, whatever he does."
+            return f"{contained} of {every} are shown to be contained, and the others lie in what was handed to the same person."
+        if delegations == 1:
+            return "The one delegation is shown to be contained: nobody who was asked can break it, whatever he does."
+        return f"All {every} are shown to be contained: nobody who was asked can break one, whatever he does."
 
     def open_kinds(self):
         kinds = [(kind, sum(each.kind == kind for each in self.host.findings)) for kind in COUNTED]
@@ -300,30 +301,29 @@ class Branches:
         self.numbers = {each["path"]: number for number, each in enumerate(page.host.report["subtrees"], 1)}
 
     def parts(self):
-        left = ["/"]
+        # what is left to write: cgroups and folded lists of them, and markup that is ready
+        left = [("cgroup", "/")]
         while left:
-            each = left.pop()
-            if isinstance(each, str) and each.startswith("/"):
+            kind, each = left.pop()
+            if kind == "cgroup":
                 opening, below, closing = self.cgroup(each)
                 yield opening
-                left += [closing, *reversed(below)] if below else [closing]
-            elif isinstance(each, str):
-                yield each
+                left += [("markup", closing), *reversed(below)]
             else:
-                yield self.folded(each)
+                yield self.folded(each) if kind == "folded" else each
 
     def cgroup(self, path):
         """What opens a cgroup's item, what is below it, and what closes the item."""
         shown, folded = self.host.split(path)
         number = self.numbers.get(path)
         head = f"<code>{text(path.rpartition('/')[2] or '/')}</code>{self.standing(path)}"
-        start = f'<li id="{self.page.id}-subtrees-{number}"' if number else "<li"
         head += "".join(f'<span class="told">{each}</span>' for each in self.told(path))
-        if not shown and not folded:
+        start = f'<li id="{self.page.id}-subtrees-{number}"' if number else "<li"
+        below = [("cgroup", each) for each in shown] + ([("folded", folded)] if folded else [])
+        if not below:
             return f'{start} class="leaf">{head}', [], "</li>"
         is_open = " open" if path in self.host.ways else ""
-        return (f"{start}><details{is_open}><summary>{head}</summary><ul>", [*shown, *([folded] if folded else [])],
-                "</ul></details></li>")
+        return f"{start}><details{is_open}><summary>{head}</summary><ul>", below, "</ul></details></li>"
 
     def standing(self, path):
         """How a cgroup stands, with a link to the finding that says so."""
@@ -344,8 +344,9 @@ class Branches:
             yield ", ".join(f"{text(file)} {text(value)}" for file, value in limits)
         for number, finding in self.host.notes.get(path, ()):
             if finding.key == "entries":
-                names = ", ".join(text(part["entry"]) for part in finding.parts)
-                yield f'<a class="{css(finding.kind)}" href="#{self.page.id}-finding-{number + 1}">{names} let{"s" if len(finding.parts) == 1 else ""} in {text(words.who(finding.parts[0]["whom"]))}</a>'
+                names = ", ".join(part["entry"] for part in finding.parts)
+                let_in = f"{names} let{'s' if len(finding.parts) == 1 else ''} in {words.who(finding.parts[0]['whom'])}"
+                yield f'<a class="{css(finding.kind)}" href="#{self.page.id}-finding-{number + 1}">{text(let_in)}</a>'
 
     def folded(self, paths):
         whose = "nobody's but root's" if all(map(self.host.is_roots, paths)) else "no delegation among them"

@@ -6,7 +6,7 @@ that crosses the edge, or what becomes of a limit. The page's style has the colo
 from html import escape
 
 from zirofen_host import words
-from zirofen_host.profile import ancestors, is_inside, parent_of
+from zirofen_host.profile import ancestors, is_inside
 
 WIDTH = 340
 LINE, PAD, GAP = 18, 8, 6
@@ -40,22 +40,23 @@ class Picture:
         self.boxes = self.make_boxes()
 
     def make_boxes(self):
-        """The boxes that are needed: the way to the subtree, and the other end of what crosses its edge."""
-        subtree, marked = self.escape.subtree, self.finding.parts[0]["path"]
-        way = [*reversed(list(ancestors(subtree))), subtree]
-        wanted = {"/", subtree, marked, *(way if len(way) <= MOST_BOXES else way[-2:])}
-        if self.breaks[0] == "crossed":
-            ends = self.breaks[2:]
-            wanted |= {*ends, *(each for each in way if all(is_inside(end, each) for end in ends))} if len(way) <= MOST_BOXES else {*ends}
+        """The boxes by their paths, each in that of the nearest cgroup above it which has one."""
         boxes = {}
-        for path in sorted(wanted, key=lambda path: (path.count("/"), path)):
+        for path in sorted(self.places(), key=lambda path: (path.count("/"), path)):
             above = next((boxes[each] for each in ancestors(path) if each in boxes), None)
-            label = path if above is None or above.path == "/" else path[len(above.path) + 1:]
-            boxes[path] = Box(path, label.lstrip("/") or "/")
+            label = path if above is None else path[len(above.path.rstrip("/")) + 1:]
+            boxes[path] = Box(path, label)
             if above:
                 above.boxes.append(boxes[path])
         self.add_lines(boxes)
         return boxes
+
+    def places(self):
+        """The cgroups that are drawn: the way to the subtree, what is marked, and both ends of what crosses its edge."""
+        subtree = self.escape.subtree
+        way = [*reversed(list(ancestors(subtree))), subtree]
+        ends = self.breaks[2:] if self.breaks[0] == "crossed" else ()
+        return {*(way if len(way) <= MOST_BOXES else ["/", *way[-2:]]), self.finding.parts[0]["path"], *ends}
 
     def add_lines(self, boxes):
         subtree = boxes[self.escape.subtree]

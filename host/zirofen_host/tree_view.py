@@ -8,6 +8,7 @@ from collections import namedtuple
 from zirofen_host import words
 from zirofen_host.fault import Fault
 from zirofen_host.names import plain
+from zirofen_host.profile import is_inside
 from zirofen_host.view import COUNTED, Host
 from zirofen_host.words import ABOVE, CONTAINED, ESCAPES, FAULT, NOT_ASKED, OPENED, SIGNS, STANDINGS, UNSETTLED
 
@@ -96,9 +97,10 @@ class Tree:
         """The numbers, and what the signs that were drawn mean."""
         delegations, contained, open_findings = self.host.numbers
         yield ""
-        yield from self.wrapped("", f"{words.count(delegations, 'delegation')}: {contained} shown to be contained; "
+        of = "" if self.drawing.only == "/" else "The whole host has "
+        yield from self.wrapped("", f"{of}{words.count(delegations, 'delegation')}: {contained} shown to be contained; "
                                 f"{words.count(open_findings, 'finding')} open")
-        seen = {kind for kinds in self.host.standing.values() for kind, _ in kinds}
+        seen = {kind for path, kinds in self.host.standing.items() for kind, _ in kinds if is_inside(path, self.drawing.only)}
         for kind in STANDINGS:
             if kind in seen:
                 sign = SIGNS[kind][self.drawing.is_ascii]
@@ -186,7 +188,7 @@ def drawing_of(options, environment, is_terminal):
     """How to draw, by the options and by what the output is."""
     columns = options.width or (shutil.get_terminal_size().columns if is_terminal else None)
     is_coloured = is_terminal and not environment.get("NO_COLOR") and environment.get("TERM") != "dumb"
-    only = os.fsdecode(options.only) if options.only else "/"
+    only = os.fsdecode(options.only or b"/").rstrip("/") or "/"
     return Drawing(columns, options.ascii or not is_utf8(environment), {"always": True, "never": False}.get(options.colour, is_coloured),
                    options.all, only)
 
