@@ -167,10 +167,18 @@ class PackageTest(unittest.TestCase):
                 out.write(self.files[path].data)
             self.assertEqual(run("zsh", "-n", f"{self.folder.name}/_zirofen").stderr, "")
 
+    def test_the_version_is_the_first_of_the_changes(self):
+        with open(f"{TOP}/CHANGELOG.md", encoding="ascii") as text:
+            self.assertEqual(re.search(r"^## (\S+),", text.read(), re.M)[1], self.program.version)
+
     def test_what_help_names_is_installed(self):
         for words in ((), *((name,) for name in self.program.commands())):
             for path in re.findall(r"/usr/share/\S+", self.program.help(*words)):
                 self.assertIn(path.strip("/.,"), {"/".join(it.split("/")[:end]) for it in self.files for end in range(1, 9)})
+            for name, number in re.findall(r"\b(zirofen[a-z-]*)\((\d)\)", self.program.help(*words)):
+                self.assertIn(f"usr/share/man/man{number}/{name}.{number}.gz", self.files)
+            for path in re.findall(r"\b(?:docs|examples)/[\w.-]*", self.program.help(*words)):
+                self.assertTrue(any(it.startswith(f"{package.DOCS}/{path}") for it in self.files), path)
 
     def test_the_helpers_tell_the_programs_version(self):
         environment = {**os.environ, "ZIROFEN_HELPERS": f"{TOP}/host", "ZIROFEN": self.program.path}
