@@ -65,6 +65,7 @@ class TextTest(unittest.TestCase):
 
     def test_a_section_ends_before_the_next_of_its_depth(self):
         self.assertEqual(manual.section("# A\n\n## B\n\nb\n\n### C\n\nc\n\n## D", "B"), "## B\n\nb\n\n### C\n\nc\n")
+        self.assertEqual(manual.section("## B\n\n```\n# no heading\n```\n\n## D", "B"), "## B\n\n```\n# no heading\n```\n")
 
     def test_changes_as_debian_writes_them(self):
         told = changes.debian("# Changes\n\n## 0.2.0, 2026-11-25\n\n- One\n  thing.\n\n## 0.1.0, 2026-11-20\n\n- Other.\n", "They <they@it>")
