@@ -142,9 +142,16 @@ class PackageTest(unittest.TestCase):
             wanted = set(re.findall(r"^ +(?:-\w, )?(--[\w-]+)", self.program.help(name).split("Options:")[1], re.M))
             self.assertEqual({it.name for it in options}, wanted)
 
+        known = package.completions.read_helpers(package.host_help)
+        self.assertEqual(list(known), package.helpers())
+        for name, (_, options) in known.items():
+            wanted = set(re.findall(r"^ +(?:-\w, )?(--[\w-]+)", package.host_help(name).split("options:")[1], re.M))
+            self.assertEqual({it.name for it in options}, wanted)
+
     def complete(self, shell, *words):
         """What a shell offers behind these words of a command line."""
-        files = {it: path for path in self.files for it in ("bash", "zsh", "fish") if f"/{it}" in path and "completions" in path}
+        files = {it: path for path in self.files for it in ("bash", "zsh", "fish")
+                 if f"/{it}" in path and "completions" in path and "host" not in path}
         source = f"{self.folder.name}/{shell}"
         with open(source, "wb") as out:
             out.write(self.files[files[shell]].data)
@@ -162,10 +169,10 @@ class PackageTest(unittest.TestCase):
                 self.assertLessEqual({"--uid", "--subtree", "--tree"}, self.complete(shell, "check", "--"))
                 self.assertNotIn("--subtree", self.complete(shell, "may", "--"))
         if shutil.which("zsh"):
-            path = next(path for path in self.files if "zsh" in path)
-            with open(f"{self.folder.name}/_zirofen", "wb") as out:
-                out.write(self.files[path].data)
-            self.assertEqual(run("zsh", "-n", f"{self.folder.name}/_zirofen").stderr, "")
+            for path in (path for path in self.files if "zsh" in path):
+                with open(f"{self.folder.name}/_zirofen", "wb") as out:
+                    out.write(self.files[path].data)
+                self.assertEqual(run("zsh", "-n", f"{self.folder.name}/_zirofen").stderr, "")
 
     def test_the_version_is_the_first_of_the_changes(self):
         with open(f"{TOP}/CHANGELOG.md", encoding="ascii") as text:
