@@ -1,5 +1,5 @@
 -- What each change of kept cgroups does to the state that they show.
-use Rattle.std.proofs.Common.{◌≡◌, ℕ, Bool, true, false, cond, refl, sym, ap, ◌∙◌, true≢false, Some, None, Option, is_some, option_map, [], ◌∷◌}
+use Rattle.std.proofs.Common.{◌≡◌, Bool, true, false, cond, refl, sym, ap, ◌∙◌, true≢false, Some, None, Option, is_some, option_map, [], ◌∷◌}
 use Rattle.std.specs.Prelude.{option_and_then, not, ◌&&◌}
 use mathlib.Core.Bool.{beq}
 use Rattle.std.specs.Cmp.{first_so, second_so}

@@ -1,5 +1,5 @@
 -- A try of one operation breaks where it is allowed and its step breaks.
-use Rattle.std.proofs.Common.{◌≡◌, ℕ, Bool, true, false, cond, not, ◌&&◌, ◌≢◌, List, [], ◌∷◌, Option, Some, None, is_some, option_map, nat_eq, refl, sym, ap, ◌∙◌, true≢false, arith}
+use Rattle.std.proofs.Common.{◌≡◌, ℕ, Bool, true, false, cond, not, ◌&&◌, ◌≢◌, List, [], ◌∷◌, Some, None, is_some, option_map, nat_eq, refl, sym, ap, ◌∙◌, true≢false, arith}
 use Rattle.std.proofs.lemmas.Bool.{and_from, eqb-true, eqb-false}
 use Rattle.std.proofs.Math.Bool.{and-true}
 use Rattle.cg_cgroup.specs.Paths.{Names, inside}
@@ -87,7 +87,7 @@ rmdir_try st user subtree whole = where_allowed st user subtree (Rmdir subtree) 
 pub limits_stay : (start st new : State) (subtree : Names) → broken start st new subtree ≡ [] → (file : LimitFile) → limits start subtree file ≡ limits new subtree file
 limits_stay start st new subtree none file =
     let same = no_unless (same_limits (limits start subtree) (limits new subtree)) Limits (no_parts _ _ (no_parts _ _ (no_parts _ _ none).0).0).1 in
-    λ i. same_limits-is _ _ same i file
+    λ i. same_limits-is (limits start subtree) (limits new subtree) same i file
 
 pub other_differs : (file : LimitFile) (value : Limit) → other_value file value ≢ value
 other_differs CpuWeight Max h = cc
