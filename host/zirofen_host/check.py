@@ -349,4 +349,4 @@ def report(snapshot, mounts, options):
     with tempfile.TemporaryDirectory() as folder:
         checked = Checked(snapshot, options, folder)
         value = checked.report(mounts)
-        return {**value, **checked.host()} if options.json else value
+        return {**value, **checked.host()} if options.json or options.baseline_update else value

@@ -28,13 +28,13 @@ def warn(line):
         pass
 
 
-def write(text):
-    """Text on standard output, all of it or a fault."""
+def write(parts):
+    """Parts of a text on standard output, all of it or a fault."""
     progress.end()
     if sys.stdout is None:
         raise Fault("standard output is closed")
     try:
-        sys.stdout.write(text)
+        sys.stdout.writelines(parts)
         sys.stdout.flush()
     except BrokenPipeError:
         raise Fault("what reads the output has ended") from None
@@ -44,7 +44,7 @@ def write(text):
 
 def write_lines(lines):
     """Lines on standard output, which harm no terminal."""
-    write("".join(f"{plain(line)}\n" for line in lines))
+    write(f"{plain(line)}\n" for line in lines)
 
 
 def run(name, main):
