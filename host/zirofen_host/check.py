@@ -6,16 +6,19 @@ from collections import defaultdict
 from functools import cached_property
 
 from zirofen_host import report as reporting
-from zirofen_host.asking import CONTAINED, Answer, Program, Refused, worst
+from zirofen_host.asking import CONTAINED, Answer, Refused, worst
 from zirofen_host.delegations import accounts_of
 from zirofen_host.fault import FAULT, Fault
-from zirofen_host.mount import MANAGERS_MARK
-from zirofen_host.names import Names, plain
+from zirofen_host.names import Names
 from zirofen_host.opened import Openings, read_kernel_list, what_differs
-from zirofen_host.profile import ANYBODY, CONTROL_FILES, KERNEL_LIST, SETTINGS, is_other_limit
+from zirofen_host.processes import read_processes
+from zirofen_host.profile import ANYBODY, CONTROL_FILES, KERNEL_LIST, SETTINGS, is_other_limit, shown
 from zirofen_host.questions import Questions, unit_of
 from zirofen_host.shell import change_commands, closing_commands
+from zirofen_host.texts import Programs, Texts
+from zirofen_host.tree import in_order
 from zirofen_host.unseen import Line, Unseen
+from zirofen_host.walk import MANAGERS_MARK
 
 HERE = os.path.dirname(os.path.dirname(os.path.realpath(__file__)))
 PROGRAM = os.path.join(os.path.dirname(HERE), "zirofen")
@@ -86,7 +89,7 @@ class Judged:
     def failing(self, user, subtree):
         """The entries that a guard stands on and that he reaches; what the program told rests on one of these."""
         found = []
-        for each in self.questions.guarded[subtree]:
+        for each in self.questions.guarded(subtree):
             entry = self.questions.delegations.entry(each.path, each.name)
             if user.reaches(entry):
                 found.append((each.path, each.name, entry))
@@ -98,18 +101,23 @@ class Judged:
 class Checked:
     """A host that was asked, on its way to a report."""
 
-    def __init__(self, snapshot, options, program):
-        self.snapshot, self.options, self.program = snapshot, options, program
+    def __init__(self, snapshot, options, folder):
+        self.snapshot, self.options = snapshot, options
         self.accounts = accounts_of(options, snapshot.running.values())
         self.names = Names(self.accounts)
-        marks = {path: found.marks for path, found in snapshot.rows_found.items() if found.marks}
-        self.questions = Questions(snapshot.tree, self.accounts, marks)
+        self.questions = questions_of(snapshot, self.accounts)
+        self.questions.leave_out(snapshot.spoiled)
+        texts = Texts(snapshot.tree, self.questions.subtrees, not options.no_processes)
+        self.questions.leave_out(texts.refused)
+        self.spoiled = {**snapshot.spoiled, **texts.refused}
+        texts.fill(lambda path: self.questions.holders[path].uids)
+        self.program = Programs(options, folder, texts, snapshot.head())
         plan, cut = self.questions.plan
         self.asked = {user for users, _ in plan for user in users}
-        answers = program.ask(plan)
+        answers = self.program.ask(plan)
         further = self.questions.further(answers)
         self.asked |= {user for users, _ in further for user in users}
-        self.judged = Judged(self.questions, {**answers, **program.ask(further)}, cut)
+        self.judged = Judged(self.questions, {**answers, **self.program.ask(further)}, cut)
         self.is_asked = bool(plan or cut)
         self.kernel_list = read_kernel_list(None if options.plain_folder else KERNEL_LIST)
         self.changed = set()
@@ -233,6 +241,14 @@ class Checked:
         return found
 
     def faults(self):
+        """Subtrees that can't be asked of anybody, and pairs without an answer."""
+        by_why = defaultdict(list)
+        for path, why in sorted(self.spoiled.items()):
+            by_why[why].append(path)
+        return [{"who": "everybody", "uid": None, "gids": [], "fault": why, "subtrees": paths}
+                for why, paths in by_why.items()] + self.faults_of_pairs()
+
+    def faults_of_pairs(self):
         return [{"who": self.names.who(user), "uid": user.uid, "gids": list(user.gids), "fault": line,
                  "subtrees": subtrees} for (user, line), subtrees in self.judged.faults.items()]
 
@@ -271,12 +287,12 @@ class Checked:
         return {"users": [{"uid": uid, "name": self.accounts.names.get(uid),
                            "groups": [list(user.gids) for user in self.asked_by_uid.get(uid, ())]} for uid in sorted(users)],
                 "groups": [{"gid": gid, "name": name} for gid, name in sorted(self.names.groups.items())],
-                "cgroups": [self.cgroup(path) for path in sorted(self.snapshot.rows_found, key=lambda path: path.split("/"))],
+                "cgroups": [self.cgroup(path) for path in in_order(self.snapshot.rows_found)],
                 "processes": [self.process(*each) for each in sorted(self.snapshot.tree.processes)]}
 
     def process(self, pid, uid, at):
         process = self.snapshot.running[pid]
-        return {"pid": pid, "uid": uid, "at": at, "name": plain(process.name), "capabilities": list(process.capabilities)}
+        return {"pid": pid, "uid": uid, "at": at, "name": shown(process.name), "capabilities": list(process.capabilities)}
 
     def cgroup(self, path):
         row, found = self.snapshot.tree.rows[path], self.snapshot.rows_found[path]
@@ -312,19 +328,25 @@ def add_program_arguments(parser):
                         help="the program, also by the environment's ZIROFEN (the wrapper beside this folder)")
 
 
-def in_text(snapshot, options, ask):
-    """Calls with the program and the snapshot's text, which is kept where a file is named for it."""
-    with tempfile.TemporaryDirectory() as folder:
-        tree = options.keep or os.path.join(folder, "tree.toml")
-        with open(tree, "w", encoding="ascii") as out:
-            out.write(snapshot.text())
-        return ask(Program(options.zirofen, tree))
+def questions_of(snapshot, accounts):
+    marks = {path: found.marks for path, found in snapshot.rows_found.items() if found.marks}
+    return Questions(snapshot.tree, accounts, marks)
+
+
+def subtrees_by(options):
+    """Which subtrees are asked of, by a snapshot that may have changed while it was taken."""
+    accounts = []
+
+    def subtrees_of(snapshot, _):
+        if not accounts:
+            accounts.append(accounts_of(options, read_processes(options.proc).values()))
+        return [os.fsencode(path) for path in questions_of(snapshot, accounts[0]).subtrees]
+    return subtrees_of
 
 
 def report(snapshot, mounts, options):
     """The value of the report on a host."""
-    def ask(program):
-        checked = Checked(snapshot, options, program)
+    with tempfile.TemporaryDirectory() as folder:
+        checked = Checked(snapshot, options, folder)
         value = checked.report(mounts)
-        return {**value, **checked.host()} if options.json else value
-    return in_text(snapshot, options, ask)
+        return {**value, **checked.host()} if options.json or options.baseline_update else value

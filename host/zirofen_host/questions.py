@@ -6,9 +6,10 @@ from functools import cached_property
 
 from zirofen_host.asking import ESCAPES
 from zirofen_host.delegations import Delegations
-from zirofen_host.mount import MANAGERS_MARK
-from zirofen_host.profile import ANYBODY, HANDED_OVER, MOST_GROUPS, ancestors
+from zirofen_host.profile import ANYBODY, HANDED_OVER, MOST_GROUPS, ancestors, parent_of
+from zirofen_host.tree import in_order
 from zirofen_host.users import CLASSES, OTHERS, User
+from zirofen_host.walk import MANAGERS_MARK
 
 # a unit of the system's manager stands in slices alone; those of a user's manager stand in a unit
 _UNIT = re.compile(r"(/[^/]+\.slice)*/[^/]+\.(service|scope)\Z")
@@ -48,8 +49,15 @@ class Questions:
         self.delegations = Delegations(tree, accounts)
         self.meant = {path: why for path in tree.rows if (why := self.why_meant(path))}
         found = {each.path for each in self.delegations.find()}
-        self.subtrees = sorted(found | set(self.meant), key=lambda path: path.split("/"))
-        self.guarded = {path: list(self.delegations.guarded(path)) for path in self.subtrees}
+        self.subtrees = in_order(found | set(self.meant))
+
+    def leave_out(self, paths):
+        """Leaves out subtrees of which nothing can be asked."""
+        self.subtrees = [path for path in self.subtrees if path not in paths]
+
+    def guarded(self, subtree):
+        """The entries of a subtree that its guards stand on; a long list for one that lies deep, and not kept."""
+        return self.delegations.guarded(subtree)
 
     def why_meant(self, path):
         """Why a cgroup is meant to be handed over: by the system manager's mark, or as a unit with a user of its own."""
@@ -70,12 +78,12 @@ class Questions:
     def named(self):
         """The users that the entries and the processes of each subtree name, and its guards' entries."""
         uids = defaultdict(set)
-        for _, uid, at in self.tree.processes:
+        for uid, at in {(uid, at) for _, uid, at in self.tree.processes}:
             for path in (at, *ancestors(at)):
                 uids[path].add(uid)
         found = {}
         for path in self.subtrees:
-            entries = {self.delegations.entry(each.path, each.name) for each in self.guarded[path]}
+            entries = {self.delegations.entry(each.path, each.name) for each in self.guarded(path)}
             entries |= {self.delegations.entry(path, name) for name in HANDED_OVER}
             users = {user for entry in entries for user in self.delegations.users_at(entry)}
             users |= {user for uid in uids[path] - {0} for user in self.delegations.users("uid", uid)}
@@ -84,7 +92,7 @@ class Questions:
 
     def is_open(self, subtree):
         """Whether everybody writes an entry on which a guard of a subtree stands."""
-        return any(self.delegations.entry(each.path, each.name).mode & 0o002 for each in self.guarded[subtree])
+        return any(self.delegations.entry(each.path, each.name).mode & 0o002 for each in self.guarded(subtree))
 
     @cached_property
     def holders(self):
@@ -119,7 +127,7 @@ class Questions:
         return user.gids[:1] == tuple(ids[:1]) if by == "group" else not user.gids
 
     def gids_that_matter(self, subtree):
-        return {self.delegations.entry(each.path, each.name).gid for each in self.guarded[subtree]}
+        return {self.delegations.entry(each.path, each.name).gid for each in self.guarded(subtree)}
 
     @cached_property
     def plan(self):
@@ -214,8 +222,9 @@ class Questions:
     def below(self):
         """Numbers of descendants, and of levels below, of each cgroup."""
         counts, depths = Counter(), Counter()
-        for path in self.tree.rows:
-            for level, place in enumerate(ancestors(path), 1):
-                counts[place] += 1
-                depths[place] = max(depths[place], level)
+        for path in sorted(self.tree.rows, key=len, reverse=True):
+            if path != "/":
+                parent = parent_of(path)
+                counts[parent] += counts[path] + 1
+                depths[parent] = max(depths[parent], depths[path] + 1)
         return {path: (counts[path], depths[path]) for path in self.tree.rows}

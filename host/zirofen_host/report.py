@@ -96,11 +96,29 @@ def what_to_change(found):
         yield f"    setting, at the next start: {', '.join(settings)}"
 
 
-def entry_lines(entries):
-    """The entries at one place that let in the same to the same."""
+def entry_line(entries):
+    """The line of the entries at one place that let in the same to the same."""
     entry = entries[0]
     what = " ".join(f"{each['entry']} ({owner_text(each['owner'])})" if each["owner"] else each["entry"] for each in entries)
-    yield f"{entry['path']} {what}: {entry['answer']}, by {whom_text(entry['whom'])}, of {some(entry['subtrees'])}"
+    return f"{entry['path']} {what}: {entry['answer']}, by {whom_text(entry['whom'])}, of {some(entry['subtrees'])}"
+
+
+def opened_line(each):
+    return f"opened {each['path']} {each['file']} by {whom_text(each['whom'])}"
+
+
+def differs_line(each):
+    return f"differs {each['path']}: {some(each['entries'])}: not as a service manager leaves it"
+
+
+def above_line(each):
+    return f"above: {each['who']}, below {each['handed']}: {some(each['subtrees'])}"
+
+
+def entry_lines(entries):
+    """That line, with an example and what to change."""
+    entry = entries[0]
+    yield entry_line(entries)
     example = entry["example"]
     if example:
         yield f"    by {example['who']} of {example['subtree']}: {example['lines'][0]}"
@@ -118,14 +136,14 @@ def finding_lines(report):
     for entries in alike(report["entries"], "path", "answer", "whom", "subtrees", "example"):
         yield from entry_lines(entries)
     for opened in alike(report["opened"], "path", "whom"):
-        yield from (f"opened {each['path']} {each['file']} by {whom_text(each['whom'])}" for each in opened)
+        yield from map(opened_line, opened)
         yield from what_to_change(opened)
     for each in report["faults"]:
         yield f"fault: {each['who']} of {some(each['subtrees'])}: {each['fault']}"
     if report["entries"] and not report["has_advice"]:
         yield "what to change of an entry isn't told: this program has no advise"
     for each in report["differs"]:
-        yield f"differs {each['path']}: {some(each['entries'])}: not as a service manager leaves it"
+        yield differs_line(each)
         yield from what_to_change([each])
 
 
@@ -147,7 +165,7 @@ def lines_of(report):
     if report["above"]:
         yield ""
         yield "What lies below what was handed to somebody is open to him, and isn't counted:"
-        yield from (f"above: {each['who']}, below {each['handed']}: {some(each['subtrees'])}" for each in report["above"])
+        yield from map(above_line, report["above"])
     yield ""
     yield "What none of these answers looks at (docs/HOSTS.md):"
     yield from map(place_text, report["unseen"])

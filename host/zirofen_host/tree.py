@@ -71,15 +71,29 @@ def names(controllers):
     return ", ".join(f'"{name}"' for name in CONTROLLERS if name in controllers)
 
 
+def row_text(row):
+    return "\n".join(row_lines(row)) + "\n"
+
+
+def process_text(process):
+    pid, uid, path = process
+    return f"\n[[process]]\npid = {pid}\nuid = {uid}\nat = {literal(path)}\n"
+
+
+def in_order(rows):
+    """Paths so that what is inside of one comes right behind it."""
+    return sorted(rows, key=lambda path: path.split("/"))
+
+
+def head_text(controllers, head):
+    """The begin of a text, with comment lines at its head."""
+    return "\n".join([*(f"# {line}" for line in head), "", "format = 2", f"controllers = [{names(controllers)}]", ""])
+
+
 def tree_text(tree, head):
     """The text of a tree, with comment lines at its head."""
-    lines = [f"# {line}" for line in head]
-    lines += ["", "format = 2", f"controllers = [{names(tree.controllers)}]"]
-    for path in sorted(tree.rows, key=lambda path: path.split("/")):
-        lines += row_lines(tree.rows[path])
-    for pid, uid, path in sorted(tree.processes):
-        lines += ["", "[[process]]", f"pid = {pid}", f"uid = {uid}", f"at = {literal(path)}"]
-    return "\n".join(lines) + "\n"
+    return "".join([head_text(tree.controllers, head), *(row_text(tree.rows[path]) for path in in_order(tree.rows)),
+                    *map(process_text, sorted(tree.processes))])
 
 
 def read_entry(table, usual_mode):

@@ -3,10 +3,10 @@ import subprocess
 from bisect import bisect_left
 from collections import defaultdict, namedtuple
 
-from zirofen_host.mount import MANAGERS_MARK, OWNERS_MARK
 from zirofen_host.processes import open_for_writing
 from zirofen_host.profile import ANYBODY, LIMIT_FILES, SETTINGS, ancestors
 from zirofen_host.questions import unit_of
+from zirofen_host.walk import MANAGERS_MARK, OWNERS_MARK
 
 Line = namedtuple("Line", "kind place text")
 
@@ -49,8 +49,9 @@ class Unseen:
         pids = {pid: process.user.uid for pid, process in self.running.items() if process.user.uid in users}
         held = defaultdict(set)
         for pid, file in open_for_writing(self.proc, sorted(pids)):
-            place, name = self.places.get(file, (None, "cgroup.procs"))
-            if name != "cgroup.procs" and not any(user.reaches(self.rows[place].files[name]) for user in users[pids[pid]]):
+            place, name = self.places.get(file, (b"", "cgroup.procs"))
+            place = place.decode("ascii")
+            if place in self.rows and name != "cgroup.procs" and not any(user.reaches(self.rows[place].files[name]) for user in users[pids[pid]]):
                 held[pids[pid], place, name].add(pid)
         for (uid, place, name), pids in sorted(held.items()):
             where = f"in process {', '.join(map(str, sorted(pids)))}"
@@ -58,7 +59,7 @@ class Unseen:
 
     def group_class(self):
         """What only a group keeps its members from is no wall where they can drop it."""
-        guarded = {(each.path, each.name) for path in self.questions.subtrees for each in self.questions.guarded[path]}
+        guarded = {(each.path, each.name) for path in self.questions.subtrees for each in self.questions.guarded(path)}
         for place, name in sorted(guarded):
             entry = self.tree.rows[place].entry(name)
             if entry.gid and entry.mode & 0o002 and not entry.mode & 0o020:
