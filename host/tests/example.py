@@ -77,7 +77,7 @@ class Example:
 
     def options(self, program):
         return SimpleNamespace(mount=self.host.mount, proc=self.host.proc, accounts=self.host.etc, keep=None, zirofen=program,
-                               json=True, plain_folder=True)
+                               json=True, plain_folder=True, no_processes=False, baseline_update=None)
 
     def report(self, program):
         """What a program answers of it, as of a host with a name and of a day."""

@@ -19,7 +19,7 @@ from zirofen_host.fault import Fault
 PARTS = ("subtrees", "entries", "opened", "faults", "differs", "above", "unseen", "snapshot")
 REAL = sorted(name for name in os.listdir(f"{HERE}/data") if name.endswith(".json.gz"))
 HOSTILE = ("<script>alert(1)</script>", '"onload="alert(2)" x="', "'><img src=//x.y onerror=alert(3)>", "</title></svg></style></script>",
-           "${title}$id&lt;&#60;", "javascript:alert(4)", "\u202egnp.exe\u2066", "x" * 250, "\x1b[31m\x07", "<!--", "]]><![CDATA[", "\ud800")
+           "${title}$id&lt;&#60;", "javascript:alert(4)", "\u202egnp.exe\u2066", "x" * 250, "\x1b[31m\x07", "<!-- é\u05d0", "]]><![CDATA[", "\ud800")
 
 
 def setUpModule():

@@ -1,4 +1,5 @@
 """Tests of the terminal's tree, against files that were looked at."""
+import json
 import os
 import pty
 import re
@@ -9,6 +10,7 @@ import unittest
 from types import SimpleNamespace
 
 import example
+from check_test import HostTest, owned
 from made_up import HERE, TOP
 from page_test import HOSTILE, REAL, hostile, many, real
 from zirofen_host import tree_view, words
@@ -109,10 +111,35 @@ class TreeTest(unittest.TestCase):
         self.assertEqual(sum(line.endswith("─deep") for line in lines), 1498)
         self.assertTrue(any(line.endswith("─deep  ! opened") for line in lines))
 
+    def test_a_subtree_that_has_gone(self):
+        report = example.kept()
+        report["faults"].append({"who": "everybody", "uid": None, "gids": [], "fault": "it changes all the time", "subtrees": ["/gone"]})
+        lines = drawn(report)
+        self.assertIn("∅ /gone: it changes all the time", lines)
+        self.assertIn("9 delegations: 5 shown to be contained; 5 findings open", lines)
+
     def test_control_bytes_arent_written(self):
         text = "\n".join(drawn(hostile(example.kept())))
         self.assertIn("\\u202e", text)
         self.assertNotIn(HOSTILE[6], text)
+
+
+@unittest.skipUnless(os.geteuid() == 0, "only root gives files away")
+class LiveTest(HostTest):
+    """The script on a made-up host."""
+
+    def test_a_host_is_looked_at_as_by_a_check(self):
+        self.host.cgroup("/bad", owners={**owned(1000), "memory.max": 1000})
+        self.host.cgroup("/other", owners=owned(1001))
+        place = ["--plain-folder", "--mount", self.host.mount, "--proc", self.host.proc, "--accounts", self.host.etc, "--zirofen", self.program]
+        checked = subprocess.run([sys.executable, f"{TOP}/host/check", "--json", *place], capture_output=True, text=True).stdout
+        for only in ("/", "/bad"):
+            words_ = [sys.executable, f"{TOP}/host/tree", "--ascii", *place, *(["--only", only] if only != "/" else [])]
+            ended = subprocess.run(words_, capture_output=True, text=True)
+            self.assertEqual((ended.returncode, ended.stderr), (0, ""))
+            lines, told = drawn(json.loads(checked), None, True, only=only), ended.stdout.splitlines()
+            # the time is another, and of a part alone no more is counted
+            self.assertEqual(told[1:told.index("")], lines[1:lines.index("")])
 
 
 class LocaleTest(unittest.TestCase):

@@ -224,7 +224,7 @@ class HostPage:
     def sentence(self):
         """How the host stands, at once."""
         delegations, contained, _ = self.host.numbers
-        number = sum(any(kind == self.kind for kind, _ in self.host.standing[path]) for path in self.host.subtrees)
+        number = sum(any(kind == self.kind for kind, _ in self.host.standing[path]) for path in self.host.delegations)
         every = words.count(delegations, "delegation")
         if self.kind == ESCAPES:
             return f"{number} of {every} can be broken by somebody whom {'it' if number == 1 else 'they'} should hold."

@@ -3,9 +3,9 @@ from collections import defaultdict, namedtuple
 from functools import cached_property
 
 from zirofen_host import words
-from zirofen_host.mount import OWNERS_MARK
 from zirofen_host.profile import CONTROL_FILES, HANDED_OVER, LIMIT_FILES, ancestors, parent_of
 from zirofen_host.report import alike
+from zirofen_host.walk import OWNERS_MARK
 from zirofen_host.words import ABOVE, CONTAINED, ESCAPES, FAULT, NOT_ASKED, OPENED, STANDINGS, UNSETTLED, visible
 
 # what stands together: a kind, its key in the report, and the numbers that its parts have there
@@ -22,14 +22,14 @@ USUAL = {"cgroup.freeze": "0", "cgroup.type": "domain", "cpu.idle": "0", "cpu.ma
          "cpuset.cpus.partition": "member", "io.prio.class": "no-change"}
 
 
-def without_marks(value):
-    """A report in which every text can be seen as it is."""
+def with_texts(value, shown):
+    """A report whose texts are written so that each can be seen as it is."""
     if isinstance(value, str):
-        return visible(value)
+        return shown(value)
     if isinstance(value, list):
-        return [without_marks(each) for each in value]
+        return [with_texts(each, shown) for each in value]
     if isinstance(value, dict):
-        return {visible(key): without_marks(each) for key, each in value.items()}
+        return {shown(key): with_texts(each, shown) for key, each in value.items()}
     return value
 
 
@@ -44,8 +44,8 @@ def is_usual(file, value):
 class Host:
     """What a report tells of a host."""
 
-    def __init__(self, report):
-        self.report = report = without_marks(report)
+    def __init__(self, report, shown=visible):
+        self.report = report = with_texts(report, shown)
         self.rows = {each["path"]: each for each in report["cgroups"]}
         self.subtrees = {each["path"]: each for each in report["subtrees"]}
         self.processes = {each["pid"]: each for each in report["processes"]}
@@ -100,8 +100,19 @@ class Host:
     @cached_property
     def numbers(self):
         """How many delegations there are, how many of them are shown to be contained, and how many findings are open."""
-        contained = sum(self.standing[path][0][0] == CONTAINED for path in self.subtrees)
-        return len(self.subtrees), contained, sum(each.kind in COUNTED for each in self.findings)
+        contained = sum(self.standing[path][0][0] == CONTAINED for path in self.delegations)
+        return len(self.delegations), contained, sum(each.kind in COUNTED for each in self.findings)
+
+    @cached_property
+    def delegations(self):
+        """The subtrees, also those of which nobody could be asked."""
+        return {*self.subtrees, *(path for each in self.report["faults"] for path in each["subtrees"])}
+
+    @cached_property
+    def lost(self):
+        """Subtrees without an answer that aren't in the tree any more, each with its finding."""
+        return [(path, each) for each in self.findings if each.kind == FAULT
+                for path in each.parts[0]["subtrees"] if path not in self.rows]
 
     @cached_property
     def notes(self):
