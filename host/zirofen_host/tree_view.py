@@ -174,7 +174,8 @@ def add_arguments(parser):
     parser.add_argument("--colour", "--color", choices=("auto", "always", "never"), default="auto",
                         help="colours: on a terminal where NO_COLOR isn't set (auto), or always, or never")
     parser.add_argument("--ascii", action="store_true", help="signs of ASCII alone, as where the locale has no UTF-8")
-    parser.add_argument("--width", metavar="COLUMNS", type=width, help="cut lines to this; else to the terminal's, and elsewhere not at all")
+    parser.add_argument("--width", metavar="COLUMNS", type=width,
+                        help="cut lines to this; else to the terminal's, and elsewhere not at all")
     parser.add_argument("--no-pager", action="store_true", help="don't show it through PAGER (less) on a terminal")
 
 
@@ -188,9 +189,9 @@ def drawing_of(options, environment, is_terminal):
     """How to draw, by the options and by what the output is."""
     columns = options.width or (shutil.get_terminal_size().columns if is_terminal else None)
     is_coloured = is_terminal and not environment.get("NO_COLOR") and environment.get("TERM") != "dumb"
+    is_coloured = {"always": True, "never": False}.get(options.colour, is_coloured)
     only = os.fsdecode(options.only or b"/").rstrip("/") or "/"
-    return Drawing(columns, options.ascii or not is_utf8(environment), {"always": True, "never": False}.get(options.colour, is_coloured),
-                   options.all, only)
+    return Drawing(columns, options.ascii or not is_utf8(environment), is_coloured, options.all, only)
 
 
 def pager_of(options, environment, is_terminal):
@@ -204,7 +205,8 @@ def show(lines, pager, encoding):
     text = "".join(f"{line}\n" for line in lines).encode(encoding, "backslashreplace")
     progress.end()
     if pager and shutil.which(pager.split()[0]):
-        with subprocess.Popen(["sh", "-c", pager], stdin=subprocess.PIPE, env={"LESS": "FRSX", **os.environ, "LESSSECURE": "1"}) as shown:
+        environment = {"LESS": "FRSX", **os.environ, "LESSSECURE": "1"}
+        with subprocess.Popen(["sh", "-c", pager], stdin=subprocess.PIPE, env=environment) as shown:
             try:
                 shown.communicate(text)
             except BrokenPipeError:

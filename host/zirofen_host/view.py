@@ -64,7 +64,8 @@ class Host:
     def findings(self):
         """What to mend: entries at one place that let in the same to the same are one; the gravest first."""
         found = [*self.together("entries", "path", "answer", "whom", "subtrees", "example"),
-                 *self.together("opened", "path", "whom"), *self.together("faults", "fault", "subtrees"), *self.together("differs", "path")]
+                 *self.together("opened", "path", "whom"), *self.together("faults", "fault", "subtrees"),
+                 *self.together("differs", "path")]
         return sorted(found, key=lambda each: (*STANDINGS, DIFFERS).index(each.kind))
 
     def together(self, key, *same):
@@ -134,7 +135,7 @@ class Host:
 
     @cached_property
     def told(self):
-        """The cgroups that aren't folded: delegations, marks and findings, what is above these, and what is inside the first."""
+        """The cgroups that aren't folded: delegations with what is inside them, marks, findings, and what is above these."""
         return {"/", *self.standing, *self.notes, *self.ways, *self.inside}
 
     @cached_property
@@ -144,8 +145,9 @@ class Host:
 
     def split(self, path):
         """What is told below a cgroup, and all that is folded there."""
+        shown = [each for each in self.children[path] if each in self.told]
         folded = [each for each in self.children[path] if each not in self.told]
-        return [each for each in self.children[path] if each in self.told], [below for each in folded for below in self.below(each)]
+        return shown, [below for each in folded for below in self.below(each)]
 
     def below(self, path):
         """A cgroup and all below it."""
@@ -177,8 +179,8 @@ class Host:
     def entries(self, path):
         """By which entries it was handed over."""
         held, row = self.subtrees[path]["held_by"], self.rows[path]
-        entries = {"dir": row["dir"], **{name: row["files"][name] for name in (*CONTROL_FILES, *LIMIT_FILES) if name in row["files"]}}
-        handed = [name for name, entry in entries.items() if is_handed(entry, held)]
+        entries = {"dir": row["dir"], **row["files"]}
+        handed = [name for name in ("dir", *CONTROL_FILES, *LIMIT_FILES) if name in entries and is_handed(entries[name], held)]
         return sorted(handed, key=lambda name: name not in HANDED_OVER)
 
     def limits(self, path):
@@ -209,4 +211,6 @@ def is_handed(entry, held):
     if held["by"] == "owner":
         return entry["uid"] in held["ids"]
     mode = int(entry["mode"], 8)
-    return bool(held["by"] == "group" and entry["gid"] in held["ids"] and mode & 0o020 or held["by"] == "others" and mode & 0o002)
+    if held["by"] == "group":
+        return bool(entry["gid"] in held["ids"] and mode & 0o020)
+    return bool(held["by"] == "others" and mode & 0o002)
