@@ -3,7 +3,7 @@ from collections import defaultdict, namedtuple
 from functools import cached_property
 
 from zirofen_host import words
-from zirofen_host.mount import OWNERS_MARK
+from zirofen_host.walk import OWNERS_MARK
 from zirofen_host.profile import CONTROL_FILES, HANDED_OVER, LIMIT_FILES, ancestors, parent_of
 from zirofen_host.report import alike
 from zirofen_host.words import ABOVE, CONTAINED, ESCAPES, FAULT, NOT_ASKED, OPENED, STANDINGS, UNSETTLED, visible
