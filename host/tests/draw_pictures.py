@@ -27,7 +27,7 @@ def main():
             file = os.path.join(TOP, "docs", name)
             opened.picture(file, height, scale)
             if shutil.which("pngquant"):
-                subprocess.run(["pngquant", "--nofs", "--speed", "1", "--ext", ".png", "--force", "32", file], check=True)
+                subprocess.run(["pngquant", "--nofs", "--speed", "1", "--ext", ".png", "--force", "64", file], check=True)
 
 
 if __name__ == "__main__":

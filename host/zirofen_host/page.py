@@ -20,6 +20,8 @@ from zirofen_host.words import CONTAINED, ESCAPES, FAULT, MEANINGS, NOT_ASKED, O
 TEMPLATES = os.path.join(os.path.dirname(os.path.realpath(__file__)), "templates")
 # so many subtrees of a finding are named; the tree has them all
 SHOWN_SUBTREES = 12
+# what can differ from an earlier report, with its heading
+DIFFERENCES = {"new": "New", "worse": "Worse", "changed": "Changed", "gone": "Gone"}
 
 
 def text(value):
@@ -195,6 +197,12 @@ class Finding:
         return f"<details><summary>Try it: as commands, which do harm where they work</summary>{commands(lines)}</details>"
 
 
+def difference(each):
+    """What differs from an earlier report, and what it was."""
+    before = f"<br>before: {text(each['before'])}" if each["before"] and each["before"] != each["line"] else ""
+    return text(each["line"]) + before
+
+
 class HostPage:
     """A host's part of the page."""
 
@@ -253,7 +261,16 @@ class HostPage:
                       kernel=text(report["kernel"]), time=text(report["time"]), program=text(report["program"]))
 
     def baseline(self):
-        return ""
+        """What is new, worse, changed or gone since an earlier report, where one was compared."""
+        found = self.host.report.get("baseline")
+        if not found:
+            return ""
+        second, told = self.level(2), []
+        for kind, heading in DIFFERENCES.items():
+            parts = [f'<li id="{self.id}-{kind}-{number}">{difference(each)}</li>' for number, each in enumerate(found[kind], 1)]
+            told += [f"<{self.level(3)}>{heading}</{self.level(3)}><ul>", *parts, "</ul>"] if parts else []
+        return (f'<section id="{self.id}-baseline"><{second}>Since {text(found["time"])}</{second}>\n'
+                + "\n".join(told or ["<p>Nothing is new, worse, changed or gone.</p>"]) + "\n</section>")
 
     def signs(self):
         seen = {kind for kinds in self.host.standing.values() for kind, _ in kinds}

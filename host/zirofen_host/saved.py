@@ -29,15 +29,18 @@ SHAPE = {
     "entries": [{"path": str, "entry": str, "owner": (OWNER, NONE), "answer": str, "whom": WHOM, "subtrees": [str],
                  "example": (EXAMPLE, NONE), **MENDED}],
     "opened": [{"path": str, "file": str, "owner": OWNER, "whom": WHOM, **MENDED}],
-    "faults": [{"who": str, "uid": int, "gids": [int], "fault": str, "subtrees": [str]}],
+    "faults": [{"who": str, "fault": str, "subtrees": [str]}],
     "differs": [{"path": str, "entries": [str], **MENDED}],
-    "above": [{"who": str, "uid": int, "handed": str, "subtrees": [str]}],
+    "above": [{"who": str, "handed": str, "subtrees": [str]}],
     "unseen": TOLD, "snapshot": TOLD,
     "users": [{"uid": int, "name": (str, NONE), "groups": [[int]]}],
     "groups": [{"gid": int, "name": (str, NONE)}],
     "cgroups": [{"path": str, "dir": OWNER, "unit": (str, NONE), "marks": Each(str), "files": Each(OWNER)}],
     "processes": [{"pid": int, "uid": int, "at": str, "name": str}],
 }
+# what differs from an earlier report, where one was given
+DIFFERENCE = [{"line": str, "before": (str, NONE), **MENDED}]
+BASELINE = {"time": str, "new": DIFFERENCE, "worse": DIFFERENCE, "changed": DIFFERENCE, "gone": DIFFERENCE}
 # lists that a line is made of
 NOT_EMPTY = {"lines", "whom"}
 
@@ -89,7 +92,7 @@ def check(report, name):
     version = report.get("version") if isinstance(report, dict) else None
     if version != VERSION:
         raise Fault(f"{name}: a report of host/check --json of version {VERSION} is wanted, and this is none")
-    place = wrong(report, SHAPE, "report")
+    place = wrong(report, SHAPE, "report") or "baseline" in report and wrong(report["baseline"], BASELINE, "report.baseline")
     told = f"{place} isn't what a report has there" if place else wrong_places(report)
     if told:
         raise Fault(f"{name}: {told}")

@@ -7,7 +7,6 @@ from collections import namedtuple
 
 from zirofen_host import words
 from zirofen_host.fault import Fault
-from zirofen_host.names import plain
 from zirofen_host.profile import is_inside
 from zirofen_host.view import COUNTED, Host
 from zirofen_host.words import ABOVE, CONTAINED, ESCAPES, FAULT, NOT_ASKED, OPENED, SIGNS, STANDINGS, UNSETTLED
@@ -21,6 +20,11 @@ COLOURS = {ESCAPES: "1;31", OPENED: "1;35", UNSETTLED: "1;33", FAULT: "1;31", NO
 DIM = "2"
 # columns that a name keeps beside its answer
 LEAST_NAME = 14
+
+
+def plain(text):
+    """A text as every terminal has it: what isn't ASCII is written as its number."""
+    return text.encode("ascii", "backslashreplace").decode("ascii")
 
 
 class Tree:
