@@ -3,6 +3,7 @@ import base64
 import contextlib
 import json
 import os
+import select
 import shutil
 import subprocess
 import tempfile
@@ -11,7 +12,7 @@ PROGRAM = shutil.which("chromium") or shutil.which("chromium-browser") or ""
 WORDS = ("--headless", "--no-sandbox", "--disable-gpu", "--disable-dev-shm-usage", "--no-first-run", "--disable-extensions",
          "--disable-background-networking", "--disable-component-update", "--hide-scrollbars", "--remote-debugging-pipe")
 
-SECONDS = 10
+SECONDS = 60
 
 
 class Browser:
@@ -53,6 +54,8 @@ class Browser:
 
     def next_message(self):
         while b"\0" not in self.left:
+            if not select.select([self.into], [], [], SECONDS)[0]:
+                raise OSError(f"the browser told nothing for {SECONDS} seconds")
             got = os.read(self.into, 1 << 20)
             if not got:
                 raise OSError("the browser has ended")

@@ -1,12 +1,19 @@
-"""The host of the docs' pictures: made up, with one of each that a report can have. What was answered is kept in data/."""
+"""The host of the docs' pictures: made up, with one of each that a report can have. What was answered is kept in data/.
+
+    host/tests/example.py PROGRAM               writes it anew
+    host/tests/example.py PROGRAM TREE OUT      the same of a tree text, as OUT.json.gz in data/
+"""
+import gzip
 import json
 import os
 import sys
+import tempfile
 from types import SimpleNamespace
 
 from made_up import HERE, MadeUp
 from zirofen_host import check
 from zirofen_host.mount import Mounts
+from zirofen_host.tree import read_tree
 
 KEPT = f"{HERE}/data/web1.json"
 MARK = "trusted.delegate"
@@ -77,15 +84,16 @@ class Example:
         self.runs("/batch.slice/nightly.service", 900, "cp", 990, owners=owned(990),
                   values={"memory.max": SIZE, "pids.max": 64})
 
-    def options(self, program):
-        return SimpleNamespace(mount=self.host.mount, proc=self.host.proc, accounts=self.host.etc, keep=None, zirofen=program,
-                               json=True, plain_folder=True, no_processes=False, baseline_update=None)
-
     def report(self, program):
-        """What a program answers of it, as of a host with a name and of a day."""
-        found = check.report(self.host.snapshot(), Mounts(""), self.options(program))
-        found = json.loads(json.dumps(found).replace(self.host.mount, "/sys/fs/cgroup"))
-        return {**found, "host": "web1", "kernel": "Linux 6.12.9", "time": "2026-11-25T08:00:00Z"}
+        return report_of(self.host, program, "web1", "Linux 6.12.9")
+
+
+def report_of(host, program, name, kernel):
+    """What a program answers of a made-up host, as of one with a name and of a day."""
+    options = SimpleNamespace(mount=host.mount, proc=host.proc, accounts=host.etc, keep=None, zirofen=program, json=True,
+                              plain_folder=True, no_processes=False, baseline_update=None)
+    found = json.loads(json.dumps(check.report(host.snapshot(), Mounts(""), options)).replace(host.mount, "/sys/fs/cgroup"))
+    return {**found, "host": name, "kernel": kernel, "time": "2026-11-25T08:00:00Z"}
 
 
 def kept():
@@ -93,16 +101,24 @@ def kept():
         return json.load(opened)
 
 
-def main(program):
-    """Writes the kept answers anew."""
-    import tempfile
-    with tempfile.TemporaryDirectory() as folder:
-        found = Example(folder).report(program)
-    os.makedirs(os.path.dirname(KEPT), exist_ok=True)
+def write_example(folder, program):
     with open(KEPT, "w", encoding="ascii") as out:
-        json.dump(found, out, separators=(",", ":"))
+        json.dump(Example(folder).report(program), out, separators=(",", ":"))
         out.write("\n")
 
 
+def write_report_of_tree(folder, program, tree, name):
+    host = MadeUp(folder)
+    with open(tree, encoding="ascii") as text:
+        host.tree(read_tree(text.read()))
+    host.accounts(passwd="alice:x:1000:1000::/:\nbob:x:1001:1001::/:\n", group="", subuid="alice:100000:65536\n",
+                  subgid="alice:100000:65536\n")
+    text = json.dumps(report_of(host, program, name, "Linux"), separators=(",", ":"))
+    with open(f"{HERE}/data/{name}.json.gz", "wb") as out:
+        # the same bytes each time
+        out.write(gzip.compress(text.encode("ascii"), mtime=0))
+
+
 if __name__ == "__main__":
-    sys.exit(main(sys.argv[1]))
+    with tempfile.TemporaryDirectory() as room:
+        sys.exit((write_example if len(sys.argv) == 2 else write_report_of_tree)(f"{room}/host", *sys.argv[1:]))

@@ -301,6 +301,12 @@ class MadeUpTest(HostTest, PageTest):
                 mock.patch.object(os.path, "exists", lambda _: False):
             page.write(self.host.etc, [example.kept()])
         self.assertEqual([name for name in os.listdir(self.host.folder) if name.startswith(".")], [])
+        with open(f"{self.host.folder}/before.json", "w", encoding="ascii") as before:
+            subprocess.run([*words_, "--json"], stdout=before)
+        self.host.cgroup("/new", owners=owned(1001))
+        subprocess.run([*words_, "--baseline", before.name, "--html", out], capture_output=True)
+        with open(out, encoding="utf-8") as opened:
+            self.assertRegex(PageReader(opened.read()).text("host-1-baseline"), "Since 20.*\nNew\n/new: contained, by 1001 who holds it")
         none = subprocess.run([*words_, "--html", f"{out}/none/x"], capture_output=True, text=True)
         self.assertEqual((none.stdout, none.returncode, none.stderr.count("\n")), ("", 3, 1))
 

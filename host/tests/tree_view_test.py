@@ -229,7 +229,7 @@ class ScriptTest(unittest.TestCase):
             self.assertEqual((text, status), ("1 FRSX\n", 0))
             with open(f"{folder}/out", encoding="utf-8") as out:
                 self.assertEqual(out.read().splitlines(), drawn(example.kept(), 80, False, True))
-            for pager in ("", "cat", "head -1", "none-of-this-name"):
+            for pager in ("", " ", "cat", "head -1", "none-of-this-name"):
                 text, status = self.on_a_terminal(example.KEPT, PAGER=pager)
                 self.assertEqual((text.splitlines()[0], status), (drawn(example.kept(), 80, False, True)[0], 0), pager)
 

@@ -33,8 +33,8 @@ class Finding:
     def html(self):
         sign = SIGNS[self.kind][0] if self.kind in SIGNS else "~"
         return filled("finding.html", id=self.id, kind=self.kind, sign=sign, word=text(self.kind), title=self.title(),
-                      heading=self.page.level(3), what=self.what(), of=self.of(), picture=self.picture(), steps=self.told_steps(),
-                      change=self.change(), try_it=self.try_it())
+                      heading=self.page.level(3), what=self.what(), of=self.of(), picture=self.picture(),
+                      steps=self.told_steps(), change=self.change(), try_it=self.try_it())
 
     def title(self):
         """What is the matter, in one line."""
@@ -49,8 +49,9 @@ class Finding:
         if self.steps and self.steps.breaks[0] == "over":
             return f"{code(self.escape.subtree)} is over its own limits"
         verb = words.broken(self.steps.breaks) if self.steps else "breaks" if self.kind == ESCAPES else "may break"
-        somebody, subtree = (self.escape.who, self.escape.subtree) if self.escape else (words.who(part["whom"]), part["subtrees"][0])
-        return f"{text(capital(somebody))} {verb} {self.titled(subtree)}"
+        if self.escape:
+            return f"{text(capital(self.escape.who))} {verb} {self.titled(self.escape.subtree)}"
+        return f"{text(capital(words.who(part['whom'])))} {verb} {self.titled(part['subtrees'][0])}"
 
     def titled(self, subtree):
         """A subtree, and how many more the finding is of; of an escape the one that was broken alone."""

@@ -53,7 +53,8 @@ class HostPage:
             return (f"{words.count(limits, 'limit stands', 'limits stand')} open to somebody, and {contained} of {every} "
                     f"{'is' if contained == 1 else 'are'} shown to be contained.")
         if self.kind == UNSETTLED:
-            return f"{number} of {every} {they_are} not settled: an entry stands open, and nothing was found that breaks the subtree."
+            return (f"{number} of {every} {they_are} not settled: an entry stands open, and nothing was found that breaks the "
+                    "subtree.")
         if self.kind == FAULT:
             return f"{number} of {every} {'has' if number == 1 else 'have'} no answer for somebody."
         if self.kind == NOT_ASKED:
@@ -89,7 +90,8 @@ class HostPage:
             return ""
         second, told = self.level(2), []
         for kind, heading in DIFFERENCES.items():
-            parts = [f'<li id="{self.id}-{kind}-{number}">{difference(each)}</li>' for number, each in enumerate(found[kind], 1)]
+            parts = [f'<li id="{self.id}-{kind}-{number}">{difference(each)}</li>'
+                     for number, each in enumerate(found[kind], 1)]
             told += [f"<{self.level(3)}>{heading}</{self.level(3)}><ul>", *parts, "</ul>"] if parts else []
         return (f'<section id="{self.id}-baseline"><{second}>Since {text(found["time"])}</{second}>\n'
                 + "\n".join(told or ["<p>Nothing is new, worse, changed or gone.</p>"]) + "\n</section>")
@@ -113,7 +115,8 @@ class HostPage:
     def unseen(self):
         """The lines by their kind, each kind with what it means."""
         kinds = {}
-        for key, number, each in ((key, *each) for key in ("unseen", "snapshot") for each in enumerate(self.host.report[key], 1)):
+        lines = ((key, *each) for key in ("unseen", "snapshot") for each in enumerate(self.host.report[key], 1))
+        for key, number, each in lines:
             place = f"{code(each['place'])}: " if each["place"] else ""
             line = f'<li id="{self.id}-{key}-{number}">{place}{text(each["text"])}</li>'
             kinds.setdefault((key, each["kind"]), []).append(line)
@@ -160,8 +163,9 @@ def page(reports):
     # in the template they are named as files, so that it can be opened by itself
     template = read("page.html").replace('<link rel="stylesheet" href="page.css">', "<style>$style</style>")
     template = template.replace('<script src="page.js"></script>', "<script>$script</script>")
-    return Template(template).substitute(policy=policy(style, script), title=f"Zirofen: {title}", style=style, script=script,
-                                         overview=overview if len(hosts) > 1 else "", hosts="\n".join(each.html() for each in pages))
+    return Template(template).substitute(
+        policy=policy(style, script), title=f"Zirofen: {title}", style=style, script=script,
+        overview=overview if len(hosts) > 1 else "", hosts="\n".join(each.html() for each in pages))
 
 
 def write(file, reports):

@@ -1,4 +1,5 @@
 """The hierarchy of a report as a tree of lines, for a terminal."""
+import argparse
 import os
 import shutil
 import subprocess
@@ -20,6 +21,7 @@ COLOURS = {ESCAPES: "1;31", OPENED: "1;35", UNSETTLED: "1;33", FAULT: "1;31", NO
 DIM = "2"
 # columns that a name keeps beside its answer
 LEAST_NAME = 14
+LEAST_WIDTH = 20
 
 
 class Tree:
@@ -180,14 +182,14 @@ def add_arguments(parser):
 
 
 def width(word):
-    if not word.isdigit() or int(word) < 20:
-        raise ValueError
+    if not word.isdigit() or int(word) < LEAST_WIDTH:
+        raise argparse.ArgumentTypeError(f"it isn't a number from {LEAST_WIDTH} on")
     return int(word)
 
 
 def drawing_of(options, environment, is_terminal):
     """How to draw, by the options and by what the output is."""
-    columns = options.width or (shutil.get_terminal_size().columns if is_terminal else None)
+    columns = options.width or (max(shutil.get_terminal_size().columns, LEAST_WIDTH) if is_terminal else None)
     is_coloured = is_terminal and not environment.get("NO_COLOR") and environment.get("TERM") != "dumb"
     is_coloured = {"always": True, "never": False}.get(options.colour, is_coloured)
     only = os.fsdecode(options.only or b"/").rstrip("/") or "/"
@@ -196,7 +198,7 @@ def drawing_of(options, environment, is_terminal):
 
 def pager_of(options, environment, is_terminal):
     """The pager's command, or None."""
-    pager = environment.get("PAGER", "less")
+    pager = environment.get("PAGER", "less").strip()
     return None if options.no_pager or not is_terminal or pager in ("", "cat") else pager
 
 

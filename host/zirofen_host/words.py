@@ -171,7 +171,8 @@ def named(entry):
 
 def broken(breaks):
     """What an escape does to a subtree: a verb in front of its path."""
-    return {"crossed": "moves a process over the edge of", "limits": "changes a limit of", "gone": "removes"}.get(breaks[0], "breaks")
+    verbs = {"crossed": "moves a process over the edge of", "limits": "changes a limit of", "gone": "removes"}
+    return verbs.get(breaks[0], "breaks")
 
 
 # what stands in the place of an entry where there is none
