@@ -163,6 +163,10 @@ class Accounts:
             self._persons[uid] = {uid} | {self.uids.get(owner, int(owner) if owner.isdigit() else uid) for owner in owners}
         return self._persons[uid]
 
+    def roots(self, uid):
+        """Whoever has a uid that is no account's among his subordinate ones, or that uid itself."""
+        return {uid} if uid in self.names else self.persons(uid) - {uid} or {uid}
+
     def subordinate_to(self, uid):
         """The ranges of subordinate uids of an account."""
         return self.ranges_by_uid.get(uid, [])

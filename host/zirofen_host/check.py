@@ -12,7 +12,7 @@ from zirofen_host.fault import FAULT, Fault
 from zirofen_host.names import Names
 from zirofen_host.opened import Openings, read_kernel_list, what_differs
 from zirofen_host.processes import read_processes
-from zirofen_host.profile import ANYBODY, CONTROL_FILES, KERNEL_LIST, SETTINGS, is_other_limit, shown
+from zirofen_host.profile import ANYBODY, CONTROL_FILES, KERNEL_LIST, SETTINGS, is_other_limit, shown, topmost
 from zirofen_host.questions import Questions, unit_of
 from zirofen_host.shell import change_commands, closing_commands
 from zirofen_host.texts import Programs, Texts
@@ -54,7 +54,8 @@ class Judged:
 
     def __init__(self, questions, answers, cut):
         self.questions = questions
-        self.entries, self.above, self.faults = {}, {}, {}
+        self.entries, self.faults = {}, {}
+        self.above = questions.expected_above()
         # the worst answer of each uid that holds a subtree
         self.own = {}
         for each in cut:
@@ -69,7 +70,7 @@ class Judged:
             self.faults.setdefault((user, answer.lines[0]), []).append(subtree)
         elif handed := self.questions.handed_above(user, subtree):
             is_above = True
-            self.above.setdefault((user.uid, handed), set()).add(subtree)
+            self.above[user.uid, handed].add(subtree)
         else:
             for path, name, entry in self.failing(user, subtree):
                 found = self.entries.setdefault((path, name), Entry(path, name, entry))
@@ -173,7 +174,7 @@ class Checked:
         example = None if is_own else {"who": self.names.who(user), "uid": user.uid, "gids": list(user.gids),
                                        "subtree": subtree, "lines": answer.lines}
         return {"path": found.path, "entry": found.name, "owner": self.owner(found.entry), "answer": answer.lines[0].split(" ")[0],
-                "whom": self.whom(whom), "subtrees": sorted(found.subtrees), "example": example,
+                "whom": self.whom(whom), "subtrees": in_order(topmost(found.subtrees)), "example": example,
                 "changes": self.commands(found.changes),
                 "setting": setting_of(found.path, found.name)}
 
@@ -253,7 +254,7 @@ class Checked:
                  "subtrees": subtrees} for (user, line), subtrees in self.judged.faults.items()]
 
     def above(self):
-        return [{"who": self.names.user(uid), "uid": uid, "handed": handed, "subtrees": sorted(subtrees)}
+        return [{"who": self.names.user(uid), "uid": uid, "handed": handed, "subtrees": in_order(topmost(subtrees))}
                 for (uid, handed), subtrees in sorted(self.judged.above.items())]
 
     def unseen(self, mounts):

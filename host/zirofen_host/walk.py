@@ -11,7 +11,7 @@ from dataclasses import dataclass
 from zirofen_host import progress
 from zirofen_host.fault import Fault
 from zirofen_host.profile import (CONTROL_FILES, LIMIT_FILES, LONGEST_PATH, ancestors, is_inside, is_name, is_set_by, parent_of,
-                                  shown)
+                                  shown, topmost)
 from zirofen_host.users import Entry
 
 MANAGERS_MARK, OWNERS_MARK = MARKS = ("trusted.delegate", "user.delegate")
@@ -206,12 +206,6 @@ class Walk:
             if path not in paths and (path == b"/" or parent_of(path) in kept):
                 kept[path] = self.found[path]
         self.found = kept
-
-
-def topmost(paths):
-    """The paths that are inside of no other of them."""
-    paths = set(paths)
-    return frozenset(path for path in paths if paths.isdisjoint(ancestors(path)))
 
 
 def is_alike(found, before):
