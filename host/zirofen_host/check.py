@@ -18,7 +18,7 @@ from zirofen_host.shell import change_commands, closing_commands
 from zirofen_host.texts import Programs, Texts
 from zirofen_host.tree import in_order
 from zirofen_host.unseen import Line, Unseen
-from zirofen_host.walk import MANAGERS_MARK
+from zirofen_host.walk import MANAGERS_MARK, value_of
 
 HERE = os.path.dirname(os.path.dirname(os.path.realpath(__file__)))
 PROGRAM = os.path.join(os.path.dirname(HERE), "zirofen")
@@ -118,8 +118,11 @@ class Checked:
         answers = self.program.ask(plan)
         further = self.questions.further(answers)
         self.asked |= {user for users, _ in further for user in users}
-        self.judged = Judged(self.questions, {**answers, **self.program.ask(further)}, cut)
+        answers.update(self.program.ask(further))
         self.is_asked = bool(plan or cut)
+        self.spoiled.update(self.program.refused)
+        self.questions.leave_out(self.program.refused)
+        self.judged = Judged(self.questions, answers, cut)
         self.kernel_list = read_kernel_list(None if options.plain_folder else KERNEL_LIST)
         self.changed = set()
 
@@ -250,8 +253,13 @@ class Checked:
                 for why, paths in by_why.items()] + self.faults_of_pairs()
 
     def faults_of_pairs(self):
-        return [{"who": self.names.who(user), "uid": user.uid, "gids": list(user.gids), "fault": line,
-                 "subtrees": subtrees} for (user, line), subtrees in self.judged.faults.items()]
+        """Each fault once for those subtrees of which it is; whom it is of, with the groups where it is one user."""
+        users = defaultdict(list)
+        for (user, line), subtrees in self.judged.faults.items():
+            users[line, tuple(subtrees)].append(user)
+        return [{"who": reporting.some([self.names.who(user) for user in of]), "uid": of[0].uid if len(of) == 1 else None,
+                 "gids": list(of[0].gids) if len(of) == 1 else [], "fault": line, "subtrees": list(subtrees)}
+                for (line, subtrees), of in users.items()]
 
     def above(self):
         return [{"who": self.names.user(uid), "uid": uid, "handed": handed, "subtrees": in_order(topmost(subtrees))}
@@ -307,13 +315,7 @@ class Checked:
 
     def text_of(self, path, name):
         """What a file has beside the tree text, or nothing where it can't be read; it isn't read twice as the others are."""
-        if name in NO_VALUE:
-            return None
-        try:
-            with open(f"{self.options.mount}{path}/{name}", encoding="ascii", errors="replace") as opened:
-                return opened.read().strip()
-        except OSError:
-            return None
+        return None if name in NO_VALUE else value_of(self.options.mount + path, name)
 
 
 def setting_of(path, name):
