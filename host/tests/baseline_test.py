@@ -53,7 +53,7 @@ class BaselineTest(HostTest):
         self.host.cgroup("/odd", owners=owned(1000))
         status, lines = self.compared()
         self.assertEqual(status, 3)
-        self.assertIn("new: fault: alice(1000) of /odd: fault: subtree missing", lines)
+        self.assertIn("new: fault: alice(1000) bob(1001) carol(1002) of /odd: fault: subtree missing", lines)
         self.keep()
         self.assertEqual(self.compared()[0], 0)
 

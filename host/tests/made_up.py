@@ -18,7 +18,7 @@ from zirofen_host.profile import LIMIT_FILES, parent_of  # noqa: E402
 from zirofen_host.snapshot import all_that_changes, take  # noqa: E402
 from zirofen_host.users import Entry  # noqa: E402
 
-STATUS = ("Name:\tmade up\nUid:\t{uid}\t{uid}\t{uid}\t{uid}\nGid:\t{gid}\t{gid}\t{gid}\t{gid}\nGroups:\t{groups}\n"
+STATUS = ("Name:\t{name}\nUid:\t{uid}\t{uid}\t{uid}\t{uid}\nGid:\t{gid}\t{gid}\t{gid}\t{gid}\nGroups:\t{groups}\n"
           "CapEff:\t{capabilities:016x}\n")
 STAT = "{pid} (made) up) S 1 1 1 0 -1 {flags} 0 0 0\n"
 KERNEL_THREAD = 0x00200040
@@ -70,10 +70,12 @@ class MadeUp:
         os.chmod(path, mode)
         self.owners[os.lstat(path).st_ino] = Entry(uid, gid, mode)
 
-    def process(self, pid, uid=0, gid=0, groups=(), flags=0x400000, capabilities=0, namespace=None):
-        os.makedirs(f"{self.proc}/{pid}")
+    def process(self, pid, uid=0, gid=0, groups=(), flags=0x400000, capabilities=0, namespace=None,
+                name="made up"):
+        os.makedirs(f"{self.proc}/{pid}", exist_ok=True)
         with open(f"{self.proc}/{pid}/status", "w", encoding="ascii") as out:
-            out.write(STATUS.format(uid=uid, gid=gid, groups=" ".join(map(str, groups)), capabilities=capabilities))
+            out.write(STATUS.format(uid=uid, gid=gid, groups=" ".join(map(str, groups)), capabilities=capabilities,
+                                    name=name))
         if namespace:
             os.makedirs(f"{self.proc}/{pid}/ns")
             os.symlink(f"user:[{namespace}]", f"{self.proc}/{pid}/ns/user")
@@ -89,7 +91,7 @@ class MadeUp:
 
     def accounts(self, **files):
         for name, text in files.items():
-            with open(f"{self.etc}/{name}", "w", encoding="ascii") as out:
+            with open(f"{self.etc}/{name}", "w", encoding="utf-8") as out:
                 out.write(text)
 
     def tree(self, tree):

@@ -3,6 +3,7 @@ import os
 import pwd
 import tempfile
 
+from zirofen_host.accounts import is_id
 from zirofen_host.asking import Answer, Refused, answer_of, user_words, worst
 from zirofen_host.delegations import Delegations, accounts_of
 from zirofen_host.fault import FAULT, Fault
@@ -16,7 +17,7 @@ from zirofen_host.users import User
 
 def uid_of(word, accounts, on_host):
     """The uid of a name or of a number; a name is looked up as the host does, also where it isn't listed."""
-    if word.isascii() and word.isdigit():
+    if is_id(word):
         return int(word)
     for account in accounts.accounts:
         if account.name == word:

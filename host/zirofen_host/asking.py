@@ -9,6 +9,7 @@ from collections import namedtuple
 from concurrent.futures import ThreadPoolExecutor
 from functools import cached_property
 
+from zirofen_host import progress
 from zirofen_host.fault import FAULT, Fault
 
 CONTAINED, ESCAPES, UNSETTLED = 0, 1, 2
@@ -74,8 +75,12 @@ class Program:
 
     def at_once(self, call, items):
         """Calls with each of the items, several at once; the results in their order."""
+        results = []
         with ThreadPoolExecutor(os.cpu_count()) as workers:
-            return list(workers.map(call, items))
+            for result in workers.map(call, items):
+                results.append(result)
+                progress.tell(f"{len(results)} of {len(items)} runs of the program are done")
+        return results
 
     def help_of(self, *words):
         try:

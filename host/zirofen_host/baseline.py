@@ -66,7 +66,7 @@ def findings(report):
             ESCAPES, reporting.opened_line(each), lets_in(each["whom"], ()), each)
     for each in report["faults"]:
         for path in each["subtrees"]:
-            found["fault", path, each["who"]] = Finding(FAULT, f"fault: {each['who']} of {path}: {each['fault']}", set(), None)
+            found["fault", path, each["fault"]] = Finding(FAULT, f"fault: {each['who']} of {path}: {each['fault']}", set(), None)
     for each in report["differs"]:
         found["differs", each["path"], ""] = Finding(CONTAINED, reporting.differs_line(each), set(each["entries"]), each)
     for each in report["above"]:

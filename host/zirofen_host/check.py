@@ -12,13 +12,13 @@ from zirofen_host.fault import FAULT, Fault
 from zirofen_host.names import Names
 from zirofen_host.opened import Openings, read_kernel_list, what_differs
 from zirofen_host.processes import read_processes
-from zirofen_host.profile import ANYBODY, CONTROL_FILES, KERNEL_LIST, SETTINGS, is_other_limit, shown
+from zirofen_host.profile import ANYBODY, CONTROL_FILES, KERNEL_LIST, SETTINGS, is_other_limit, shown, topmost
 from zirofen_host.questions import Questions, unit_of
 from zirofen_host.shell import change_commands, closing_commands
 from zirofen_host.texts import Programs, Texts
 from zirofen_host.tree import in_order
 from zirofen_host.unseen import Line, Unseen
-from zirofen_host.walk import MANAGERS_MARK
+from zirofen_host.walk import MANAGERS_MARK, value_of
 
 HERE = os.path.dirname(os.path.dirname(os.path.realpath(__file__)))
 PROGRAM = os.path.join(os.path.dirname(HERE), "zirofen")
@@ -54,7 +54,8 @@ class Judged:
 
     def __init__(self, questions, answers, cut):
         self.questions = questions
-        self.entries, self.above, self.faults = {}, {}, {}
+        self.entries, self.faults = {}, {}
+        self.above = questions.expected_above()
         # the worst answer of each uid that holds a subtree
         self.own = {}
         for each in cut:
@@ -69,7 +70,7 @@ class Judged:
             self.faults.setdefault((user, answer.lines[0]), []).append(subtree)
         elif handed := self.questions.handed_above(user, subtree):
             is_above = True
-            self.above.setdefault((user.uid, handed), set()).add(subtree)
+            self.above[user.uid, handed].add(subtree)
         else:
             for path, name, entry in self.failing(user, subtree):
                 found = self.entries.setdefault((path, name), Entry(path, name, entry))
@@ -117,8 +118,11 @@ class Checked:
         answers = self.program.ask(plan)
         further = self.questions.further(answers)
         self.asked |= {user for users, _ in further for user in users}
-        self.judged = Judged(self.questions, {**answers, **self.program.ask(further)}, cut)
+        answers.update(self.program.ask(further))
         self.is_asked = bool(plan or cut)
+        self.spoiled.update(self.program.refused)
+        self.questions.leave_out(self.program.refused)
+        self.judged = Judged(self.questions, answers, cut)
         self.kernel_list = read_kernel_list(None if options.plain_folder else KERNEL_LIST)
         self.changed = set()
 
@@ -173,7 +177,7 @@ class Checked:
         example = None if is_own else {"who": self.names.who(user), "uid": user.uid, "gids": list(user.gids),
                                        "subtree": subtree, "lines": answer.lines}
         return {"path": found.path, "entry": found.name, "owner": self.owner(found.entry), "answer": answer.lines[0].split(" ")[0],
-                "whom": self.whom(whom), "subtrees": sorted(found.subtrees), "example": example,
+                "whom": self.whom(whom), "subtrees": in_order(topmost(found.subtrees)), "example": example,
                 "changes": self.commands(found.changes),
                 "setting": setting_of(found.path, found.name)}
 
@@ -249,11 +253,16 @@ class Checked:
                 for why, paths in by_why.items()] + self.faults_of_pairs()
 
     def faults_of_pairs(self):
-        return [{"who": self.names.who(user), "uid": user.uid, "gids": list(user.gids), "fault": line,
-                 "subtrees": subtrees} for (user, line), subtrees in self.judged.faults.items()]
+        """Each fault once for those subtrees of which it is; whom it is of, with the groups where it is one user."""
+        users = defaultdict(list)
+        for (user, line), subtrees in self.judged.faults.items():
+            users[line, tuple(subtrees)].append(user)
+        return [{"who": reporting.some([self.names.who(user) for user in of]), "uid": of[0].uid if len(of) == 1 else None,
+                 "gids": list(of[0].gids) if len(of) == 1 else [], "fault": line, "subtrees": list(subtrees)}
+                for (line, subtrees), of in users.items()]
 
     def above(self):
-        return [{"who": self.names.user(uid), "uid": uid, "handed": handed, "subtrees": sorted(subtrees)}
+        return [{"who": self.names.user(uid), "uid": uid, "handed": handed, "subtrees": in_order(topmost(subtrees))}
                 for (uid, handed), subtrees in sorted(self.judged.above.items())]
 
     def unseen(self, mounts):
@@ -306,13 +315,7 @@ class Checked:
 
     def text_of(self, path, name):
         """What a file has beside the tree text, or nothing where it can't be read; it isn't read twice as the others are."""
-        if name in NO_VALUE:
-            return None
-        try:
-            with open(f"{self.options.mount}{path}/{name}", encoding="ascii", errors="replace") as opened:
-                return opened.read().strip()
-        except OSError:
-            return None
+        return None if name in NO_VALUE else value_of(self.options.mount + path, name)
 
 
 def setting_of(path, name):

@@ -1,4 +1,5 @@
 """Why a helper can't give what was asked of it, and lines that harm no terminal."""
+import argparse
 import os
 import sys
 
@@ -17,6 +18,16 @@ def plain(text):
     if text.isascii() and text.isprintable():
         return text
     return "".join(each if each.isascii() and each.isprintable() else ascii(each)[1:-1] for each in text)
+
+
+class Parser(argparse.ArgumentParser):
+    """Options of a helper; wrong ones are a fault like others."""
+
+    def __init__(self, doc):
+        super().__init__(description=doc, formatter_class=argparse.RawDescriptionHelpFormatter)
+
+    def error(self, message):
+        raise Fault(f"{message}; --help tells the options")
 
 
 def warn(line):

@@ -13,9 +13,9 @@ class Mounts:
 
     def __init__(self, text):
         self.second, self.first = {}, []
-        for line in text.splitlines():
-            before, _, after = line.partition(" - ")
-            before, after = before.split(), after.split()
+        # a path may have all that ends a line or parts words elsewhere, but for what stands for itself in octal digits
+        for line in text.split("\n"):
+            before, after = (part.split(" ") for part in line.partition(" - ")[::2])
             if len(before) < 6 or len(after) < 3:
                 continue
             if after[0] == "cgroup2":
@@ -58,5 +58,5 @@ def refuse_what_is_no_host(mount):
 
 
 def mounts_of_host():
-    with open("/proc/self/mountinfo", encoding="utf-8", errors="replace") as opened:
+    with open("/proc/self/mountinfo", encoding="utf-8", errors="surrogateescape", newline="\n") as opened:
         return Mounts(opened.read())

@@ -96,6 +96,12 @@ def ancestors(path):
         yield path
 
 
+def topmost(paths):
+    """The paths that are inside of no other of them."""
+    paths = set(paths)
+    return frozenset(path for path in paths if paths.isdisjoint(ancestors(path)))
+
+
 def shown(path):
     """A path or a name as a line can show it, whatever is in it: quoted where a terminal would act on it."""
     if isinstance(path, str):

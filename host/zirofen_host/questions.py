@@ -6,7 +6,7 @@ from functools import cached_property
 
 from zirofen_host.asking import ESCAPES
 from zirofen_host.delegations import Delegations
-from zirofen_host.profile import ANYBODY, HANDED_OVER, MOST_GROUPS, ancestors, parent_of
+from zirofen_host.profile import ANYBODY, HANDED_OVER, MOST_GROUPS, ancestors, parent_of, topmost
 from zirofen_host.tree import in_order
 from zirofen_host.users import CLASSES, OTHERS, User
 from zirofen_host.walk import MANAGERS_MARK
@@ -20,6 +20,8 @@ Holders = namedtuple("Holders", "by ids uids")
 Cut = namedtuple("Cut", "user subtree count")
 # of those whom nothing but everybody's bits lets in, so many are asked of each subtree
 FURTHER = 8
+# so many pairs of whoever has what is above are asked one by one; the subtrees of a block are asked of who holds one of them
+MANY, BLOCK = 1000, 32
 
 
 def unit_of(path):
@@ -134,7 +136,7 @@ class Questions:
         """What to ask: lists of users with lists of subtrees, and what is left out since the program takes so many groups.
         Where everybody writes, somebody of whom nothing is known stands for those whom nothing else lets in."""
         matter = set().union(*map(self.gids_that_matter, self.subtrees)) if self.subtrees else set()
-        self.left_out, self.asked_as, cut, asked = Counter(), {}, [], defaultdict(set)
+        self.left_out, self.asked_as, self.expected_of, cut, asked = Counter(), {}, {}, [], defaultdict(set)
         for user in self.users:
             few = self.as_asked(user, matter)
             if few:
@@ -158,11 +160,36 @@ class Questions:
     def questions_of(self, asked):
         """Everybody of every subtree that isn't open to everybody; of the others those whom an entry names."""
         everybody = frozenset(self.asked_as.values())
-        by_users = defaultdict(list)
-        for path in self.subtrees:
-            of = {self.asked_as[user] for user in self.named[path] if user in self.asked_as}
-            by_users[(frozenset(of) if self.is_open(path) else everybody) | asked[path]].append(path)
+        by_users, known = defaultdict(list), {}
+        for owners, paths in self.by_owners_above().items():
+            left = everybody - self.expected(everybody, owners, paths)
+            for path in paths:
+                users = left & self.named_as_asked(path) if self.is_open(path) else left
+                users = users | asked[path] if asked[path] else users
+                by_users[known.setdefault(users, users)].append(path)
+            if len(left) < len(everybody):
+                self.expected_of[owners] = paths
+                for some in (paths[start:start + BLOCK] for start in range(0, len(paths), BLOCK)):
+                    by_users[frozenset(user for user in everybody if any(self.holds(user, path) for path in some))] += some
         return [(sorted(users), paths) for users, paths in by_users.items() if users]
+
+    def named_as_asked(self, path):
+        return {self.asked_as[user] for user in self.named[path] if user in self.asked_as}
+
+    def by_owners_above(self):
+        """The subtrees by who has a directory above, where they aren't meant as somebody's; subordinate ids are their owner's."""
+        found = defaultdict(list)
+        for path in self.subtrees:
+            above = () if path in self.meant else ancestors(path)
+            uids = {self.tree.rows[place].directory.uid for place in above if place != "/"} - {0}
+            found[frozenset(root for uid in uids for root in self.accounts.roots(uid))].append(path)
+        return found
+
+    def expected(self, users, owners, paths):
+        """Whom not to ask of subtrees since what he can do there is expected: where these are so many pairs that whoever has
+        what is above them makes them by the thousand."""
+        theirs = frozenset(user for user in users if not owners.isdisjoint(self.accounts.roots(user.uid))) if owners else frozenset()
+        return theirs if len(theirs) * len(paths) > MANY else frozenset()
 
     def further(self, answers):
         """What to ask where everybody is let in, and of all that were asked nobody escapes: some of those who hold something
@@ -173,7 +200,7 @@ class Questions:
         everybody, questions, self.not_asked = set(self.asked_as.values()), [], {}
         for path in self.subtrees:
             if path not in escaped and self.is_open(path):
-                of = {self.asked_as[user] for user in self.named[path] if user in self.asked_as}
+                of = self.named_as_asked(path)
                 some = list(itertools.islice((user for user in holders if user not in of), FURTHER))
                 questions += [(sorted(some), [path])] if some else []
                 left = len(everybody - of) - len(some)
@@ -203,9 +230,25 @@ class Questions:
         is_his = any(self.is_same_person(user.uid, uid) for uid in self.holders[subtree].uids)
         for place in reversed(list(ancestors(subtree))):
             by = self.has_directory(user, place)
-            if by == "owner" or by and is_his:
+            if by == "owner" or by and is_his or self.is_of(place, user.uid):
                 return place
         return None
+
+    def is_of(self, path, uid):
+        """Whether a cgroup's directory is that of a person, by his own uid or by subordinate ones."""
+        owner = self.tree.rows[path].directory.uid
+        return path != "/" and owner != 0 and not self.accounts.roots(owner).isdisjoint(self.accounts.roots(uid))
+
+    def expected_above(self):
+        """Who has something above subtrees of which his pairs weren't asked: by uid and the topmost place that is his."""
+        found = defaultdict(set)
+        for owners, paths in self.expected_of.items():
+            for path in topmost(paths):
+                for uid in owners:
+                    handed = next((place for place in reversed(list(ancestors(path))) if self.is_of(place, uid)), None)
+                    if handed:
+                        found[uid, handed].add(path)
+        return found
 
     def is_inside_his(self, user, path):
         """Whether a cgroup lies properly inside one that was handed to that person."""

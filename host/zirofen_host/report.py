@@ -9,6 +9,8 @@ VERSION = 1
 NOTHING_ASKED = 4
 # names in a line; where there are more, it tells how many
 SHOWN = 8
+# how far the table's columns are filled up; a longer word stands out
+WIDEST = (12, 24, 48)
 ANSWERS = {status: word for word, status in WORDS.items()}
 
 
@@ -72,7 +74,7 @@ def table(report):
     """Columns of who holds a subtree, his groups, the answer and the path, which may be long; what it shows stands below."""
     rows = [("UID", "GIDS", "ANSWER", "PATH", ())]
     rows += [row for subtree in report["subtrees"] for row in rows_of(subtree)]
-    widths = [max(len(row[column]) for row in rows) for column in range(3)]
+    widths = [min(most, max(len(row[column]) for row in rows)) for column, most in enumerate(WIDEST)]
     for row in rows:
         yield "  ".join([word.ljust(width) for word, width in zip(row, widths)] + [row[3]])
         yield from (f"    {line}" for line in row[4])

@@ -6,10 +6,10 @@ from zirofen_host.fault import Fault
 from zirofen_host.mount import Mounts, refuse_what_is_no_host
 from zirofen_host.processes import read_processes
 from zirofen_host.profile import (CONTROL_FILES, CONTROLLERS, LIMIT_FILES, MOST_PROCESSES, MOST_ROWS, accepts, parent_of,
-                                  shown)
+                                  shown, topmost)
 from zirofen_host.tree import Row, Tree, tree_text
 from zirofen_host.users import Entry
-from zirofen_host.walk import settled, topmost
+from zirofen_host.walk import settled
 
 Note = namedtuple("Note", "kind place detail")
 ANY_MODE = 0o777

@@ -7,7 +7,9 @@ import os
 from bisect import bisect_left
 from itertools import accumulate
 
+from zirofen_host import progress
 from zirofen_host.asking import Program
+from zirofen_host.fault import Fault
 from zirofen_host.profile import LONGEST_TEXT, MOST_PROCESSES, MOST_ROWS, ancestors, parent_of
 from zirofen_host.tree import head_text, in_order, process_text, row_text
 
@@ -164,6 +166,8 @@ class Programs:
 
     def __init__(self, options, folder, texts, head):
         self.of, self.texts = {}, texts.list
+        # subtrees whose text was refused, each with the program's line
+        self.refused = {}
         self.any = Program(options.zirofen, None)
         for number, text in enumerate(self.texts, 1):
             file = f"{options.keep}.{number}" if number > 1 else options.keep
@@ -184,14 +188,20 @@ class Programs:
     def ask(self, questions):
         """The answers that aren't contained, by user and subtree."""
         found = {}
-        for number, text in enumerate(self.texts):
+        for number, text in enumerate(self.texts, 1):
             mine = set(text.subtrees)
             some = [(users, [path for path in paths if path in mine]) for users, paths in questions]
             some = [(users, paths) for users, paths in some if paths]
             if some:
                 program = self.of[some[0][1][0]]
                 program.has_audit_all = self.any.has_audit_all
-                found.update(program.ask(some))
+                progress.tell(f"asking of {len(text.subtrees)} subtrees in text {number} of {len(self.texts)}")
+                try:
+                    found.update(program.ask(some))
+                except Fault as fault:
+                    if len(self.texts) == 1 or not str(fault).startswith("fault: tree"):
+                        raise
+                    self.refused.update(dict.fromkeys(text.subtrees, str(fault)))
         return found
 
     def advise(self, user, subtree):

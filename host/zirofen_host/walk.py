@@ -11,7 +11,7 @@ from dataclasses import dataclass
 from zirofen_host import progress
 from zirofen_host.fault import Fault
 from zirofen_host.profile import (CONTROL_FILES, LIMIT_FILES, LONGEST_PATH, ancestors, is_inside, is_name, is_set_by, parent_of,
-                                  shown)
+                                  shown, topmost)
 from zirofen_host.users import Entry
 
 MANAGERS_MARK, OWNERS_MARK = MARKS = ("trusted.delegate", "user.delegate")
@@ -68,7 +68,7 @@ class Walk:
         self.gone = set()
         # each file by which something is set, by its device and inode
         self.places = {}
-        self.inside = Counter()
+        self.inside, self.counted = Counter(), 0
         # equal entries and files are held once
         self.once = {}
         self.walk()
@@ -79,6 +79,7 @@ class Walk:
             path, hold = waiting.pop()
             if hold in self.unread:
                 continue
+            self.counted = 0
             try:
                 self.found[path], children = self.read(path)
             except Vanished:
@@ -88,15 +89,15 @@ class Walk:
                 self.unread[path] = str(unread)
                 continue
             hold = hold or (path if path != b"/" and is_somebodys(self.found[path].directory) else None)
-            self.count(hold)
+            self.count(hold, 1 + self.counted)
             waiting += [(child, hold) for child in children]
             progress.tell(f"{len(self.found)} cgroups read, {len(waiting)} known to be left")
 
-    def count(self, hold):
+    def count(self, hold, more):
         """Counts what is below a cgroup that somebody has, and gives all of it up where it is too much."""
         if hold is None:
             return
-        self.inside[hold] += 1
+        self.inside[hold] += more
         if self.inside[hold] > MOST_INSIDE:
             self.unread[hold] = f"over {MOST_INSIDE} cgroups inside"
             self.found = {path: found for path, found in self.found.items() if not is_inside(path, hold)}
@@ -175,6 +176,7 @@ class Walk:
                 children.append(child)
             else:
                 self.left_out[child] = count_of(folder, name)
+                self.counted += self.left_out[child]
         return children
 
     def covers(self, path):
@@ -206,12 +208,6 @@ class Walk:
             if path not in paths and (path == b"/" or parent_of(path) in kept):
                 kept[path] = self.found[path]
         self.found = kept
-
-
-def topmost(paths):
-    """The paths that are inside of no other of them."""
-    paths = set(paths)
-    return frozenset(path for path in paths if paths.isdisjoint(ancestors(path)))
 
 
 def is_alike(found, before):
@@ -248,6 +244,18 @@ def text_of(folder, file):
         return b"".join(parts).decode("ascii", "replace").strip()
     finally:
         os.close(opened)
+
+
+def value_of(folder, file):
+    """What a file of a folder has now, or nothing where it can't be read."""
+    try:
+        opened = os.open(folder, FOLDER)
+        try:
+            return text_of(opened, file)
+        finally:
+            os.close(opened)
+    except OSError:
+        return None
 
 
 def pids_of(folder):
