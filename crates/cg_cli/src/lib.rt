@@ -3,6 +3,7 @@
 
 pub mod arguments;
 pub mod audit;
+pub mod audit_all;
 pub mod check;
 pub mod fault;
 pub mod input;

@@ -4,6 +4,8 @@
 #[cfg(test)]
 mod audit;
 #[cfg(test)]
+mod audit_all;
+#[cfg(test)]
 mod changed;
 #[cfg(test)]
 mod check;
