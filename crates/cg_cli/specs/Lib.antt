@@ -9,4 +9,5 @@ pub mod Replays
 pub mod Replaying
 pub mod Containment
 pub mod Audits
+pub mod Advising
 pub mod EscapeReplays
