@@ -4,7 +4,7 @@ import os
 import sys
 from types import SimpleNamespace
 
-from made_up import HERE, TOP, MadeUp
+from made_up import HERE, MadeUp
 from zirofen_host import check
 from zirofen_host.mount import Mounts
 
@@ -13,7 +13,8 @@ MARK = "trusted.delegate"
 PASSWD = {"root": 0, "alice": 1000, "bob": 1001, "carol": 1002, "web": 33, "build": 990}
 GROUP = "team:x:50:carol\n"
 SUBORDINATE = "bob:165536:65536\n"
-SERVICES = ("cron", "dbus", "postgresql", "rsyslog", "systemd-journald", "systemd-logind", "systemd-udevd", "unattended-upgrades")
+SERVICES = ("cron", "dbus", "postgresql", "rsyslog", "systemd-journald", "systemd-logind", "systemd-udevd",
+            "unattended-upgrades")
 SIZE = 2**30
 
 
@@ -60,24 +61,25 @@ class Example:
     def users(self):
         self.host.cgroup("/user.slice", enabled="memory pids")
         for uid, owners in ((1000, owned(1000)), (1001, {})):
-            self.host.cgroup(f"/user.slice/user-{uid}.slice", owners=owners, enabled="memory pids")
-            self.host.cgroup(f"/user.slice/user-{uid}.slice/user@{uid}.service", owners=owned(uid), marks=(MARK,),
-                             enabled="memory pids", values={"memory.max": 2 * SIZE})
-            self.runs(f"/user.slice/user-{uid}.slice/session-2.scope", uid + 1000, "bash", uid)
-            self.runs(f"/user.slice/user-{uid}.slice/user@{uid}.service/init.scope", uid + 500, "systemd", uid, owners=owned(uid))
-        self.host.cgroup("/user.slice/user-1001.slice/user@1001.service/user.slice", owners=owned(1001))
-        self.host.cgroup("/user.slice/user-1001.slice/user@1001.service/user.slice/libpod-4fb08751.scope", owners=owned(1001),
-                         marks=("user.delegate",))
-        self.runs("/user.slice/user-1001.slice/user@1001.service/user.slice/libpod-4fb08751.scope/container", 2600, "postgres",
-                  165536, owners=owned(165536))
+            of_user = f"/user.slice/user-{uid}.slice"
+            manager = f"{of_user}/user@{uid}.service"
+            self.host.cgroup(of_user, owners=owners, enabled="memory pids")
+            self.host.cgroup(manager, owners=owned(uid), marks=(MARK,), enabled="memory pids", values={"memory.max": 2 * SIZE})
+            self.runs(f"{of_user}/session-2.scope", uid + 1000, "bash", uid)
+            self.runs(f"{manager}/init.scope", uid + 500, "systemd", uid, owners=owned(uid))
+        container = "/user.slice/user-1001.slice/user@1001.service/user.slice/libpod-4fb08751.scope"
+        self.host.cgroup(os.path.dirname(container), owners=owned(1001))
+        self.host.cgroup(container, owners=owned(1001), marks=("user.delegate",))
+        self.runs(f"{container}/container", 2600, "postgres", 165536, owners=owned(165536))
 
     def batch(self):
         self.host.cgroup("/batch.slice", owners={"cgroup.procs": (0, 50)}, modes={"cgroup.procs": 0o664}, enabled="memory pids")
-        self.runs("/batch.slice/nightly.service", 900, "cp", 990, owners=owned(990), values={"memory.max": SIZE, "pids.max": 64})
+        self.runs("/batch.slice/nightly.service", 900, "cp", 990, owners=owned(990),
+                  values={"memory.max": SIZE, "pids.max": 64})
 
     def options(self, program):
         return SimpleNamespace(mount=self.host.mount, proc=self.host.proc, accounts=self.host.etc, keep=None, zirofen=program,
-                               json=True, plain_folder=True)
+                               json=True, plain_folder=True, no_processes=False, baseline_update=None)
 
     def report(self, program):
         """What a program answers of it, as of a host with a name and of a day."""

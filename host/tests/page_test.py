@@ -2,11 +2,13 @@
 import gzip
 import json
 import os
+import re
 import subprocess
 import sys
 import tempfile
 import time
 import unittest
+from unittest import mock
 
 import browser
 import example
@@ -17,9 +19,12 @@ from zirofen_host import page, saved, view, words
 from zirofen_host.fault import Fault
 
 PARTS = ("subtrees", "entries", "opened", "faults", "differs", "above", "unseen", "snapshot")
+# keys of a report that nothing is drawn from, or that are asked for elsewhere
+NOT_NEEDED = ("enabled", "capabilities", "value", "version", "users", "marks", "files", "above[0].uid")
 REAL = sorted(name for name in os.listdir(f"{HERE}/data") if name.endswith(".json.gz"))
-HOSTILE = ("<script>alert(1)</script>", '"onload="alert(2)" x="', "'><img src=//x.y onerror=alert(3)>", "</title></svg></style></script>",
-           "${title}$id&lt;&#60;", "javascript:alert(4)", "\u202egnp.exe\u2066", "x" * 250, "\x1b[31m\x07", "<!--", "]]><![CDATA[", "\ud800")
+HOSTILE = ("<script>alert(1)</script>", '"onload="alert(2)" x="', "'><img src=//x.y onerror=alert(3)>",
+           "</title></svg></style></script>", "${title}$id&lt;&#60;", "javascript:alert(4)", "\u202egnp.exe\u2066", "x" * 250,
+           "\x1b[31m\x07", "<!-- \xe9\u05d0", "]]><![CDATA[", "\ud800")
 
 
 def setUpModule():
@@ -35,9 +40,9 @@ def real(name):
 def hostile(report):
     """A report in which everybody and everything has a hostile name."""
     text = json.dumps(report)
-    names = {"alice": HOSTILE[0], "build": HOSTILE[1], "carol": HOSTILE[2], "bash": HOSTILE[3], "nightly": HOSTILE[4], "session-2": HOSTILE[7],
-             "container": HOSTILE[10], "backup": HOSTILE[0].replace("/", ""), "web1": HOSTILE[6], "Linux": HOSTILE[8], "zirofen": HOSTILE[5],
-             "team": HOSTILE[9], "bob": HOSTILE[11]}
+    names = {"alice": HOSTILE[0], "build": HOSTILE[1], "carol": HOSTILE[2], "bash": HOSTILE[3], "nightly": HOSTILE[4],
+             "zirofen": HOSTILE[5], "web1": HOSTILE[6], "session-2": HOSTILE[7], "Linux": HOSTILE[8], "team": HOSTILE[9],
+             "container": HOSTILE[10], "bob": HOSTILE[11], "backup": HOSTILE[0]}
     for name, bad in names.items():
         # a path's names have no slash
         for quote in ("/", '"', "(", " "):
@@ -74,15 +79,17 @@ class PageTest(unittest.TestCase):
 
     def has_all(self, reader, name, report):
         """Every part of the report is in the page once, with its place."""
+        def ids_of(key):
+            return [each for each in reader.ids if each.startswith(f"{name}-{key}-") and each.rpartition("-")[2].isdigit()]
+
         for key in PARTS:
-            ids = [each for each in reader.ids if each.startswith(f"{name}-{key}-") and each.rpartition("-")[2].isdigit()]
-            self.assertEqual(len(ids), len(report[key]), key)
+            self.assertEqual(len(ids_of(key)), len(report[key]), key)
             for number, part in enumerate(report[key], 1):
                 told = reader.text(f"{name}-{key}-{number}")
                 for value in (part.get("entry"), part.get("file"), part.get("fault"), part.get("text"), part.get("handed")):
                     if value not in (None, "dir", "already-over", "unknown"):
                         self.assertIn(words.visible(value), told)
-        findings = [reader.text(each) for each in reader.ids if each.startswith(f"{name}-finding-") and each.rpartition("-")[2].isdigit()]
+        findings = [reader.text(each) for each in ids_of("finding")]
         for key in ("entries", "opened", "differs"):
             for part in report[key]:
                 self.assertTrue(any(words.visible(part["path"]) in told for told in findings), part["path"])
@@ -93,12 +100,17 @@ class WholeTest(PageTest):
         reader = self.read(example.kept())
         self.assertIn("2 of 8 delegations can be broken by somebody whom they should hold.", reader.text())
         self.assertEqual(reader.tags.count("svg"), 2)
-        for told in ("alice(1000) moves a process over the edge of /user.slice/user-1000.slice/user@1000.service",
-                     "build(990) changes a limit of /system.slice/build.service", "Everybody sets limits of /system.slice/backup.service",
-                     "carol(1002) may break /batch.slice/nightly.service", "chmod o-w /sys/fs/cgroup/system.slice/backup.service/cpu.max",
-                     "Members of group team(50) (carol(1002)) write cgroup.procs (0:50 664) of /batch.slice, which is its parent.",
-                     "setpriv --reuid 1000 --regid 1000 --clear-groups sh -c 'echo 2000 >/sys/fs/cgroup/user.slice/user-1000.slice/"
-                     "user@1000.service/init.scope/cgroup.procs'", "web1, Linux 6.12.9, at 2026-11-25T08:00:00Z"):
+        for told in (
+                "alice(1000) moves a process over the edge of /user.slice/user-1000.slice/user@1000.service",
+                "move process 2000 (bash) from /user.slice/user-1000.slice/session-2.scope to "
+                "/user.slice/user-1000.slice/user@1000.service/init.scope: it goes into the subtree",
+                "setpriv --reuid 1000 --regid 1000 --clear-groups sh -c 'echo 2000 >/sys/fs/cgroup/user.slice/user-1000.slice/"
+                "user@1000.service/init.scope/cgroup.procs'",
+                "build(990) changes a limit of /system.slice/build.service", "set memory.max of /system.slice/build.service from 4G to max",
+                "Everybody sets limits of /system.slice/backup.service", "chmod o-w /sys/fs/cgroup/system.slice/backup.service/cpu.max",
+                "carol(1002) may break /batch.slice/nightly.service",
+                "Members of group team(50) (carol(1002)) write cgroup.procs (0:50 664) of /batch.slice, which is its parent.",
+                "web1, Linux 6.12.9, at 2026-11-25T08:00:00Z"):
             self.assertIn(told, reader.text())
         self.assertEqual([link for link in reader.links if "finding" in link and link != "#host-1-findings"],
                          ["#host-1-finding-4"] * 2 + ["#host-1-finding-3", "#host-1-finding-1", "#host-1-finding-1"]
@@ -142,7 +154,8 @@ class WholeTest(PageTest):
         report["baseline"] = {"time": "2026-11-24T08:00:00Z", "new": [], "worse": [], "changed": [], "gone": []}
         self.assertIn("Since 2026-11-24T08:00:00Z\nNothing is new, worse, changed or gone.", self.read(report).text())
         for kind in ("new", "worse", "changed", "gone"):
-            report["baseline"][kind] = [{"line": f"a {kind} <b>", "before": "what &amp; was", "changes": [], "setting": None}] * 2
+            each = {"line": f"a {kind} <b>", "before": "what &amp; was", "changes": [], "setting": None}
+            report["baseline"][kind] = [each, dict(each)]
         reader = self.read(saved.check(report, "x"))
         for kind in ("new", "worse", "changed", "gone"):
             self.assertEqual(reader.text(f"host-1-{kind}-2"), f"a {kind} <b>before: what &amp; was")
@@ -165,7 +178,8 @@ class WholeTest(PageTest):
             self.assertIn(f"{tag}-src {page.sum_of(inline)};", made)
 
     def test_what_cant_be_told_of_an_escape_spoils_nothing(self):
-        for lines in (["escapes"], ["escapes", "move x /a"], ["escapes", "new word"], ["escapes", "chmod"], ["escapes", "set /system.slice/build.service"]):
+        for lines in (["escapes"], ["escapes", "move x /a"], ["escapes", "new word"], ["escapes", "chmod"],
+                      ["escapes", "set /system.slice/build.service"]):
             report = example.kept()
             subtree = next(each for each in report["subtrees"] if each["path"] == "/system.slice/build.service")
             subtree["answers"][0]["lines"] = lines
@@ -175,11 +189,72 @@ class WholeTest(PageTest):
             self.read(report)
 
 
+class PictureTest(PageTest):
+    """What a picture shows of each way to break a subtree."""
+
+    TOP = "/user.slice/user-1000.slice"
+    MANAGER = f"{TOP}/user@1000.service"
+
+    def picture(self, *lines):
+        """The picture of these operations, its lines by their classes, and the text beside it."""
+        report = example.kept()
+        subtree = next(each for each in report["subtrees"] if each["path"] == self.MANAGER)
+        subtree["answers"][0]["lines"] = ["escapes", *lines]
+        reader = self.read(report)
+        svg = page.page([report]).split("<svg")[2].partition("</svg>")[0]
+        lines = re.findall('<text class="([a-z]+)"[^>]*>([^<]*)', svg)
+        return svg, lines, reader.text("host-1-finding-2")
+
+    def test_a_process_that_crosses(self):
+        for lines, boxes, ends in (
+                ((f"move 2000 {self.MANAGER}/init.scope",),
+                 ["/", "user.slice", "user-1000.slice", "session-2.scope", "user@1000.service", "init.scope"],
+                 [("from", "process 2000 (bash)"), ("to", "process 2000, moved in")]),
+                ((f"mkdir {self.MANAGER}/new", f"move 860 {self.MANAGER}/new"),
+                 ["/", "user.slice", "user-1000.slice", "user@1000.service", "new", "system.slice/build.service"],
+                 [("to", "process 860, moved in"), ("from", "process 860 (make)")]),
+                ((f"move 1500 {self.TOP}/session-2.scope",),
+                 ["/", "user.slice", "user-1000.slice", "session-2.scope", "user@1000.service", "init.scope"],
+                 [("to", "process 1500, moved out"), ("from", "process 1500 (systemd)")])):
+            with self.subTest(lines):
+                svg, found, text = self.picture(*lines)
+                self.assertEqual([text for kind, text in found if kind == "name"], boxes)
+                self.assertEqual([each for each in found if each[0] in ("from", "to")], ends)
+                self.assertEqual((svg.count('class="edge"'), svg.count('class="arrow"'), svg.count('class="head"')), (1, 1, 1))
+                self.assertIn("moves a process over the edge of", text)
+                # the arrow's ends stand at the lines of the process
+                at = {kind: int(y) for kind, y in re.findall('<text class="(from|to)" x="[0-9]*" y="([0-9]*)"', svg)}
+                start, end = map(int, re.search('class="arrow" d="M[0-9]* ([0-9]*)H[0-9]*V([0-9]*)H', svg).groups())
+                self.assertEqual((start, end), (at["from"] - 4, at["to"] - 4))
+
+    def test_limits_that_change_and_what_is_removed(self):
+        for lines, told, verb in (
+                ((f"set {self.MANAGER} memory.max max",), ["memory.max: 2G → max"], "changes a limit of"),
+                (("control / -memory", f"control {self.TOP} -memory"), [
+                    "memory.min: 0 → no limit file", "memory.low: 0 → no limit file", "memory.high: max → no limit file",
+                    "memory.max: 2G → no limit file"], "changes a limit of"),
+                ((f"control {self.TOP} +cpu",), ["cpu.weight: no limit file → 100"], "changes a limit of"),
+                ((f"rmdir {self.MANAGER}",), ["✗ the whole cgroup is removed"], "removes"),
+                ((), ["✗ over its own limits"], "is over its own limits"),
+                ((f"rmdir {self.TOP}/session-2.scope",), [], "breaks")):
+            with self.subTest(lines):
+                svg, found, text = self.picture(*lines)
+                self.assertEqual([text for kind, text in found if kind == "limit"], told)
+                self.assertNotIn("arrow", svg)
+                self.assertIn(verb, text)
+
+    def test_the_entries_are_marked(self):
+        _, found, _ = self.picture(f"rmdir {self.MANAGER}")
+        self.assertEqual([each for each in found if each[0] in ("mark", "entry")], [
+            ("mark", "✗ alice(1000) owns"), ("entry", "   cgroup.procs"), ("entry", "   cgroup.subtree_control"),
+            ("entry", "   the directory")])
+
+
 class MadeUpTest(HostTest, PageTest):
     """Reports that are made of a host here."""
 
     def a_host(self):
-        self.host.cgroup("/up", owners={"cgroup.procs": (0, 50)}, modes={"cgroup.procs": 0o664}, enabled="memory", more=("cpu.max",))
+        self.host.cgroup("/up", owners={"cgroup.procs": (0, 50)}, modes={"cgroup.procs": 0o664}, enabled="memory")
         self.host.cgroup("/up/svc", owners={**owned(1000), "memory.max": 1000}, values={"memory.max": 4096})
         self.host.cgroup("/up/svc/in", owners=owned(100000), more=("cpu.max",), modes={"cpu.max": 0o666})
         self.host.cgroup("/up/m.service", owners=owned(1001), marks=(MARK,), modes={"dir": 0o777})
@@ -221,6 +296,10 @@ class MadeUpTest(HostTest, PageTest):
         self.assertEqual((ended.stdout, ended.stderr, ended.returncode), (plain.stdout, "", 1))
         with open(out, encoding="utf-8") as opened:
             self.assertIn("alice(1000) changes a limit of", PageReader(opened.read()).text())
+        self.assertEqual([name for name in os.listdir(self.host.folder) if name.startswith(".")], [])
+        with self.assertRaisesRegex(Fault, "^can't write the page: Is a directory$"), \
+                mock.patch.object(os.path, "exists", lambda _: False):
+            page.write(self.host.etc, [example.kept()])
         self.assertEqual([name for name in os.listdir(self.host.folder) if name.startswith(".")], [])
         none = subprocess.run([*words_, "--html", f"{out}/none/x"], capture_output=True, text=True)
         self.assertEqual((none.stdout, none.returncode, none.stderr.count("\n")), ("", 3, 1))
@@ -276,7 +355,7 @@ class SavedTest(unittest.TestCase):
 
         spoiled = 0
         for place in spoil(report, "report"):
-            if any(f".{key}" in place for key in ("enabled", "capabilities", "value", "version", "users", "marks", "files", "above[0].uid")):
+            if any(f".{key}" in place for key in NOT_NEEDED):
                 continue
             spoiled += 1
             with self.assertRaisesRegex(Fault, "^x: "):
@@ -285,9 +364,9 @@ class SavedTest(unittest.TestCase):
         saved.check(report, "x")
 
     def test_places_stand_in_the_tree(self):
+        paths = ("/none/x", "/init.scope", "<script>", "/batch.slice/", "", "/a//b")
         for key, spoil in (("subtrees", {"path": "/none"}), ("entries", {"subtrees": ["/none"]}), ("processes", {"at": "/none"}),
-                           ("cgroups", {"path": "/none/x"}), ("cgroups", {"path": "/init.scope"}), ("cgroups", {"path": "<script>"}),
-                           ("cgroups", {"path": "/batch.slice/"}), ("cgroups", {"path": ""})):
+                           *(("cgroups", {"path": path}) for path in paths)):
             report = example.kept()
             report[key][1 if len(report[key]) > 1 else 0].update(spoil)
             with self.assertRaisesRegex(Fault, "^x: "):
@@ -301,7 +380,8 @@ class ScriptTest(unittest.TestCase):
             self.assertIn("no part of the proved program", ended.stdout)
 
     def page(self, *given, **more):
-        return subprocess.run([sys.executable, f"{TOP}/host/page", *given], capture_output=True, text=True, encoding="utf-8", **more)
+        words_ = [sys.executable, f"{TOP}/host/page", *given]
+        return subprocess.run(words_, capture_output=True, text=True, encoding="utf-8", **more)
 
     def test_reports_of_files_and_of_standard_input(self):
         made = page.page([example.kept()])
@@ -311,7 +391,8 @@ class ScriptTest(unittest.TestCase):
         self.assertIn('id="host-2"', self.page(example.KEPT, example.KEPT).stdout)
 
     def test_faults(self):
-        for given in ((), ("--none",), (f"{HERE}/none.json",), (example.__file__,), (example.KEPT, "--out", f"{HERE}/none/page.html")):
+        for given in ((), ("--none",), (f"{HERE}/none.json",), (example.__file__,),
+                      (example.KEPT, "--out", f"{HERE}/none/page.html")):
             ended = self.page(*given)
             self.assertEqual((ended.returncode, ended.stdout), (3, ""), given)
             self.assertIn("page", ended.stderr)
@@ -335,7 +416,8 @@ class BrowserTest(unittest.TestCase):
         return file
 
     def test_no_error_no_request_no_script_of_a_name(self):
-        pages = {"example": [example.kept()], "hostile": [hostile(example.kept())], "all": [hostile(example.kept()), *map(real, REAL)]}
+        bad = hostile(example.kept())
+        pages = {"example": [example.kept()], "hostile": [bad], "all": [bad, *map(real, REAL)]}
         for name, reports in pages.items():
             file = self.written(name, *reports)
             for width, media, scheme in ((390, "screen", "light"), (1280, "screen", "dark"), (794, "print", "light")):
@@ -344,25 +426,30 @@ class BrowserTest(unittest.TestCase):
                     methods = {each["method"] for each in events}
                     self.assertFalse(methods & {"Log.entryAdded", "Runtime.exceptionThrown", "Runtime.consoleAPICalled",
                                                 "Page.javascriptDialogOpening"}, methods)
-                    asked = [each["params"]["request"]["url"] for each in events if each["method"] == "Network.requestWillBeSent"]
-                    self.assertEqual([url for url in asked if url != f"file://{file}" and not url.startswith("data:")], [])
+                    asked = [each["params"] for each in events if each["method"] == "Network.requestWillBeSent"]
+                    self.assertEqual({each["request"]["url"] for each in asked} - {"data:,"}, {f"file://{file}"})
                     self.assertLessEqual(self.browser.value("document.documentElement.scrollWidth"), width)
                     self.assertEqual(self.browser.value("document.scripts.length"), 1)
                     self.assertEqual(self.browser.value("document.images.length"), 0)
 
+    def shown(self, selector):
+        """The texts of what can be seen of these."""
+        return self.browser.value(f"[...document.querySelectorAll('{selector}')].filter(each => each.checkVisibility())"
+                                  ".map(each => each.innerText)")
+
     def test_the_search_box_hides_what_hasnt_the_word(self):
         self.browser.open(self.written("search", example.kept()), 1280)
-        self.assertFalse(self.browser.value("document.querySelector('.search').hidden"))
+        self.assertEqual((len(self.shown(".search")), len(self.shown(".finding"))), (1, 4))
         self.browser.value("const box = document.querySelector('.search input'); box.value = 'NIGHTLY';"
                            "box.dispatchEvent(new Event('input'))")
-        shown = self.browser.value("[...document.querySelectorAll('.tree code')].filter(each => each.checkVisibility()).map(each => each.innerText)")
-        self.assertIn("nightly.service", shown)
-        self.assertNotIn("build.service", shown)
-        self.assertEqual(self.browser.value("[...document.querySelectorAll('.finding')].filter(each => each.checkVisibility()).length"), 1)
+        self.assertIn("nightly.service", self.shown(".tree code"))
+        self.assertNotIn("build.service", self.shown(".tree code"))
+        self.assertEqual(len(self.shown(".finding")), 1)
 
-    def test_links_open_what_they_lead_to(self):
+    def test_links_lead_to_what_can_be_seen(self):
         self.browser.open(self.written("links", example.kept()), 390)
-        self.assertTrue(self.browser.value("[...document.querySelectorAll('a')].every(each => document.querySelector(each.hash).checkVisibility())"))
+        self.assertTrue(self.browser.value("[...document.querySelectorAll('a')]"
+                                           ".every(each => document.querySelector(each.hash).checkVisibility())"))
 
     def test_texts_of_a_picture_stay_in_their_boxes(self):
         self.browser.open(self.written("boxes", example.kept(), hostile(example.kept()), *map(real, REAL)), 1280)

@@ -1,4 +1,6 @@
 """Tests of the terminal's tree, against files that were looked at."""
+import itertools
+import json
 import os
 import pty
 import re
@@ -9,6 +11,7 @@ import unittest
 from types import SimpleNamespace
 
 import example
+from check_test import HostTest, owned
 from made_up import HERE, TOP
 from page_test import HOSTILE, REAL, hostile, many, real
 from zirofen_host import tree_view, words
@@ -18,7 +21,7 @@ from zirofen_host.view import Host
 
 COLOUR = re.compile("\x1b\\[[0-9;]*m")
 KEPT = f"{HERE}/data/tree"
-WAYS = [(width, is_ascii, is_coloured) for width in (40, 80, 200) for is_ascii in (False, True) for is_coloured in (False, True)]
+WAYS = list(itertools.product((40, 80, 200), (False, True), (False, True)))
 
 
 def name_of(width, is_ascii, is_coloured):
@@ -109,17 +112,44 @@ class TreeTest(unittest.TestCase):
         self.assertEqual(sum(line.endswith("─deep") for line in lines), 1498)
         self.assertTrue(any(line.endswith("─deep  ! opened") for line in lines))
 
+    def test_a_subtree_that_has_gone(self):
+        report = example.kept()
+        report["faults"].append({"who": "everybody", "fault": "it changes all the time", "subtrees": ["/gone"]})
+        lines = drawn(report)
+        self.assertIn("∅ /gone: it changes all the time", lines)
+        self.assertIn("9 delegations: 5 shown to be contained; 5 findings open", lines)
+
     def test_control_bytes_arent_written(self):
         text = "\n".join(drawn(hostile(example.kept())))
         self.assertIn("\\u202e", text)
         self.assertNotIn(HOSTILE[6], text)
 
 
+@unittest.skipUnless(os.geteuid() == 0, "only root gives files away")
+class LiveTest(HostTest):
+    """The script on a made-up host."""
+
+    def test_a_host_is_looked_at_as_by_a_check(self):
+        self.host.cgroup("/bad", owners={**owned(1000), "memory.max": 1000})
+        self.host.cgroup("/other", owners=owned(1001))
+        place = ["--plain-folder", "--mount", self.host.mount, "--proc", self.host.proc, "--accounts", self.host.etc,
+                 "--zirofen", self.program]
+        checked = subprocess.run([sys.executable, f"{TOP}/host/check", "--json", *place], capture_output=True, text=True).stdout
+        for only in ("/", "/bad"):
+            words_ = [sys.executable, f"{TOP}/host/tree", "--ascii", *place, *(["--only", only] if only != "/" else [])]
+            ended = subprocess.run(words_, capture_output=True, text=True)
+            self.assertEqual((ended.returncode, ended.stderr), (0, ""))
+            lines, told = drawn(json.loads(checked), None, True, only=only), ended.stdout.splitlines()
+            # the time is another, and of a part alone no more is counted
+            self.assertEqual(told[1:told.index("")], lines[1:lines.index("")])
+
+
 class LocaleTest(unittest.TestCase):
     def test_ascii_where_the_locale_has_no_utf8(self):
-        for environment, is_utf8 in (({}, False), ({"LANG": "C"}, False), ({"LANG": "de_DE.UTF-8"}, True), ({"LANG": "C.utf8"}, True),
-                                     ({"LC_ALL": "C", "LANG": "C.UTF-8"}, False), ({"LC_CTYPE": "en_GB.utf-8", "LANG": "C"}, True),
-                                     ({"LANG": "de_DE"}, False), ({"LC_ALL": "", "LANG": "C.UTF-8"}, True)):
+        for environment, is_utf8 in (
+                ({}, False), ({"LANG": "C"}, False), ({"LANG": "de_DE.UTF-8"}, True), ({"LANG": "C.utf8"}, True),
+                ({"LC_ALL": "C", "LANG": "C.UTF-8"}, False), ({"LC_CTYPE": "en_GB.utf-8", "LANG": "C"}, True),
+                ({"LANG": "de_DE"}, False), ({"LC_ALL": "", "LANG": "C.UTF-8"}, True)):
             self.assertEqual(tree_view.is_utf8(environment), is_utf8, environment)
 
     def test_colours_and_width_by_what_the_output_is(self):
@@ -147,11 +177,13 @@ class ScriptTest(unittest.TestCase):
         return [sys.executable, f"{TOP}/host/tree", *given]
 
     def environment(self, **more):
-        kept = {key: value for key, value in os.environ.items() if key not in ("LC_ALL", "LC_CTYPE", "NO_COLOR", "PAGER", "COLUMNS")}
+        without = ("LC_ALL", "LC_CTYPE", "NO_COLOR", "PAGER", "COLUMNS")
+        kept = {key: value for key, value in os.environ.items() if key not in without}
         return {**kept, "LANG": "C.UTF-8", "TERM": "xterm", **more}
 
     def run_script(self, *given, **more):
-        return subprocess.run(self.words(*given), capture_output=True, text=True, encoding="utf-8", env=self.environment(**more))
+        return subprocess.run(self.words(*given), capture_output=True, text=True, encoding="utf-8",
+                              env=self.environment(**more))
 
     def test_a_report_is_drawn(self):
         for more, is_ascii in (({}, False), ({"LANG": "C"}, True), ({"LC_ALL": "POSIX"}, True)):
@@ -161,8 +193,8 @@ class ScriptTest(unittest.TestCase):
                          drawn(example.kept(), 40, False, True))
 
     def test_faults(self):
-        for given in (("--none",), ("--width", "5"), ("--width", "x"), ("--colour", "red"), (f"{HERE}/none.json",), (example.__file__,),
-                      (example.KEPT, "--only", "/none")):
+        for given in (("--none",), ("--width", "5"), ("--width", "x"), ("--colour", "red"), (f"{HERE}/none.json",),
+                      (example.__file__,), (example.KEPT, "--only", "/none")):
             ended = self.run_script(*given)
             self.assertEqual((ended.returncode, ended.stdout), (3, ""), given)
             self.assertNotIn("Traceback", ended.stderr)
@@ -170,7 +202,8 @@ class ScriptTest(unittest.TestCase):
     def on_a_terminal(self, *given, **more):
         """What the script writes to a terminal of 80 columns."""
         above, below = pty.openpty()
-        started = subprocess.Popen(self.words(*given), stdin=below, stdout=below, stderr=below, env=self.environment(COLUMNS="80", **more))
+        started = subprocess.Popen(self.words(*given), stdin=below, stdout=below, stderr=below,
+                                   env=self.environment(COLUMNS="80", **more))
         os.close(below)
         text = b""
         while True:

@@ -28,7 +28,8 @@ class Box:
         self.lines, self.boxes = [], []
 
     def height(self):
-        return PAD + LINE * (1 + len(self.lines)) + sum(box.height() + GAP for box in self.boxes) + (PAD // 2 if self.boxes else 0)
+        below = sum(box.height() + GAP for box in self.boxes) + (PAD // 2 if self.boxes else 0)
+        return PAD + LINE * (1 + len(self.lines)) + below
 
 
 class Picture:
@@ -90,9 +91,10 @@ class Picture:
         """What the picture shows, for who doesn't see it."""
         start = f"Boxes from the root to {self.escape.subtree}, whose edge is dashed. Marked: " + words.listed(
             f"{words.named(part['entry'])} of {part['path']}" for part in self.finding.parts)
-        verb, behind = words.broken(self.breaks)
+        if self.breaks[0] == "over":
+            return f"{start}. The subtree is over its own limits."
         arrow = f"; an arrow goes from {self.breaks[2]} to {self.breaks[3]}" if self.breaks[0] == "crossed" else ""
-        return f"{start}. {self.escape.who} {verb} the subtree{behind}{arrow}."
+        return f"{start}. {self.escape.who} {words.broken(self.breaks)} the subtree{arrow}."
 
     def svg(self, name):
         """The picture, whose title has the id `name`."""
@@ -107,7 +109,8 @@ class Picture:
         """A box with its lines, and then those in it; a class tells what each is."""
         kind = "edge" if box.path == self.escape.subtree else "box"
         gone = " gone" if kind == "edge" and self.breaks[0] == "gone" else ""
-        self.parts.append(f'<rect class="{kind}{gone}" x="{left}" y="{top}" width="{right - left}" height="{box.height()}" rx="5"/>')
+        size = f'width="{right - left}" height="{box.height()}"'
+        self.parts.append(f'<rect class="{kind}{gone}" x="{left}" y="{top}" {size} rx="5"/>')
         inner = right - (GUTTER if box.path == "/" and self.breaks[0] == "crossed" else 0)
         self.text("name", box.label, left + PAD, top + 16, inner - PAD, box.path)
         y = top + 16

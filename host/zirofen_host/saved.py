@@ -80,7 +80,7 @@ def wrong_places(report):
         if path != "/" and (path[:1] != "/" or path.endswith("/") or parent_of(path) not in known):
             return f"the cgroup {path!a} has none above it"
     named = [each["path"] for key in ("subtrees", "opened", "entries", "differs") for each in report[key]]
-    named += [path for key in ("entries", "faults", "above") for each in report[key] for path in each["subtrees"]]
+    named += [path for key in ("entries", "above") for each in report[key] for path in each["subtrees"]]
     named += [each["at"] for each in report["processes"]]
     named += [each["example"]["subtree"] for each in report["entries"] if each["example"]]
     lost = next((path for path in named if path not in known), None)

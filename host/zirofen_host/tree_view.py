@@ -5,8 +5,8 @@ import subprocess
 import sys
 from collections import namedtuple
 
-from zirofen_host import words
-from zirofen_host.fault import Fault
+from zirofen_host import progress, words
+from zirofen_host.fault import Fault, plain
 from zirofen_host.profile import is_inside
 from zirofen_host.view import COUNTED, Host
 from zirofen_host.words import ABOVE, CONTAINED, ESCAPES, FAULT, NOT_ASKED, OPENED, SIGNS, STANDINGS, UNSETTLED
@@ -20,11 +20,6 @@ COLOURS = {ESCAPES: "1;31", OPENED: "1;35", UNSETTLED: "1;33", FAULT: "1;31", NO
 DIM = "2"
 # columns that a name keeps beside its answer
 LEAST_NAME = 14
-
-
-def plain(text):
-    """A text as every terminal has it: what isn't ASCII is written as its number."""
-    return text.encode("ascii", "backslashreplace").decode("ascii")
 
 
 class Tree:
@@ -64,7 +59,7 @@ class Tree:
     def cgroup_lines(self, path, first, rest):
         """A cgroup's own line with how it stands, and what is to be told of it."""
         first, rest = self.short(first), self.short(rest)
-        name = plain(path if path in ("/", self.drawing.only) else path.rpartition("/")[2])
+        name = path if path in ("/", self.drawing.only) else path.rpartition("/")[2]
         kinds = [kind for kind, _ in self.host.standing.get(path, ())]
         standing = ", ".join(f"{SIGNS[kind][self.drawing.is_ascii]} {kind}" for kind in kinds)
         room = self.left_of(first)
@@ -104,6 +99,8 @@ class Tree:
         of = "" if self.drawing.only == "/" else "The whole host has "
         yield from self.wrapped("", f"{of}{words.count(delegations, 'delegation')}: {contained} shown to be contained; "
                                 f"{words.count(open_findings, 'finding')} open")
+        for path, finding in self.host.lost:
+            yield from self.wrapped("", f"{SIGNS[FAULT][self.drawing.is_ascii]} {path}: {finding.parts[0]['fault']}")
         seen = {kind for path, kinds in self.host.standing.items() for kind, _ in kinds if is_inside(path, self.drawing.only)}
         for kind in STANDINGS:
             if kind in seen:
@@ -133,7 +130,6 @@ class Tree:
         return self.glyphs.cut + text[-kept:] if kept > 0 else text[len(text) - room:]
 
     def cut_end(self, text, room):
-        text = plain(text)
         if room is None or len(text) <= room:
             return text
         return text[:max(room - len(self.glyphs.cut), 0)] + self.glyphs.cut[:room]
@@ -154,7 +150,7 @@ class Tree:
 
 def draw(report, drawing):
     """The lines of a report's tree."""
-    return list(Tree(Host(report), drawing).lines())
+    return list(Tree(Host(report, plain), drawing).lines())
 
 
 def is_utf8(environment):
@@ -178,7 +174,8 @@ def add_arguments(parser):
     parser.add_argument("--colour", "--color", choices=("auto", "always", "never"), default="auto",
                         help="colours: on a terminal where NO_COLOR isn't set (auto), or always, or never")
     parser.add_argument("--ascii", action="store_true", help="signs of ASCII alone, as where the locale has no UTF-8")
-    parser.add_argument("--width", metavar="COLUMNS", type=width, help="cut lines to this; else to the terminal's, and elsewhere not at all")
+    parser.add_argument("--width", metavar="COLUMNS", type=width,
+                        help="cut lines to this; else to the terminal's, and elsewhere not at all")
     parser.add_argument("--no-pager", action="store_true", help="don't show it through PAGER (less) on a terminal")
 
 
@@ -192,9 +189,9 @@ def drawing_of(options, environment, is_terminal):
     """How to draw, by the options and by what the output is."""
     columns = options.width or (shutil.get_terminal_size().columns if is_terminal else None)
     is_coloured = is_terminal and not environment.get("NO_COLOR") and environment.get("TERM") != "dumb"
+    is_coloured = {"always": True, "never": False}.get(options.colour, is_coloured)
     only = os.fsdecode(options.only or b"/").rstrip("/") or "/"
-    return Drawing(columns, options.ascii or not is_utf8(environment), {"always": True, "never": False}.get(options.colour, is_coloured),
-                   options.all, only)
+    return Drawing(columns, options.ascii or not is_utf8(environment), is_coloured, options.all, only)
 
 
 def pager_of(options, environment, is_terminal):
@@ -206,13 +203,21 @@ def pager_of(options, environment, is_terminal):
 def show(lines, pager, encoding):
     """Writes the lines, through a pager where there is one. It may start no other programs, since root asks."""
     text = "".join(f"{line}\n" for line in lines).encode(encoding, "backslashreplace")
+    progress.end()
     if pager and shutil.which(pager.split()[0]):
-        with subprocess.Popen(["sh", "-c", pager], stdin=subprocess.PIPE, env={"LESS": "FRSX", **os.environ, "LESSSECURE": "1"}) as shown:
+        environment = {"LESS": "FRSX", **os.environ, "LESSSECURE": "1"}
+        with subprocess.Popen(["sh", "-c", pager], stdin=subprocess.PIPE, env=environment) as shown:
             try:
                 shown.communicate(text)
             except BrokenPipeError:
                 pass
         return
-    sys.stdout.flush()
-    sys.stdout.buffer.write(text)
-    sys.stdout.buffer.flush()
+    if sys.stdout is None:
+        raise Fault("standard output is closed")
+    try:
+        sys.stdout.buffer.write(text)
+        sys.stdout.buffer.flush()
+    except BrokenPipeError:
+        raise Fault("what reads the output has ended") from None
+    except OSError as error:
+        raise Fault(f"can't write the output: {error.strerror}") from None

@@ -3,9 +3,9 @@ from collections import defaultdict, namedtuple
 from functools import cached_property
 
 from zirofen_host import words
-from zirofen_host.walk import OWNERS_MARK
 from zirofen_host.profile import CONTROL_FILES, HANDED_OVER, LIMIT_FILES, ancestors, parent_of
 from zirofen_host.report import alike
+from zirofen_host.walk import OWNERS_MARK
 from zirofen_host.words import ABOVE, CONTAINED, ESCAPES, FAULT, NOT_ASKED, OPENED, STANDINGS, UNSETTLED, visible
 
 # what stands together: a kind, its key in the report, and the numbers that its parts have there
@@ -22,14 +22,14 @@ USUAL = {"cgroup.freeze": "0", "cgroup.type": "domain", "cpu.idle": "0", "cpu.ma
          "cpuset.cpus.partition": "member", "io.prio.class": "no-change"}
 
 
-def without_marks(value):
-    """A report in which every text can be seen as it is."""
+def with_texts(value, shown):
+    """A report whose texts are written so that each can be seen as it is."""
     if isinstance(value, str):
-        return visible(value)
+        return shown(value)
     if isinstance(value, list):
-        return [without_marks(each) for each in value]
+        return [with_texts(each, shown) for each in value]
     if isinstance(value, dict):
-        return {visible(key): without_marks(each) for key, each in value.items()}
+        return {shown(key): with_texts(each, shown) for key, each in value.items()}
     return value
 
 
@@ -44,8 +44,8 @@ def is_usual(file, value):
 class Host:
     """What a report tells of a host."""
 
-    def __init__(self, report):
-        self.report = report = without_marks(report)
+    def __init__(self, report, shown=visible):
+        self.report = report = with_texts(report, shown)
         self.rows = {each["path"]: each for each in report["cgroups"]}
         self.subtrees = {each["path"]: each for each in report["subtrees"]}
         self.processes = {each["pid"]: each for each in report["processes"]}
@@ -64,7 +64,8 @@ class Host:
     def findings(self):
         """What to mend: entries at one place that let in the same to the same are one; the gravest first."""
         found = [*self.together("entries", "path", "answer", "whom", "subtrees", "example"),
-                 *self.together("opened", "path", "whom"), *self.together("faults", "fault", "subtrees"), *self.together("differs", "path")]
+                 *self.together("opened", "path", "whom"), *self.together("faults", "fault", "subtrees"),
+                 *self.together("differs", "path")]
         return sorted(found, key=lambda each: (*STANDINGS, DIFFERS).index(each.kind))
 
     def together(self, key, *same):
@@ -100,8 +101,19 @@ class Host:
     @cached_property
     def numbers(self):
         """How many delegations there are, how many of them are shown to be contained, and how many findings are open."""
-        contained = sum(self.standing[path][0][0] == CONTAINED for path in self.subtrees)
-        return len(self.subtrees), contained, sum(each.kind in COUNTED for each in self.findings)
+        contained = sum(self.standing[path][0][0] == CONTAINED for path in self.delegations)
+        return len(self.delegations), contained, sum(each.kind in COUNTED for each in self.findings)
+
+    @cached_property
+    def delegations(self):
+        """The subtrees, also those of which nobody could be asked."""
+        return {*self.subtrees, *(path for each in self.report["faults"] for path in each["subtrees"])}
+
+    @cached_property
+    def lost(self):
+        """Subtrees without an answer that aren't in the tree any more, each with its finding."""
+        return [(path, each) for each in self.findings if each.kind == FAULT
+                for path in each.parts[0]["subtrees"] if path not in self.rows]
 
     @cached_property
     def notes(self):
@@ -123,7 +135,7 @@ class Host:
 
     @cached_property
     def told(self):
-        """The cgroups that aren't folded: delegations, marks and findings, what is above these, and what is inside the first."""
+        """The cgroups that aren't folded: delegations with what is inside them, marks, findings, and what is above these."""
         return {"/", *self.standing, *self.notes, *self.ways, *self.inside}
 
     @cached_property
@@ -133,8 +145,9 @@ class Host:
 
     def split(self, path):
         """What is told below a cgroup, and all that is folded there."""
+        shown = [each for each in self.children[path] if each in self.told]
         folded = [each for each in self.children[path] if each not in self.told]
-        return [each for each in self.children[path] if each in self.told], [below for each in folded for below in self.below(each)]
+        return shown, [below for each in folded for below in self.below(each)]
 
     def below(self, path):
         """A cgroup and all below it."""
@@ -166,8 +179,8 @@ class Host:
     def entries(self, path):
         """By which entries it was handed over."""
         held, row = self.subtrees[path]["held_by"], self.rows[path]
-        entries = {"dir": row["dir"], **{name: row["files"][name] for name in (*CONTROL_FILES, *LIMIT_FILES) if name in row["files"]}}
-        handed = [name for name, entry in entries.items() if is_handed(entry, held)]
+        entries = {"dir": row["dir"], **row["files"]}
+        handed = [name for name in ("dir", *CONTROL_FILES, *LIMIT_FILES) if name in entries and is_handed(entries[name], held)]
         return sorted(handed, key=lambda name: name not in HANDED_OVER)
 
     def limits(self, path):
@@ -198,4 +211,6 @@ def is_handed(entry, held):
     if held["by"] == "owner":
         return entry["uid"] in held["ids"]
     mode = int(entry["mode"], 8)
-    return bool(held["by"] == "group" and entry["gid"] in held["ids"] and mode & 0o020 or held["by"] == "others" and mode & 0o002)
+    if held["by"] == "group":
+        return bool(entry["gid"] in held["ids"] and mode & 0o020)
+    return bool(held["by"] == "others" and mode & 0o002)

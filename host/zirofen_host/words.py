@@ -49,8 +49,12 @@ def size(file, value):
     return text
 
 
+def noun(number, one, many=None):
+    return one if number == 1 else many or one + "s"
+
+
 def count(number, one, many=None):
-    return f"{number} {one if number == 1 else many or one + 's'}"
+    return f"{number} {noun(number, one, many)}"
 
 
 def listed(words):
@@ -114,7 +118,8 @@ class Steps:
             return [("code", " ".join(words))]
 
     def tell_chmod(self, path, entry, mode):
-        return ["give ", ("code", named(entry)), " of ", ("code", path), f" the mode {mode}, which lets its owner write it"]
+        name = "the directory" if entry == "dir" else ("code", entry)
+        return ["give ", name, " of ", ("code", path), f" the mode {mode}, which lets its owner write it"]
 
     def tell_move(self, pid, path):
         process = self.host.processes.get(int(pid))
@@ -165,9 +170,8 @@ def named(entry):
 
 
 def broken(breaks):
-    """What an escape does to a subtree: a verb in front of its path, and what stands behind it."""
-    return {"crossed": ("moves a process over the edge of", ""), "limits": ("changes a limit of", ""), "gone": ("removes", ""),
-            "over": ("has", " over its own limits")}.get(breaks[0], ("breaks", ""))
+    """What an escape does to a subtree: a verb in front of its path."""
+    return {"crossed": "moves a process over the edge of", "limits": "changes a limit of", "gone": "removes"}.get(breaks[0], "breaks")
 
 
 # what stands in the place of an entry where there is none
