@@ -19,8 +19,8 @@ from zirofen_host.texts import Programs
 
 OLDEST = (3, 9)
 # modules that it has
-MODULES = set("argparse bisect collections concurrent dataclasses errno functools grp itertools json os pwd re shlex shutil stat "
-              "subprocess sys tempfile time".split())
+MODULES = set("argparse base64 bisect collections concurrent dataclasses errno functools grp hashlib html itertools json os pwd re "
+              "shlex shutil stat string subprocess sys tempfile time".split())
 # what reads a text takes one of these
 READERS = {"tomllib", "tomli"}
 # what came later, by its name
@@ -300,7 +300,7 @@ class OldestPythonTest(unittest.TestCase):
             for name in sorted(os.listdir(folder)):
                 path = os.path.join(folder, name)
                 if os.path.isfile(path) and "." not in name or name.endswith(".py"):
-                    with open(path, encoding="ascii") as source:
+                    with open(path, encoding="utf-8") as source:
                         yield path, source.read()
 
     def test_syntax(self):
