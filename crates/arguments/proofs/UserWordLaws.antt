@@ -2,10 +2,10 @@
 use Rattle.std.proofs.Common.{◌≡◌, ◌≢◌, ℕ, ◌^◌, ◌<◌, Bool, true, false, cond, List, [], ◌∷◌, ◌++◌, length, get_or, refl, ap, sym, ◌∙◌, arith, append_assoc}
 use Rattle.std.specs.Prelude.{◌&&◌, nat_lt, Option, Some, None, Result, Ok, Err, option_and_then}
 use Rattle.std.specs.Option.{option_map, ok_or}
-use Rattle.std.specs.Result.{result_ok}
+use Rattle.std.specs.Result.{result_ok, OkIff}
 use Rattle.std.specs.List.{slice_split, position_or_len, before_first, after_first}
 use Rattle.std.specs.Str.{all_ascii_digits}
-use Rattle.std.specs.Str.Parse.{ParsesUnsigned, digits_value}
+use Rattle.std.specs.Str.Parse.{ParsesUnsigned, IsNumeral, digits_value}
 use Rattle.std.proofs.lemmas.Bool.{and_parts, and_from, lt-ltb, ltb-true, ltb-false, cond_both}
 use Rattle.std.proofs.lemmas.Option.{cond_some, none-some}
 use Rattle.std.proofs.lemmas.List.Sums.{fails_before_first}
@@ -45,8 +45,14 @@ id_parsed {E} word (Ok n) plain h =
     ap (λ (m : ℕ). Some m) p.1 ∙ sym (id_is word p.0.0 p.0.1 p.0.2)
 id_parsed {E} word (Err e) plain h = sym (id_none word (parse_plain own {E = E} 32 word (Err e) h plain))
 
+-- of a word that may have a plus sign at its front what is behind it is read
+pub id_read : {E : Type 0} (word : List ℕ) (r : Result ℕ E) → OkIff r (IsNumeral 10 word × (digits_value 10 word < 2 ^ 32)) (digits_value 10 word) → result_ok r ≡ id_at word
+id_read {E} word (Ok n) h =
+    ap (λ (m : ℕ). Some m) h.1 ∙ sym (id_is word (own.from word h.0.0.1) h.0.0.0 h.0.1)
+id_read {E} word (Err e) h = sym (id_none word (λ p. h ((p.1, own.to word p.0), p.2)))
+
 -- what has been read so far, before what the rest gives
-abbrev pub with_front : List ℕ → Option (List ℕ) → Option (List ℕ)
+abbrev pub with_front : {A : Type 0} → List A → Option (List A) → Option (List A)
 with_front front read = option_map (λ others. front ++ others) read
 
 split_cut : (text : List ℕ) (parts : List ℕ × List ℕ) → cut is_comma text ≡ Some parts → slice_split is_comma text ≡ parts.0 ∷ slice_split is_comma parts.1

@@ -22,10 +22,14 @@ is_id word = all_ascii_digits word && nat_lt 0 (length word) && nat_lt (digits_v
 unfoldable pub id_at : List ℕ → Option ℕ
 id_at word = cond (is_id word) (Some (digits_value 10 word)) None
 
+-- what words say, each read by itself: all of it, or nothing where one can't be read
+abbrev pub all_read : {A : Type 0} → (List ℕ → Option A) → List (List ℕ) → Option (List A)
+all_read read [] = Some []
+all_read read (word ∷ words) = option_and_then (λ x. option_map (λ others. x ∷ others) (all_read read words)) (read word)
+
 -- ids, a word each
 abbrev pub ids_at : List (List ℕ) → Option (List ℕ)
-ids_at [] = Some []
-ids_at (word ∷ words) = option_and_then (λ id. option_map (λ ids. id ∷ ids) (ids_at words)) (id_at word)
+ids_at words = all_read id_at words
 
 -- a uid, and gids between which commas stand
 abbrev pub user_with : List ℕ × List ℕ → Option (ℕ × List ℕ)

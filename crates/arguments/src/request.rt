@@ -1,12 +1,14 @@
 //! What the command line asks for.
-ghost use Rattle.std.specs.Prelude.{◌≡◌, Some, IfOk, codes, map};
-ghost use Rattle.std.specs.Option.{option_map};
-ghost use Rattle.clap.specs.Matches.{found_of, first_value};
+ghost use Rattle.std.specs.Prelude.{◌≡◌, ◌≢◌, ◌⊎◌, Some, None, IfOk, IfErr, MatchResult, codes, map, ok_or};
+ghost use Rattle.clap.specs.Matches.{found_of, first_value, values_left};
+ghost use Rattle.arguments.specs.UserWords.{all_read, user_at};
+ghost use Rattle.arguments.specs.Given.{number_read, words_at, number_at, numbers_at, user_given, users_given, ids_of, IsMay, IsCheck, IsAudit, IsReplay, IsOf};
 
 use crate::command::command;
 use crate::fault::ArgumentsFault;
 use crate::named_user::NamedUser;
 use clap::ArgMatches;
+use clap::parser::ValuesRef;
 use std::alloc::Global;
 
 /// What the words of a command line ask for.
@@ -33,10 +35,9 @@ impl<'a> Request<'a> {
         }
     }
 
-    fn from_matches(
-        alloc: Global,
-        matches: &ArgMatches<'a>,
-    ) -> Result<Request<'a>, ArgumentsFault> {
+    fn from_matches(alloc: Global, matches: &ArgMatches<'a>) -> Result<Request<'a>, ArgumentsFault>
+        ensures { IfOk result (IsOf matches.now) }
+    {
         match matches.subcommand() {
             Some(("may", given)) => Ok(Request::May(May::from_matches(alloc, given)?)),
             Some(("check", given)) => Ok(Request::Check(Check::from_matches(alloc, given)?)),
@@ -59,8 +60,10 @@ pub struct May<'a> {
 impl<'a> May<'a> {
     /// What was given to the command.
     fn from_matches(alloc: Global, matches: &ArgMatches<'a>) -> Result<May<'a>, ArgumentsFault>
-        ensures tree { IfOk result (λ may. option_map (λ file. file.now) may.tree ≡ first_value (found_of matches.now) (codes "tree")) }
-        ensures to { IfOk result (λ may. first_value (found_of matches.now) (codes "to") ≡ Some may.to.now) }
+        ensures given { IfOk result (IsMay (found_of matches.now)) }
+        ensures fault { IfErr result (λ fault. fault ≢ ArgumentsFault.NoMemory → (user_given (found_of matches.now) ≡ None)
+            ⊎ (number_at (found_of matches.now) (codes "pid") ≡ None)
+            ⊎ (first_value (found_of matches.now) (codes "to") ≡ None)) }
     {
         Ok(May {
             tree: matches.get_str("tree"),
@@ -82,8 +85,9 @@ pub struct Check<'a> {
 impl<'a> Check<'a> {
     /// What was given to the command.
     fn from_matches(alloc: Global, matches: &ArgMatches<'a>) -> Result<Check<'a>, ArgumentsFault>
-        ensures tree { IfOk result (λ check. option_map (λ file. file.now) check.tree ≡ first_value (found_of matches.now) (codes "tree")) }
-        ensures subtree { IfOk result (λ check. first_value (found_of matches.now) (codes "subtree") ≡ Some check.subtree.now) }
+        ensures given { IfOk result (IsCheck (found_of matches.now)) }
+        ensures fault { IfErr result (λ fault. fault ≢ ArgumentsFault.NoMemory → (user_given (found_of matches.now) ≡ None)
+            ⊎ (first_value (found_of matches.now) (codes "subtree") ≡ None)) }
     {
         Ok(Check {
             tree: matches.get_str("tree"),
@@ -104,20 +108,15 @@ pub struct Audit<'a> {
 impl<'a> Audit<'a> {
     /// What was given to the command.
     fn from_matches(alloc: Global, matches: &ArgMatches<'a>) -> Result<Audit<'a>, ArgumentsFault>
-        ensures tree { IfOk result (λ audit. option_map (λ file. file.now) audit.tree ≡ first_value (found_of matches.now) (codes "tree")) }
+        ensures given { IfOk result (IsAudit (found_of matches.now)) }
+        ensures fault { IfErr result (λ fault. fault ≢ ArgumentsFault.NoMemory → (users_given (found_of matches.now) ≡ None)
+            ⊎ (first_value (found_of matches.now) (codes "uid") ≡ None)
+            ⊎ (first_value (found_of matches.now) (codes "subtree") ≡ None)) }
     {
-        let mut users = Vec::new(alloc);
-        for word in matches.get_strs("uid").ok_or(ArgumentsFault::Usage)? {
-            users.push(NamedUser::from_word(alloc, word)?)?;
-        }
-        let mut subtrees = Vec::new(alloc);
-        for subtree in matches.get_strs("subtree").ok_or(ArgumentsFault::Usage)? {
-            subtrees.push(*subtree)?;
-        }
         Ok(Audit {
             tree: matches.get_str("tree"),
-            users,
-            subtrees,
+            users: users_of(alloc, given(matches, "uid")?)?,
+            subtrees: given(matches, "subtree")?.to_vec(alloc)?,
         })
     }
 }
@@ -134,9 +133,9 @@ pub struct Replay<'a> {
 impl<'a> Replay<'a> {
     /// What was given to the command.
     fn from_matches(alloc: Global, matches: &ArgMatches<'a>) -> Result<Replay<'a>, ArgumentsFault>
-        ensures tree { IfOk result (λ replay. option_map (λ file. file.now) replay.tree ≡ first_value (found_of matches.now) (codes "tree")) }
-        ensures ops { IfOk result (λ replay. first_value (found_of matches.now) (codes "ops") ≡ Some replay.ops.now) }
-        ensures subtree { IfOk result (λ replay. option_map (λ path. path.now) replay.subtree ≡ first_value (found_of matches.now) (codes "subtree")) }
+        ensures given { IfOk result (IsReplay (found_of matches.now)) }
+        ensures fault { IfErr result (λ fault. fault ≢ ArgumentsFault.NoMemory → (user_given (found_of matches.now) ≡ None)
+            ⊎ (first_value (found_of matches.now) (codes "ops") ≡ None)) }
     {
         Ok(Replay {
             tree: matches.get_str("tree"),
@@ -148,29 +147,68 @@ impl<'a> Replay<'a> {
 }
 
 /// The one user of a command.
-fn user_of(alloc: Global, matches: &ArgMatches<'_>) -> Result<NamedUser, ArgumentsFault> {
+fn user_of(alloc: Global, matches: &ArgMatches<'_>) -> Result<NamedUser, ArgumentsFault>
+    ensures { MatchResult result
+        (λ user. user_given (found_of matches.now) ≡ Some (ids_of user))
+        (λ fault. fault ≢ ArgumentsFault.NoMemory → user_given (found_of matches.now) ≡ None) }
+{
     Ok(NamedUser {
         uid: number(matches, "uid")?,
         gids: numbers(alloc, matches, "gid")?,
     })
 }
 
-fn number(matches: &ArgMatches<'_>, name: &str) -> Result<u32, ArgumentsFault> {
+/// The users of words.
+fn users_of(alloc: Global, words: &[&str]) -> Result<Vec<NamedUser>, ArgumentsFault>
+    ensures { MatchResult result
+        (λ users. all_read user_at (map (λ word. word.now) words.now) ≡ Some (map ids_of users.items))
+        (λ fault. fault ≢ ArgumentsFault.NoMemory → all_read user_at (map (λ word. word.now) words.now) ≡ None) }
+{
+    let mut users = Vec::new(alloc);
+    for word in words {
+        users.push(NamedUser::from_word(alloc, word)?)?;
+    }
+    Ok(users)
+}
+
+/// What an option was given, each time that it stands.
+fn given<'m, 'a>(matches: &'m ArgMatches<'a>, name: &str) -> Result<&'m [&'a str], ArgumentsFault>
+    ensures { MatchResult result
+        (λ words. words_at (found_of matches.now) name.now ≡ map (λ word. word.now) words.now)
+        (λ fault. (fault ≡ ArgumentsFault.Usage) × (first_value (found_of matches.now) name.now ≡ None)) }
+{
+    matches.get_strs(name).ok_or(ArgumentsFault::Usage)
+}
+
+fn number(matches: &ArgMatches<'_>, name: &str) -> Result<u32, ArgumentsFault>
+    ensures { result ≡ ok_or (number_at (found_of matches.now) name.now) ArgumentsFault.Usage }
+{
     matches.get_one(name).ok_or(ArgumentsFault::Usage)
 }
 
-fn numbers(
-    alloc: Global,
-    matches: &ArgMatches<'_>,
-    name: &str,
-) -> Result<Vec<u32>, ArgumentsFault> {
+/// All numbers that an option was given, in their order.
+fn numbers(alloc: Global, matches: &ArgMatches<'_>, name: &str) -> Result<Vec<u32>, ArgumentsFault>
+    ensures { MatchResult result
+        (λ numbers. numbers_at (found_of matches.now) name.now ≡ Some numbers.items)
+        (λ fault. fault ≢ ArgumentsFault.NoMemory → numbers_at (found_of matches.now) name.now ≡ None) }
+{
+    match matches.get_many::<u32>(name) {
+        None => Ok(Vec::new(alloc)),
+        Some(values) => all_of(alloc, values),
+    }
+}
+
+/// All numbers that are left, where each is one.
+fn all_of(alloc: Global, values: ValuesRef<'_, '_, u32>) -> Result<Vec<u32>, ArgumentsFault>
+    ensures { MatchResult result
+        (λ numbers. all_read number_read (values_left values.entry) ≡ Some numbers.items)
+        (λ fault. fault ≢ ArgumentsFault.NoMemory → all_read number_read (values_left values.entry) ≡ None) }
+{
     let mut numbers = Vec::new(alloc);
-    if let Some(values) = matches.get_many::<u32>(name) {
-        for value in values {
-            match value {
-                Ok(value) => numbers.push(value)?,
-                Err(_) => return Err(ArgumentsFault::Usage),
-            }
+    for value in values {
+        match value {
+            Ok(value) => numbers.push(value)?,
+            Err(_) => return Err(ArgumentsFault::Usage),
         }
     }
     Ok(numbers)

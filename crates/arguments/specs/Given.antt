@@ -1,0 +1,86 @@
+-- What a parse found, as the fields of requests. Own.
+use Rattle.std.specs.Prelude.{◌≡◌, ℕ, List, [], map, codes, Option, Some, None, option_and_then}
+use Rattle.std.specs.Option.{option_map, option_map_or}
+use Rattle.std.specs.Str.Parse.{without_leading_plus}
+use Rattle.clap.specs.Matches.{matched_of, first_value, one_text, raw_values, typed_values, subcommand_name_of}
+use Rattle.clap.specs.Words.{rows_of, subcommand_rows_of}
+use Rattle.clap.specs.declared.parser.matches.ArgMatches.{ArgMatches}
+use Rattle.clap.specs.declared.parser.matches.Found.{Found}
+use Rattle.arguments.specs.UserWords.{id_at, all_read, user_at}
+use Rattle.arguments.specs.declared.named_user.NamedUser.{NamedUser}
+use Rattle.arguments.specs.declared.request.May.{May}
+use Rattle.arguments.specs.declared.request.Check.{Check}
+use Rattle.arguments.specs.declared.request.Audit.{Audit}
+use Rattle.arguments.specs.declared.request.Replay.{Replay}
+use Rattle.arguments.specs.declared.request.Request.{Request}
+use Rattle.arguments.specs.declared.request.Request.TheVariants as request
+
+-- A number as `clap` reads it: an id, before which a plus sign may stand.
+abbrev pub number_read : List ℕ → Option ℕ
+number_read word = id_at (without_leading_plus word)
+
+-- what an option has to say each time that it is given
+abbrev pub words_at : Found → List ℕ → List (List ℕ)
+words_at found name = option_map_or raw_values (matched_of found name) []
+
+abbrev pub number_at : Found → List ℕ → Option ℕ
+number_at found name = option_and_then number_read (one_text found name)
+
+abbrev pub numbers_at : Found → List ℕ → Option (List ℕ)
+numbers_at found name = option_map_or (λ matched. all_read number_read (typed_values matched)) (matched_of found name) (Some [])
+
+-- the user of one `--uid`, and of any number of `--gid` in their order
+abbrev pub user_given : Found → Option (ℕ × List ℕ)
+user_given found =
+    option_and_then (λ uid. option_map (λ gids. (uid, gids)) (numbers_at found (codes "gid"))) (number_at found (codes "uid"))
+
+-- the users of any number of `--uid`, each a word of its own
+abbrev pub users_given : Found → Option (List (ℕ × List ℕ))
+users_given found = all_read user_at (words_at found (codes "uid"))
+
+abbrev pub ids_of : NamedUser → ℕ × List ℕ
+ids_of user = (user.uid, user.gids.items)
+
+-- What the request of a command holds of what was found.
+
+pub record IsMay (found : Found) (may : May) : Type 0 where
+  pub tree : option_map (λ file. file.now) may.tree ≡ first_value found (codes "tree")
+  pub user : user_given found ≡ Some (ids_of may.user)
+  pub pid : number_at found (codes "pid") ≡ Some may.pid
+  pub to : first_value found (codes "to") ≡ Some may.to.now
+
+pub record IsCheck (found : Found) (check : Check) : Type 0 where
+  pub tree : option_map (λ file. file.now) check.tree ≡ first_value found (codes "tree")
+  pub user : user_given found ≡ Some (ids_of check.user)
+  pub subtree : first_value found (codes "subtree") ≡ Some check.subtree.now
+
+pub record IsAudit (found : Found) (audit : Audit) : Type 0 where
+  pub tree : option_map (λ file. file.now) audit.tree ≡ first_value found (codes "tree")
+  pub users : users_given found ≡ Some (map ids_of audit.users.items)
+  pub subtrees : words_at found (codes "subtree") ≡ map (λ subtree. subtree.now) audit.subtrees.items
+
+pub record IsReplay (found : Found) (replay : Replay) : Type 0 where
+  pub tree : option_map (λ file. file.now) replay.tree ≡ first_value found (codes "tree")
+  pub user : user_given found ≡ Some (ids_of replay.user)
+  pub ops : first_value found (codes "ops") ≡ Some replay.ops.now
+  pub subtree : option_map (λ path. path.now) replay.subtree ≡ first_value found (codes "subtree")
+
+abbrev pub command_of : Request → Option (List ℕ)
+command_of (request.Help text) = None
+command_of (request.May may) = Some (codes "may")
+command_of (request.Check check) = Some (codes "check")
+command_of (request.Audit audit) = Some (codes "audit")
+command_of (request.Replay replay) = Some (codes "replay")
+
+abbrev pub Holds : Found → Request → Type 0
+Holds found (request.Help text) = Unit {0}
+Holds found (request.May may) = IsMay found may
+Holds found (request.Check check) = IsCheck found check
+Holds found (request.Audit audit) = IsAudit found audit
+Holds found (request.Replay replay) = IsReplay found replay
+
+-- A request is of the command that was met, and holds what was found of that command's own options.
+abbrev pub IsOf : ArgMatches → Request → Type 0
+IsOf matches asked =
+    (found : Found) × (command_of asked ≡ subcommand_name_of matches)
+    × (option_map (λ met. met.1) (subcommand_rows_of matches) ≡ Some (rows_of found)) × Holds found asked
