@@ -325,11 +325,18 @@ def settled(mount, only, subtrees_of):
         spoiled = spoiled_by(changing, subtrees_of(walk, changing))
     if b"/" in changing:
         raise Fault(f"the root cgroup: {changing[b'/']}, through {MOST_WALKS} walks")
-    # what can't be read is told of also where it is in no subtree that is known of
-    spoiled.update({path: why for path, why in changing.items()
-                    if why != CHANGED and spoiled.keys().isdisjoint((path, *ancestors(path)))})
+    spoiled = spoiled_of(changing, subtrees_of(walk, changing) if changing else ())
     walk.without(changing)
-    return walk, changing, {path: ALL_THE_TIME if why == CHANGED else why for path, why in spoiled.items()}
+    return walk, changing, spoiled
+
+
+def spoiled_of(changing, subtrees):
+    """The subtrees that are spoiled at last; what can't be read is told of also where it is in no subtree that is known of."""
+    spoiled = {path: ALL_THE_TIME if why == CHANGED else why for path, why in spoiled_by(changing, subtrees).items()}
+    for path, why in changing.items():
+        if why != CHANGED and spoiled.keys().isdisjoint((path, *ancestors(path))):
+            spoiled[path] = why
+    return spoiled
 
 
 def spoiled_by(changing, subtrees):
