@@ -183,12 +183,12 @@ def add_arguments(parser):
                         help="the mount is a folder of plain files: nothing is asked of root, mounts and namespaces")
 
 
-def take(options, subtrees_of):
+def take(options, subtrees_of, most=None):
     """A snapshot, and what is known of the mounts. `subtrees_of` gives the subtrees that are asked of, by a snapshot that may
-    have changed while it was taken, and by what changed."""
+    have changed while it was taken, and by what changed. More cgroups than `most` are a fault after one walk."""
     mounts = Mounts("") if options.plain_folder else refuse_what_is_no_host(options.mount)
     walk, changing, spoiled = settled(options.mount, options.only,
-                                      lambda walk, changing: subtrees_of(Snapshot(walk, {}), changing))
+                                      lambda walk, changing: subtrees_of(Snapshot(walk, {}), changing), most)
     snapshot = Snapshot(walk, read_processes(options.proc), changing, spoiled)
     note_first_version(snapshot, mounts)
     return snapshot, mounts
