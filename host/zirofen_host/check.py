@@ -114,11 +114,15 @@ class Checked:
         texts.fill(lambda path: self.questions.holders[path].uids)
         self.program = Programs(options, folder, texts, snapshot)
         plan, cut = self.questions.plan
-        self.asked = {user for users, _ in plan for user in users}
         answers = self.program.ask(plan)
         further = self.questions.further(answers)
-        self.asked |= {user for users, _ in further for user in users}
         answers.update(self.program.ask(further))
+        self.asked, self.asked_of = set(), defaultdict(list)
+        for users, paths in (*plan, *further):
+            self.asked.update(users)
+            asked = frozenset(users)
+            for path in paths:
+                self.asked_of[path].append(asked)
         self.is_asked = bool(plan or cut)
         self.spoiled.update(self.program.refused)
         self.questions.leave_out(self.program.refused)
@@ -129,15 +133,22 @@ class Checked:
     def answers_of(self, subtree):
         """What those who hold a subtree were answered, each answer once with whom it is of."""
         groups = defaultdict(list)
-        for uid in sorted(self.questions.holders[subtree].uids):
-            asked = [user for user in self.asked_by_uid[uid] if self.questions.holds(user, subtree)]
+        uids = self.questions.holders[subtree].uids
+        for uid in sorted(uids):
+            asked = [user for user in self.asked_by_uid[uid] if self.questions.holds(user, subtree) and self.was_asked(user, subtree)]
             asked = max(asked, key=lambda user: len(user.gids), default=None)
             contained = (asked, Answer(CONTAINED, ["contained"]), False)
             user, answer, is_above = self.judged.own.get((uid, subtree), contained)
-            if user is None:
+            if user is not None:
+                groups[tuple(answer.lines), is_above].append((uid, user))
+            elif not self.questions.is_above(uid, subtree):
                 raise Fault(f"uid {uid} holds {subtree} and wasn't asked of it: this helper is wrong")
-            groups[tuple(answer.lines), is_above].append((uid, user))
+        if uids and not groups:
+            raise Fault(f"nobody was asked of {subtree}: this helper is wrong")
         return [self.answer(subtree, lines, is_above, found) for (lines, is_above), found in sorted(groups.items())]
+
+    def was_asked(self, user, subtree):
+        return any(user in users for users in self.asked_of[subtree])
 
     def answer(self, subtree, lines, is_above, found):
         holders = self.questions.holders[subtree]
