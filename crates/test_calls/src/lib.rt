@@ -2,6 +2,8 @@
 #![tactic(auto)]
 
 #[cfg(test)]
+mod answers_written;
+#[cfg(test)]
 mod audit;
 #[cfg(test)]
 mod changed;
