@@ -4,6 +4,8 @@
 #[cfg(test)]
 mod advise;
 #[cfg(test)]
+mod answers_written;
+#[cfg(test)]
 mod audit;
 #[cfg(test)]
 mod audit_all;
