@@ -1,0 +1,102 @@
+"""A kernel of Debian's, and a small machine in which it runs a file of cases under plain emulation."""
+import glob
+import os
+import re
+import shutil
+import subprocess
+import tempfile
+
+HERE = os.path.dirname(os.path.abspath(__file__))
+INIT = os.path.join(HERE, "..", "init.c")
+WARNINGS = ["-Wall", "-Wextra", "-Werror"]
+QEMU = "qemu-system-x86_64"
+NEEDED = {QEMU: "qemu-system-x86", "apt-cache": "apt", "dpkg-deb": "dpkg", "cc": "gcc"}
+WORDS = "console=ttyS0 quiet loglevel=1 panic=-1 cgroup_no_v1=all mitigations=off"
+FOLDERS = ["dev", "proc", "sys"]
+
+
+class Missing(Exception):
+    """Something that a run stands on isn't there; its text says what."""
+
+
+def need_machine():
+    if os.geteuid() != 0:
+        raise Missing("no root: Debian's packages are fetched and unpacked by root")
+    for name, package in NEEDED.items():
+        if not shutil.which(name):
+            raise Missing(f"no {name}: it is of Debian's package {package}")
+
+
+def ran(*words, **how):
+    return subprocess.run(words, capture_output=True, text=True, **how)
+
+
+def package_of(version):
+    """The newest packaged kernel of a version, as 6.1."""
+    listed = ran("apt-cache", "pkgnames", f"linux-image-{version}").stdout.split()
+    named = [name for name in listed if re.fullmatch(rf"linux-image-{re.escape(version)}[.+-].*cloud-amd64", name)]
+    if not named:
+        raise Missing(f"no kernel {version}: apt knows no linux-image-{version}*-cloud-amd64")
+    return max(named, key=lambda name: [int(number) for number in re.findall(r"\d+", name)])
+
+
+def kernel_of(version, kept):
+    """The kernel's file and the name of its package, fetched where the folder doesn't keep it."""
+    package = package_of(version)
+    at = os.path.join(kept, package)
+    found = glob.glob(os.path.join(at, "boot/vmlinuz-*"))
+    if not found:
+        os.makedirs(at, exist_ok=True)
+        fetched = ran("apt-get", "download", package, cwd=at)
+        for name in glob.glob(os.path.join(at, "*.deb")):
+            ran("dpkg-deb", "-x", name, at)
+            os.remove(name)
+        found = glob.glob(os.path.join(at, "boot/vmlinuz-*"))
+        if not found:
+            raise Missing(f"no kernel {version}: {package} isn't fetched: {fetched.stderr.strip()[-200:]}")
+    return found[0], package
+
+
+def compile_init(to):
+    """Compiles the init; what the compiler says, which is nothing where it is right."""
+    return ran("cc", "-static", "-O1", *WARNINGS, "-o", to, INIT).stderr
+
+
+def archive(files):
+    """An archive of the form newc of (name, mode, bytes)."""
+    data = bytearray()
+    for number, (name, mode, content) in enumerate([*files, ("TRAILER!!!", 0, b"")], 1):
+        spelled = name.encode() + b"\0"
+        fields = [number, mode, 0, 0, 1, 0, len(content), 0, 0, 0, 0, len(spelled), 0]
+        data += b"070701" + b"".join(b"%08x" % field for field in fields) + spelled
+        data += b"\0" * (-len(data) % 4) + content
+        data += b"\0" * (-len(data) % 4)
+    return bytes(data)
+
+
+def run(kernel, script, seconds):
+    """What the init writes of a script in one boot, and the console's text."""
+    with tempfile.TemporaryDirectory() as room:
+        said = compile_init(os.path.join(room, "init"))
+        if said:
+            raise Missing(f"no init: {said.splitlines()[0]}")
+        with open(os.path.join(room, "init"), "rb") as text:
+            init = text.read()
+        files = [(name, 0o040755, b"") for name in FOLDERS] + [("init", 0o100755, init), ("cases", 0o100644, script.encode())]
+        with open(os.path.join(room, "archive"), "wb") as out:
+            out.write(archive(files))
+        words = [QEMU, "-accel", "tcg", "-smp", "1", "-m", "512", "-nodefaults", "-display", "none", "-no-reboot", "-kernel", kernel,
+                 "-initrd", os.path.join(room, "archive"), "-append", WORDS,
+                 "-serial", f"file:{room}/console", "-serial", f"file:{room}/said"]
+        try:
+            subprocess.run(words, capture_output=True, timeout=seconds)
+        except subprocess.TimeoutExpired:
+            pass
+        return [read(os.path.join(room, name)) for name in ("said", "console")]
+
+
+def read(path):
+    if not os.path.exists(path):
+        return ""
+    with open(path, encoding="latin-1", newline="\n") as text:
+        return text.read()
