@@ -7,6 +7,7 @@ mod CheckReports
 mod EachRead
 mod AuditReports
 mod AuditStatus
+mod Once
 mod AllPairs
 mod Closings
 mod ReplayCalls

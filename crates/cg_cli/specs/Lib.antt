@@ -9,5 +9,6 @@ pub mod Replays
 pub mod Replaying
 pub mod Containment
 pub mod Audits
+pub mod Once
 pub mod AllPairs
 pub mod EscapeReplays
