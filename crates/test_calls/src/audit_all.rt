@@ -126,8 +126,9 @@ fn a_pair_names_its_groups(rt: HostRuntime) -> Result<(), Fail> {
     let plain = user(1000, NO_GROUPS);
     let member = user(1000, &[50]);
     let second = user(1000, &[7, 50, 8]);
+    let turned = user(1000, &[50, 7, 8]);
     let report =
-        "pair 1000:50 /c0\nescapes\nmove 10 /c0\npair 1000:7,50,8 /c0\nescapes\nmove 10 /c0\n";
+        "pair 1000:50 /c0\nescapes\nmove 10 /c0\npair 1000:7,50,8 /c0\nescapes\nmove 10 /c0\npair 1000:50,7,8 /c0\nescapes\nmove 10 /c0\n";
     let tree = GROUP.text(rt.alloc())?;
     let mut out = Vec::new(rt.alloc());
     assert_eq!(rt;
