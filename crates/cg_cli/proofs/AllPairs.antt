@@ -1,11 +1,11 @@
 -- Pairs written one after another, and what the report on them is where it ends early.
-use Rattle.std.proofs.Common.{◌≡◌, ◌≢◌, ℕ, suc, ◌+◌, ◌<◌, ◌||◌, Bool, true, false, cond, nat_eq, List, [], ◌∷◌, ◌++◌, length, get_or, take, drop, drop-cons, add-one, Option, Some, None, Result, Ok, Err, refl, sym, ap, ◌∙◌, subst, append_assoc, append-nil, length-append, arith}
+use Rattle.std.proofs.Common.{◌≡◌, ◌≢◌, ℕ, suc, ◌+◌, ◌<◌, ◌||◌, Bool, true, false, cond, nat_eq, List, [], ◌∷◌, ◌++◌, length, get_or, take, drop, drop-cons, add-one, Option, Some, None, Result, Ok, Err, IfOk, refl, sym, ap, ◌∙◌, subst, append_assoc, append-nil, length-append, arith}
 use Rattle.std.specs.List.{list_any, flat_map}
 use Rattle.std.specs.Io.KnownBytes.{Appends}
 use Rattle.std.proofs.KnownBytes.{Appends-nil, Appends-trans}
 use Rattle.std.proofs.lemmas.List.{take-append-le}
 use Rattle.std.proofs.lemmas.List.Concat.{flat_map-append}
-use Rattle.cg_cgroup.specs.Paths.{Names}
+use Rattle.cg_cgroup.specs.Paths.{Names, same_path}
 use Rattle.cg_cgroup.specs.Identity.{Identity}
 use Rattle.cg_tree.specs.States.{State}
 use Rattle.cg_ops.specs.Clauses.{first}
@@ -24,9 +24,10 @@ use Rattle.cg_report.specs.PairLines.{pair_text, pairs_text}
 use Rattle.cg_cli.specs.Faults.{lifted, lifted_check}
 use Rattle.cg_cli.specs.Audits.{users_read, paths_read}
 use Rattle.cg_cli.specs.Containment.{in_call, answer_status}
+use Rattle.cg_cli.specs.Once.{once, same_user}
 use Rattle.cg_cli.specs.Reports.{takes_memory}
 use Rattle.cg_cli.specs.Written.{AppendsPart}
-use Rattle.cg_cli.specs.AllPairs.{is_escape, pairs_status, worse, listing_text, LeavesWhole, WritesPairs, read_then, pairs_found, all_report, ReportsPairs}
+use Rattle.cg_cli.specs.AllPairs.{is_escape, pairs_status, worse, listing_text, LeavesWhole, WritesPairs, read_then, pairs_found, all_report, ReportsPairs, UnlistedAreContained}
 use Rattle.cg_cli.specs.declared.fault.CliFault.{CliFault}
 use Rattle.cg_cli.specs.declared.fault.CliFault.TheVariants.{BadPath, Write, NoMemory}
 use Rattle.cg_cli.proofs.AuditReports.{lifted_takes, paths_fault}
@@ -245,9 +246,12 @@ module _ (st : State) (users : List Identity) (subtrees : List Names) where
 
 -- ---- what is read before
 
+same_Ok : {A : Type 0} (x y : A) → let r : Result A CliFault = Ok x in let s : Result A CliFault = Ok y in r ≡ s → x ≡ y
+same_Ok x y same = cc
+
 abbrev chain : Result (List Identity) CliFault → Result (List Names) CliFault → Result State TreeFault → Result (List Listed) CliFault
 chain users subtrees tree =
-    read_then users (λ users. read_then subtrees (λ subtrees. read_then (elim tree [ Ok st ↦ Ok st | Err fault ↦ Err (lifted fault) ]) (λ st. pairs_found st users subtrees)))
+    read_then users (λ users. read_then subtrees (λ subtrees. read_then (elim tree [ Ok st ↦ Ok st | Err fault ↦ Err (lifted fault) ]) (λ st. pairs_found st (once same_user users) (once same_path subtrees))))
 
 abbrev takes : Result (List Listed) CliFault → Bool
 takes (Ok found) = true
@@ -268,7 +272,7 @@ pairs_take (Some NoSuchSubtree) found = refl
 pairs_take (Some CheckNoMemory) found = refl
 
 tree_takes : (users : List Identity) (subtrees : List Names) (tree : Result State TreeFault) → takes (chain (Ok users) (Ok subtrees) tree) ≡ true
-tree_takes users subtrees (Ok st) = pairs_take (first (flat_map (subtree_faults st) subtrees)) (listed st users subtrees)
+tree_takes users subtrees (Ok st) = pairs_take (first (flat_map (subtree_faults st) (once same_path subtrees))) (listed st (once same_user users) (once same_path subtrees))
 tree_takes users subtrees (Err fault) = lifted_takes fault
 
 paths_take : (users : List Identity) (subtrees : Result (List Names) CliFault) (tree : Result State TreeFault) → ((fault : CliFault) → subtrees ≡ Err fault → fault ≡ BadPath) → takes (chain (Ok users) subtrees tree) ≡ true
@@ -301,5 +305,22 @@ module _ (text : List ℕ) (given : List (ℕ × List ℕ)) (texts : List (List 
       tree_fault_said fault stated =
           subst (λ r. ReportsPairs r known known (Err (lifted fault))) (sym (by_tree ∙ ap (chain (Ok users) (Ok subtrees)) (stated (λ same. cc)))) (refl, keeps known)
 
-      pub tree_said : (st : State) (new : Option (List ℕ)) (result : Result ℕ CliFault) → tree_of text ≡ Ok st → ReportsPairs (pairs_found st users subtrees) known new result → ReportsPairs (all_report text given texts) known new result
-      tree_said st new result of_text = subst (λ r. ReportsPairs r known new result) (sym (by_tree ∙ ap (chain (Ok users) (Ok subtrees)) of_text))
+      module _ (kept_users : List Identity) (kept_subtrees : List Names) (users_once : kept_users ≡ once same_user users) (subtrees_once : kept_subtrees ≡ once same_path subtrees) (st : State) (of_text : tree_of text ≡ Ok st) where
+        pub tree_said : (new : Option (List ℕ)) (result : Result ℕ CliFault) → ReportsPairs (pairs_found st kept_users kept_subtrees) known new result → ReportsPairs (all_report text given texts) known new result
+        tree_said new result said =
+            subst (λ r. ReportsPairs r known new result) (sym (by_tree ∙ ap (chain (Ok users) (Ok subtrees)) of_text))
+            (subst (λ r. ReportsPairs r known new result) (λ i. pairs_found st (users_once i) (subtrees_once i)) said)
+
+        pub unlisted_said : (result : Result ℕ CliFault) → IfOk result (λ status. UnlistedAreContained st kept_users kept_subtrees)
+            → IfOk result (λ status. (start : State) (who : List Identity) (paths : List Names) → tree_of text ≡ Ok start → users_read given ≡ Ok who → paths_read texts ≡ Ok paths → UnlistedAreContained start (once same_user who) (once same_path paths))
+        unlisted_said (Err fault) said = tt
+        unlisted_said (Ok status) said = λ start who paths is_start is_who are_paths.
+            let e : st ≡ start = same_start (sym of_text ∙ is_start) in
+            let f : users ≡ who = same_Ok users who (sym of_users ∙ is_who) in
+            let h : subtrees ≡ paths = same_Ok subtrees paths (sym of_paths ∙ are_paths) in
+            subst (λ (s : State). UnlistedAreContained s (once same_user who) (once same_path paths)) e
+            (subst (λ l. UnlistedAreContained st l (once same_path paths)) (users_once ∙ ap (once same_user) f)
+            (subst (λ l. UnlistedAreContained st kept_users l) (subtrees_once ∙ ap (once same_path) h) said))
+          where
+            same_start : {start : State} → let r : Result State TreeFault = Ok st in let s : Result State TreeFault = Ok start in r ≡ s → st ≡ start
+            same_start same = cc

@@ -8,6 +8,7 @@ mod AdviseReports
 mod EachRead
 mod AuditReports
 mod AuditStatus
+mod Once
 mod AllPairs
 mod Closings
 mod ReplayCalls

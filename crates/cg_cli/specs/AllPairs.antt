@@ -2,7 +2,7 @@
 use Rattle.std.specs.Prelude.{◌≡◌, ◌≢◌, ℕ, Bool, true, false, ◌||◌, cond, nat_eq, List, [], ◌∷◌, ◌++◌, Option, Result, Ok, Err, codes}
 use Rattle.std.specs.List.{list_any, flat_map, All}
 use Rattle.std.specs.Io.KnownBytes.{Appends, Keeps}
-use Rattle.cg_cgroup.specs.Paths.{Names}
+use Rattle.cg_cgroup.specs.Paths.{Names, same_path}
 use Rattle.cg_cgroup.specs.Identity.{Identity}
 use Rattle.cg_tree.specs.States.{State}
 use Rattle.cg_ops.specs.Clauses.{first}
@@ -15,6 +15,7 @@ use Rattle.cg_report.specs.PairLines.{pairs_text}
 use Rattle.cg_cli.specs.Audits.{users_read, paths_read}
 use Rattle.cg_cli.specs.Containment.{in_call}
 use Rattle.cg_cli.specs.May.{tree_read}
+use Rattle.cg_cli.specs.Once.{once, same_user}
 use Rattle.cg_cli.specs.Reports.{takes_memory}
 use Rattle.cg_cli.specs.Written.{AppendsPart}
 use Rattle.cg_cli.specs.declared.fault.CliFault.{CliFault}
@@ -59,12 +60,12 @@ abbrev pub pairs_found : State → List Identity → List Names → Result (List
 pairs_found st users subtrees = in_call (unless_fault (first (flat_map (subtree_faults st) subtrees)) (listed st users subtrees))
 
 -- All users are looked at first, each with his uid before his gids; then all paths, the tree's text, and whether the
--- subtrees are ones that can be checked.
+-- subtrees are ones that can be checked. Who and what is named again counts once.
 abbrev pub all_report : List ℕ → List (ℕ × List ℕ) → List (List ℕ) → Result (List Listed) CliFault
 all_report text given texts =
     read_then (users_read given) (λ users.
     read_then (paths_read texts) (λ subtrees.
-    read_then (tree_read text) (λ st. pairs_found st users subtrees)))
+    read_then (tree_read text) (λ st. pairs_found st (once same_user users) (once same_path subtrees))))
 
 -- What a call that writes each pair as it is found answers, and has written by then. A status is that of all pairs, whose
 -- text is written. A failed write leaves a part of the text, and want of memory some of the pairs. Any other fault is the

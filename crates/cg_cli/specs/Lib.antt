@@ -10,6 +10,7 @@ pub mod Replaying
 pub mod Containment
 pub mod Upgrades
 pub mod Audits
+pub mod Once
 pub mod AllPairs
 pub mod Advising
 pub mod EscapeReplays

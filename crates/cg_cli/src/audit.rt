@@ -55,7 +55,7 @@ pub fn audit_bytes<W: Write>(
 }
 
 /// The users, or the first fault of one, which takes no memory to find.
-pub(crate) fn read_users(alloc: Global, users: &[UserIds<'_>]) -> Result<Vec<User>, CliFault>
+fn read_users(alloc: Global, users: &[UserIds<'_>]) -> Result<Vec<User>, CliFault>
     ensures read { MatchResult result
         (λ read. users_read (map (λ user. (user.uid, user.gids.now)) users.now) ≡ Ok read.items)
         (λ fault. fault ≢ CliFault.NoMemory → users_read (map (λ user. (user.uid, user.gids.now)) users.now) ≡ Err fault) }
@@ -71,7 +71,7 @@ pub(crate) fn read_users(alloc: Global, users: &[UserIds<'_>]) -> Result<Vec<Use
 }
 
 /// Whether every user can be one.
-fn test_users(users: &[UserIds<'_>]) -> Result<(), CliFault>
+pub(crate) fn test_users(users: &[UserIds<'_>]) -> Result<(), CliFault>
     ensures faults { (fault : CliFault)
         → users_read (map (λ user. (user.uid, user.gids.now)) users.now) ≡ Err fault → result ≡ Err fault }
     ensures fault { IfErr result (λ fault. users_read (map (λ user. (user.uid, user.gids.now)) users.now) ≡ Err fault) }
@@ -82,7 +82,7 @@ fn test_users(users: &[UserIds<'_>]) -> Result<(), CliFault>
     Ok(())
 }
 
-pub(crate) fn read_paths(alloc: Global, texts: &[&str]) -> Result<Vec<Path>, CliFault>
+fn read_paths(alloc: Global, texts: &[&str]) -> Result<Vec<Path>, CliFault>
     ensures { MatchResult result
         (λ read. paths_read (map (λ text. text.now) texts.now) ≡ Ok read.items)
         (λ fault. fault ≢ CliFault.NoMemory → paths_read (map (λ text. text.now) texts.now) ≡ Err fault) }

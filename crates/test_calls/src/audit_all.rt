@@ -72,6 +72,14 @@ fn every_pair_that_is_not_contained_is_listed_once(rt: HostRuntime) -> Result<()
         (&[first, second], &["/c0", "/c0/c00", "/c1"], both, 1),
         (&[second, first], &["/c0/c00", "/c0"], turned, 1),
         (&[first], &["/c0", "/c0/c00"], inner, 1),
+        (
+            &[second, first, second],
+            &["/c0/c00", "/c0", "/c0"],
+            turned,
+            1,
+        ),
+        (&[first, second, first], &["/c0", "/c0/c00", "/c0"], both, 1),
+        (&[second, second], &["/c0", "/c0"], escape, 1),
         (&[first, second], &["/c1"], "contained\n", 0),
         (&[first, first], &["/c0", "/c1"], "contained\n", 0),
         (&[], &["/c0"], "contained\n", 0),
@@ -118,15 +126,16 @@ fn a_pair_names_its_groups(rt: HostRuntime) -> Result<(), Fail> {
     let plain = user(1000, NO_GROUPS);
     let member = user(1000, &[50]);
     let second = user(1000, &[7, 50, 8]);
+    let turned = user(1000, &[50, 7, 8]);
     let report =
-        "pair 1000:50 /c0\nescapes\nmove 10 /c0\npair 1000:7,50,8 /c0\nescapes\nmove 10 /c0\n";
+        "pair 1000:50 /c0\nescapes\nmove 10 /c0\npair 1000:7,50,8 /c0\nescapes\nmove 10 /c0\npair 1000:50,7,8 /c0\nescapes\nmove 10 /c0\n";
     let tree = GROUP.text(rt.alloc())?;
     let mut out = Vec::new(rt.alloc());
     assert_eq!(rt;
         audit_all_bytes(
             rt.alloc(),
             tree.as_bytes(),
-            &[plain, member, second],
+            &[plain, member, second, turned, member],
             &["/c0"],
             &mut out
         ),
