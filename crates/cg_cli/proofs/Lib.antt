@@ -5,6 +5,7 @@ mod ReplayEnds
 mod ReplayReads
 mod CheckReports
 mod AdviseReports
+mod AdvisedTrees
 mod EachRead
 mod AuditReports
 mod AuditStatus
