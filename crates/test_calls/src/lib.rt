@@ -26,6 +26,8 @@ mod samples;
 #[cfg(test)]
 mod strangers;
 #[cfg(test)]
+mod upgrade;
+#[cfg(test)]
 mod vectors;
 #[cfg(test)]
 mod writers;
