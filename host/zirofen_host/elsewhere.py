@@ -3,6 +3,7 @@
 A comment of a text that begins with `#= ` is a value in JSON, with one key: what the tree has no place for. All of it is
 what a check on the host itself would have looked at, but for open descriptors and the settings of units.
 """
+import atexit
 import json
 import os
 import re
@@ -60,8 +61,10 @@ class Judged:
 
     def __init__(self, file, program):
         content = bytes_of(file)
-        self.folder = tempfile.TemporaryDirectory()
-        self.file = os.path.join(self.folder.name, "tree.toml")
+        folder = tempfile.TemporaryDirectory()
+        # the file stands for as long as it may be asked of
+        atexit.register(folder.cleanup)
+        self.file = os.path.join(folder.name, "tree.toml")
         with open(self.file, "wb") as out:
             out.write(content)
         Program(program, self.file).refuse_text()
