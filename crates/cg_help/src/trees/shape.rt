@@ -144,7 +144,8 @@ fn named_said(
 fn keys_said(alloc: Global, table: &Table, keys: &[Key]) -> Result<Option<String>, AllocError> {
     if let Some(key) = unknown_key(table, keys) {
         let shown = quoted(alloc, key)?;
-        return Ok(Some(format!(in alloc; "there is no key {shown}; a gid is in format 2 alone")?));
+        let names = names_of(alloc, keys)?;
+        return Ok(Some(format!(in alloc; "there is no key {shown}, but{names}")?));
     }
     for (key, kind, is_needed) in keys {
         if let Some(why) = key_said(alloc, table, key, *kind, *is_needed)? {
