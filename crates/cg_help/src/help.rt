@@ -182,10 +182,39 @@ fn one_line(alloc: Global, text: &str, number: u32) -> Result<Option<String>, No
     let mut left = number;
     for line in text.split('\n') {
         if left <= 1 {
-            let shown = quoted(alloc, line)?;
-            return Ok(Some(format!(in alloc; "the line is: {shown}")?));
+            return line_and_form(alloc, line);
         }
         left -= 1;
     }
     Ok(None)
+}
+
+fn line_and_form(alloc: Global, line: &str) -> Result<Option<String>, NoMemory> {
+    let shown = quoted(alloc, line)?;
+    let form = form_of(line);
+    Ok(Some(format!(in alloc;
+        "the line is '{shown}'\n{form}, with one space between words and a newline behind"
+    )?))
+}
+
+/// What an operation's line looks like that begins as this one.
+fn form_of(line: &str) -> &'static str {
+    match first_word(line) {
+        "move" => "move PID PATH",
+        "control" => "control PATH +CONTROLLER -CONTROLLER ..",
+        "mkdir" => "mkdir PATH",
+        "rmdir" => "rmdir PATH",
+        "set" => "set PATH LIMITFILE NUMBER, or max in place of the number",
+        "fork" => "fork PARENTPID CHILDPID",
+        "exit" => "exit PID",
+        "chmod" => "chmod PATH ENTRY MODE, of three octal digits",
+        _ => "an operation is move, control, mkdir, rmdir, set, fork, exit or chmod",
+    }
+}
+
+fn first_word(line: &str) -> &str {
+    match line.split_once(' ') {
+        Some((word, _)) => word,
+        None => line,
+    }
 }

@@ -17,7 +17,7 @@ pub(crate) fn why_no_path(alloc: Global, text: &str) -> Result<Option<String>, A
     if why == "" {
         return why_no_name(alloc, text, shown.as_str());
     }
-    Ok(Some(format!(in alloc; "{shown}: {why}")?))
+    Ok(Some(format!(in alloc; "'{shown}': {why}")?))
 }
 
 /// What is wrong with a text as a whole; nothing where its names decide.
@@ -25,7 +25,7 @@ fn why_not(text: &str) -> &'static str {
     if text.is_empty() {
         "a path is empty; the root is /"
     } else if !text.starts_with('/') {
-        "a path begins with /, which is the mount"
+        "a path begins with /, and / is the mount"
     } else if LONGEST_PATH < text.len() {
         "a path has at most 4095 bytes"
     } else if text.ends_with('/') && text != "/" {
@@ -41,7 +41,7 @@ fn why_no_name(alloc: Global, text: &str, shown: &str) -> Result<Option<String>,
         let why = why_not_named(name);
         if why != "" && text != "/" {
             let name = quoted(alloc, name)?;
-            return Ok(Some(format!(in alloc; "{shown}: the name '{name}' {why}")?));
+            return Ok(Some(format!(in alloc; "'{shown}': the name '{name}' {why}")?));
         }
     }
     Ok(None)
@@ -89,9 +89,9 @@ pub(crate) fn why_missing(alloc: Global, text: &str) -> Result<String, AllocErro
     let shown = quoted(alloc, text)?;
     if text.starts_with(MOUNT) {
         format!(in alloc;
-            "{shown} begins with the mount: paths are below /sys/fs/cgroup, and don't name it"
+            "'{shown}' begins with the mount: paths are below /sys/fs/cgroup, and don't name it"
         )
     } else {
-        format!(in alloc; "{shown} has to be the path of a row of the tree")
+        format!(in alloc; "'{shown}' has to be the path of a row of the tree")
     }
 }

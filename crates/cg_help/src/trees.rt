@@ -70,8 +70,12 @@ fn plainly(alloc: Global, words: &str) -> Result<Option<String>, AllocError> {
 }
 
 fn path_said(alloc: Global, top: &Table, place: Place) -> Result<Option<String>, AllocError> {
-    match text_at(top, place, "path") {
-        Some(path) => why_no_path(alloc, path),
+    let Some(path) = text_at(top, place, "path") else {
+        return Ok(None);
+    };
+    let label = label(alloc, top, place)?;
+    match why_no_path(alloc, path)? {
+        Some(why) => Ok(Some(format!(in alloc; "{label}: {why}")?)),
         None => Ok(None),
     }
 }

@@ -89,7 +89,7 @@ pub(super) fn shape_said(
     }
     match inner_said(alloc, table)? {
         Some(why) => Ok(Some(format!(in alloc; "{label}: {why}")?)),
-        None => Ok(None),
+        None => Ok(Some(format!(in alloc; "{label}: in format 1 there is no key gid")?)),
     }
 }
 
@@ -144,7 +144,8 @@ fn named_said(
 fn keys_said(alloc: Global, table: &Table, keys: &[Key]) -> Result<Option<String>, AllocError> {
     if let Some(key) = unknown_key(table, keys) {
         let shown = quoted(alloc, key)?;
-        return Ok(Some(format!(in alloc; "there is no key {shown}; a gid is in format 2 alone")?));
+        let names = names_of(alloc, keys)?;
+        return Ok(Some(format!(in alloc; "there is no key {shown}, but{names}")?));
     }
     for (key, kind, is_needed) in keys {
         if let Some(why) = key_said(alloc, table, key, *kind, *is_needed)? {
@@ -152,6 +153,16 @@ fn keys_said(alloc: Global, table: &Table, keys: &[Key]) -> Result<Option<String
         }
     }
     Ok(None)
+}
+
+/// The names of keys, each behind a space.
+fn names_of(alloc: Global, keys: &[Key]) -> Result<String, AllocError> {
+    let mut names = String::new(alloc);
+    for (key, _, _) in keys {
+        names.push_str(" ")?;
+        names.push_str(key)?;
+    }
+    Ok(names)
 }
 
 fn unknown_key<'a>(table: &'a Table, keys: &[Key]) -> Option<&'a str> {
