@@ -8,5 +8,6 @@ pub mod Courses
 pub mod Replays
 pub mod Replaying
 pub mod Containment
+pub mod Upgrades
 pub mod Audits
 pub mod EscapeReplays

@@ -9,4 +9,5 @@ pub mod input;
 pub mod laws;
 pub mod may;
 pub mod replay;
+pub mod upgrade;
 pub mod write;

@@ -1,0 +1,7 @@
+//! Tree texts written: from a tree to its document, and to the text of that.
+#![tactic(auto)]
+
+mod cgroups;
+mod keys;
+mod processes;
+pub mod tree;
