@@ -4,6 +4,7 @@ mod ReplayRuns
 mod ReplayEnds
 mod ReplayReads
 mod CheckReports
+mod AdviseReports
 mod EachRead
 mod AuditReports
 mod AuditStatus

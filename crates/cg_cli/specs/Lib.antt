@@ -10,4 +10,5 @@ pub mod Replaying
 pub mod Containment
 pub mod Upgrades
 pub mod Audits
+pub mod Advising
 pub mod EscapeReplays

@@ -1,6 +1,7 @@
 //! The commands over bytes: a tree's text and a writer in, a status or a fault out.
 #![tactic(auto)]
 
+pub mod advise;
 pub mod arguments;
 pub mod audit;
 pub mod check;

@@ -9,3 +9,4 @@ pub mod Steps
 pub mod FirstFailed
 pub mod OperationLaws
 pub mod KeptOff
+pub mod TableWalk

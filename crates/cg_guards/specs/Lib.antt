@@ -4,3 +4,5 @@ pub mod Guards
 pub mod Guarding
 pub mod GuardedUsers
 pub mod Sound
+pub mod Standing
+pub mod GuardNames

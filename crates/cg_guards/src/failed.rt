@@ -165,7 +165,7 @@ fn failed_in(
 }
 
 /// Whether a user writes or owns an entry.
-pub(crate) fn reaches(user: &User, entry: &Entry) -> bool
+pub fn reaches(user: &User, entry: &Entry) -> bool
     ensures { result ≡ reaches user.now entry.now }
 {
     user.may_write(entry) || user.owns(entry)

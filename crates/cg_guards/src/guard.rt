@@ -1,4 +1,7 @@
 //! The guards of a subtree against a user.
+ghost use Rattle.std.specs.Prelude.{◌≡◌};
+ghost use Rattle.cg_guards.specs.GuardNames.{guard_name};
+
 use cg_cgroup::files::LimitFile;
 
 /// What containment of a subtree against a user stands on, in the order in which it is asked.
@@ -14,6 +17,21 @@ pub enum Guard {
     ParentDir,
     /// The subtree is within its own limits of descendants and depth.
     AlreadyOver,
+}
+
+impl Guard {
+    /// The name in reports.
+    pub fn name(self) -> &'static str
+        ensures { result.now ≡ guard_name self }
+    {
+        match self {
+            Guard::CommonAncestor => "common-ancestor",
+            Guard::LimitFile(_) => "limit-file",
+            Guard::ParentControl => "parent-control",
+            Guard::ParentDir => "parent-dir",
+            Guard::AlreadyOver => "already-over",
+        }
+    }
 }
 
 /// A guard that fails, and the cgroup at which it does: that of the first `len` names of the subtree's path.

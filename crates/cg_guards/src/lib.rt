@@ -4,4 +4,5 @@
 pub mod failed;
 pub mod guard;
 pub mod laws;
+pub mod table;
 pub mod users;

@@ -2,6 +2,8 @@
 #![tactic(auto)]
 
 #[cfg(test)]
+mod advise;
+#[cfg(test)]
 mod audit;
 #[cfg(test)]
 mod changed;

@@ -1,0 +1,5 @@
+pub mod OwnerLaws
+pub mod Taken
+pub mod Running
+pub mod Advising
+pub mod Written

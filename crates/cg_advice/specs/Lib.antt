@@ -1,0 +1,4 @@
+pub mod Mended
+pub mod Mends
+pub mod AdviceLines
+pub mod Advised

@@ -1,0 +1,116 @@
+-- The table of the guarded entries, by places.
+use Rattle.std.proofs.Common.{◌≡◌, ℕ, zero, suc, ◌+◌, ◌-◌, ◌<◌, ◌≤◌, List, [], ◌∷◌, ◌++◌, length, drop, get_or, Option, Some, option_and_then, refl, sym, ap, ◌∙◌, arith}
+use Rattle.std.specs.Prelude.{slice_get}
+use Rattle.std.specs.List.{flat_map}
+use Rattle.std.specs.Option.{option_map}
+use Rattle.std.proofs.lemmas.List.{length-append}
+use Rattle.std.proofs.lemmas.Option.{slice_get-map, slice_get-get_or}
+use Rattle.cg_cgroup.specs.Paths.{Names, IsPath}
+use Rattle.cg_cgroup.specs.PathText.{names_text}
+use Rattle.cg_cgroup.specs.Files.{all_files}
+use Rattle.cg_cgroup.specs.declared.files.LimitFile.{LimitFile}
+use Rattle.cg_cgroup.proofs.PathEnds.{path_bytes}
+use Rattle.cg_cgroup.specs.declared.files.EntryName.{EntryName}
+use Rattle.cg_cgroup.specs.declared.user.Entry.{Entry}
+use Rattle.cg_cgroup.specs.declared.cgroup.Cgroup.{Cgroup}
+use Rattle.cg_cgroup.specs.Cgroups.{entry_in}
+use Rattle.cg_tree.specs.States.{State, row_at}
+use Rattle.cg_tree.specs.WellFormed.{IsWellFormed}
+use Rattle.cg_ops.specs.Clauses.{present}
+use Rattle.cg_guards.specs.Guards.{Guarded, ancestor, ancestors, limit_file, limit_files, parent_control, parent_dir, guarded_entries}
+use Rattle.cg_guards.specs.Standing.{standing, parent_guards}
+use Rattle.cg_guards.specs.declared.table.GuardedEntry.{GuardedEntry}
+
+-- ---- places of joined lists
+
+module _ {A : Type 0} where
+  get_front : (xs ys : List A) (k : ℕ) → k < length xs → slice_get (xs ++ ys) k ≡ slice_get xs k
+  get_front [] ys k h = absurd (omega arith)
+  get_front (x ∷ xs) ys zero h = refl
+  get_front (x ∷ xs) ys (suc k) h = get_front xs ys k (omega arith)
+
+  get_back : (xs ys : List A) (k : ℕ) → length xs ≤ k → slice_get (xs ++ ys) k ≡ slice_get ys (k - length xs)
+  get_back [] ys k h = let e : k - 0 ≡ k = omega arith in rw e refl
+  get_back (x ∷ xs) ys zero h = absurd (omega arith)
+  get_back (x ∷ xs) ys (suc k) h = let e : suc k - suc (length xs) ≡ k - length xs = omega arith in rw e (get_back xs ys k (omega arith))
+
+-- ---- the kinds of guards
+
+pub length-ancestors : (len : ℕ) → length (ancestors len) ≡ len
+length-ancestors zero = refl
+length-ancestors (suc len) = ap suc (length-ancestors len)
+
+get-ancestors : (len k : ℕ) → k < len → slice_get (ancestors len) k ≡ Some (ancestor (len - 1 - k))
+get-ancestors zero k h = absurd (omega arith)
+get-ancestors (suc len) zero h = let e : suc len - 1 - 0 ≡ len = omega arith in rw e refl
+get-ancestors (suc len) (suc k) h = let e : suc len - 1 - suc k ≡ len - 1 - k = omega arith in rw e (get-ancestors len k (omega arith))
+
+pub guarded_length : (subtree : Names) → length (guarded_entries subtree) ≡ length subtree + 8 + 2
+guarded_length subtree =
+    length-append (ancestors (length subtree) ++ limit_files (length subtree)) (parent_control subtree ∷ parent_dir subtree ∷ [])
+    ∙ ap (λ n. n + 2) (length-append (ancestors (length subtree)) (limit_files (length subtree)) ∙ ap (λ n. n + 8) (length-ancestors (length subtree)))
+
+module _ (subtree : Names) (place : ℕ) where
+  abbrev above : List Guarded
+  above = ancestors (length subtree) ++ limit_files (length subtree)
+
+  abbrev last_two : List Guarded
+  last_two = parent_control subtree ∷ parent_dir subtree ∷ []
+
+  above-length : length above ≡ length subtree + 8
+  above-length = length-append (ancestors (length subtree)) (limit_files (length subtree)) ∙ ap (λ n. n + 8) (length-ancestors (length subtree))
+
+  module _ (depth : ℕ) (level : depth ≡ length subtree) where
+    pub ancestor_at : place < depth → Some (ancestor (depth - 1 - place)) ≡ slice_get (guarded_entries subtree) place
+    ancestor_at h =
+        let e = length-ancestors (length subtree) in
+        let f = above-length in
+        ap (λ n. Some (ancestor (n - 1 - place))) level
+        ∙ sym (get_front above last_two place (omega (arith, f, level, h))
+        ∙ get_front (ancestors (length subtree)) (limit_files (length subtree)) place (omega (arith, e, level, h))
+        ∙ get-ancestors (length subtree) place (omega (arith, level, h)))
+
+    pub file_at : (d : LimitFile) → depth ≤ place → place - depth < 8 → Some (limit_file depth (get_or all_files (place - depth) d)) ≡ slice_get (guarded_entries subtree) place
+    file_at d low high =
+        let e = length-ancestors (length subtree) in
+        let f = above-length in
+        ap (λ n. Some (limit_file n (get_or all_files (place - n) d))) level
+        ∙ sym (get_front above last_two place (omega (arith, f, level, low, high))
+        ∙ get_back (ancestors (length subtree)) (limit_files (length subtree)) place (omega (arith, e, level, low))
+        ∙ ap (λ n. slice_get (limit_files (length subtree)) (place - n)) e
+        ∙ slice_get-map (limit_file (length subtree)) all_files (place - length subtree)
+        ∙ ap (option_map (limit_file (length subtree))) (slice_get-get_or all_files (place - length subtree) d (omega (arith, level, low, high))))
+
+    pub parent_at : depth ≤ place → 8 ≤ place - depth → slice_get (parent_guards (depth - 1)) (place - depth - 8) ≡ slice_get (guarded_entries subtree) place
+    parent_at low high =
+        let f = above-length in
+        let g : place - length above ≡ place - length subtree - 8 = omega (arith, f) in
+        ap (λ n. slice_get (parent_guards (n - 1)) (place - n - 8)) level
+        ∙ sym (get_back above last_two place (omega (arith, f, level, low, high)) ∙ ap (slice_get last_two) g)
+
+-- an entry of a well-formed tree has a mode
+pub guarded_mode : (st : State) (path : Names) (row : Cgroup) (name : EntryName) (entry : Entry) → IsWellFormed st → Some row ≡ row_at st path → Some entry ≡ entry_in row name → entry.mode ≤ 511
+guarded_mode st path row name entry formed is held = (formed.rows path row (sym is)).modes name entry (sym held)
+
+-- ---- a path has no more names than bytes
+
+names_bytes : (path : Names) → length path ≤ length (names_text path)
+names_bytes [] = omega arith
+names_bytes (name ∷ path) = omega (arith, names_bytes path, length-append (47 ∷ name) (names_text path))
+
+pub few_names : (path : Names) → IsPath path → length path ≤ 4095
+few_names path h = omega (arith, names_bytes path, path_bytes path h)
+
+-- ---- a walk over the table
+
+module _ {A : Type 0} (st : State) (subtree : Names) (each : GuardedEntry → List A) where
+  abbrev pub of_guarded : Guarded → List A
+  of_guarded guarded = present (standing st subtree guarded) each
+
+  -- what is left at a place is what stands there, and what is left behind it
+  pub walk_turn : (gs : List Guarded) (place : ℕ) (here : Option GuardedEntry) → here ≡ option_and_then (standing st subtree) (slice_get gs place)
+      → flat_map of_guarded (drop place gs) ≡ present here each ++ flat_map of_guarded (drop (place + 1) gs)
+  walk_turn [] zero here is = sym (ap (λ o. present o each ++ []) is)
+  walk_turn [] (suc place) here is = let e : suc place + 1 ≡ suc (place + 1) = omega arith in rw e (sym (ap (λ o. present o each ++ []) is))
+  walk_turn (guarded ∷ gs) zero here is = sym (ap (λ o. present o each ++ flat_map of_guarded gs) is)
+  walk_turn (guarded ∷ gs) (suc place) here is = let e : suc place + 1 ≡ suc (place + 1) = omega arith in rw e (walk_turn gs place here is)

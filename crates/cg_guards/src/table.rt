@@ -1,0 +1,100 @@
+//! The entries on which guards stand, one after another in the order of the guards.
+ghost use Rattle.std.specs.Prelude.{◌≡◌, ◌≤◌, false, length, slice_get, option_and_then, IfSome};
+ghost use Rattle.std.specs.Option.{option_map};
+ghost use Rattle.cg_cgroup.specs.Paths.{is_root};
+ghost use Rattle.cg_guards.specs.Guards.{guarded_entries};
+ghost use Rattle.cg_guards.specs.Standing.{spotted, standing, parent_guards};
+
+use crate::guard::Guard;
+use cg_cgroup::files::{EntryName, LimitFile};
+use cg_cgroup::path::Path;
+use cg_cgroup::user::Entry;
+use cg_tree::hierarchy::Hierarchy;
+
+/// An entry that is there, and the guard on it: that of this name at the first `len` names of the subtree's path.
+#[derive(Clone, Copy, Debug, PartialEq, Eq)]
+pub struct GuardedEntry {
+    pub guard: Guard,
+    pub len: usize,
+    pub name: EntryName,
+    pub entry: Entry,
+}
+
+/// A guard, and the entry on which it stands.
+#[derive(Clone, Copy)]
+struct Spot {
+    guard: Guard,
+    len: usize,
+    name: EntryName,
+}
+
+/// How many entries a guard of a subtree may stand on.
+pub fn guarded_count(subtree: &Path) -> usize
+    ensures { result ≡ length (guarded_entries subtree.now) }
+{
+    subtree.depth() + LimitFile::ALL.len() + 2
+}
+
+/// The entry on which the guard of a place stands, counted from 0 in the order of the guards; `None` where the entry isn't
+/// there, and past the last place.
+pub fn guarded_entry<H: Hierarchy>(tree: &H, subtree: &Path, place: usize) -> Option<GuardedEntry>
+    requires { is_root subtree.now ≡ false }
+    ensures entry { result ≡ option_and_then (standing (H.state tree.now) subtree.now) (slice_get (guarded_entries subtree.now) place) }
+    ensures within { IfSome result (λ at. at.len ≤ length subtree.now) }
+    ensures mode { IfSome result (λ at. at.entry.mode ≤ 511) }
+{
+    let spot = spot_at(subtree, place)?;
+    let entry = tree.get(subtree, spot.len)?.entry(spot.name)?;
+    Some(GuardedEntry {
+        guard: spot.guard,
+        len: spot.len,
+        name: spot.name,
+        entry,
+    })
+}
+
+/// The guard of a place, and the entry on which it stands.
+fn spot_at(subtree: &Path, place: usize) -> Option<Spot>
+    requires { is_root subtree.now ≡ false }
+    ensures entry { option_map spotted result ≡ slice_get (guarded_entries subtree.now) place }
+    ensures within { IfSome result (λ spot. spot.len ≤ length subtree.now) }
+{
+    let depth = subtree.depth();
+    if place < depth {
+        return Some(Spot {
+            guard: Guard::CommonAncestor,
+            len: depth - 1 - place,
+            name: EntryName::Procs,
+        });
+    }
+    let below = place - depth;
+    if below < LimitFile::ALL.len() {
+        let file = LimitFile::ALL[below];
+        return Some(Spot {
+            guard: Guard::LimitFile(file),
+            len: depth,
+            name: EntryName::File(file),
+        });
+    }
+    parent_spot(depth - 1, below - LimitFile::ALL.len())
+}
+
+/// The guards on the entries of the subtree's parent: its `cgroup.subtree_control` and its directory.
+fn parent_spot(len: usize, place: usize) -> Option<Spot>
+    ensures entry { option_map spotted result ≡ slice_get (parent_guards len) place }
+    ensures within { IfSome result (λ spot. spot.len ≡ len) }
+{
+    match place {
+        0 => Some(Spot {
+            guard: Guard::ParentControl,
+            len,
+            name: EntryName::SubtreeControl,
+        }),
+        1 => Some(Spot {
+            guard: Guard::ParentDir,
+            len,
+            name: EntryName::Dir,
+        }),
+        _ => None,
+    }
+}
