@@ -4,9 +4,10 @@ mod Tried
 mod Monotone
 mod Openings
 mod Escaping
-mod Checking
-mod Pairs
+pub mod Checking
+pub mod Pairs
 mod FirstUnguarded
-mod AllContained
+pub mod AllContained
 pub mod AnswerLaws
 mod LimitFiles
+pub mod ListedLaws

@@ -1,5 +1,5 @@
 //! Laws of the answers, over the definitions alone. The contract of each function is the law; none does anything.
-ghost use Rattle.std.specs.Prelude.{◌≡◌, List, Some, false, true, [], ◌&&◌};
+ghost use Rattle.std.specs.Prelude.{◌≡◌, ◌≢◌, List, Some, false, true, [], ◌∷◌, ◌&&◌};
 ghost use Rattle.std.specs.List.{Contains};
 ghost use Rattle.cg_cgroup.specs.Paths.{Names};
 ghost use Rattle.cg_cgroup.specs.Identity.{Identity};
@@ -8,12 +8,16 @@ ghost use Rattle.cg_cgroup.specs.declared.user.Entry.{Entry};
 ghost use Rattle.cg_cgroup.specs.declared.files.LimitFile.{LimitFile};
 ghost use Rattle.cg_cgroup.specs.declared.files.EntryName.TheVariants.{File};
 ghost use Rattle.cg_tree.specs.States.{State, entry_at};
+ghost use Rattle.cg_tree.specs.WellFormed.{IsWellFormed};
 ghost use Rattle.cg_ops.specs.declared.operation.Op.{Op};
+ghost use Rattle.cg_guards.specs.Guarding.{IsSubtree};
 ghost use Rattle.cg_guards.specs.Limits.{fits_descendants, fits_depth};
 ghost use Rattle.cg_runs.specs.Held.{IsHeld, by_user};
 ghost use Rattle.cg_tries.specs.Tries.{tries};
 ghost use Rattle.cg_guards.specs.declared.guard.Failed.{Failed};
 ghost use Rattle.cg_check.specs.Answers.{answer, MayBeUnsettled};
+ghost use Rattle.cg_check.specs.Listed.{unlisted};
+ghost use Rattle.cg_check.specs.Several.{AreContained};
 ghost use Rattle.cg_check.specs.declared.answer.Answer.TheVariants.{Escapes, Unsettled};
 
 /// Operations that are the answer are among the tries, and the subtree isn't held over them.
@@ -41,4 +45,13 @@ pub fn limit_file_escapes()
 pub fn unsettled_names_guards_above()
     ensures { (st : State) (user : Identity) (subtree : Names) (failed : Failed)
         → answer st user subtree ≡ Unsettled failed → MayBeUnsettled failed.guard }
+{}
+
+/// A subtree is contained against the users of a list with whom it isn't listed, all of them together: whatever they do,
+/// in whatever order, it is held, and stays so in every state on the way; and over any run in which these alone open
+/// guarded entries the first to break it is none of them.
+pub fn unlisted_are_contained()
+    ensures { (st : State) (users : List Identity) (subtree : Names)
+        → IsWellFormed st → IsSubtree st subtree → unlisted st users subtree ≢ []
+        → AreContained st (unlisted st users subtree) (subtree ∷ []) }
 {}

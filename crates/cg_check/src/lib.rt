@@ -1,7 +1,7 @@
 //! Whether a subtree is contained, and operations that break it where it isn't.
 #![tactic(auto)]
 
-ghost use Rattle.std.specs.Prelude.{◌≡◌, ◌≢◌, true, [], is_some, IfOk, IfErr, OnErr};
+ghost use Rattle.std.specs.Prelude.{◌≡◌, ◌≢◌, true, [], drop, is_some, IfOk, IfErr, OnErr};
 ghost use Rattle.cg_ops.specs.Clauses.{first};
 ghost use Rattle.cg_tree.specs.WellFormed.{IsWellFormed};
 ghost use Rattle.cg_guards.specs.Guarding.{IsSubtree};
@@ -9,9 +9,10 @@ ghost use Rattle.cg_guards.specs.Guards.{failures};
 ghost use Rattle.cg_check.specs.Answers.{answer};
 ghost use Rattle.cg_runs.specs.Held.{IsContained};
 ghost use Rattle.cg_check.specs.Checks.{subtree_faults, checked, all_checked, takes_memory, all_take_memory, Gives};
-ghost use Rattle.std.specs.List.{flat_map};
+ghost use Rattle.std.specs.List.{flat_map, prefix_len};
 ghost use Rattle.cg_check.specs.Unguarded.{IsFirstUnguarded};
 ghost use Rattle.cg_check.specs.Several.{AreContained};
+ghost use Rattle.cg_check.specs.Listed.{is_guarded_of_all};
 
 pub mod answer;
 mod copies;
@@ -82,6 +83,24 @@ pub fn check_all<H: Hierarchy + Drop>(
     })
 }
 
+/// The users from the first on for whom a guard of one of some subtrees fails: those before him are contained in all of
+/// them. Each subtree is asked once for all users who are left, and nothing is allocated.
+pub fn from_first_unguarded<'a, H: Hierarchy>(
+    tree: &H,
+    users: &'a [User],
+    subtrees: &[Path],
+) -> &'a [User]
+    requires there { first (flat_map (subtree_faults (H.state tree.now)) subtrees.now) ≡ None }
+    ensures { result.now ≡ drop (prefix_len (is_guarded_of_all (H.state tree.now) subtrees.now) users.now) users.now }
+{
+    let mut left = users;
+    for subtree in subtrees {
+        left = guarded_users(tree, left, subtree);
+    }
+    let (_, from) = users.split_at(left.len());
+    from
+}
+
 /// The places of the first pair of a user and a subtree for which a guard fails, by user and then subtree. Each subtree is
 /// asked for those users alone who come before all that were found with the subtrees before it.
 #[tactic(auto, using(crate::proofs::FirstUnguarded::below_start, crate::proofs::FirstUnguarded::below_end, crate::proofs::FirstUnguarded::below_found, crate::proofs::FirstUnguarded::below_kept, crate::proofs::Pairs::subtree_at))]
@@ -107,7 +126,7 @@ fn first_unguarded<H: Hierarchy>(
 }
 
 /// Why the first of some subtrees isn't checked, where one isn't.
-fn first_fault<H: Hierarchy>(tree: &H, subtrees: &[Path]) -> Option<CheckFault>
+pub fn first_fault<H: Hierarchy>(tree: &H, subtrees: &[Path]) -> Option<CheckFault>
     ensures fault { result ≡ first (flat_map (subtree_faults (H.state tree.now)) subtrees.now) }
     ensures formed { result ≡ None → subtrees.now ≢ [] → IsWellFormed (H.state tree.now) }
 {

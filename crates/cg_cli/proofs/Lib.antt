@@ -8,6 +8,7 @@ mod AdviseReports
 mod EachRead
 mod AuditReports
 mod AuditStatus
+mod AllPairs
 mod Closings
 mod ReplayCalls
 mod EscapeReplays

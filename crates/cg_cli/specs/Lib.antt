@@ -11,4 +11,5 @@ pub mod Containment
 pub mod Upgrades
 pub mod Audits
 pub mod Advising
+pub mod AllPairs
 pub mod EscapeReplays

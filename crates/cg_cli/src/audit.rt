@@ -55,7 +55,7 @@ pub fn audit_bytes<W: Write>(
 }
 
 /// The users, or the first fault of one, which takes no memory to find.
-fn read_users(alloc: Global, users: &[UserIds<'_>]) -> Result<Vec<User>, CliFault>
+pub(crate) fn read_users(alloc: Global, users: &[UserIds<'_>]) -> Result<Vec<User>, CliFault>
     ensures read { MatchResult result
         (λ read. users_read (map (λ user. (user.uid, user.gids.now)) users.now) ≡ Ok read.items)
         (λ fault. fault ≢ CliFault.NoMemory → users_read (map (λ user. (user.uid, user.gids.now)) users.now) ≡ Err fault) }
@@ -82,7 +82,7 @@ fn test_users(users: &[UserIds<'_>]) -> Result<(), CliFault>
     Ok(())
 }
 
-fn read_paths(alloc: Global, texts: &[&str]) -> Result<Vec<Path>, CliFault>
+pub(crate) fn read_paths(alloc: Global, texts: &[&str]) -> Result<Vec<Path>, CliFault>
     ensures { MatchResult result
         (λ read. paths_read (map (λ text. text.now) texts.now) ≡ Ok read.items)
         (λ fault. fault ≢ CliFault.NoMemory → paths_read (map (λ text. text.now) texts.now) ≡ Err fault) }

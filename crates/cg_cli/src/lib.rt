@@ -4,6 +4,7 @@
 pub mod advise;
 pub mod arguments;
 pub mod audit;
+pub mod audit_all;
 pub mod check;
 pub mod fault;
 pub mod input;

@@ -1,4 +1,5 @@
 pub mod VerdictLines
 pub mod AnswerLines
 pub mod AuditLines
+pub mod PairLines
 pub mod EscapeLines

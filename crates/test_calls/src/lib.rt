@@ -6,6 +6,8 @@ mod advise;
 #[cfg(test)]
 mod audit;
 #[cfg(test)]
+mod audit_all;
+#[cfg(test)]
 mod changed;
 #[cfg(test)]
 mod check;

@@ -1,0 +1,10 @@
+use Rattle.std.proofs.Common.{◌≡◌, drop}
+use Rattle.std.specs.List.{take_while}
+use Rattle.cg_check.specs.Listed.{is_guarded_of_all}
+use Rattle.cg_check.proofs.from_first_unguarded.Given as goal
+
+-- those left, as far as the guards of the subtrees still to come hold, are those for whom the guards of all hold
+abbrev pub invariant-loop-subtree : goal.invariant-loop-subtree
+invariant-loop-subtree g l =
+    take_while (is_guarded_of_all (g.H.Hierarchy.state l.tree) (drop l.subtree-index l.subtrees)) l.left
+    ≡ take_while (is_guarded_of_all (g.H.Hierarchy.state l.tree) l.subtrees) l.users

@@ -1,0 +1,18 @@
+use Rattle.std.proofs.Common.{map}
+use Rattle.std.proofs.lemmas.Result.{err_from_is_err_and}
+use Rattle.cg_cli.proofs.AllPairs.{users_fault_said, paths_fault_said}
+use Rattle.cg_cli.proofs.audit_all.audit_all_bytes.Goals as goal
+
+pub returns-in_err-users-clause-report : goal.returns-in_err-users-clause-report
+returns-in_err-users-clause-report g c =
+    let p = err_from_is_err_and c.from_residual.result c.from_residual.ensures.1 in
+    rw (p.1, p.2)
+    (users_fault_said c.args.tree.now (map (λ user. (user.uid, user.gids.now)) c.args.users.now) (map (λ subtree. subtree.now) c.args.subtrees.now) (g.W.Write.contents c.args.out.now)
+    c.in_err-users.field-0.0 c.in_err-users.ensures.read (λ fault is. let same = c.in_err-users.ensures.faults fault is in cc))
+
+pub returns-in_err-subtrees-clause-report : goal.returns-in_err-subtrees-clause-report
+returns-in_err-subtrees-clause-report g c =
+    let p = err_from_is_err_and c.from_residual-in_err-subtrees.result c.from_residual-in_err-subtrees.ensures.1 in
+    rw (p.1, p.2)
+    (paths_fault_said c.args.tree.now (map (λ user. (user.uid, user.gids.now)) c.args.users.now) (map (λ subtree. subtree.now) c.args.subtrees.now) (g.W.Write.contents c.args.out.now)
+    c.in_ok-users.users.items c.in_ok-users.ensures.read c.in_err-subtrees.field-0.0 c.in_err-subtrees.ensures)
