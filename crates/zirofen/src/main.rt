@@ -1,19 +1,15 @@
 //! Zirofen's program: a request of the command line is carried out.
 #![tactic(auto)]
 
-mod again;
-mod fault;
-mod run;
-
-use again::Again;
+use commands::again::Again;
+use commands::run::run;
 use std::process::ExitCode;
 
 /// The status of a fault.
 const FAULT: u8 = 3;
 
 fn main(rt: HostRuntime) -> ExitCode {
-    let mut out = Again { inner: rt.stdout() };
-    match run::run(&rt, rt.stdin(), &mut out) {
+    match run(&rt, rt.stdin(), rt.stdout()) {
         Ok(status) => ExitCode::from(status),
         Err(fault) => {
             let mut errors = Again { inner: rt.stderr() };
