@@ -1,5 +1,5 @@
 """The rows that gate/devices runs: of each command each kind of answer, of each format, and each kind of fault."""
-import collections, subprocess
+import collections, os, subprocess
 
 Row = collections.namedtuple("Row", "command words tree out err status")
 
@@ -98,9 +98,20 @@ OPERATIONS = {
     "many": 65537 * "exit 99\n",
 }
 
-# what a command whose report is long is run on; what it writes where nothing fails is its row
-WHOLE = (("upgrade", "delegation"), ("upgrade", "delegation-ancestor-group"), ("upgrade", "three-delegations"))
-COMMANDS = ("may", "check", "audit", "replay", "upgrade")
+# commands of which what they write where nothing fails is the row, each on the tree of examples/NAME.toml
+ASKED = (
+    ("delegation", "upgrade", 0),
+    ("delegation-ancestor-group", "upgrade --tree {tree}", 0),
+    ("three-delegations", "upgrade", 0),
+    ("delegation", "advise --uid 1000 --subtree /c0", 0),
+    ("delegation-ancestor-owned", "advise --tree {tree} --uid 1000 --subtree /c0", 1),
+    ("delegation-over-limit", "advise --uid 1000 --subtree /c0", 1),
+    ("delegation-ancestor-group", "advise --uid 1000 --gid 50 --subtree /c0", 1),
+    ("delegation", "audit --all --uid 1000 --uid 1001 --subtree /c0 --subtree /c1", 0),
+    ("delegation-second-user", "audit --all --tree {tree} --uid 1000 --uid 1001 --subtree /c0 --subtree /c1", 1),
+    ("delegation-parent-directory", "audit --all --uid 1000 --uid 1001 --subtree /c0 --subtree /c1", 2),
+)
+COMMANDS = ("may", "check", "audit", "replay", "upgrade", "advise")
 HELP = ("--help", "--version", "may --help", "replay --help")
 
 
@@ -109,11 +120,29 @@ def lines(words):
     return "".join(line + "\n" for line in words.split("|") if line).encode()
 
 
-def asked(program, words, tree):
-    """A row of what the program writes where nothing fails, which isn't a fault."""
-    with open(tree, "rb") as text:
-        ended = subprocess.run([program, *words], stdin=text, capture_output=True, check=True)
-    return Row(words[0] if tree != "/dev/null" else "help", words, tree, ended.stdout, b"", 0)
+def ended(program, words, tree):
+    """How the program ends where nothing fails."""
+    with open(tree or os.devnull, "rb") as text:
+        return subprocess.run([program, *words], stdin=text, capture_output=True, check=False)
+
+
+def knows(program, words):
+    """Whether the program has a command, and the option behind it where there is one."""
+    words = [word for word in words[:2] if word == words[0] or word == "--all"]
+    told = ended(program, [words[0], "--help"], None)
+    return told.returncode == 0 and all(word.encode() in told.stdout for word in words[1:])
+
+
+def asked(program, command, words, tree, status):
+    """A row of what the program writes where nothing fails: of a command with this status."""
+    got = ended(program, words, tree)
+    return Row(command, words, tree, got.stdout, got.stderr if status == 3 else b"", status)
+
+
+def with_fault(program, row):
+    """A row of a fault, with all that stands behind the fault's line."""
+    got = ended(program, row.words, row.tree)
+    return row._replace(err=got.stderr) if got.stderr.startswith(row.err) else row
 
 
 def named(top, folder):
@@ -138,20 +167,28 @@ def tree_faults(folder):
         yield Row(words[0], words, tree, b"", f"fault: tree {fault}\n".encode(), 3)
 
 
+def file_of(top, tree):
+    return f"{top}/examples/{tree}.toml"
+
+
 def rows_of(program, top, folder):
-    """All rows. A command whose rows are what it writes has them where the program lists it."""
+    """All rows. A command whose rows are what it writes has them where the program has the command."""
     names = named(top, folder)
     rows = []
     for tree, words, status, out in ANSWERS:
-        file = f"{top}/examples/{tree}.toml"
+        file = file_of(top, tree)
         words = words.format(tree=file, **names).split()
         rows.append(Row(words[0], words, None if "--tree" in words else file, lines(out), b"", status))
+    faults = [*tree_faults(folder)]
     for words, fault, out in FAULTS:
         words = words.format(**names).split()
         command = words[0] if words[0] in COMMANDS else "none"
-        rows.append(Row(command, words, f"{top}/examples/delegation.toml", lines(out), f"fault: {fault}\n".encode(), 3))
-    rows += tree_faults(folder)
-    rows += [asked(program, words.split(), "/dev/null") for words in HELP]
-    rows += [asked(program, [command], f"{top}/examples/{tree}.toml") for command, tree in WHOLE
-             if f"\n  {command} ".encode() in rows[-len(HELP)].out]
+        faults.append(Row(command, words, file_of(top, "delegation"), lines(out), f"fault: {fault}\n".encode(), 3))
+    rows += [with_fault(program, row) for row in faults]
+    rows += [asked(program, "help", words.split(), None, 0) for words in HELP]
+    for tree, words, status in ASKED:
+        file = file_of(top, tree)
+        words = words.format(tree=file).split()
+        if knows(program, words):
+            rows.append(asked(program, words[0], words, None if "--tree" in words else file, status))
     return rows

@@ -160,7 +160,7 @@ class BuildTest(WrapperTest):
         self.checkout.change("crates/low/src/lib.rt", "changed", seconds=-1000)
         first = self.checkout.call("may", "--uid", "7")
         self.assert_ran(first, "may --uid 7", "built", silent=False)
-        for told in ("a source of this checkout isn't the released program's", "minutes on a machine of 4 cores", "2.4 GB"):
+        for told in ("a source of this checkout isn't the released program's", "minutes on 4 cores", "3 GB of memory"):
             self.assertIn(told, first.stderr)
         self.assert_ran(self.checkout.call("may", PATH=NO_TOOLCHAIN), name="built")
         self.assertEqual(self.checkout.builds(), 1)

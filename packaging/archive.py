@@ -62,8 +62,8 @@ def md5(data):
     return hashlib.md5(data, usedforsecurity=False).hexdigest()
 
 
-def debian_package(control, files):
-    """The package with this text of its control file, and these files."""
+def debian_package(control, scripts, files):
+    """The package with this text of its control file, these scripts of its maintainer, and these files."""
     sums = "".join(f"{md5(file.data)}  {file.path}\n" for file in sorted(files))
-    about = [File("control", 0o644, control.encode()), File("md5sums", 0o644, sums.encode())]
+    about = [File("control", 0o644, control.encode()), File("md5sums", 0o644, sums.encode()), *scripts]
     return ar([("debian-binary", b"2.0\n"), ("control.tar.xz", xz(tar(about))), ("data.tar.xz", xz(tar(files)))])

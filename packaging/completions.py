@@ -4,6 +4,10 @@ from collections import namedtuple
 
 OPTION = re.compile(r"\s+(?:(-\w), )?(--[\w-]+)(?: <([^>]*)>)?(?:\.\.\.)?(?:\s\s+(.*))?")
 
+# as the helpers' --help has them: a help that doesn't fit beside its option stands below it
+HELPERS_OPTION = re.compile(r"  (?:-\w, )?(--[\w-]+)(?: ([A-Z]+))?(?:  +(.*))?")
+FILES = ("FILE", "FOLDER", "PROGRAM")
+
 # value: what is named after it, or nothing; FILE is completed by names of files
 Option = namedtuple("Option", "name value told")
 
@@ -21,6 +25,18 @@ def options_of(said):
     lines = said.split("\n")
     rows = (OPTION.fullmatch(line) for line in lines[lines.index("Options:") + 1:])
     return [Option(row[2], row[3] or "", (row[4] or "").strip()) for row in rows if row]
+
+
+def helpers_options_of(said):
+    """The options that a helper's help lists."""
+    lines = said.split("\n")
+    rows = (HELPERS_OPTION.fullmatch(line) for line in lines[lines.index("options:") + 1:])
+    return [Option(row[1], "FILE" if row[2] in FILES else row[2] or "", (row[3] or "").strip()) for row in rows if row]
+
+
+def read_helpers(help_of):
+    """The same of zirofen-host and its helpers."""
+    return {name: (told, helpers_options_of(help_of(name))) for name, told in commands_of(help_of()).items()}
 
 
 def read(help_of):

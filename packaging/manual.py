@@ -96,13 +96,23 @@ def from_markdown(text, depth):
     return out
 
 
+def headings(lines):
+    """The places of headings with their depths and words; in code a line with a number sign is none."""
+    fenced = False
+    for at, line in enumerate(lines):
+        fenced ^= line.startswith("```")
+        found = None if fenced else HEAD.fullmatch(line)
+        if found:
+            yield at, len(found[1]), found[2]
+
+
 def section(text, name):
     """A section of a text, with its heading and all below it."""
     lines = text.split("\n")
-    first = next(at for at, line in enumerate(lines) if HEAD.fullmatch(line) and HEAD.fullmatch(line)[2] == name)
-    depth = len(HEAD.fullmatch(lines[first])[1])
-    ends = (at for at in range(first + 1, len(lines)) if HEAD.fullmatch(lines[at]) and len(HEAD.fullmatch(lines[at])[1]) <= depth)
-    return "\n".join(lines[first:next(ends, len(lines))])
+    found = list(headings(lines))
+    first, depth = next((at, depth) for at, depth, words in found if words == name)
+    end = next((at for at, below, _ in found if at > first and below <= depth), len(lines))
+    return "\n".join(lines[first:end])
 
 
 def page(name, number, version, about, body):

@@ -1,25 +1,29 @@
 """A hierarchy of plain files and folders, with a /proc and account files, to hold the helpers against."""
+import contextlib
 import os
 import sys
 import tempfile
 import unittest
+from types import SimpleNamespace
 from unittest import mock
 
 HERE = os.path.dirname(os.path.abspath(__file__))
 TOP = os.path.dirname(os.path.dirname(HERE))
 sys.path.insert(0, os.path.join(TOP, "host"))
 
-from zirofen_host import mount  # noqa: E402
+from zirofen_host import walk  # noqa: E402
 from zirofen_host.accounts import Accounts  # noqa: E402
 from zirofen_host.processes import read_processes  # noqa: E402
 from zirofen_host.profile import LIMIT_FILES, parent_of  # noqa: E402
-from zirofen_host.snapshot import Snapshot  # noqa: E402
+from zirofen_host.snapshot import all_that_changes, take  # noqa: E402
 from zirofen_host.users import Entry  # noqa: E402
 
-STATUS = ("Name:\tmade up\nUid:\t{uid}\t{uid}\t{uid}\t{uid}\nGid:\t{gid}\t{gid}\t{gid}\t{gid}\nGroups:\t{groups}\n"
+STATUS = ("Name:\t{name}\nUid:\t{uid}\t{uid}\t{uid}\t{uid}\nGid:\t{gid}\t{gid}\t{gid}\t{gid}\nGroups:\t{groups}\n"
           "CapEff:\t{capabilities:016x}\n")
 STAT = "{pid} (made) up) S 1 1 1 0 -1 {flags} 0 0 0\n"
 KERNEL_THREAD = 0x00200040
+# where many files are made soonest
+MEMORY = "/dev/shm" if os.access("/dev/shm", os.W_OK | os.X_OK) else None
 DELEGATED = {"dir": 1000, "cgroup.procs": 1000, "cgroup.subtree_control": 1000}
 
 
@@ -66,10 +70,12 @@ class MadeUp:
         os.chmod(path, mode)
         self.owners[os.lstat(path).st_ino] = Entry(uid, gid, mode)
 
-    def process(self, pid, uid=0, gid=0, groups=(), flags=0x400000, capabilities=0, namespace=None):
-        os.makedirs(f"{self.proc}/{pid}")
+    def process(self, pid, uid=0, gid=0, groups=(), flags=0x400000, capabilities=0, namespace=None,
+                name="made up"):
+        os.makedirs(f"{self.proc}/{pid}", exist_ok=True)
         with open(f"{self.proc}/{pid}/status", "w", encoding="ascii") as out:
-            out.write(STATUS.format(uid=uid, gid=gid, groups=" ".join(map(str, groups)), capabilities=capabilities))
+            out.write(STATUS.format(uid=uid, gid=gid, groups=" ".join(map(str, groups)), capabilities=capabilities,
+                                    name=name))
         if namespace:
             os.makedirs(f"{self.proc}/{pid}/ns")
             os.symlink(f"user:[{namespace}]", f"{self.proc}/{pid}/ns/user")
@@ -85,7 +91,7 @@ class MadeUp:
 
     def accounts(self, **files):
         for name, text in files.items():
-            with open(f"{self.etc}/{name}", "w", encoding="ascii") as out:
+            with open(f"{self.etc}/{name}", "w", encoding="utf-8") as out:
                 out.write(text)
 
     def tree(self, tree):
@@ -115,11 +121,22 @@ class MadeUp:
         return self.owners[status.st_ino]
 
     def marks_of(self, folder):
-        return self.marks.get(os.lstat(folder).st_ino, {})
+        return self.marks.get(os.stat(folder).st_ino, {})
+
+    @contextlib.contextmanager
+    def owned(self):
+        """Owners and marks as they are kept beside."""
+        with mock.patch.object(walk, "entry_of", self.entry_of), mock.patch.object(walk, "marks_of", self.marks_of):
+            yield
+
+    def take(self, subtrees_of=all_that_changes, only=None, **more):
+        """A snapshot as the helpers take it."""
+        options = SimpleNamespace(**{"mount": self.mount, "only": only, "proc": self.proc, "plain_folder": True, **more})
+        with self.owned():
+            return take(options, subtrees_of)[0]
 
     def snapshot(self, only=None):
-        with mock.patch.object(mount, "entry_of", self.entry_of), mock.patch.object(mount, "marks_of", self.marks_of):
-            return Snapshot(mount.steady_walk(self.mount, only), read_processes(self.proc))
+        return self.take(only=only)
 
     def read_accounts(self):
         return Accounts.of_folder(self.etc, read_processes(self.proc).values())
@@ -129,8 +146,10 @@ class MadeUpTest(unittest.TestCase):
     """A test with a made-up host of its own."""
 
     maxDiff = None
+    # where the host is made
+    folder = None
 
     def setUp(self):
-        folder = tempfile.TemporaryDirectory()
+        folder = tempfile.TemporaryDirectory(dir=self.folder)
         self.addCleanup(folder.cleanup)
         self.host = MadeUp(folder.name)

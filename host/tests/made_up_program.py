@@ -4,6 +4,7 @@ where a limit file is open. What it can is told by the environment: MADE_UP=all,
 of a wrapper that has nothing built. A subtree named odd is a fault,
 and each call is written into the file CALLS."""
 import contextlib
+import functools
 import io
 import os
 import subprocess
@@ -14,6 +15,7 @@ sys.dont_write_bytecode = True
 sys.path.insert(0, os.path.dirname(HERE))
 
 from zirofen_host.accounts import Accounts  # noqa: E402
+from zirofen_host.fault import Fault  # noqa: E402
 from zirofen_host.questions import Questions  # noqa: E402
 from zirofen_host.tree import read_tree  # noqa: E402
 from zirofen_host.users import User  # noqa: E402
@@ -89,6 +91,12 @@ def advise(questions, user, subtree):
     return 1 if found else 0
 
 
+@functools.lru_cache(maxsize=8)
+def questions_in(file, _):
+    with open(file, encoding="ascii") as text:
+        return Questions(read_tree(text.read()), Accounts(), {})
+
+
 def fault(line, status=3):
     print(line, file=sys.stderr)
     print("a second line", file=sys.stderr)
@@ -109,11 +117,15 @@ def main(words):
         return fault("zirofen: not built: there is no rt on the PATH", 70)
     is_all = words[1] == "--all"
     given = options(words[2 if is_all else 1:])
-    if any(path.endswith("/odd") for path in given["--subtree"]):
+    if any(path.endswith("/odd") for path in given.get("--subtree", ())):
         return fault("fault: subtree missing")
-    with open(given["--tree"][0], encoding="ascii") as text:
-        tree = read_tree(text.read())
-    questions = Questions(tree, Accounts(), {})
+    file = given["--tree"][0]
+    try:
+        questions = questions_in(file, (os.stat(file).st_ino, os.stat(file).st_mtime_ns))
+    except (Fault, UnicodeDecodeError):
+        return fault("fault: tree not-toml")
+    if words[0] == "replay":
+        return 0
     if words[0] == "audit":
         return audit(questions, given["--uid"], given["--subtree"], is_all)
     user = User(int(given["--uid"][0]), tuple(map(int, given.get("--gid", ()))))

@@ -2,12 +2,13 @@
 import glob
 import inspect
 import os
+import shutil
 import sys
 import unittest
 from unittest import mock
 
 from made_up import DELEGATED, KERNEL_THREAD, TOP, MadeUpTest
-from zirofen_host import mount, snapshot
+from zirofen_host import mount, snapshot, walk
 from zirofen_host.fault import Fault
 from zirofen_host.mount import Mounts
 from zirofen_host.tree import read_tree, tree_text
@@ -123,7 +124,7 @@ class SnapshotTest(MadeUpTest):
             path += "/" + "n" * 255
             host.cgroup(path)
         self.assertEqual(len(host.snapshot().tree.rows), 14)
-        with mock.patch.object(mount, "LONGEST_FOLDER", 2000):
+        with mock.patch.object(walk, "LONGEST_FOLDER", 2000):
             taken = host.snapshot()
         self.assertLess(len(taken.tree.rows), 9)
         self.assertRegex(taken.note_lines()[0], "left out, and [0-9]+ cgroups inside: .* too long a path")
@@ -194,52 +195,35 @@ class SnapshotTest(MadeUpTest):
         with self.assertRaisesRegex(Fault, "there is no cgroup /a/x"):
             host.snapshot(only=b"/a/x")
 
-    def test_walks_go_on_until_two_agree(self):
-        host = self.host
-        host.cgroup("/")
-        host.cgroup("/a")
-        walks = []
-        walk = mount.Walk
-
-        def changing(*words):
-            walks.append(len(walks))
-            if len(walks) in (2, 3):
-                host.cgroup(f"/new{len(walks)}")
-            return walk(*words)
-
-        with mock.patch.object(mount, "Walk", changing):
-            taken = host.snapshot()
-        self.assertEqual(len(walks), 4)
-        self.assertEqual(sorted(taken.tree.rows), ["/", "/a", "/new2", "/new3"])
-
-    def test_what_never_settles_is_a_fault(self):
-        self.host.cgroup("/")
-        with mock.patch.object(mount.Walk, "agrees_with", lambda *_: False):
-            with self.assertRaisesRegex(Fault, "changed through 20 walks"):
-                self.host.snapshot()
-
     def test_a_cgroup_that_goes_while_it_is_read(self):
         host = self.host
         host.cgroup("/")
         host.cgroup("/a")
-        os.remove(f"{host.mount}/a/cgroup.controllers")
-        with mock.patch.object(mount, "entry_of", host.entry_of):
-            walk = mount.Walk(host.mount)
-        self.assertEqual((sorted(walk.found), walk.is_whole), ([b"/"], False))
+        listed = walk.text_of
+
+        def gone(folder, file):
+            if os.path.isdir(f"{host.mount}/a") and os.fstat(folder).st_ino == os.lstat(f"{host.mount}/a").st_ino:
+                shutil.rmtree(f"{host.mount}/a")
+            return listed(folder, file)
+
+        with host.owned(), mock.patch.object(walk, "text_of", gone):
+            found = walk.Walk(host.mount)
+        self.assertEqual((sorted(found.found), found.gone, found.unread), ([b"/"], {b"/a"}, {}))
 
     def test_no_cgroup_at_all(self):
         with self.assertRaisesRegex(Fault, "isn't a cgroup"):
-            mount.steady_walk(f"{self.host.mount}/none")
+            walk.Walk(f"{self.host.mount}/none")
         open(f"{self.host.mount}/file", "w", encoding="ascii").close()
         with self.assertRaisesRegex(Fault, "isn't a cgroup"):
-            mount.steady_walk(self.host.mount)
+            walk.Walk(self.host.mount)
 
     def test_too_many_processes(self):
         self.host.cgroup("/", pids=range(1, 5))
         for pid in range(1, 5):
             self.host.process(pid)
         with mock.patch.object(snapshot, "MOST_PROCESSES", 3), self.assertRaisesRegex(Fault, "4 processes.*--only"):
-            self.host.snapshot()
+            self.host.snapshot().text()
+        self.assertNotIn("process", self.host.snapshot().text(with_processes=False).split("left out 0 kernel threads")[1])
 
     def test_a_process_that_ended(self):
         self.host.cgroup("/", pids=(3, 4))

@@ -10,6 +10,8 @@ from itertools import accumulate
 from zirofen_host.fault import Fault
 from zirofen_host.users import User
 
+LARGEST_ID = 4294967295
+
 Account = namedtuple("Account", "name uid gid")
 Group = namedtuple("Group", "gid members name", defaults=("",))
 Range = namedtuple("Range", "owner first count")
@@ -18,16 +20,21 @@ Range = namedtuple("Range", "owner first count")
 def lines_of(path, fields):
     """The lines of an account file, each cut at its colons; none where there is no such file."""
     try:
-        with open(path, encoding="utf-8", errors="replace") as opened:
+        with open(path, encoding="utf-8", errors="replace", newline="\n") as opened:
             lines = [line.rstrip("\n").split(":") for line in opened if not line.startswith("#")]
     except FileNotFoundError:
         return []
     return [line for line in lines if len(line) >= fields]
 
 
+def is_id(word, most=LARGEST_ID):
+    """Whether a word is a uid or a gid, or a number up to some other one."""
+    return word.isascii() and word.isdigit() and len(word) <= 20 and int(word) <= most
+
+
 def read_ranges(path):
     return [Range(owner, int(first), int(count)) for owner, first, count in
-            (line[:3] for line in lines_of(path, 3)) if first.isdigit() and count.isdigit()]
+            (line[:3] for line in lines_of(path, 3)) if is_id(first) and is_id(count, LARGEST_ID + 1)]
 
 
 class Counted:
@@ -72,9 +79,9 @@ class Accounts:
         if not (os.path.isfile(f"{folder}/passwd") or os.path.isfile(f"{folder}/group")):
             raise Fault(f"there are no accounts in {folder!r}: neither passwd nor group")
         accounts = [Account(name, int(uid), int(gid)) for name, _, uid, gid in
-                    (line[:4] for line in lines_of(f"{folder}/passwd", 4)) if uid.isdigit() and gid.isdigit()]
+                    (line[:4] for line in lines_of(f"{folder}/passwd", 4)) if is_id(uid) and is_id(gid)]
         groups = [Group(int(gid), members.split(",") if members else [], name) for name, _, gid, members in
-                  (line[:4] for line in lines_of(f"{folder}/group", 4)) if gid.isdigit()]
+                  (line[:4] for line in lines_of(f"{folder}/group", 4)) if is_id(gid)]
         return cls(accounts, groups, read_ranges(f"{folder}/subuid"), read_ranges(f"{folder}/subgid"), processes)
 
     @classmethod
@@ -160,8 +167,12 @@ class Accounts:
         """The uids of whoever stands behind a uid: his own, and that of whose subordinate ids it is one."""
         if uid not in self._persons:
             owners = {owner for owner, _ in self.owners(self.subordinate_uids, uid)}
-            self._persons[uid] = {uid} | {self.uids.get(owner, int(owner) if owner.isdigit() else uid) for owner in owners}
+            self._persons[uid] = {uid} | {self.uids.get(owner, int(owner) if is_id(owner) else uid) for owner in owners}
         return self._persons[uid]
+
+    def roots(self, uid):
+        """Whoever has a uid that is no account's among his subordinate ones, or that uid itself."""
+        return {uid} if uid in self.names else self.persons(uid) - {uid} or {uid}
 
     def subordinate_to(self, uid):
         """The ranges of subordinate uids of an account."""
@@ -171,7 +182,7 @@ class Accounts:
     def ranges_by_uid(self):
         found = defaultdict(list)
         for each in self.subordinate_uids:
-            uid = self.uids.get(each.owner, int(each.owner) if each.owner.isdigit() else None)
+            uid = self.uids.get(each.owner, int(each.owner) if is_id(each.owner) else None)
             found[uid].append(each)
         return found
 

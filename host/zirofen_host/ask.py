@@ -1,20 +1,23 @@
 """One user and one subtree, by name."""
 import os
 import pwd
+import tempfile
 
+from zirofen_host.accounts import is_id
 from zirofen_host.asking import Answer, Refused, answer_of, user_words, worst
-from zirofen_host.check import in_text
 from zirofen_host.delegations import Delegations, accounts_of
 from zirofen_host.fault import FAULT, Fault
-from zirofen_host.profile import MOST_GROUPS
+from zirofen_host.profile import MOST_GROUPS, ancestors, shown
 from zirofen_host.questions import with_groups
 from zirofen_host.shell import change_commands
+from zirofen_host.texts import Programs, Texts
+from zirofen_host.tree import Tree
 from zirofen_host.users import User
 
 
 def uid_of(word, accounts, on_host):
     """The uid of a name or of a number; a name is looked up as the host does, also where it isn't listed."""
-    if word.isascii() and word.isdigit():
+    if is_id(word):
         return int(word)
     for account in accounts.accounts:
         if account.name == word:
@@ -53,9 +56,9 @@ class Asked:
 
     def __init__(self, snapshot, options, warn):
         self.options, self.warn, self.tree = options, warn, snapshot.tree
-        accounts = accounts_of(options, snapshot.running.values())
+        accounts = accounts_of(options, snapshot.processes_told, snapshot.accounts)
         self.delegations = Delegations(snapshot.tree, accounts)
-        self.users = users_of(options.user, accounts, not options.accounts)
+        self.users = users_of(options.user, accounts, not options.accounts and not snapshot.file)
         if not any(is_known(user, snapshot.tree, accounts) for user in self.users):
             warn(f"uid {self.users[0].uid} owns nothing, writes nothing of his own, has no process and no account here")
 
@@ -109,6 +112,22 @@ class Asked:
         return lines, worst({answer.status for answer in answers.values()})
 
 
+def program_for(snapshot, options, folder, uids):
+    """The program, with a text that has the subtree; where there is none, the program says so of the root alone."""
+    path, tree = options.path, snapshot.tree
+    for place in (path, *ancestors(path)) if path.startswith("/") else ():
+        if place in snapshot.spoiled:
+            raise Fault(f"nothing is asked of {shown(path)}: {snapshot.spoiled[place]}")
+    if path not in tree.rows or path == "/":
+        tree = Tree(tree.controllers, {"/": tree.rows["/"]})
+    texts = Texts(tree, [path], not options.no_processes)
+    if texts.refused:
+        raise Fault(f"nothing is asked of {path}: {texts.refused[path]}")
+    texts.fill(lambda _: uids)
+    return Programs(options, folder, texts, snapshot).of[path]
+
+
 def ask(snapshot, options, warn):
     asked = Asked(snapshot, options, warn)
-    return in_text(snapshot, options, asked.lines)
+    with tempfile.TemporaryDirectory() as folder:
+        return asked.lines(program_for(snapshot, options, folder, {user.uid for user in asked.users}))

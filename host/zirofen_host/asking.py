@@ -9,6 +9,7 @@ from collections import namedtuple
 from concurrent.futures import ThreadPoolExecutor
 from functools import cached_property
 
+from zirofen_host import progress
 from zirofen_host.fault import FAULT, Fault
 
 CONTAINED, ESCAPES, UNSETTLED = 0, 1, 2
@@ -69,13 +70,26 @@ class Program:
             raise Fault(f"can't run {self.program}: {error.strerror}") from None
         if ended.returncode in (CONTAINED, ESCAPES, UNSETTLED) and ended.stdout:
             return Ended(ended.returncode, ended.stdout.splitlines())
-        told = [line for line in ended.stderr.splitlines() if line] or [f"ended with status {ended.returncode}"]
+        told = told_by(ended)
         raise Refused(told[0], ended.returncode == NOT_BUILT or told[0].startswith("fault: tree"))
+
+    def refuse_text(self):
+        """Ends with the program's fault line where it doesn't take the text: no operation is tried in it."""
+        try:
+            ended = self.start(["replay", "--tree", self.tree, "--uid", "65534", "--ops", os.devnull])
+        except OSError as error:
+            raise Fault(f"can't run {self.program}: {error.strerror}") from None
+        if ended.returncode != CONTAINED:
+            raise Fault(told_by(ended)[0])
 
     def at_once(self, call, items):
         """Calls with each of the items, several at once; the results in their order."""
+        results = []
         with ThreadPoolExecutor(os.cpu_count()) as workers:
-            return list(workers.map(call, items))
+            for result in workers.map(call, items):
+                results.append(result)
+                progress.tell(f"{len(results)} of {len(items)} runs of the program are done")
+        return results
 
     def help_of(self, *words):
         try:
@@ -200,6 +214,11 @@ class Program:
             elif found:
                 found[-1][1].append(words)
         return found
+
+
+def told_by(ended):
+    """The lines of a fault; the first is the fault."""
+    return [line for line in ended.stderr.split("\n") if line] or [f"ended with status {ended.returncode}"]
 
 
 def blocks_of(items, words, room):

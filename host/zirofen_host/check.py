@@ -6,16 +6,19 @@ from collections import defaultdict
 from functools import cached_property
 
 from zirofen_host import report as reporting
-from zirofen_host.asking import CONTAINED, Answer, Program, Refused, worst
+from zirofen_host.asking import CONTAINED, Answer, Refused, worst
 from zirofen_host.delegations import accounts_of
 from zirofen_host.fault import FAULT, Fault
-from zirofen_host.mount import MANAGERS_MARK
-from zirofen_host.names import Names, plain
+from zirofen_host.names import Names
 from zirofen_host.opened import Openings, read_kernel_list, what_differs
-from zirofen_host.profile import ANYBODY, CONTROL_FILES, KERNEL_LIST, SETTINGS, is_other_limit
+from zirofen_host.processes import read_processes
+from zirofen_host.profile import ANYBODY, CONTROL_FILES, KERNEL_LIST, SETTINGS, is_other_limit, shown, topmost
 from zirofen_host.questions import Questions, unit_of
 from zirofen_host.shell import change_commands, closing_commands
+from zirofen_host.texts import Programs, Texts
+from zirofen_host.tree import in_order
 from zirofen_host.unseen import Line, Unseen
+from zirofen_host.walk import MANAGERS_MARK
 
 HERE = os.path.dirname(os.path.dirname(os.path.realpath(__file__)))
 PROGRAM = os.path.join(os.path.dirname(HERE), "zirofen")
@@ -51,7 +54,8 @@ class Judged:
 
     def __init__(self, questions, answers, cut):
         self.questions = questions
-        self.entries, self.above, self.faults = {}, {}, {}
+        self.entries, self.faults = {}, {}
+        self.above = questions.expected_above()
         # the worst answer of each uid that holds a subtree
         self.own = {}
         for each in cut:
@@ -66,7 +70,7 @@ class Judged:
             self.faults.setdefault((user, answer.lines[0]), []).append(subtree)
         elif handed := self.questions.handed_above(user, subtree):
             is_above = True
-            self.above.setdefault((user.uid, handed), set()).add(subtree)
+            self.above[user.uid, handed].add(subtree)
         else:
             for path, name, entry in self.failing(user, subtree):
                 found = self.entries.setdefault((path, name), Entry(path, name, entry))
@@ -86,7 +90,7 @@ class Judged:
     def failing(self, user, subtree):
         """The entries that a guard stands on and that he reaches; what the program told rests on one of these."""
         found = []
-        for each in self.questions.guarded[subtree]:
+        for each in self.questions.guarded(subtree):
             entry = self.questions.delegations.entry(each.path, each.name)
             if user.reaches(entry):
                 found.append((each.path, each.name, entry))
@@ -98,34 +102,53 @@ class Judged:
 class Checked:
     """A host that was asked, on its way to a report."""
 
-    def __init__(self, snapshot, options, program):
-        self.snapshot, self.options, self.program = snapshot, options, program
-        self.accounts = accounts_of(options, snapshot.running.values())
+    def __init__(self, snapshot, options, folder):
+        self.snapshot, self.options = snapshot, options
+        self.accounts = accounts_of(options, snapshot.processes_told, snapshot.accounts)
         self.names = Names(self.accounts)
-        marks = {path: found.marks for path, found in snapshot.rows_found.items() if found.marks}
-        self.questions = Questions(snapshot.tree, self.accounts, marks)
+        self.questions = questions_of(snapshot, self.accounts)
+        self.questions.leave_out(snapshot.spoiled)
+        texts = Texts(snapshot.tree, self.questions.subtrees, not options.no_processes)
+        self.questions.leave_out(texts.refused)
+        self.spoiled = {**snapshot.spoiled, **texts.refused}
+        texts.fill(lambda path: self.questions.holders[path].uids)
+        self.program = Programs(options, folder, texts, snapshot)
         plan, cut = self.questions.plan
-        self.asked = {user for users, _ in plan for user in users}
-        answers = program.ask(plan)
+        answers = self.program.ask(plan)
         further = self.questions.further(answers)
-        self.asked |= {user for users, _ in further for user in users}
-        self.judged = Judged(self.questions, {**answers, **program.ask(further)}, cut)
+        answers.update(self.program.ask(further))
+        self.asked, self.asked_of = set(), defaultdict(list)
+        for users, paths in (*plan, *further):
+            self.asked.update(users)
+            asked = frozenset(users)
+            for path in paths:
+                self.asked_of[path].append(asked)
         self.is_asked = bool(plan or cut)
-        self.kernel_list = read_kernel_list(None if options.plain_folder else KERNEL_LIST)
+        self.spoiled.update(self.program.refused)
+        self.questions.leave_out(self.program.refused)
+        self.judged = Judged(self.questions, answers, cut)
+        self.kernel_list = snapshot.kernel_list or read_kernel_list(None if options.plain_folder else KERNEL_LIST)
         self.changed = set()
 
     def answers_of(self, subtree):
         """What those who hold a subtree were answered, each answer once with whom it is of."""
         groups = defaultdict(list)
-        for uid in sorted(self.questions.holders[subtree].uids):
-            asked = [user for user in self.asked_by_uid[uid] if self.questions.holds(user, subtree)]
+        uids = self.questions.holders[subtree].uids
+        for uid in sorted(uids):
+            asked = [user for user in self.asked_by_uid[uid] if self.questions.holds(user, subtree) and self.was_asked(user, subtree)]
             asked = max(asked, key=lambda user: len(user.gids), default=None)
             contained = (asked, Answer(CONTAINED, ["contained"]), False)
             user, answer, is_above = self.judged.own.get((uid, subtree), contained)
-            if user is None:
+            if user is not None:
+                groups[tuple(answer.lines), is_above].append((uid, user))
+            elif not self.questions.is_above(uid, subtree):
                 raise Fault(f"uid {uid} holds {subtree} and wasn't asked of it: this helper is wrong")
-            groups[tuple(answer.lines), is_above].append((uid, user))
+        if uids and not groups:
+            raise Fault(f"nobody was asked of {subtree}: this helper is wrong")
         return [self.answer(subtree, lines, is_above, found) for (lines, is_above), found in sorted(groups.items())]
+
+    def was_asked(self, user, subtree):
+        return any(user in users for users in self.asked_of[subtree])
 
     def answer(self, subtree, lines, is_above, found):
         holders = self.questions.holders[subtree]
@@ -165,7 +188,7 @@ class Checked:
         example = None if is_own else {"who": self.names.who(user), "uid": user.uid, "gids": list(user.gids),
                                        "subtree": subtree, "lines": answer.lines}
         return {"path": found.path, "entry": found.name, "owner": self.owner(found.entry), "answer": answer.lines[0].split(" ")[0],
-                "whom": self.whom(whom), "subtrees": sorted(found.subtrees), "example": example,
+                "whom": self.whom(whom), "subtrees": in_order(topmost(found.subtrees)), "example": example,
                 "changes": self.commands(found.changes),
                 "setting": setting_of(found.path, found.name)}
 
@@ -233,16 +256,32 @@ class Checked:
         return found
 
     def faults(self):
-        return [{"who": self.names.who(user), "uid": user.uid, "gids": list(user.gids), "fault": line,
-                 "subtrees": subtrees} for (user, line), subtrees in self.judged.faults.items()]
+        """Subtrees that can't be asked of anybody, and pairs without an answer."""
+        by_why = defaultdict(list)
+        for path, why in sorted(self.spoiled.items()):
+            by_why[why].append(path)
+        return [{"who": "everybody", "uid": None, "gids": [], "fault": why, "subtrees": paths}
+                for why, paths in by_why.items()] + self.faults_of_pairs()
+
+    def faults_of_pairs(self):
+        """Each fault once for those subtrees of which it is; whom it is of, with the groups where it is one user."""
+        users = defaultdict(list)
+        for (user, line), subtrees in self.judged.faults.items():
+            users[line, tuple(subtrees)].append(user)
+        return [{"who": reporting.some([self.names.who(user) for user in of]), "uid": of[0].uid if len(of) == 1 else None,
+                 "gids": list(of[0].gids) if len(of) == 1 else [], "fault": line, "subtrees": list(subtrees)}
+                for (line, subtrees), of in users.items()]
 
     def above(self):
-        return [{"who": self.names.user(uid), "uid": uid, "handed": handed, "subtrees": sorted(subtrees)}
+        return [{"who": self.names.user(uid), "uid": uid, "handed": handed, "subtrees": in_order(topmost(subtrees))}
                 for (uid, handed), subtrees in sorted(self.judged.above.items())]
 
     def unseen(self, mounts):
-        systemctl = None if self.options.plain_folder or not os.path.isdir("/run/systemd/system") else shutil.which("systemctl")
-        lines = Unseen(self.snapshot, self.questions, self.names, self.options.proc, systemctl).lines()
+        is_here = not self.options.plain_folder and not self.snapshot.file and os.path.isdir("/run/systemd/system")
+        proc, systemctl = None if self.snapshot.file else self.options.proc, shutil.which("systemctl") if is_here else None
+        lines = Unseen(self.snapshot, self.questions, self.names, proc, systemctl).lines()
+        if self.snapshot.file:
+            lines.append(Line("elsewhere", "", self.snapshot.unseen()))
         if "nsdelegate" in mounts.options(self.options.mount):
             lines.append(Line("nsdelegate", "", "the mount has it: what runs in a cgroup namespace is kept in there, "
                               "safer than the answers"))
@@ -250,7 +289,7 @@ class Checked:
 
     def report(self, mounts):
         """The value of the report, with its status."""
-        report = reporting.base(self.program.version, self.options.mount)
+        report = reporting.base(self.program.version, self.options.mount, self.snapshot.about)
         report["asked"] = self.is_asked
         report["has_advice"] = self.program.has_advise
         self.advise()
@@ -271,12 +310,12 @@ class Checked:
         return {"users": [{"uid": uid, "name": self.accounts.names.get(uid),
                            "groups": [list(user.gids) for user in self.asked_by_uid.get(uid, ())]} for uid in sorted(users)],
                 "groups": [{"gid": gid, "name": name} for gid, name in sorted(self.names.groups.items())],
-                "cgroups": [self.cgroup(path) for path in sorted(self.snapshot.rows_found, key=lambda path: path.split("/"))],
+                "cgroups": [self.cgroup(path) for path in in_order(self.snapshot.rows_found)],
                 "processes": [self.process(*each) for each in sorted(self.snapshot.tree.processes)]}
 
     def process(self, pid, uid, at):
         process = self.snapshot.running[pid]
-        return {"pid": pid, "uid": uid, "at": at, "name": plain(process.name), "capabilities": list(process.capabilities)}
+        return {"pid": pid, "uid": uid, "at": at, "name": shown(process.name), "capabilities": list(process.capabilities)}
 
     def cgroup(self, path):
         row, found = self.snapshot.tree.rows[path], self.snapshot.rows_found[path]
@@ -290,13 +329,7 @@ class Checked:
 
     def text_of(self, path, name):
         """What a file has beside the tree text, or nothing where it can't be read; it isn't read twice as the others are."""
-        if name in NO_VALUE:
-            return None
-        try:
-            with open(f"{self.options.mount}{path}/{name}", encoding="ascii", errors="replace") as opened:
-                return opened.read().strip()
-        except OSError:
-            return None
+        return None if name in NO_VALUE else self.snapshot.value_of(path, name)
 
 
 def setting_of(path, name):
@@ -308,23 +341,34 @@ def setting_of(path, name):
 def add_program_arguments(parser):
     """The options of every script that asks the program."""
     parser.add_argument("--keep", metavar="FILE", help="where the tree text is left, for further questions")
+    add_program_argument(parser)
+
+
+def add_program_argument(parser):
     parser.add_argument("--zirofen", metavar="PROGRAM", default=os.environ.get("ZIROFEN", PROGRAM),
                         help="the program, also by the environment's ZIROFEN (the wrapper beside this folder)")
 
 
-def in_text(snapshot, options, ask):
-    """Calls with the program and the snapshot's text, which is kept where a file is named for it."""
-    with tempfile.TemporaryDirectory() as folder:
-        tree = options.keep or os.path.join(folder, "tree.toml")
-        with open(tree, "w", encoding="ascii") as out:
-            out.write(snapshot.text())
-        return ask(Program(options.zirofen, tree))
+def questions_of(snapshot, accounts):
+    marks = {path: found.marks for path, found in snapshot.rows_found.items() if found.marks}
+    return Questions(snapshot.tree, accounts, marks)
+
+
+def subtrees_by(options):
+    """Which subtrees are asked of, by a snapshot that may have changed while it was taken."""
+    accounts = []
+
+    def subtrees_of(snapshot, _):
+        if not accounts:
+            running = snapshot.processes_told if snapshot.file else read_processes(options.proc).values()
+            accounts.append(accounts_of(options, running, snapshot.accounts))
+        return [os.fsencode(path) for path in questions_of(snapshot, accounts[0]).subtrees]
+    return subtrees_of
 
 
 def report(snapshot, mounts, options):
     """The value of the report on a host."""
-    def ask(program):
-        checked = Checked(snapshot, options, program)
+    with tempfile.TemporaryDirectory() as folder:
+        checked = Checked(snapshot, options, folder)
         value = checked.report(mounts)
-        return {**value, **checked.host()} if options.json else value
-    return in_text(snapshot, options, ask)
+        return {**value, **checked.host()} if options.json or options.baseline_update else value

@@ -1,33 +1,94 @@
-"""Why a helper can't give what was asked of it."""
+"""Why a helper can't give what was asked of it, and lines that harm no terminal."""
+import argparse
+import os
 import sys
 
+from zirofen_host import progress
+
 FAULT = 3
+INTERRUPTED = 130
 
 
 class Fault(Exception):
     """One line for the user."""
 
 
+def plain(text):
+    """A text with nothing in it that a terminal would act on: what isn't printable ASCII is written as Python does."""
+    if text.isascii() and text.isprintable():
+        return text
+    return "".join(each if each.isascii() and each.isprintable() else ascii(each)[1:-1] for each in text)
+
+
+class Parser(argparse.ArgumentParser):
+    """Options of a helper; wrong ones are a fault like others."""
+
+    def __init__(self, doc):
+        super().__init__(description=doc, formatter_class=argparse.RawDescriptionHelpFormatter)
+
+    def error(self, message):
+        raise Fault(f"{message}; --help tells the options")
+
+
+def warn(line):
+    """A line on standard error, as far as there is one."""
+    progress.end()
+    try:
+        print(plain(line), file=sys.stderr)
+    except (OSError, ValueError):
+        pass
+
+
+def write(parts):
+    """Parts of a text on standard output, all of it or a fault."""
+    progress.end()
+    if sys.stdout is None:
+        raise Fault("standard output is closed")
+    try:
+        sys.stdout.writelines(parts)
+        sys.stdout.flush()
+    except BrokenPipeError:
+        raise Fault("what reads the output has ended") from None
+    except OSError as error:
+        raise Fault(f"can't write the output: {error.strerror}") from None
+
+
+def write_lines(lines):
+    """Lines on standard output, which harm no terminal."""
+    write(f"{plain(line)}\n" for line in lines)
+
+
 def run(name, main):
     """Runs a script's main; a fault is one line on standard error, with status 3."""
     try:
         status = main()
-        sys.stdout.flush()
     except Fault as fault:
-        print(f"{name}: {fault}", file=sys.stderr)
-        status = FAULT
-    except BrokenPipeError:
-        # what reads the output has ended; nothing more can be told it, at the end of the program neither
-        sys.stdout = None
+        warn(f"{name}: {fault}")
         status = FAULT
     except SystemExit as ended:
         # argparse ends with 2 where the options are wrong, and this is another answer's status
         status = FAULT if ended.code else 0
+    except KeyboardInterrupt:
+        progress.end()
+        status = INTERRUPTED
     except OSError as error:
-        print(f"{name}: {error}", file=sys.stderr)
+        warn(f"{name}: {error}")
         status = FAULT
     except Exception as error:
         # a traceback would end with 1, which is another answer's status
-        print(f"{name}: a fault of this helper: {error!r}", file=sys.stderr)
+        warn(f"{name}: a fault of this helper: {error!r}")
         status = FAULT
+    end(status)
+
+
+def end(status):
+    """Ends with a status, also where what is left in the buffers can't be written."""
+    for stream in (sys.stdout, sys.stderr):
+        try:
+            if stream is not None:
+                stream.flush()
+        except (OSError, ValueError):
+            # Python would end with a status of its own
+            status = status or FAULT
+            os._exit(status)
     sys.exit(status)

@@ -1,10 +1,5 @@
 """Users and groups by name, as a line can show them."""
-from zirofen_host.profile import ANYBODY
-
-
-def plain(name):
-    """A name with nothing in it that a terminal would act on."""
-    return name if name.isascii() and name.isprintable() else ascii(name)
+from zirofen_host.profile import ANYBODY, shown
 
 
 class Names:
@@ -16,7 +11,7 @@ class Names:
 
     def user(self, uid):
         if uid in self.users:
-            return f"{plain(self.users[uid])}({uid})"
+            return f"{shown(self.users[uid])}({uid})"
         return f"uid {uid}"
 
     def member(self, uid):
@@ -30,4 +25,4 @@ class Names:
         return f"a member of {self.group(user.gids[0])}" if user.gids else "anybody"
 
     def group(self, gid):
-        return f"group {plain(self.groups[gid])}({gid})" if gid in self.groups else f"group {gid}"
+        return f"group {shown(self.groups[gid])}({gid})" if gid in self.groups else f"group {gid}"

@@ -21,6 +21,7 @@ DIRECTORY_MODE = 0o755
 FILE_MODE = 0o644
 MOST_ROWS = 4096
 MOST_PROCESSES = 4096
+LONGEST_TEXT = 16777216
 LONGEST_PATH = 4095
 MOST_GROUPS = 32
 
@@ -95,8 +96,14 @@ def ancestors(path):
         yield path
 
 
+def topmost(paths):
+    """The paths that are inside of no other of them."""
+    paths = set(paths)
+    return frozenset(path for path in paths if paths.isdisjoint(ancestors(path)))
+
+
 def shown(path):
-    """A path as a line can show it, whatever its bytes are."""
+    """A path or a name as a line can show it, whatever is in it: quoted where a terminal would act on it."""
     if isinstance(path, str):
-        return path
+        return path if path.isascii() and path.isprintable() else ascii(path)
     return path.decode("ascii") if all(0x21 <= byte <= 0x7E for byte in path) else repr(path)

@@ -6,9 +6,10 @@ from functools import cached_property
 
 from zirofen_host.asking import ESCAPES
 from zirofen_host.delegations import Delegations
-from zirofen_host.mount import MANAGERS_MARK
-from zirofen_host.profile import ANYBODY, HANDED_OVER, MOST_GROUPS, ancestors
+from zirofen_host.profile import ANYBODY, HANDED_OVER, MOST_GROUPS, ancestors, parent_of, topmost
+from zirofen_host.tree import in_order
 from zirofen_host.users import CLASSES, OTHERS, User
+from zirofen_host.walk import MANAGERS_MARK
 
 # a unit of the system's manager stands in slices alone; those of a user's manager stand in a unit
 _UNIT = re.compile(r"(/[^/]+\.slice)*/[^/]+\.(service|scope)\Z")
@@ -19,6 +20,8 @@ Holders = namedtuple("Holders", "by ids uids")
 Cut = namedtuple("Cut", "user subtree count")
 # of those whom nothing but everybody's bits lets in, so many are asked of each subtree
 FURTHER = 8
+# so many pairs of whoever has what is above are asked one by one; the subtrees of a block are asked of who holds one of them
+MANY, BLOCK = 256, 32
 
 
 def unit_of(path):
@@ -48,8 +51,15 @@ class Questions:
         self.delegations = Delegations(tree, accounts)
         self.meant = {path: why for path in tree.rows if (why := self.why_meant(path))}
         found = {each.path for each in self.delegations.find()}
-        self.subtrees = sorted(found | set(self.meant), key=lambda path: path.split("/"))
-        self.guarded = {path: list(self.delegations.guarded(path)) for path in self.subtrees}
+        self.subtrees = in_order(found | set(self.meant))
+
+    def leave_out(self, paths):
+        """Leaves out subtrees of which nothing can be asked."""
+        self.subtrees = [path for path in self.subtrees if path not in paths]
+
+    def guarded(self, subtree):
+        """The entries of a subtree that its guards stand on; a long list for one that lies deep, and not kept."""
+        return self.delegations.guarded(subtree)
 
     def why_meant(self, path):
         """Why a cgroup is meant to be handed over: by the system manager's mark, or as a unit with a user of its own."""
@@ -70,12 +80,12 @@ class Questions:
     def named(self):
         """The users that the entries and the processes of each subtree name, and its guards' entries."""
         uids = defaultdict(set)
-        for _, uid, at in self.tree.processes:
+        for uid, at in {(uid, at) for _, uid, at in self.tree.processes}:
             for path in (at, *ancestors(at)):
                 uids[path].add(uid)
         found = {}
         for path in self.subtrees:
-            entries = {self.delegations.entry(each.path, each.name) for each in self.guarded[path]}
+            entries = {self.delegations.entry(each.path, each.name) for each in self.guarded(path)}
             entries |= {self.delegations.entry(path, name) for name in HANDED_OVER}
             users = {user for entry in entries for user in self.delegations.users_at(entry)}
             users |= {user for uid in uids[path] - {0} for user in self.delegations.users("uid", uid)}
@@ -84,7 +94,7 @@ class Questions:
 
     def is_open(self, subtree):
         """Whether everybody writes an entry on which a guard of a subtree stands."""
-        return any(self.delegations.entry(each.path, each.name).mode & 0o002 for each in self.guarded[subtree])
+        return any(self.delegations.entry(each.path, each.name).mode & 0o002 for each in self.guarded(subtree))
 
     @cached_property
     def holders(self):
@@ -119,14 +129,14 @@ class Questions:
         return user.gids[:1] == tuple(ids[:1]) if by == "group" else not user.gids
 
     def gids_that_matter(self, subtree):
-        return {self.delegations.entry(each.path, each.name).gid for each in self.guarded[subtree]}
+        return {self.delegations.entry(each.path, each.name).gid for each in self.guarded(subtree)}
 
     @cached_property
     def plan(self):
         """What to ask: lists of users with lists of subtrees, and what is left out since the program takes so many groups.
         Where everybody writes, somebody of whom nothing is known stands for those whom nothing else lets in."""
         matter = set().union(*map(self.gids_that_matter, self.subtrees)) if self.subtrees else set()
-        self.left_out, self.asked_as, cut, asked = Counter(), {}, [], defaultdict(set)
+        self.left_out, self.asked_as, self.expected_of, cut, asked = Counter(), {}, {}, [], defaultdict(set)
         for user in self.users:
             few = self.as_asked(user, matter)
             if few:
@@ -150,11 +160,47 @@ class Questions:
     def questions_of(self, asked):
         """Everybody of every subtree that isn't open to everybody; of the others those whom an entry names."""
         everybody = frozenset(self.asked_as.values())
-        by_users = defaultdict(list)
-        for path in self.subtrees:
-            of = {self.asked_as[user] for user in self.named[path] if user in self.asked_as}
-            by_users[(frozenset(of) if self.is_open(path) else everybody) | asked[path]].append(path)
+        by_users, known = defaultdict(list), {}
+        for owners, paths in self.by_owners_above().items():
+            left = everybody - self.expected(everybody, owners, paths)
+            for path in paths:
+                users = left & self.named_as_asked(path) if self.is_open(path) else left
+                users = users | asked[path] if asked[path] else users
+                by_users[known.setdefault(users, users)].append(path)
+            if len(left) < len(everybody):
+                self.expected_of[owners] = paths
+                for some in (paths[start:start + BLOCK] for start in range(0, len(paths), BLOCK)):
+                    by_users[frozenset(user for user in everybody if any(self.is_asked_as_holder(user, path) for path in some))] += some
         return [(sorted(users), paths) for users, paths in by_users.items() if users]
+
+    def named_as_asked(self, path):
+        return {self.asked_as[user] for user in self.named[path] if user in self.asked_as}
+
+    def by_owners_above(self):
+        """The subtrees by who has a directory above, where they aren't meant as somebody's; subordinate ids are their owner's."""
+        found = defaultdict(list)
+        for path in self.subtrees:
+            above = () if path in self.meant else ancestors(path)
+            uids = {self.tree.rows[place].directory.uid for place in above if place != "/"} - {0}
+            found[frozenset(root for uid in uids for root in self.accounts.roots(uid))].append(path)
+        return found
+
+    def expected(self, users, owners, paths):
+        """Whom not to ask of subtrees since what he can do there is expected: where these are so many pairs that whoever has
+        what is above them makes them by the thousand."""
+        theirs = frozenset(user for user in users if not owners.isdisjoint(self.accounts.roots(user.uid))) if owners else frozenset()
+        return theirs if len(theirs) * len(paths) > MANY else frozenset()
+
+    def is_asked_as_holder(self, user, path):
+        """Whether he holds a subtree and isn't above it, or nobody holds it who isn't."""
+        if not self.holds(user, path):
+            return False
+        is_above = [self.is_above(uid, path) for uid in self.holders[path].uids]
+        return all(is_above) or not self.is_above(user.uid, path)
+
+    def is_above(self, uid, path):
+        """Whether a uid's person has a directory above, in his own name or a subordinate one."""
+        return path not in self.meant and any(self.is_of(place, uid) for place in ancestors(path))
 
     def further(self, answers):
         """What to ask where everybody is let in, and of all that were asked nobody escapes: some of those who hold something
@@ -165,7 +211,7 @@ class Questions:
         everybody, questions, self.not_asked = set(self.asked_as.values()), [], {}
         for path in self.subtrees:
             if path not in escaped and self.is_open(path):
-                of = {self.asked_as[user] for user in self.named[path] if user in self.asked_as}
+                of = self.named_as_asked(path)
                 some = list(itertools.islice((user for user in holders if user not in of), FURTHER))
                 questions += [(sorted(some), [path])] if some else []
                 left = len(everybody - of) - len(some)
@@ -195,9 +241,25 @@ class Questions:
         is_his = any(self.is_same_person(user.uid, uid) for uid in self.holders[subtree].uids)
         for place in reversed(list(ancestors(subtree))):
             by = self.has_directory(user, place)
-            if by == "owner" or by and is_his:
+            if by == "owner" or by and is_his or self.is_of(place, user.uid):
                 return place
         return None
+
+    def is_of(self, path, uid):
+        """Whether a cgroup's directory is that of a person, by his own uid or by subordinate ones."""
+        owner = self.tree.rows[path].directory.uid
+        return path != "/" and owner != 0 and not self.accounts.roots(owner).isdisjoint(self.accounts.roots(uid))
+
+    def expected_above(self):
+        """Who has something above subtrees of which his pairs weren't asked: by uid and the topmost place that is his."""
+        found = defaultdict(set)
+        for owners, paths in self.expected_of.items():
+            for path in topmost(paths):
+                for uid in owners:
+                    handed = next((place for place in reversed(list(ancestors(path))) if self.is_of(place, uid)), None)
+                    if handed:
+                        found[uid, handed].add(path)
+        return found
 
     def is_inside_his(self, user, path):
         """Whether a cgroup lies properly inside one that was handed to that person."""
@@ -214,8 +276,9 @@ class Questions:
     def below(self):
         """Numbers of descendants, and of levels below, of each cgroup."""
         counts, depths = Counter(), Counter()
-        for path in self.tree.rows:
-            for level, place in enumerate(ancestors(path), 1):
-                counts[place] += 1
-                depths[place] = max(depths[place], level)
+        for path in sorted(self.tree.rows, key=len, reverse=True):
+            if path != "/":
+                parent = parent_of(path)
+                counts[parent] += counts[path] + 1
+                depths[parent] = max(depths[parent], depths[path] + 1)
         return {path: (counts[path], depths[path]) for path in self.tree.rows}

@@ -1,6 +1,5 @@
 """The report on a host, as one value that JSON can carry, and its lines, which are made of that value alone."""
 import itertools
-import os
 import time
 
 from zirofen_host.asking import CONTAINED, ESCAPES, UNSETTLED, WORDS
@@ -9,14 +8,15 @@ VERSION = 1
 NOTHING_ASKED = 4
 # names in a line; where there are more, it tells how many
 SHOWN = 8
+# how far the table's columns are filled up; a longer word stands out
+WIDEST = (12, 24, 48)
 ANSWERS = {status: word for word, status in WORDS.items()}
 
 
-def base(program, mount):
-    """What the report is of."""
-    names = os.uname()
-    return {"version": VERSION, "program": program, "host": names.nodename, "kernel": f"{names.sysname} {names.release}",
-            "time": time.strftime("%Y-%m-%dT%H:%M:%SZ", time.gmtime()), "mount": mount}
+def base(program, mount, about):
+    """What the report is of; of a text that doesn't say it, the host and its kernel are empty."""
+    return {"version": VERSION, "program": program, "host": about["host"] or "", "kernel": about["kernel"] or "",
+            "time": about["time"] or time.strftime("%Y-%m-%dT%H:%M:%SZ", time.gmtime()), "mount": mount}
 
 
 def status_of(report):
@@ -72,7 +72,7 @@ def table(report):
     """Columns of who holds a subtree, his groups, the answer and the path, which may be long; what it shows stands below."""
     rows = [("UID", "GIDS", "ANSWER", "PATH", ())]
     rows += [row for subtree in report["subtrees"] for row in rows_of(subtree)]
-    widths = [max(len(row[column]) for row in rows) for column in range(3)]
+    widths = [min(most, max(len(row[column]) for row in rows)) for column, most in enumerate(WIDEST)]
     for row in rows:
         yield "  ".join([word.ljust(width) for word, width in zip(row, widths)] + [row[3]])
         yield from (f"    {line}" for line in row[4])
@@ -96,11 +96,29 @@ def what_to_change(found):
         yield f"    setting, at the next start: {', '.join(settings)}"
 
 
-def entry_lines(entries):
-    """The entries at one place that let in the same to the same."""
+def entry_line(entries):
+    """The line of the entries at one place that let in the same to the same."""
     entry = entries[0]
     what = " ".join(f"{each['entry']} ({owner_text(each['owner'])})" if each["owner"] else each["entry"] for each in entries)
-    yield f"{entry['path']} {what}: {entry['answer']}, by {whom_text(entry['whom'])}, of {some(entry['subtrees'])}"
+    return f"{entry['path']} {what}: {entry['answer']}, by {whom_text(entry['whom'])}, of {some(entry['subtrees'])}"
+
+
+def opened_line(each):
+    return f"opened {each['path']} {each['file']} by {whom_text(each['whom'])}"
+
+
+def differs_line(each):
+    return f"differs {each['path']}: {some(each['entries'])}: not as a service manager leaves it"
+
+
+def above_line(each):
+    return f"above: {each['who']}, below {each['handed']}: {some(each['subtrees'])}"
+
+
+def entry_lines(entries):
+    """That line, with an example and what to change."""
+    entry = entries[0]
+    yield entry_line(entries)
     example = entry["example"]
     if example:
         yield f"    by {example['who']} of {example['subtree']}: {example['lines'][0]}"
@@ -118,14 +136,14 @@ def finding_lines(report):
     for entries in alike(report["entries"], "path", "answer", "whom", "subtrees", "example"):
         yield from entry_lines(entries)
     for opened in alike(report["opened"], "path", "whom"):
-        yield from (f"opened {each['path']} {each['file']} by {whom_text(each['whom'])}" for each in opened)
+        yield from map(opened_line, opened)
         yield from what_to_change(opened)
     for each in report["faults"]:
         yield f"fault: {each['who']} of {some(each['subtrees'])}: {each['fault']}"
     if report["entries"] and not report["has_advice"]:
         yield "what to change of an entry isn't told: this program has no advise"
     for each in report["differs"]:
-        yield f"differs {each['path']}: {some(each['entries'])}: not as a service manager leaves it"
+        yield differs_line(each)
         yield from what_to_change([each])
 
 
@@ -147,7 +165,7 @@ def lines_of(report):
     if report["above"]:
         yield ""
         yield "What lies below what was handed to somebody is open to him, and isn't counted:"
-        yield from (f"above: {each['who']}, below {each['handed']}: {some(each['subtrees'])}" for each in report["above"])
+        yield from map(above_line, report["above"])
     yield ""
     yield "What none of these answers looks at (docs/HOSTS.md):"
     yield from map(place_text, report["unseen"])

@@ -1,14 +1,16 @@
 """From what was found on a host to a tree that the format carries, with a line for each thing bent or left out."""
 import os
+import time
 from collections import Counter, namedtuple
 
 from zirofen_host.fault import Fault
-from zirofen_host.mount import Mounts, refuse_what_is_no_host, steady_walk
+from zirofen_host.mount import Mounts, refuse_what_is_no_host
 from zirofen_host.processes import read_processes
 from zirofen_host.profile import (CONTROL_FILES, CONTROLLERS, LIMIT_FILES, MOST_PROCESSES, MOST_ROWS, accepts, parent_of,
-                                  shown)
+                                  shown, topmost)
 from zirofen_host.tree import Row, Tree, tree_text
 from zirofen_host.users import Entry
+from zirofen_host.walk import settled, value_of
 
 Note = namedtuple("Note", "kind place detail")
 ANY_MODE = 0o777
@@ -17,23 +19,33 @@ RESERVED = [name.encode() for name in (*CONTROL_FILES, *LIMIT_FILES)]
 
 
 class Snapshot:
-    """A tree, the notes on what it leaves out, and all that was found."""
+    """A tree, the notes on what it leaves out, and all that was found. What a walk left out since it changed all the time or
+    can't be read is in `changing`, and the subtrees that this spoils are in `spoiled`, each with why."""
 
-    def __init__(self, walk, processes):
+    def __init__(self, walk, processes, changing=(), spoiled=()):
         self.walk = walk
+        self.places = walk.places
+        # it is of this host, and of no text
+        self.file = self.kernel_list = self.accounts = None
+        self.changing = dict(changing)
         self.running = processes
         self.notes = []
         self.kernel_threads = 0
+        self.spoiled = {shown(path): why for path, why in dict(spoiled).items()}
         self.rows_found = {os.fsdecode(path): found for path, found in walk.found.items()}
+        self.note_changing()
         self.note_names()
         self.note_controllers()
         rows = {path: self.row(path, found) for path, found in self.rows_found.items()}
         self.tree = Tree(tuple(name for name in CONTROLLERS if name in self.rows_found["/"].available), rows)
         self.add_processes()
-        self.refuse_too_many()
 
     def note(self, kind, place, detail):
         self.notes.append(Note(kind, place, detail))
+
+    def note_changing(self):
+        for path in sorted(topmost(self.changing)):
+            self.note("changing", shown(path), f"left out, with all inside: {self.changing[path]}")
 
     def note_names(self):
         for path, count in sorted(self.walk.left_out.items()):
@@ -79,7 +91,7 @@ class Snapshot:
         return Entry(entry.uid, entry.gid, entry.mode & ANY_MODE)
 
     def value(self, path, file, text):
-        value = int(text) if text.isdigit() else text
+        value = int(text) if text.isdigit() and len(text) <= 20 else text
         if value == "max" and file != "cpu.weight" or isinstance(value, int) and accepts(file, value):
             return value
         bent = 1 if value == 0 else LIMIT_FILES[file][1]
@@ -111,19 +123,41 @@ class Snapshot:
             enabled = " ".join(self.tree.rows[path].enabled)
             self.note("processes", path, f"{count} left out: the cgroup enables {enabled}")
 
-    def refuse_too_many(self):
-        for what, most, count in (("cgroups", MOST_ROWS, len(self.tree.rows)),
-                                  ("processes", MOST_PROCESSES, len(self.tree.processes))):
+    def refuse_too_many(self, processes):
+        for what, most, count, hint in (
+                ("cgroups", MOST_ROWS, len(self.tree.rows), "--only PATH writes less"),
+                ("processes", MOST_PROCESSES, len(processes), "--no-processes leaves them out, --only PATH writes less")):
             if count > most:
-                raise Fault(f"{count} {what}, and a tree text has {most} at most: --only PATH writes less")
+                raise Fault(f"{count} {what}, and a tree text has {most} at most: {hint}")
 
-    def text(self):
-        """The tree text, which says at its head what it is of."""
+    @property
+    def processes_told(self):
+        """The processes of which all is known that accounts are found by."""
+        return self.running.values()
+
+    @property
+    def about(self):
+        """What and when it is of."""
         names = os.uname()
-        return tree_text(self.tree, [
-            f"A snapshot of cgroups by host/snapshot, on {names.sysname} {names.release}:",
-            f"{len(self.tree.rows)} cgroups, {len(self.tree.processes)} processes; "
-            f"left out {self.kernel_threads} kernel threads, and what standard error told"])
+        return {"host": names.nodename, "kernel": f"{names.sysname} {names.release}",
+                "time": time.strftime("%Y-%m-%dT%H:%M:%SZ", time.gmtime())}
+
+    def value_of(self, path, name):
+        """What a file has that the tree doesn't carry, now."""
+        return value_of(self.walk.full(os.fsencode(path)), name)
+
+    def head(self):
+        """What a text says at its head that it is of."""
+        names = os.uname()
+        return [f"A snapshot of cgroups by host/snapshot, on {names.sysname} {names.release}:",
+                f"{len(self.tree.rows)} cgroups, {len(self.tree.processes)} processes; "
+                f"left out {self.kernel_threads} kernel threads, and what standard error told"]
+
+    def text(self, with_processes=True):
+        """One tree text of everything."""
+        processes = self.tree.processes if with_processes else []
+        self.refuse_too_many(processes)
+        return tree_text(Tree(self.tree.controllers, self.tree.rows, processes), self.head())
 
     def note_lines(self):
         return [f"{note.kind}: {note.place}: {note.detail}" for note in self.notes]
@@ -143,14 +177,23 @@ def add_arguments(parser):
     parser.add_argument("--only", metavar="PATH", type=os.fsencode,
                         help="that cgroup, its ancestors and what is inside it, and no more")
     parser.add_argument("--proc", metavar="FOLDER", default="/proc", help="where processes are told of (/proc)")
+    parser.add_argument("--no-processes", action="store_true",
+                        help="no processes in the tree text: no `contained` rests on them, but an `escapes` may be an `unsettled`")
     parser.add_argument("--plain-folder", action="store_true",
                         help="the mount is a folder of plain files: nothing is asked of root, mounts and namespaces")
 
 
-def take(options):
-    """A snapshot, and what is known of the mounts."""
+def take(options, subtrees_of, most=None):
+    """A snapshot, and what is known of the mounts. `subtrees_of` gives the subtrees that are asked of, by a snapshot that may
+    have changed while it was taken, and by what changed. More cgroups than `most` are a fault after one walk."""
     mounts = Mounts("") if options.plain_folder else refuse_what_is_no_host(options.mount)
-    walk = steady_walk(options.mount, options.only)
-    snapshot = Snapshot(walk, read_processes(options.proc))
+    walk, changing, spoiled = settled(options.mount, options.only,
+                                      lambda walk, changing: subtrees_of(Snapshot(walk, {}), changing), most)
+    snapshot = Snapshot(walk, read_processes(options.proc), changing, spoiled)
     note_first_version(snapshot, mounts)
     return snapshot, mounts
+
+
+def all_that_changes(_, changing):
+    """What is asked of where nothing is known of it yet: everything that changes is walked over again."""
+    return topmost(changing)

@@ -71,15 +71,29 @@ def names(controllers):
     return ", ".join(f'"{name}"' for name in CONTROLLERS if name in controllers)
 
 
+def row_text(row):
+    return "\n".join(row_lines(row)) + "\n"
+
+
+def process_text(process):
+    pid, uid, path = process
+    return f"\n[[process]]\npid = {pid}\nuid = {uid}\nat = {literal(path)}\n"
+
+
+def in_order(rows):
+    """Paths so that what is inside of one comes right behind it."""
+    return sorted(rows, key=lambda path: path.split("/"))
+
+
+def head_text(controllers, head):
+    """The begin of a text, with comment lines at its head."""
+    return "\n".join([*(f"# {line}" for line in head), "", "format = 2", f"controllers = [{names(controllers)}]", ""])
+
+
 def tree_text(tree, head):
     """The text of a tree, with comment lines at its head."""
-    lines = [f"# {line}" for line in head]
-    lines += ["", "format = 2", f"controllers = [{names(tree.controllers)}]"]
-    for path in sorted(tree.rows, key=lambda path: path.split("/")):
-        lines += row_lines(tree.rows[path])
-    for pid, uid, path in sorted(tree.processes):
-        lines += ["", "[[process]]", f"pid = {pid}", f"uid = {uid}", f"at = {literal(path)}"]
-    return "\n".join(lines) + "\n"
+    return "".join([head_text(tree.controllers, head), *(row_text(tree.rows[path]) for path in in_order(tree.rows)),
+                    *map(process_text, sorted(tree.processes))])
 
 
 def read_entry(table, usual_mode):
@@ -95,19 +109,28 @@ def read_row(table):
                enabled=tuple(table.get("enabled", ())))
 
 
-def read_tree(text):
-    """The tree of a text. What is wrong with a text is the program's to tell, so nothing is looked at twice here."""
+def toml_reader():
+    """What reads TOML here."""
     try:
         import tomllib
     except ImportError:
-        raise Fault("reading a tree text takes Python 3.11 or newer") from None
+        try:
+            import tomli as tomllib
+        except ImportError:
+            raise Fault("reading a tree text takes Python 3.11 or newer, or the package tomli") from None
+    return tomllib
+
+
+def read_tree(text):
+    """The tree of a text that the program takes, so that nothing is looked at twice here."""
+    reader = toml_reader()
     try:
-        document = tomllib.loads(text)
+        document = reader.loads(text)
         rows = {row.path: row for row in map(read_row, document.get("cgroup", ()))}
         processes = [(each["pid"], each["uid"], each["at"]) for each in document.get("process", ())]
         tree = Tree(tuple(document["controllers"]), rows, processes)
-    except (AttributeError, KeyError, TypeError, ValueError):
-        raise Fault("this is no tree text: zirofen tells its fault") from None
-    if any(path != "/" and parent_of(path) not in rows for path in rows):
-        raise Fault("this is no tree text: zirofen tells its fault")
+    except (AttributeError, KeyError, TypeError, ValueError, RecursionError):
+        raise Fault("this is no tree text that this helper reads, which is TOML 1.0") from None
+    if "/" not in rows or any(path != "/" and parent_of(path) not in rows for path in rows):
+        raise Fault("this is no tree text: a cgroup has none above it")
     return tree

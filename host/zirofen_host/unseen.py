@@ -3,10 +3,11 @@ import subprocess
 from bisect import bisect_left
 from collections import defaultdict, namedtuple
 
-from zirofen_host.mount import MANAGERS_MARK, OWNERS_MARK
-from zirofen_host.processes import open_for_writing
+from zirofen_host.processes import MOST_DESCRIPTORS, open_for_writing
 from zirofen_host.profile import ANYBODY, LIMIT_FILES, SETTINGS, ancestors
 from zirofen_host.questions import unit_of
+from zirofen_host.report import some
+from zirofen_host.walk import MANAGERS_MARK, OWNERS_MARK
 
 Line = namedtuple("Line", "kind place text")
 
@@ -23,7 +24,7 @@ class Unseen:
         self.rows = snapshot.rows_found
         self.tree = snapshot.tree
         self.running = snapshot.running
-        self.places = snapshot.walk.places
+        self.places = snapshot.places
         self.questions = questions
         self.names = names
         self.proc = proc
@@ -43,22 +44,36 @@ class Unseen:
 
     def descriptors(self):
         """Files that a user was kept from after one of his processes had opened them. A kernel asks again at cgroup.procs."""
+        if self.proc is None:
+            return
         users = defaultdict(list)
         for user in self.questions.users:
             users[user.uid].append(user)
         pids = {pid: process.user.uid for pid, process in self.running.items() if process.user.uid in users}
         held = defaultdict(set)
-        for pid, file in open_for_writing(self.proc, sorted(pids)):
-            place, name = self.places.get(file, (None, "cgroup.procs"))
-            if name != "cgroup.procs" and not any(user.reaches(self.rows[place].files[name]) for user in users[pids[pid]]):
+        for pid, file in (found for of in self.by_user(pids) for found in open_for_writing(self.proc, of)):
+            if file is None:
+                yield Line("descriptor", self.uid(pids[pid]), f"more than {MOST_DESCRIPTORS} are open in his processes: not all "
+                           "were looked at")
+                continue
+            place, name = self.places.get(file, (b"", "cgroup.procs"))
+            place = place.decode("ascii")
+            if place in self.rows and name != "cgroup.procs" and not any(user.reaches(self.rows[place].files[name]) for user in users[pids[pid]]):
                 held[pids[pid], place, name].add(pid)
         for (uid, place, name), pids in sorted(held.items()):
-            where = f"in process {', '.join(map(str, sorted(pids)))}"
+            where = f"in process {some(list(map(str, sorted(pids))))}"
             yield Line("descriptor", self.uid(uid), f"{name} at {place} is open for writing {where}, and he may not open it now")
+
+    def by_user(self, pids):
+        """The processes of one user after another."""
+        found = defaultdict(list)
+        for pid, uid in sorted(pids.items()):
+            found[uid].append(pid)
+        return found.values()
 
     def group_class(self):
         """What only a group keeps its members from is no wall where they can drop it."""
-        guarded = {(each.path, each.name) for path in self.questions.subtrees for each in self.questions.guarded[path]}
+        guarded = {(each.path, each.name) for path in self.questions.subtrees for each in self.questions.guarded(path)}
         for place, name in sorted(guarded):
             entry = self.tree.rows[place].entry(name)
             if entry.gid and entry.mode & 0o002 and not entry.mode & 0o020:
@@ -70,7 +85,7 @@ class Unseen:
             for each in self.questions.accounts.subordinate_to(uid):
                 last = each.first + each.count - 1
                 mine = asked[bisect_left(asked, each.first):bisect_left(asked, last + 1)]
-                told = f"asked above: {' '.join(map(str, mine))}" if mine else "none of them has anything here"
+                told = f"asked above: {some(list(map(str, mine)))}" if mine else "none of them has anything here"
                 yield Line("subordinate", self.uid(uid), f"uids {each.first} to {last} are his too; {told}")
 
     def deputies(self):
@@ -79,7 +94,7 @@ class Unseen:
             mine = [path for path in paths if path in self.questions.meant and self.questions.holders[path].by == "owner"]
             if mine:
                 yield Line("deputy", self.uid(uid), "the service manager moves his processes, from anywhere, on request into "
-                           + " ".join(mine))
+                           + some(mine))
 
     def outside(self):
         """Processes of a user who holds something in none of his subtrees; cron and others start them."""
@@ -89,7 +104,7 @@ class Unseen:
             if uid in mine and mine[uid].isdisjoint((at, *ancestors(at))):
                 places[uid].add(at)
         for uid, found in sorted(places.items()):
-            yield Line("outside", self.uid(uid), f"processes of his are in {' '.join(sorted(found))}")
+            yield Line("outside", self.uid(uid), f"processes of his are in {some(sorted(found))}")
 
     def capabilities(self):
         """Processes that pass over owners: root's inside of what somebody else holds, and everybody else's."""
@@ -102,7 +117,7 @@ class Unseen:
                 found[at, inside, process.user.uid, process.capabilities].append(pid)
         for (at, inside, uid, names), pids in sorted(found.items()):
             where = "inside" if inside else "beside"
-            yield Line("capability", at, f"{where}: process {', '.join(map(str, sorted(pids)))} of {self.uid(uid)} has "
+            yield Line("capability", at, f"{where}: process {some(list(map(str, sorted(pids))))} of {self.uid(uid)} has "
                        f"{' '.join('CAP_' + name for name in names)}, and passes over owners")
 
     def search_bits(self):
@@ -165,7 +180,7 @@ def is_same(setting, file, value):
     """Whether a setting, as systemctl tells it, is what a limit file has; memory is kept in whole pages."""
     if setting in ("infinity", "18446744073709551615"):
         return value == "max"
-    if setting == "[not set]" or not setting.isdigit():
+    if not setting.isascii() or not setting.isdigit() or len(setting) > 20:
         return value == LIMIT_FILES[file][1]
     pages = PAGE if file.startswith("memory.") else 1
     return value != "max" and int(setting) // pages == value // pages

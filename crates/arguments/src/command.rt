@@ -2,17 +2,18 @@
 use clap::{Arg, ArgAction, Command, value_parser};
 use std::alloc::{AllocError, Global};
 
-const VERSION: &str = "0.1.0";
+const VERSION: &str = "0.2.0";
 
 const HELP: &str = "\
-Status: 3 where the answer is a fault, whose one line goes to standard error; else each command's --help tells.
+Status: 3 where the answer is a fault, whose line comes first on standard error; else each command's --help tells.
 `fault: usage` means that the command line isn't as --help says.
-docs/FORMATS.md of the repository has the formats of trees and operations, and every line that is written.";
+zirofen-tree(5) and zirofen(1), or docs/FORMATS.md, have the formats of trees and operations, and every line that is written.
+Where the package is installed, docs/ and examples/ are in /usr/share/doc/zirofen, and zirofen-host(8) describes this host.";
 
 const MAY_HELP: &str = "\
 Status: 0 granted, 1 refused, 3 a fault
 `fault: usage` means that the command line isn't as it says above; a PID that is a number and no PID is `fault: pid`.
-docs/FORMATS.md of the repository has the tree's format, and every line that is written.
+zirofen-tree(5) and zirofen(1), or docs/FORMATS.md, have the tree's format, and every line that is written.
 
 Example:
   zirofen may --tree examples/delegation.toml --uid 1000 --pid 11 --to /c0/c01
@@ -24,7 +25,7 @@ Status: 0 contained, 1 escapes, 2 unsettled, 3 a fault
 line, that break it in turn; none where it is broken as it stands. `unsettled` names a guard that fails and where it
 stands, and none of the tries breaks anything.
 `fault: usage` means that the command line isn't as it says above.
-docs/FORMATS.md of the repository has the tree's format, and every line that is written.
+zirofen-tree(5) and zirofen(1), or docs/FORMATS.md, have the tree's format, and every line that is written.
 
 Example:
   zirofen check --tree examples/delegation-limit-writable.toml --uid 1000 --subtree /c0
@@ -40,7 +41,7 @@ groups too; the status is 1 where one escapes, else 2 where one is unsettled. Us
 once.
 A user is UID or UID:GID,GID.. in decimal digits, with up to 32 gids, of which the first is the primary one.
 `fault: usage` means that the command line isn't as it says above.
-docs/FORMATS.md of the repository has the tree's format, and every line that is written.
+zirofen-tree(5) and zirofen(1), or docs/FORMATS.md, have the tree's format, and every line that is written.
 
 Example:
   zirofen audit --tree examples/delegation-second-user.toml --uid 1000 --uid 1001:1001 --subtree /c0 --subtree /c1
@@ -52,7 +53,7 @@ const REPLAY_HELP: &str = "\
 With --subtree a last line says `kept`, or `broken` with the step and what it broke of the subtree.
 Status: 0 where the operations came to their end and kept the subtree, 1 where they broke it, 3 a fault
 `fault: usage` means that the command line isn't as it says above.
-docs/FORMATS.md of the repository has the formats of the tree and of operations, and every line that is written.
+zirofen-tree(5) and zirofen(1), or docs/FORMATS.md, have the formats of the tree and of operations, and every line that is written.
 
 Example:
   zirofen replay --tree examples/host-service-chown.toml --uid 890 --gid 890 --ops examples/host-service-chown.ops

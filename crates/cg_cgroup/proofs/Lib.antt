@@ -9,6 +9,7 @@ pub mod Options
 pub mod PathAt
 pub mod PathLaws
 pub mod CgroupLaws
+pub mod AllFiles
 pub mod NameLaws
 pub mod ControllerLaws
 pub mod UserLaws

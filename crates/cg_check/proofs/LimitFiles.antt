@@ -12,11 +12,12 @@ use Rattle.cg_cgroup.specs.declared.user.Entry.{Entry}
 use Rattle.cg_cgroup.specs.declared.files.Limit.{Limit}
 use Rattle.cg_cgroup.specs.declared.files.Limit.TheVariants.{Max, At}
 use Rattle.cg_cgroup.specs.declared.files.LimitFile.{LimitFile}
-use Rattle.cg_cgroup.specs.declared.files.LimitFile.TheVariants.{MaxDescendants, MaxDepth, CpuWeight, MemoryMin, MemoryLow, MemoryHigh, MemoryMax, PidsMax}
+use Rattle.cg_cgroup.specs.declared.files.LimitFile.TheVariants.{CpuWeight}
 use Rattle.cg_cgroup.specs.declared.files.EntryName.{EntryName}
 use Rattle.cg_cgroup.specs.declared.files.EntryName.TheVariants.{Dir, Procs, SubtreeControl, File}
 use Rattle.cg_cgroup.specs.declared.cgroup.Cgroup.{Cgroup}
 use Rattle.cg_cgroup.specs.declared.cgroup.LimitEntry.{LimitEntry}
+use Rattle.cg_cgroup.proofs.AllFiles.{each_file}
 use Rattle.cg_cgroup.proofs.Options.{mapped_from, same_some}
 use Rattle.cg_cgroup.proofs.PathOrder.{same_path_refl}
 use Rattle.cg_cgroup.proofs.CgroupLaws.{same_entry-refl}
@@ -66,16 +67,6 @@ all-unflat P g (x ∷ xs) all = (all-left P (g x) (flat_map g xs) all, all-unfla
 all-unmap : {A B : Type 0} (P : B → Type 0) (g : A → B) (xs : List A) → AllByRecursion P (map g xs) → AllByRecursion (λ x. P (g x)) xs
 all-unmap P g [] all = tt
 all-unmap P g (x ∷ xs) all = (all.0, all-unmap P g xs all.1)
-
-of_file : (P : LimitFile → Type 0) → AllByRecursion P all_files → (file : LimitFile) → P file
-of_file P all MaxDescendants = all.0
-of_file P all MaxDepth = all.1.0
-of_file P all CpuWeight = all.1.1.0
-of_file P all MemoryMin = all.1.1.1.0
-of_file P all MemoryLow = all.1.1.1.1.0
-of_file P all MemoryHigh = all.1.1.1.1.1.0
-of_file P all MemoryMax = all.1.1.1.1.1.1.0
-of_file P all PidsMax = all.1.1.1.1.1.1.1.0
 
 none-passes : {A : Type 0} (p : A → Bool) (xs : List A) → find p xs ≡ None → AllByRecursion (λ x. p x ≡ false) xs
 none-passes p [] none = tt
@@ -168,7 +159,7 @@ module _ (st : State) (user : Identity) (subtree : Names) where
         | true ↦ λ can _. let kept = (wider-opened st user subtree).stays subtree (File file) entry is in (kept.now, kept.is, kept.written can)
         | false ↦ λ shut owned.
             let entries = ancestors (length subtree) ++ limit_files (length subtree) in
-            let opens = of_file (λ f. Opens (opened_state st user subtree) (limit_file (length subtree) f))
+            let opens = each_file (λ f. Opens (opened_state st user subtree) (limit_file (length subtree) f))
             (all-unmap (Opens (opened_state st user subtree)) (limit_file (length subtree)) all_files (all-right (Opens (opened_state st user subtree)) (ancestors (length subtree)) (limit_files (length subtree))
             (all-left (Opens (opened_state st user subtree)) entries _ (all-opens (guarded_entries subtree) st (wider-itself user st))))) file in
             let one = opens entry (ap (λ path. entry_at st path (File file)) (take-length subtree) ∙ is) owned shut in
@@ -241,7 +232,7 @@ module _ (st : State) (user : Identity) (subtree : Names) (file : LimitFile) (en
       (all-unflat fails (with_opening (opening st user subtree)) (plain_tries st subtree) (none-passes (breaks st user subtree) (tries st user subtree) none)) in
       let after : List Op → Type 0 = λ ops. fails (opening st user subtree ++ ops) in
       let sets = all-left after (set_tries st subtree) (control_tries subtree) (all-left after (set_tries st subtree ++ control_tries subtree) _ plain.1) in
-      let one = of_file (λ f. AllByRecursion after (present (limits st subtree f) (λ value. (Set subtree f (other_value f value) ∷ []) ∷ []))) (all-unflat after (λ f. present (limits st subtree f) (λ value. (Set subtree f (other_value f value) ∷ []) ∷ [])) all_files sets) file in
+      let one = each_file (λ f. AllByRecursion after (present (limits st subtree f) (λ value. (Set subtree f (other_value f value) ∷ []) ∷ []))) (all-unflat after (λ f. present (limits st subtree f) (λ value. (Set subtree f (other_value f value) ∷ []) ∷ [])) all_files sets) file in
       let held = mapped_from (λ (f : LimitEntry). f.entry) (file_at st subtree file) entry (sym (entry_at-file st subtree file) ∙ is) in
       let has : limits st subtree file ≡ Some held.0.value = value_at-file st subtree file ∙ ap (option_map (λ f. f.value)) held.1 in
       let this : AllByRecursion after ((Set subtree file (other_value file held.0.value) ∷ []) ∷ []) = subst (λ found. AllByRecursion after (present found (λ value. (Set subtree file (other_value file value) ∷ []) ∷ []))) has one in
@@ -262,7 +253,7 @@ file-fails st user subtree file entry is reached none =
     let empty : Guarded → Type 0 = λ guarded. entry_failures st user subtree guarded ≡ [] in
     let all = each-none (entry_failures st user subtree) (guarded_entries subtree) (no_parts _ _ none).0 in
     let files = all-right empty (ancestors (length subtree)) (limit_files (length subtree)) (all-left empty (ancestors (length subtree) ++ limit_files (length subtree)) _ all) in
-    let one = of_file (λ f. empty (limit_file (length subtree) f)) (all-unmap empty (limit_file (length subtree)) all_files files) file in
+    let one = each_file (λ f. empty (limit_file (length subtree) f)) (all-unmap empty (limit_file (length subtree)) all_files files) file in
     true≢false (sym (no_unless _ _ (no_present _ _ one entry (ap (λ path. entry_at st path (File file)) (take-length subtree) ∙ is))) ∙ ap not reached)
 
 pub file-escapes : (st : State) (user : Identity) (subtree : Names) (file : LimitFile) (entry : Entry) → entry_at st subtree (File file) ≡ Some entry → reaches user entry ≡ true → (ops : List Op) × (answer st user subtree ≡ Escapes ops)

@@ -10,6 +10,6 @@ pub mod Replaying
 pub mod Containment
 pub mod Upgrades
 pub mod Audits
-pub mod Advising
 pub mod AllPairs
+pub mod Advising
 pub mod EscapeReplays

@@ -2,7 +2,7 @@
 use Rattle.std.proofs.Common.{◌≡◌, ℕ, zero, suc, ◌<◌, true, false, not, List, [], ◌∷◌, ◌++◌, length, get_or, sym, ap, ◌∙◌, refl, subst, true≢false, Some, ⊎_elim, arith}
 use Rattle.std.specs.List.{All, AllByRecursion, Contains, flat_map}
 use Rattle.std.proofs.lemmas.Bool.{not-true, or_parts, and_parts, cases_lt}
-use Rattle.std.proofs.lemmas.List.Elements.{All-from_recursion, recursion_from_All, All-contains, All-append, All-map, Contains-append_right}
+use Rattle.std.proofs.lemmas.List.Elements.{All-from_recursion, recursion_from_All, All-contains, All-contains_itself, All-append, All-map, Contains-append_right}
 use Rattle.std.proofs.lemmas.List.Concat.{flat_map-append}
 use Rattle.cg_cgroup.specs.Paths.{Names}
 use Rattle.cg_cgroup.specs.Identity.{Identity}
@@ -10,7 +10,7 @@ use Rattle.cg_cgroup.specs.Users.{writes, owns, reaches}
 use Rattle.cg_cgroup.specs.Files.{all_files}
 use Rattle.cg_cgroup.specs.declared.user.Entry.{Entry}
 use Rattle.cg_cgroup.specs.declared.files.LimitFile.{LimitFile}
-use Rattle.cg_cgroup.specs.declared.files.LimitFile.TheVariants.{MaxDescendants, MaxDepth, CpuWeight, MemoryMin, MemoryLow, MemoryHigh, MemoryMax, PidsMax}
+use Rattle.cg_cgroup.proofs.AllFiles.{each_file}
 use Rattle.cg_tree.specs.States.{State}
 use Rattle.cg_ops.specs.Clauses.{unless, present}
 use Rattle.cg_ops.proofs.ClauseLaws.{no_parts, no_unless, no_present}
@@ -30,14 +30,9 @@ ancestors-has (suc m) n h =
     (λ le. let same : m ≡ n = omega arith in subst (λ k. Contains (ancestors (suc m)) (ancestor k)) same (0, omega arith, refl)) (cases_lt n m)
 
 pub limit_files-has : (subtree : Names) (file : LimitFile) → Contains (limit_files (length subtree)) (limit_file (length subtree) file)
-limit_files-has subtree MaxDescendants = (0, omega arith, refl)
-limit_files-has subtree MaxDepth = (1, omega arith, refl)
-limit_files-has subtree CpuWeight = (2, omega arith, refl)
-limit_files-has subtree MemoryMin = (3, omega arith, refl)
-limit_files-has subtree MemoryLow = (4, omega arith, refl)
-limit_files-has subtree MemoryHigh = (5, omega arith, refl)
-limit_files-has subtree MemoryMax = (6, omega arith, refl)
-limit_files-has subtree PidsMax = (7, omega arith, refl)
+limit_files-has subtree file =
+    let those = limit_files (length subtree) in
+    each_file (λ f. Contains those (limit_file (length subtree) f)) (recursion_from_All (Contains those) those (All-contains_itself those)) file
 
 -- what holds of each kind holds of all
 module _ (subtree : Names) (P : Guarded → Type 0) where

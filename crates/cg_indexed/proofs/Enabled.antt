@@ -12,11 +12,12 @@ use Rattle.cg_cgroup.specs.Cgroups.{file_of, file_made_by, with_files_of, cgroup
 use Rattle.cg_cgroup.specs.declared.files.Controller.{Controller}
 use Rattle.cg_cgroup.specs.declared.files.ControllerSet.{ControllerSet}
 use Rattle.cg_cgroup.specs.declared.files.LimitFile.{LimitFile}
-use Rattle.cg_cgroup.specs.declared.files.LimitFile.TheVariants.{MaxDescendants, MaxDepth, CpuWeight, MemoryMin, MemoryLow, MemoryHigh, MemoryMax, PidsMax}
+use Rattle.cg_cgroup.specs.declared.files.LimitFile.TheVariants.{MaxDescendants, MaxDepth, CpuWeight, PidsMax}
 use Rattle.cg_cgroup.specs.declared.cgroup.Cgroup.{Cgroup}
 use Rattle.cg_tree.specs.States.{enabling, enabling_these}
 use Rattle.cg_cgroup.proofs.PathOrder.{same_path-is, same_path_refl, same_path_comm, path_cmp-IsAntisymmetric}
 use Rattle.cg_cgroup.proofs.PathParents.{length-parent, is_child-parent, parent-is_child, is_root-is_child, parent-root}
+use Rattle.cg_cgroup.proofs.CgroupLaws.{same_cgroup}
 use Rattle.cg_cgroup.proofs.Options.{same_some}
 use Rattle.std.specs.Cmp.Derive.{both_true}
 use Rattle.std.proofs.lemmas.Bool.{lt-ltb}
@@ -54,15 +55,18 @@ file_from false false (Some x) made h = absurd (true≢false h)
 abbrev pub IsFitted : ControllerSet → Cgroup → Type 0
 IsFitted above row = (file : LimitFile) → is_some (file_of row file) ≡ stands_under above file
 
+file_taken : (had enabled : ControllerSet) (user : Identity) (row : Cgroup) (file : LimitFile) → is_some (file_of row file) ≡ stands_under had file
+    → file_of (with_files_from (differing had enabled) (cgroup_made_by user enabled) row) file ≡ file_of (with_files_of enabled user row) file
+file_taken had enabled user row MaxDescendants fitted = refl
+file_taken had enabled user row MaxDepth fitted = refl
+file_taken had enabled user row CpuWeight fitted = file_from had.cpu enabled.cpu _ (file_made_by user CpuWeight) fitted
+file_taken had enabled user row PidsMax fitted = file_from had.pids enabled.pids _ (file_made_by user PidsMax) fitted
+file_taken had enabled user row file fitted = file_from had.memory enabled.memory _ (file_made_by user file) fitted
+
 files_from : (had enabled : ControllerSet) (user : Identity) (row : Cgroup) → IsFitted had row → with_files_from (differing had enabled) (cgroup_made_by user enabled) row ≡ with_files_of enabled user row
-files_from had enabled user row fitted = λ i. record row {
-  cpu_weight = file_from had.cpu enabled.cpu row.cpu_weight (file_made_by user CpuWeight) (fitted CpuWeight) i;
-  memory_min = file_from had.memory enabled.memory row.memory_min (file_made_by user MemoryMin) (fitted MemoryMin) i;
-  memory_low = file_from had.memory enabled.memory row.memory_low (file_made_by user MemoryLow) (fitted MemoryLow) i;
-  memory_high = file_from had.memory enabled.memory row.memory_high (file_made_by user MemoryHigh) (fitted MemoryHigh) i;
-  memory_max = file_from had.memory enabled.memory row.memory_max (file_made_by user MemoryMax) (fitted MemoryMax) i;
-  pids_max = file_from had.pids enabled.pids row.pids_max (file_made_by user PidsMax) (fitted PidsMax) i;
-}
+files_from had enabled user row fitted =
+    same_cgroup (with_files_of enabled user row) (with_files_from (differing had enabled) (cgroup_made_by user enabled) row) (record { dir = refl; procs = refl; subtree_control = refl; enabled = refl })
+    (λ file. file_taken had enabled user row file (fitted file))
 
 module _ (places : FinMap path_cmp ℕ) (links : List Link) (nodes : List Node) (kept : AreKept places links nodes) (few : map.len places < 9223372036854775808) (p : Names) (i : ℕ) (is : map.get places p ≡ Some i)
     (enabled : ControllerSet) (user : Identity) where
@@ -326,13 +330,7 @@ module _ (places : FinMap path_cmp ℕ) (links : List Link) (nodes : List Node) 
       where
         files_stay : (row : Cgroup) (f : LimitFile) → is_some (file_of (enabling_these enabled row) f) ≡ is_some (file_of row f)
         files_stay row MaxDescendants = refl
-        files_stay row MaxDepth = refl
-        files_stay row CpuWeight = refl
-        files_stay row MemoryMin = refl
-        files_stay row MemoryLow = refl
-        files_stay row MemoryHigh = refl
-        files_stay row MemoryMax = refl
-        files_stay row PidsMax = refl
+        files_stay row file = refl
 
     refitted : (last : List Node) → Refits links i changed fresh after last → (q : Names) (j : ℕ) → map.get places q ≡ Some j → node_at last j ≡ cond (is_child p q) (fitted_node enabled user (node_at after j)) (node_at after j)
     refitted last r q j has =

@@ -1,5 +1,5 @@
 -- What each change of kept cgroups does to the state that they show.
-use Rattle.std.proofs.Common.{◌≡◌, ℕ, Bool, true, false, cond, refl, sym, ap, ◌∙◌, true≢false, Some, None, Option, is_some, option_map, [], ◌∷◌}
+use Rattle.std.proofs.Common.{◌≡◌, Bool, true, false, cond, refl, sym, ap, ◌∙◌, true≢false, Some, None, Option, is_some, option_map, [], ◌∷◌}
 use Rattle.std.specs.Prelude.{option_and_then, not, ◌&&◌}
 use mathlib.Core.Bool.{beq}
 use Rattle.std.specs.Cmp.{first_so, second_so}
@@ -8,13 +8,8 @@ use Rattle.std.specs.FinMap.{FinMap}
 use Rattle.cg_cgroup.specs.Paths.{Names, path_cmp, same_path, is_child, is_root, parent}
 use Rattle.cg_cgroup.specs.Identity.{Identity}
 use Rattle.cg_cgroup.specs.Files.{stands_under, no_controllers}
-use Rattle.cg_cgroup.specs.Cgroups.{with_files_of, with_value_in, with_mode_in}
+use Rattle.cg_cgroup.specs.Cgroups.{with_files_of}
 use Rattle.cg_cgroup.specs.declared.files.ControllerSet.{ControllerSet}
-use Rattle.cg_cgroup.specs.declared.files.Limit.{Limit}
-use Rattle.cg_cgroup.specs.declared.files.LimitFile.{LimitFile}
-use Rattle.cg_cgroup.specs.declared.files.LimitFile.TheVariants.{MaxDescendants, MaxDepth, CpuWeight, MemoryMin, MemoryLow, MemoryHigh, MemoryMax, PidsMax}
-use Rattle.cg_cgroup.specs.declared.files.EntryName.{EntryName}
-use Rattle.cg_cgroup.specs.declared.files.EntryName.TheVariants.{Dir, Procs, SubtreeControl, File}
 use Rattle.cg_cgroup.specs.declared.cgroup.Cgroup.{Cgroup}
 use Rattle.cg_tree.specs.States.{State, row_at, change_each, enabling, enabling_these, with_row, with_enabled}
 use Rattle.cg_tree.specs.WellFormed.{IsWellFormed, has_row, enabled_above, enabled_at}
@@ -55,29 +50,6 @@ cgroups_each held p enabled user = same_maps _ _ (λ q.
     ∙ ap (option_map (enabling p enabled user q)) (sym (get-mapped (λ h. h.cgroup) held q)) ∙ sym (get-changed path_cmp-IsAntisymmetric (enabling p enabled user) (cgroups_of held) q))
 
 -- ---- what a cgroup enables stays where a value or a mode changes
-
-pub enabled-with_value_in : (file : LimitFile) (value : Limit) (row : Cgroup) → (with_value_in file value row).enabled ≡ row.enabled
-enabled-with_value_in MaxDescendants value row = refl
-enabled-with_value_in MaxDepth value row = refl
-enabled-with_value_in CpuWeight value row = refl
-enabled-with_value_in MemoryMin value row = refl
-enabled-with_value_in MemoryLow value row = refl
-enabled-with_value_in MemoryHigh value row = refl
-enabled-with_value_in MemoryMax value row = refl
-enabled-with_value_in PidsMax value row = refl
-
-pub enabled-with_mode_in : (name : EntryName) (mode : ℕ) (row : Cgroup) → (with_mode_in name mode row).enabled ≡ row.enabled
-enabled-with_mode_in Dir mode row = refl
-enabled-with_mode_in Procs mode row = refl
-enabled-with_mode_in SubtreeControl mode row = refl
-enabled-with_mode_in (File MaxDescendants) mode row = refl
-enabled-with_mode_in (File MaxDepth) mode row = refl
-enabled-with_mode_in (File CpuWeight) mode row = refl
-enabled-with_mode_in (File MemoryMin) mode row = refl
-enabled-with_mode_in (File MemoryLow) mode row = refl
-enabled-with_mode_in (File MemoryHigh) mode row = refl
-enabled-with_mode_in (File MemoryMax) mode row = refl
-enabled-with_mode_in (File PidsMax) mode row = refl
 
 -- what the cgroup that is there enables
 pub enabled_there : (held : FinMap path_cmp Held) (p : Names) (row : Cgroup) (new : Cgroup) → Some row ≡ map.get (cgroups_of held) p → new.enabled ≡ row.enabled → option_map (λ (h : Held). h.cgroup.enabled) (map.get held p) ≡ Some new.enabled

@@ -8,7 +8,7 @@ use Rattle.cg_tree.specs.States.{State, row_at, process_at, is_used, file_at, en
 use Rattle.cg_tree.specs.WellFormed.{has_row, enabled_at}
 use Rattle.cg_cgroup.specs.declared.files.ControllerSet.{ControllerSet}
 use Rattle.cg_cgroup.specs.declared.files.LimitFile.{LimitFile}
-use Rattle.cg_cgroup.specs.declared.files.LimitFile.TheVariants.{MaxDescendants, MaxDepth, CpuWeight, MemoryMin, MemoryLow, MemoryHigh, MemoryMax, PidsMax}
+use Rattle.cg_cgroup.specs.declared.files.LimitFile.TheVariants.{MaxDescendants, MaxDepth}
 use Rattle.cg_cgroup.specs.declared.files.EntryName.{EntryName}
 use Rattle.cg_cgroup.specs.declared.files.EntryName.TheVariants.{Dir, Procs, SubtreeControl, File}
 use Rattle.cg_cgroup.specs.declared.cgroup.Cgroup.{Cgroup}
@@ -57,12 +57,7 @@ stands_everywhere : (enabled : ControllerSet) (file : LimitFile) (found : Option
 stands_everywhere enabled file None free there = absurd (true≢false (sym there))
 stands_everywhere enabled MaxDescendants (Some row) free there = refl
 stands_everywhere enabled MaxDepth (Some row) free there = refl
-stands_everywhere enabled CpuWeight (Some row) free there = absurd (true≢false free)
-stands_everywhere enabled MemoryMin (Some row) free there = absurd (true≢false free)
-stands_everywhere enabled MemoryLow (Some row) free there = absurd (true≢false free)
-stands_everywhere enabled MemoryHigh (Some row) free there = absurd (true≢false free)
-stands_everywhere enabled MemoryMax (Some row) free there = absurd (true≢false free)
-stands_everywhere enabled PidsMax (Some row) free there = absurd (true≢false free)
+stands_everywhere enabled file (Some row) free there = absurd (true≢false free)
 
 file_at-with_enabled-kept : (st : State) (at : Names) (enabled : ControllerSet) (user : Identity) (q : Names) (file : LimitFile) → (is_child at q && is_some (controller_of file)) ≡ false → file_at (with_enabled st at enabled user) q file ≡ file_at st q file
 file_at-with_enabled-kept st at enabled user q file h =

@@ -3,5 +3,6 @@
 
 mod cgroups;
 mod keys;
+pub mod laws;
 mod processes;
 pub mod tree;

@@ -16,7 +16,7 @@ use Rattle.cg_cgroup.specs.declared.files.Limit.{Limit}
 use Rattle.cg_cgroup.specs.declared.files.Limit.TheVariants.{Max as NoLimit, At}
 use Rattle.cg_cgroup.specs.declared.files.ControllerSet.{ControllerSet}
 use Rattle.cg_cgroup.specs.declared.files.LimitFile.{LimitFile}
-use Rattle.cg_cgroup.specs.declared.files.LimitFile.TheVariants.{MaxDescendants, MaxDepth, CpuWeight, MemoryMin, MemoryLow, MemoryHigh, MemoryMax, PidsMax}
+use Rattle.cg_cgroup.specs.declared.files.LimitFile.TheVariants.{MaxDescendants, MaxDepth}
 use Rattle.cg_cgroup.specs.declared.files.EntryName.{EntryName}
 use Rattle.cg_cgroup.specs.declared.files.EntryName.TheVariants.{Dir, Procs, SubtreeControl, File}
 use Rattle.cg_cgroup.specs.declared.cgroup.LimitEntry.{LimitEntry}
@@ -106,12 +106,7 @@ module _ (format : Format) (row : CgroupRow) where
   fine_at : (file : LimitFile) (held : LimitEntry) → file_of (cgroup_written format row) file ≡ Some held → IsFine file held
   fine_at MaxDescendants held is = subst (IsFine MaxDescendants) (ap (λ o. unwrap_or o held) is) (fine_core format MaxDescendants row.files.max_descendants)
   fine_at MaxDepth held is = subst (IsFine MaxDepth) (ap (λ o. unwrap_or o held) is) (fine_core format MaxDepth row.files.max_depth)
-  fine_at CpuWeight held is = fine_named format CpuWeight row.files.cpu_weight held is
-  fine_at MemoryMin held is = fine_named format MemoryMin row.files.memory_min held is
-  fine_at MemoryLow held is = fine_named format MemoryLow row.files.memory_low held is
-  fine_at MemoryHigh held is = fine_named format MemoryHigh row.files.memory_high held is
-  fine_at MemoryMax held is = fine_named format MemoryMax row.files.memory_max held is
-  fine_at PidsMax held is = fine_named format PidsMax row.files.pids_max held is
+  fine_at file held is = fine_named format file _ held is
 
   small_file : (file : LimitFile) (found : Option LimitEntry) → ((held : LimitEntry) → found ≡ Some held → IsFine file held) → (entry : Entry) → option_map (λ f. f.entry) found ≡ Some entry → entry.mode ≤ 511
   small_file file None each entry is = cc

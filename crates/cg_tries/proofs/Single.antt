@@ -1,15 +1,13 @@
 -- A try of one operation breaks where it is allowed and its step breaks.
-use Rattle.std.proofs.Common.{◌≡◌, ℕ, Bool, true, false, cond, not, ◌&&◌, ◌≢◌, List, [], ◌∷◌, Option, Some, None, is_some, option_map, nat_eq, refl, sym, ap, ◌∙◌, true≢false, arith}
+use Rattle.std.proofs.Common.{◌≡◌, ℕ, Bool, true, false, cond, not, ◌&&◌, ◌≢◌, List, [], ◌∷◌, Some, None, is_some, option_map, nat_eq, refl, sym, ap, ◌∙◌, true≢false, arith}
 use Rattle.std.proofs.lemmas.Bool.{and_from, eqb-true, eqb-false}
 use Rattle.std.proofs.Math.Bool.{and-true}
-use Rattle.std.specs.List.{list_all}
 use Rattle.cg_cgroup.specs.Paths.{Names, inside}
 use Rattle.cg_cgroup.specs.Identity.{Identity}
-use Rattle.cg_cgroup.specs.Files.{all_files}
 use Rattle.cg_cgroup.specs.declared.files.Limit.{Limit}
 use Rattle.cg_cgroup.specs.declared.files.Limit.TheVariants.{Max, At}
 use Rattle.cg_cgroup.specs.declared.files.LimitFile.{LimitFile}
-use Rattle.cg_cgroup.specs.declared.files.LimitFile.TheVariants.{MaxDescendants, MaxDepth, CpuWeight, MemoryMin, MemoryLow, MemoryHigh, MemoryMax, PidsMax}
+use Rattle.cg_cgroup.specs.declared.files.LimitFile.TheVariants.{CpuWeight}
 use Rattle.cg_cgroup.proofs.Options.{mapped_from, same_some}
 use Rattle.cg_cgroup.proofs.PathOrder.{same_path_refl}
 use Rattle.cg_cgroup.proofs.CgroupLaws.{same_file-refl}
@@ -24,12 +22,13 @@ use Rattle.cg_ops.specs.Bars.{bars}
 use Rattle.cg_ops.specs.Next.{next}
 use Rattle.cg_ops.specs.declared.operation.Op.{Op}
 use Rattle.cg_ops.specs.declared.operation.Op.TheVariants.{Move, Rmdir, Set}
-use Rattle.cg_guards.specs.Limits.{limits, same_limit, same_value, same_limits}
+use Rattle.cg_guards.specs.Limits.{limits, same_limits}
 use Rattle.cg_guards.specs.Edge.{is_crossed}
 use Rattle.cg_guards.proofs.Crossing.{crosses-some}
 use Rattle.cg_runs.specs.Verdicts.{broken}
 use Rattle.cg_runs.specs.declared.verdict.Clause.{Clause}
 use Rattle.cg_runs.specs.declared.verdict.Clause.TheVariants.{Gone, Limits}
+use Rattle.cg_runs.proofs.LimitLaws.{same_limits-is}
 use Rattle.cg_runs.proofs.BrokenLaws.{broken-whole}
 use Rattle.cg_tries.specs.Tries.{other_value}
 use Rattle.cg_tries.specs.Escapes.{breaks, IsUnbroken}
@@ -84,33 +83,11 @@ rmdir_try st user subtree whole = where_allowed st user subtree (Rmdir subtree) 
 
 -- ---- set
 
-all_at : (p : LimitFile → Bool) → list_all p all_files ≡ true → (file : LimitFile) → p file ≡ true
-all_at p h MaxDescendants = grind arith
-all_at p h MaxDepth = grind arith
-all_at p h CpuWeight = grind arith
-all_at p h MemoryMin = grind arith
-all_at p h MemoryLow = grind arith
-all_at p h MemoryHigh = grind arith
-all_at p h MemoryMax = grind arith
-all_at p h PidsMax = grind arith
-
-same_limit-is : (limit other : Limit) → same_limit limit other ≡ true → limit ≡ other
-same_limit-is Max Max h = refl
-same_limit-is Max (At other) h = absurd (true≢false (sym h))
-same_limit-is (At value) Max h = absurd (true≢false (sym h))
-same_limit-is (At value) (At other) h = ap At (eqb-true value other h)
-
-same_value-is : (value other : Option Limit) → same_value value other ≡ true → value ≡ other
-same_value-is None None h = refl
-same_value-is None (Some other) h = absurd (true≢false (sym h))
-same_value-is (Some limit) None h = absurd (true≢false (sym h))
-same_value-is (Some limit) (Some other) h = ap Some (same_limit-is limit other h)
-
 -- where nothing is broken the limits are those of the start
 pub limits_stay : (start st new : State) (subtree : Names) → broken start st new subtree ≡ [] → (file : LimitFile) → limits start subtree file ≡ limits new subtree file
 limits_stay start st new subtree none file =
     let same = no_unless (same_limits (limits start subtree) (limits new subtree)) Limits (no_parts _ _ (no_parts _ _ (no_parts _ _ none).0).0).1 in
-    same_value-is _ _ (all_at (λ f. same_value (limits start subtree f) (limits new subtree f)) same file)
+    λ i. same_limits-is (limits start subtree) (limits new subtree) same i file
 
 pub other_differs : (file : LimitFile) (value : Limit) → other_value file value ≢ value
 other_differs CpuWeight Max h = cc

@@ -8,7 +8,8 @@ use Rattle.cg_indexed.specs.Kept.{cgroups_of, change_held, with_row_of}
 use Rattle.cg_indexed.specs.Indexed.{state_of, IsIndexed}
 use Rattle.cg_rows.specs.RowsForm.{state_of_tables}
 use Rattle.cg_indexed.proofs.Living.{counted_change}
-use Rattle.cg_indexed.proofs.States.{cgroups_put, enabled_there, enabled-with_mode_in, live_of_row, there_by_part}
+use Rattle.cg_cgroup.proofs.CgroupLaws.{enabled-with_mode_in}
+use Rattle.cg_indexed.proofs.States.{cgroups_put, enabled_there, live_of_row, there_by_part}
 use Rattle.cg_indexed.proofs.indexed.IndexedHierarchy.set_mode.Goals as goal
 
 pub unreachable-requires : goal.unreachable-requires

@@ -1,0 +1,159 @@
+"""Tests of comparing with an earlier report."""
+import json
+import os
+import subprocess
+import sys
+import unittest
+
+from check_test import MARK, HostTest, owned
+from made_up import TOP
+from zirofen_host import baseline
+from zirofen_host.fault import Fault
+
+
+class BaselineTest(HostTest):
+    def setUp(self):
+        super().setUp()
+        self.file = f"{self.host.folder}/baseline.json"
+        self.host.cgroup("/a", owners=owned(1000))
+        self.host.cgroup("/up", owners={"cgroup.procs": (0, 50)}, modes={"cgroup.procs": 0o664})
+        self.host.cgroup("/up/b", owners=owned(1001))
+
+    def keep(self):
+        baseline.write(self.file, self.report(json=True))
+
+    def compared(self):
+        found = self.report(json=True)
+        value = baseline.compared(found, baseline.read(self.file), self.file)
+        self.assertEqual(json.loads(json.dumps(value)), value)
+        lines = list(baseline.lines_of(value))
+        self.assertEqual(all(line.startswith("    ") or line.split(":")[0] in baseline.KINDS for line in lines), any(
+            value[kind] for kind in baseline.KINDS))
+        return value["status"], lines
+
+    def test_nothing_is_new(self):
+        self.keep()
+        status, lines = self.compared()
+        self.assertEqual(status, 0)
+        self.assertRegex(lines[0], "^nothing is new, worse, changed or gone since 20")
+
+    def test_new(self):
+        self.keep()
+        self.host.cgroup("/c", owners=owned(1002))
+        self.assertEqual(self.compared(), (0, ["new: /c: contained, by 1002 who holds it"]))
+        self.host.cgroup("/d", owners={**owned(1002), "memory.max": 1002}, more=("cpu.max",), modes={"cpu.max": 0o666})
+        place = f"{self.host.mount}/d"
+        self.assertEqual(self.compared(), (1, [
+            "new: /d memory.max (1002:0 644): escapes, by carol(1002), of /d", f"    change: chown root {place}/memory.max",
+            "new: opened /d cpu.max by everybody", f"    change: chmod o-w {place}/cpu.max",
+            "new: /c: contained, by 1002 who holds it", "new: /d: escapes, by 1002 who holds it"]))
+
+    def test_a_new_fault(self):
+        self.keep()
+        self.host.cgroup("/odd", owners=owned(1000))
+        status, lines = self.compared()
+        self.assertEqual(status, 3)
+        self.assertIn("new: fault: alice(1000) bob(1001) carol(1002) of /odd: fault: subtree missing", lines)
+        self.keep()
+        self.assertEqual(self.compared()[0], 0)
+
+    def test_worse(self):
+        self.keep()
+        self.host.cgroup("/up", owners={"cgroup.procs": (0, 50)}, modes={"cgroup.procs": 0o666})
+        status, lines = self.compared()
+        self.assertEqual(status, 2)
+        at = lines.index("worse: /up cgroup.procs (0:50 666): unsettled, by group team(50): carol(1002), everybody, of /up/b")
+        self.assertEqual(lines[at + 1:at + 3], [
+            "    before: /up cgroup.procs (0:50 664): unsettled, by group team(50): carol(1002), of /up/b",
+            f"    change: chmod 644 {self.host.mount}/up/cgroup.procs"])
+
+    def test_an_answer_that_got_worse(self):
+        self.host.cgroup("/a", owners={**owned(1000), "memory.max": (0, 50)}, modes={"memory.max": 0o646})
+        self.keep()
+        self.host.cgroup("/a", owners={**owned(1000), "memory.max": 1000})
+        status, lines = self.compared()
+        self.assertEqual(status, 1)
+        self.assertIn("worse: /a memory.max (1000:0 644): escapes, by alice(1000), of /a", lines)
+
+    def test_one_member_more_is_worse(self):
+        self.keep()
+        self.host.accounts(group="team:x:50:carol,bob\n")
+        status, lines = self.compared()
+        self.assertEqual(status, 2)
+        self.assertIn("worse: /up cgroup.procs (0:50 664): unsettled, by group team(50): bob(1001) carol(1002), of /up/b", lines)
+        self.assertIn("changed: /up: contained, by 1001,1002 who holds it", lines)
+
+    def test_changed_and_gone(self):
+        self.host.cgroup("/m.service", owners=owned(1000, 1000), marks=(MARK,), modes={"dir": 0o775})
+        self.host.cgroup("/a/in", owners=owned(1001))
+        self.keep()
+        self.host.cgroup("/up", owners={"cgroup.procs": (7, 50)}, modes={"cgroup.procs": 0o664})
+        self.host.cgroup("/m.service", owners=owned(1000, 1000), marks=(MARK,))
+        self.host.cgroup("/a/in")
+        status, lines = self.compared()
+        self.assertEqual(status, 2)
+        self.assertIn("changed: /up: contained, by 7 who holds it", lines)
+        self.assertEqual([line for line in lines if line.startswith("gone")], [
+            "gone: above: alice(1000), below /a: /a/in", "gone: differs /m.service: dir: not as a service manager leaves it",
+            "gone: /a/in: contained, by 1001 who holds it"])
+        self.host.cgroup("/up")
+        status, lines = self.compared()
+        self.assertEqual((status, "gone: /up cgroup.procs (0:50 664): unsettled, by group team(50): carol(1002), of /up/b"
+                          in lines), (0, True))
+
+    def test_another_host(self):
+        found = self.report(json=True)
+        before = {**found, "host": "other"}
+        value = baseline.compared(found, before, self.file)
+        self.assertEqual((value["status"], [each["before"] for each in value["changed"]]), (0, ["host: other"]))
+
+    def test_nothing_to_ask_any_more(self):
+        self.keep()
+        found = {**self.report(json=True), "asked": False, "entries": [], "subtrees": []}
+        self.assertEqual(baseline.compared(found, baseline.read(self.file), "")["status"], 4)
+        baseline.write(self.file, found)
+        self.assertEqual(baseline.compared(found, baseline.read(self.file), "")["status"], 0)
+
+    def test_what_is_no_baseline(self):
+        for text, told in (("", "no report"), ("{", "no report"), ("[" * 100000, "no report"), ("[]", "version null"),
+                           ('{"version": 7}', "version 7"), ('{"version": 1}', "no report"),
+                           ('{"version": 1, "subtrees": 3}', "no report"), ("\xff", "no report")):
+            with self.subTest(text[:20]):
+                with open(self.file, "w", encoding="latin-1") as out:
+                    out.write(text)
+                with self.assertRaisesRegex(Fault, told):
+                    baseline.read(self.file)
+        with self.assertRaisesRegex(Fault, "can't read the baseline .*none"):
+            baseline.read(f"{self.host.folder}/none")
+
+    def test_what_cant_be_written(self):
+        found = self.report(json=True)
+        with self.assertRaisesRegex(Fault, "can't write the baseline"):
+            baseline.write(f"{self.host.folder}/none/file", found)
+        self.keep()
+        os.symlink(f"{self.host.folder}/elsewhere", f"{self.file}.new")
+        with self.assertRaisesRegex(Fault, "can't write the baseline"):
+            self.keep()
+        self.assertFalse(os.path.exists(f"{self.host.folder}/elsewhere"))
+
+    @unittest.skipUnless(os.geteuid() == 0, "only root gives files away")
+    def test_from_outside(self):
+        def script(*words):
+            return subprocess.run([sys.executable, f"{TOP}/host/check", "--plain-folder", "--mount", self.host.mount, "--proc",
+                                   self.host.proc, "--accounts", self.host.etc, "--zirofen", self.program, *words],
+                                  capture_output=True, text=True)
+        self.assertEqual(script("--baseline", self.file).returncode, 3)
+        self.assertEqual(script("--baseline-update", self.file).returncode, 2)
+        ended = script("--baseline", self.file)
+        self.assertEqual((ended.returncode, ended.stdout.split(" since ")[0]), (0, "nothing is new, worse, changed or gone"))
+        self.host.cgroup("/bad", owners={**owned(1000), "memory.max": 1000})
+        ended = script("--baseline", self.file, "--json", "--baseline-update", self.file)
+        found = json.loads(ended.stdout)
+        self.assertEqual((ended.returncode, found["status"], len(found["baseline"]["new"])), (1, 1, 2))
+        with open(self.file, encoding="ascii") as kept:
+            self.assertNotIn("baseline", json.load(kept))
+        self.assertEqual(script("--baseline", self.file).returncode, 0)
+
+
+if __name__ == "__main__":
+    unittest.main()

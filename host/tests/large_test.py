@@ -1,0 +1,286 @@
+"""Tests of hosts that are too large for one text, and of hosts that change while they are walked over."""
+import io
+import os
+import shutil
+import unittest
+from unittest import mock
+
+from check_test import BY_GROUP, MARK, HostTest, owned
+from made_up import MEMORY
+from zirofen_host import check, progress, texts, walk
+from zirofen_host.tree import Row, Tree, read_tree
+from zirofen_host.mount import Mounts
+from zirofen_host.users import Entry
+
+ALL_THE_TIME = "what matters for it came, went or changed through 8 walks"
+
+
+class LargeTest(HostTest):
+    folder = MEMORY
+
+    def texts(self):
+        """The paths, the processes and the subtrees of each text that the program was asked in."""
+        found = []
+        written = texts.Text.written
+
+        def kept(text, head):
+            tree = read_tree(written(text, head))
+            found.append((sorted(tree.rows), [pid for pid, _, _ in sorted(tree.processes)], text.subtrees))
+            return written(text, head)
+        patched = mock.patch.object(texts.Text, "written", kept)
+        patched.start()
+        self.addCleanup(patched.stop)
+        return found
+
+    def small(self, rows, processes=1000):
+        for name, value in (("MOST_ROWS", rows), ("MOST_PROCESSES", processes)):
+            patched = mock.patch.object(texts, name, value)
+            patched.start()
+            self.addCleanup(patched.stop)
+
+    def test_a_large_host(self):
+        pids = iter(range(10, 30000))
+
+        def some(count, uid):
+            made = [next(pids) for _ in range(count)]
+            for pid in made:
+                self.host.process(pid, uid=uid, gid=uid)
+            return made
+        self.host.accounts(passwd="".join(f"u{uid}:x:{uid}:{uid}::/:\n" for uid in range(1000, 1020)))
+        self.host.cgroup("/large", owners=owned(1000))
+        for number in range(4096):
+            self.host.cgroup(f"/large/c{number}", pids=some(1, 1000), owners=owned(1000))
+        self.host.cgroup("/large/c7/in", owners=owned(1001))
+        for uid in range(1002, 1011):
+            self.host.cgroup(f"/s{uid}", owners=owned(uid), pids=some(1000, uid))
+            for number in range(100):
+                self.host.cgroup(f"/s{uid}/c{number}", owners=owned(uid))
+        self.host.cgroup("/many", owners=owned(1011), pids=some(5000, 1011))
+        self.host.cgroup("/bad", owners={**owned(1012), "memory.max": 1012}, pids=some(1900, 1012))
+        found = self.report(json=True)
+        self.assertEqual((len(found["cgroups"]), len(found["processes"])), (4097 + 2 + 909 + 2, 4096 + 9000 + 5000 + 1900))
+        self.assertEqual(found["faults"], [{"who": "everybody", "uid": None, "gids": [], "subtrees": ["/large"],
+                                            "fault": "4099 cgroups, and a tree text has 4096 at most"}])
+        self.assertEqual([row[2:] for row in self.rows(found)], [
+            ("escapes", "/bad"), ("contained", "/large/c7/in"), ("contained", "/many"),
+            *(("contained", f"/s{uid}") for uid in range(1002, 1011))])
+
+    def test_what_doesnt_fit_goes_in_several_texts(self):
+        made = self.texts()
+        self.small(5)
+        self.host.cgroup("/", pids=(1, 2))
+        for name, uid in (("a", 1000), ("b", 1001), ("c", 1002)):
+            self.host.cgroup(f"/{name}", owners=owned(uid), pids=(uid,))
+            self.host.cgroup(f"/{name}/in", owners=owned(uid))
+            self.host.process(uid, uid=uid, gid=uid)
+        self.host.process(1)
+        self.host.process(2, uid=1002, gid=1002)
+        self.assertEqual(self.report()["status"], 0)
+        self.assertEqual(made, [(["/", "/a", "/a/in", "/b", "/b/in"], [1, 2, 1000, 1001], ["/a", "/b"]),
+                                (["/", "/a", "/b", "/c", "/c/in"], [1, 2, 1000, 1001, 1002], ["/c"])])
+
+    def test_of_processes_the_users_own_go_in_first(self):
+        made = self.texts()
+        self.small(4, 3)
+        self.host.cgroup("/", pids=(1, 2, 3))
+        for name, uid in (("a", 1000), ("b", 1001)):
+            self.host.cgroup(f"/{name}", owners=owned(uid), pids=(uid,))
+            self.host.cgroup(f"/{name}/in")
+            self.host.process(uid, uid=uid, gid=uid)
+        self.host.cgroup("/cron", pids=(20, 21, 22))
+        for pid, uid in ((1, 0), (2, 1000), (3, 1001), (20, 1000), (21, 1001), (22, 0)):
+            self.host.process(pid, uid=uid, gid=uid)
+        self.report()
+        self.assertEqual(made, [(["/", "/a", "/a/in", "/cron"], [2, 20, 1000], ["/a"]),
+                                (["/", "/b", "/b/in", "/cron"], [3, 21, 1001], ["/b"])])
+
+    def test_what_has_too_many_processes_goes_without(self):
+        made = self.texts()
+        self.small(20, 3)
+        self.host.cgroup("/a", owners=owned(1000), pids=(1, 2, 3, 4))
+        self.host.cgroup("/b", owners=owned(1001), pids=(5,))
+        for pid in range(1, 6):
+            self.host.process(pid, uid=1000)
+        self.assertEqual(self.report()["status"], 0)
+        self.assertEqual(made, [(["/", "/a", "/b"], [1, 2, 5], ["/b"]), (["/", "/a"], [], ["/a"])])
+        made.clear()
+        self.assertEqual(self.report(no_processes=True)["status"], 0)
+        self.assertEqual(made, [(["/", "/a", "/b"], [], ["/a", "/b"])])
+
+    def test_the_answers_of_several_texts_are_those_of_one(self):
+        self.host.cgroup("/", owners={"cgroup.procs": (0, 50)}, modes={"cgroup.procs": 0o666}, enabled="memory")
+        for number in range(3):
+            self.host.cgroup(f"/s{number}", owners={**owned(1000 + number), "memory.max": 1001})
+            self.host.cgroup(f"/s{number}/in", owners=owned(1001))
+        self.host.cgroup("/m.service", owners=owned(0, 50), modes=BY_GROUP, marks=(MARK,))
+        whole = self.report(json=True)
+        self.small(4)
+        made = self.texts()
+        self.assertEqual({**self.report(json=True), "time": 0}, {**whole, "time": 0})
+        self.assertEqual(len(made), 3)
+
+    def test_long_paths_fill_a_text_too(self):
+        self.host.cgroup("/a")
+        rows = {path: Row(path, files={"cgroup.procs": Entry(1000, 0, 0o644)})
+                for number in range(4) for path in (f"/{number}", f"/{number}/{'n' * 200}")}
+        tree = Tree((), {"/": Row("/"), **rows})
+        with mock.patch.object(texts, "ROOM", 1000):
+            packed = texts.Texts(tree, ["/0", "/1", "/2", "/3"])
+        self.assertEqual([(text.subtrees, len(text.rows)) for text in packed.list], [(["/0", "/1"], 5), (["/2", "/3"], 5)])
+        with mock.patch.object(texts, "ROOM", 300):
+            packed = texts.Texts(tree, ["/0", f"/1/{'n' * 200}"])
+        self.assertEqual((packed.list, packed.refused["/0"]), ([], "what it needs goes into no tree text: its paths are too long"))
+
+    def test_one_text_is_refused_after_one_walk(self):
+        for name in "abc":
+            self.host.cgroup(f"/{name}")
+        walks, start = [], walk.Walk.__init__
+
+        def started(of, *words):
+            walks.append(words)
+            start(of, *words)
+        with mock.patch.object(walk.Walk, "__init__", started), self.assertRaisesRegex(check.Fault, "4 cgroups, and a tree text has 3"):
+            walk.settled(self.host.mount, None, None, 3)
+        self.assertEqual(len(walks), 1)
+
+    def test_progress_is_told_at_a_terminal(self):
+        class Terminal(io.StringIO):
+            def isatty(self):
+                return True
+        for stream, told in ((Terminal(), True), (io.StringIO(), False)):
+            with mock.patch("sys.stderr", stream), mock.patch.object(progress, "SECONDS", 0), \
+                    mock.patch.object(progress, "_line", progress._Line()):
+                self.report()
+                progress.end()
+            shown = stream.getvalue()
+            self.assertEqual(["cgroups read" in shown, "known to be left" in shown, "\n" in shown], [told, told, False])
+            self.assertEqual(shown[-1:], "\r" if told else "")
+
+    def test_texts_are_kept(self):
+        self.small(2)
+        for name in "ab":
+            self.host.cgroup(f"/{name}", owners=owned(1000))
+        self.report(keep=f"{self.host.folder}/kept")
+        for name, path in (("kept", "/a"), ("kept.2", "/b")):
+            with open(f"{self.host.folder}/{name}", encoding="ascii") as text:
+                self.assertIn(path, read_tree(text.read()).rows)
+
+
+class BusyTest(HostTest):
+    """One user changes something while the helper walks, again and again."""
+
+    def setUp(self):
+        super().setUp()
+        self.turn = 0
+        self.host.cgroup("/alice", owners=owned(1000, 1000), enabled="memory")
+        self.host.cgroup("/alice/in", owners=owned(1000, 1000))
+        self.host.cgroup("/bob", owners=owned(1001))
+        self.host.cgroup("/bob/in", owners=owned(1001))
+        self.host.cgroup("/carol", owners={**owned(1002), "memory.max": 1002})
+
+    def busy(self, act, before=b"/bob"):
+        """A report while something is done each time that a cgroup is read."""
+        self.walks = []
+        read, start = walk.Walk.read, walk.Walk.__init__
+
+        def reading(of, path):
+            if path == before:
+                self.turn += 1
+                act(self.turn)
+            return read(of, path)
+
+        def started(of, *words):
+            self.walks.append(words[1:])
+            start(of, *words)
+        options = self.options(json=True)
+        with mock.patch.object(walk.Walk, "read", reading), mock.patch.object(walk.Walk, "__init__", started):
+            taken = self.host.take(check.subtrees_by(options))
+        return check.report(taken, Mounts(""), options)
+
+    def others(self, found, of):
+        self.assertEqual([(row[2], row[3]) for row in self.rows(found) if row[3] != of],
+                         [each for each in (("contained", "/alice"), ("contained", "/bob"), ("escapes", "/carol")) if each[1] != of])
+
+    def one_is_spoiled(self, found, why=ALL_THE_TIME):
+        self.others(found, "/alice")
+        self.assertEqual((found["faults"], found["status"]), ([{"who": "everybody", "uid": None, "gids": [], "fault": why,
+                                                               "subtrees": ["/alice"]}], 3))
+
+    def come_and_go(self, path, turn):
+        if turn % 2:
+            self.host.cgroup(path, owners=owned(1000))
+        else:
+            shutil.rmtree(self.host.mount + path)
+
+    def test_cgroups_of_his_come_and_go(self):
+        found = self.busy(lambda turn: self.come_and_go("/alice/new", turn), b"/alice")
+        self.one_is_spoiled(found)
+        self.assertEqual(self.walks[:3], [(None,), (None,), ([b"/alice"],)])
+        self.assertEqual(len(self.walks), 10)
+
+    def test_his_limits_change(self):
+        def act(turn):
+            with open(f"{self.host.mount}/alice/in/memory.high", "w", encoding="ascii") as out:
+                out.write(f"{turn * 4096}\n")
+        self.one_is_spoiled(self.busy(act, b"/alice"))
+
+    def test_files_of_his_come_and_go(self):
+        def act(turn):
+            self.host.cgroup("/alice", owners=owned(1000, 1000), enabled="memory" if turn % 2 else "")
+            shutil.rmtree(f"{self.host.mount}/alice/in")
+            self.host.cgroup("/alice/in", owners=owned(1000))
+        self.one_is_spoiled(self.busy(act, b"/alice"))
+
+    def test_a_cgroup_that_goes_each_time_it_is_read(self):
+        def act(_):
+            shutil.rmtree(f"{self.host.mount}/alice/in", ignore_errors=True)
+        remade = walk.Walk.children
+
+        def children(of, path, folder, names):
+            if path == b"/alice":
+                self.host.cgroup("/alice/in", owners=owned(1000))
+                names = [b"in"]
+            return remade(of, path, folder, names)
+        with mock.patch.object(walk.Walk, "children", children):
+            self.one_is_spoiled(self.busy(act, b"/alice/in"))
+
+    def test_what_cant_matter_begins_no_walk_again(self):
+        self.host.cgroup("/system")
+        found = self.busy(lambda turn: self.come_and_go("/system/scope", turn), b"/system")
+        self.others(found, "")
+        self.assertEqual((found["status"], found["faults"], len(self.walks)), (1, [], 2))
+        self.assertIn({"kind": "changing", "place": "/system/scope",
+                       "text": "left out, with all inside: it came, went or changed while it was read"}, found["snapshot"])
+
+    def test_one_change_is_walked_over_again(self):
+        found = self.busy(lambda turn: turn == 2 and self.host.cgroup("/alice/new", owners=owned(1000)), b"/alice")
+        self.others(found, "")
+        self.assertEqual((found["status"], found["faults"], self.walks[2:]), (1, [], [([b"/alice"],)]))
+        self.assertIn("/alice/new", [each["path"] for each in found["cgroups"]])
+
+    def test_what_is_inside_of_his_and_anothers(self):
+        self.host.cgroup("/alice/in/bobs", owners=owned(1001), marks=(MARK,))
+        found = self.busy(lambda turn: self.come_and_go("/alice/new", turn), b"/alice")
+        self.assertEqual([each["subtrees"] for each in found["faults"]], [["/alice"]])
+        self.assertIn(("unsettled common-ancestor /alice/in", "/alice/in/bobs"),
+                      [(each["lines"][0], subtree["path"]) for subtree in found["subtrees"] for each in subtree["answers"]]
+                      + [(entry["example"]["lines"][0], entry["subtrees"][0]) for entry in found["entries"] if entry["example"]])
+
+    def test_what_cant_be_read(self):
+        os.remove(f"{self.host.mount}/alice/cgroup.controllers")
+        self.one_is_spoiled(self.busy(lambda turn: None), "can't read it: cgroup.controllers: No such file or directory")
+        self.assertEqual(len(self.walks), 2)
+
+    def test_more_cgroups_than_are_read(self):
+        for number in range(9):
+            self.host.cgroup(f"/alice/in/c{number}", owners=owned(1000))
+        with mock.patch.object(walk, "MOST_INSIDE", 6):
+            self.one_is_spoiled(self.busy(lambda turn: None), "over 6 cgroups inside")
+
+    def test_the_root_changes_all_the_time(self):
+        with self.assertRaisesRegex(check.Fault, "the root cgroup: it came, went or changed"):
+            self.busy(lambda turn: self.host.own(self.host.mount, 0, 0o755 - turn % 2), b"/")
+
+
+if __name__ == "__main__":
+    unittest.main()

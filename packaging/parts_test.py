@@ -1,0 +1,137 @@
+"""Tests of the parts of ./package that take no program: archives, pages, completions, and what is installed beside it."""
+import io
+import os
+import subprocess
+import sys
+import tarfile
+import tempfile
+import unittest
+
+import archive
+import changes
+import completions
+import manual
+
+HERE = os.path.dirname(os.path.abspath(__file__))
+TOP = os.path.dirname(HERE)
+FILES = [archive.File("usr/bin/it", 0o755, b"it"), archive.File("usr/share/it/text", 0o644, b"text\n")]
+HELP = """Says what it does
+
+Usage: it <COMMAND>
+
+Commands:
+  look  Looks: at something
+  help  Print this message
+
+Options:
+  -h, --help     Print help
+"""
+LOOK = """Looks: at something
+
+Usage: it look [OPTIONS] --at <PATH>
+
+Options:
+      --tree <FILE>  The tree's text
+      --at <PATH>    Where
+  -h, --help         Print help
+"""
+PLAYED = """#!/bin/sh
+[ "$2" != --help ] || { echo "$HELPS"; exit; }
+echo "$*" >>"$SAID"
+exit 2
+"""
+
+
+class ArchiveTest(unittest.TestCase):
+    def test_order_of_files_changes_nothing(self):
+        self.assertEqual(archive.tar(FILES), archive.tar(FILES[::-1]))
+
+    def test_each_folder_comes_before_what_is_in_it(self):
+        with tarfile.open(fileobj=io.BytesIO(archive.tar(FILES))) as files:
+            names = files.getnames()
+        self.assertEqual(names, [".", "./usr", "./usr/bin", "./usr/share", "./usr/share/it", "./usr/bin/it", "./usr/share/it/text"])
+
+    def test_members_of_an_outer_archive_begin_at_even_places(self):
+        data = archive.ar([("one", b"odd"), ("two", b"even")])
+        self.assertEqual((data[:8], len(data) % 2, data[8 + 60:8 + 64]), (b"!<arch>\n", 0, b"odd\n"))
+
+
+class TextTest(unittest.TestCase):
+    def test_markdown_as_a_page(self):
+        text = "## Head\n\nA `word` and [a link](x).\n\n| A | B |\n|---|---|\n| `k` | told |\n\n- one\n- two\n\n    code-line"
+        self.assertEqual(manual.from_markdown(text, 2), [
+            ".SH HEAD", ".PP", "A \\fBword\\fR and a link.", ".TP", "\\fBk\\fR", "told.", ".PP",
+            ".IP \\(bu 3", "one", ".IP \\(bu 3", "two", ".PP", ".PP", ".RS 4", ".nf", "code\\-line", ".fi", ".RE"])
+
+    def test_a_section_ends_before_the_next_of_its_depth(self):
+        self.assertEqual(manual.section("# A\n\n## B\n\nb\n\n### C\n\nc\n\n## D", "B"), "## B\n\nb\n\n### C\n\nc\n")
+        self.assertEqual(manual.section("## B\n\n```\n# no heading\n```\n\n## D", "B"), "## B\n\n```\n# no heading\n```\n")
+
+    def test_changes_as_debian_writes_them(self):
+        told = changes.debian("# Changes\n\n## 0.2.0, 2026-11-25\n\n- One\n  thing.\n\n## 0.1.0, 2026-11-20\n\n- Other.\n", "They <they@it>")
+        self.assertEqual(told.splitlines()[:5], ["zirofen (0.2.0) unstable; urgency=medium", "", "  * One thing.", "",
+                                                 " -- They <they@it>  Wed, 25 Nov 2026 12:00:00 +0000"])
+        self.assertIn("zirofen (0.1.0) unstable", told)
+
+    def test_commands_and_options_are_those_of_help(self):
+        known = completions.read(lambda *words: LOOK if words else HELP)
+        self.assertEqual(known, {"look": ("Looks: at something", [
+            completions.Option("--tree", "FILE", "The tree's text"), completions.Option("--at", "PATH", "Where"),
+            completions.Option("--help", "", "Print help")])})
+        for shell in (completions.bash, completions.zsh, completions.fish):
+            self.assertIn("look", shell("it", known))
+
+
+class InstalledTest(unittest.TestCase):
+    def setUp(self):
+        room = tempfile.TemporaryDirectory()
+        self.addCleanup(room.cleanup)
+        self.room = room.name
+
+    def check_again(self, helps):
+        """What zirofen-host is asked for by two runs, of which the first leaves a baseline."""
+        with open(f"{self.room}/zirofen-host", "w", encoding="ascii") as out:
+            out.write(PLAYED)
+        os.chmod(f"{self.room}/zirofen-host", 0o755)
+        said = f"{self.room}/said"
+        environment = {"PATH": f"{self.room}:/usr/bin:/bin", "STATE_DIRECTORY": self.room, "SAID": said, "HELPS": helps}
+        for _ in range(2):
+            ended = subprocess.run([f"{HERE}/check-again"], env=environment, capture_output=True)
+            self.assertEqual((ended.returncode, ended.stderr), (2, b""))
+            open(f"{self.room}/baseline.json", "w", encoding="ascii").close()
+        with open(said, encoding="ascii") as text:
+            return text.read().splitlines()
+
+    def test_the_first_run_writes_a_baseline_and_later_ones_compare(self):
+        baseline = f"{self.room}/baseline.json"
+        self.assertEqual(self.check_again("  --baseline FILE\n  --baseline-update FILE"),
+                         [f"check --baseline-update {baseline}", f"check --baseline {baseline}"])
+
+    def test_a_helper_without_baselines_is_a_plain_check(self):
+        self.assertEqual(self.check_again("  --json"), ["check", "check"])
+
+    def test_nothing_is_switched_on(self):
+        for name in os.listdir(f"{HERE}/debian"):
+            with open(f"{HERE}/debian/{name}", encoding="ascii") as text:
+                self.assertNotRegex(text.read(), r"systemctl.*(enable|start)|deb-systemd-(helper|invoke) (enable|start)")
+
+    def host(self, *words):
+        environment = {**os.environ, "ZIROFEN_HELPERS": f"{TOP}/host", "ZIROFEN": f"{self.room}/none"}
+        return subprocess.run([sys.executable, f"{HERE}/zirofen-host", *words], env=environment, capture_output=True, text=True)
+
+    def test_one_command_for_the_helpers(self):
+        helpers = [it for it in os.listdir(f"{TOP}/host") if os.path.isfile(f"{TOP}/host/{it}")]
+        said = self.host("--help").stdout
+        for name in helpers:
+            self.assertIn(f"  {name} ", said)
+            self.assertEqual(self.host(name, "--help").returncode, 0, name)
+        for words in ((), ("none",), ("../package",)):
+            self.assertEqual((self.host(*words).stdout, self.host(*words).returncode), ("", 3))
+
+    def test_without_the_program_there_is_no_version(self):
+        ended = self.host("--version")
+        self.assertEqual((ended.stdout, ended.returncode, len(ended.stderr.splitlines())), ("", 3, 1))
+
+
+if __name__ == "__main__":
+    unittest.main()
