@@ -8,7 +8,9 @@ pub(crate) fn tree_of<'a>(request: &Request<'a>) -> Option<&'a str> {
         Request::May(request) => request.tree,
         Request::Check(request) => request.tree,
         Request::Audit(request) => request.tree,
+        Request::Advise(request) => request.tree,
         Request::Replay(request) => request.tree,
+        Request::Upgrade(request) => request.tree,
         _ => None,
     }
 }
@@ -30,6 +32,7 @@ pub(crate) fn paths_of<'a>(
         Request::May(request) => Vec::from_slice(alloc, &[request.to]),
         Request::Check(request) => Vec::from_slice(alloc, &[request.subtree]),
         Request::Audit(request) => Vec::from_slice(alloc, request.subtrees.as_slice()),
+        Request::Advise(request) => Vec::from_slice(alloc, &[request.subtree]),
         Request::Replay(request) => match request.subtree {
             Some(subtree) => Vec::from_slice(alloc, &[subtree]),
             None => Ok(Vec::new(alloc)),

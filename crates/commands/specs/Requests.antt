@@ -1,5 +1,5 @@
 -- What a request asks for, and what is answered. Own.
-use Rattle.std.specs.Prelude.{◌≡◌, ◌⊎◌, ℕ, List, map, take, string_bytes, Option, Some, None, Result, Ok, Err, IfSome}
+use Rattle.std.specs.Prelude.{◌≡◌, ◌⊎◌, ℕ, List, map, take, string_bytes, Option, Some, None, Result, Ok, Err, IfSome, MatchBool}
 use Rattle.std.specs.Option.{option_map}
 use Rattle.std.specs.Io.KnownBytes.{Keeps}
 use Rattle.arguments.specs.Given.{ids_of}
@@ -7,11 +7,15 @@ use Rattle.arguments.specs.declared.request.May.{May}
 use Rattle.arguments.specs.declared.request.Check.{Check}
 use Rattle.arguments.specs.declared.request.Audit.{Audit}
 use Rattle.arguments.specs.declared.request.Replay.{Replay}
+use Rattle.arguments.specs.declared.request.Upgrade.{Upgrade}
 use Rattle.arguments.specs.declared.request.Request.{Request}
 use Rattle.arguments.specs.declared.request.Request.TheVariants as request
 use Rattle.cg_cli.specs.May.{may_report}
 use Rattle.cg_cli.specs.Containment.{check_report}
 use Rattle.cg_cli.specs.Audits.{audit_report}
+use Rattle.cg_cli.specs.AllPairs.{all_report, ReportsPairs}
+use Rattle.cg_cli.specs.Advising.{advise_report}
+use Rattle.cg_cli.specs.Upgrades.{Upgrades}
 use Rattle.cg_cli.specs.Replays.{closed, lines_report}
 use Rattle.cg_cli.specs.Replaying.{Reporting, ReplaysFrom}
 use Rattle.cg_cli.specs.Reports.{Report, Reports}
@@ -36,8 +40,15 @@ may_said may tree = may_report tree may.user.uid may.user.gids.items may.pid may
 abbrev pub check_said : Check → List ℕ → Report
 check_said check tree = check_report tree check.user.uid check.user.gids.items check.subtree.now
 
-abbrev pub audit_said : Audit → List ℕ → Report
-audit_said audit tree = audit_report tree (map ids_of audit.users.items) (map (λ subtree. subtree.now) audit.subtrees.items)
+abbrev pub advise_said : Check → List ℕ → Report
+advise_said advise tree = advise_report tree advise.user.uid advise.user.gids.items advise.subtree.now
+
+-- the first pair that isn't contained, or each of them
+abbrev pub AuditSays : Audit → Option (List ℕ) → Option (List ℕ) → Result ℕ CliFault → List ℕ → Type 0
+AuditSays audit old new result tree =
+    let users = map ids_of audit.users.items in
+    let subtrees = map (λ subtree. subtree.now) audit.subtrees.items in
+    MatchBool audit.all (ReportsPairs (all_report tree users subtrees) old new result) (Reports (audit_report tree users subtrees) old new result)
 
 abbrev pub replay_said : Replay → List ℕ → Reporting
 replay_said replay tree = lines_report tree replay.user.uid replay.user.gids.items (option_map (λ path. path.now) replay.subtree)
@@ -48,10 +59,13 @@ replay_said replay tree = lines_report tree replay.user.uid replay.user.gids.ite
 abbrev pub IsUnread : Option (List ℕ) → Option (List ℕ) → Result ℕ CliFault → Type 0
 IsUnread old new result = ((result ≡ Err Read) ⊎ (result ≡ Err NoMemory)) × Keeps old new
 
+-- What is answered on some text of a tree.
+abbrev pub OnTree : {A : Type 0} → Option A → Option (List ℕ) → (List ℕ → Type 0) → Option (List ℕ) → Option (List ℕ) → Result ℕ CliFault → Type 0
+OnTree file given answers old new result = ((tree : List ℕ) × IsTree file given tree × answers tree) ⊎ IsUnread old new result
+
 -- The report of some text of a tree.
 abbrev pub ReportsOnTree : {A : Type 0} → Option A → Option (List ℕ) → (List ℕ → Report) → Option (List ℕ) → Option (List ℕ) → Result ℕ CliFault → Type 0
-ReportsOnTree file given said old new result =
-    ((tree : List ℕ) × IsTree file given tree × Reports (said tree) old new result) ⊎ IsUnread old new result
+ReportsOnTree file given said old new result = OnTree file given (λ tree. Reports (said tree) old new result) old new result
 
 -- The report of operations on some text of a tree, over some bytes of a file, of which some may be left.
 abbrev pub ReplaysOnTree : {A : Type 0} → Option A → Option (List ℕ) → (List ℕ → Reporting) → Option (List ℕ) → Option (List ℕ) → Result ℕ CliFault → Type 0
@@ -65,7 +79,10 @@ abbrev pub CarriesOut : Request → Option (List ℕ) → Option (List ℕ) → 
 CarriesOut (request.Help text) given old new result = Reports (record { text = string_bytes text; ending = Ok 0 }) old new result
 CarriesOut (request.May may) given old new result = ReportsOnTree may.tree given (may_said may) old new result
 CarriesOut (request.Check check) given old new result = ReportsOnTree check.tree given (check_said check) old new result
-CarriesOut (request.Audit audit) given old new result = ReportsOnTree audit.tree given (audit_said audit) old new result
+CarriesOut (request.Audit audit) given old new result = OnTree audit.tree given (AuditSays audit old new result) old new result
+CarriesOut (request.Advise advise) given old new result = ReportsOnTree advise.tree given (advise_said advise) old new result
+CarriesOut (request.Upgrade upgrade) given old new result =
+    OnTree upgrade.tree given (λ tree. Upgrades tree old new result) old new result
 CarriesOut (request.Replay replay) given old new result = ReplaysOnTree replay.tree given (replay_said replay) old new result
 
 -- How a call ended whose report is held in a buffer: its own fault comes before that of the last write.

@@ -1,24 +1,30 @@
 //! A request is carried out: its tree, its files, and the call that answers.
-ghost use Rattle.std.specs.Prelude.{◌≡◌, ◌⊎◌, [], map, Ok, Err, IfOk, IfErr};
+ghost use Rattle.std.specs.Prelude.{◌≡◌, ◌⊎◌, [], map, Ok, Err, IfOk, IfErr, MatchBool};
 ghost use Rattle.std.specs.Io.Buffered.{writer_buffer, writer_contents};
 ghost use Rattle.std.specs.Io.KnownBytes.{Keeps};
+ghost use Rattle.cg_cli.specs.AllPairs.{all_report, ReportsPairs};
+ghost use Rattle.cg_cli.specs.Audits.{audit_report};
 ghost use Rattle.cg_cli.specs.Replays.{closed};
 ghost use Rattle.cg_cli.specs.Replaying.{ReplaysFrom};
 ghost use Rattle.cg_cli.specs.Reports.{Reports};
+ghost use Rattle.cg_cli.specs.Upgrades.{Upgrades};
 ghost use Rattle.arguments.specs.Given.{ids_of};
-ghost use Rattle.commands.specs.Requests.{IsTree, may_said, check_said, audit_said, replay_said, ReportsOnTree, IsFlushed, ReplaysOnTree, CarriesOut, CarriesOutBuffered};
+ghost use Rattle.commands.specs.Requests.{IsTree, may_said, check_said, advise_said, AuditSays, OnTree, replay_said, ReportsOnTree, IsFlushed, ReplaysOnTree, CarriesOut, CarriesOutBuffered};
 
 use crate::again::Again;
 use crate::fault::Fault;
 use arguments::named_user::NamedUser;
-use arguments::request::{Audit, Check, May, Replay, Request};
+use arguments::request::{Audit, Check, May, Replay, Request, Upgrade};
+use cg_cli::advise::advise_bytes;
 use cg_cli::arguments::UserIds;
 use cg_cli::audit::audit_bytes;
+use cg_cli::audit_all::audit_all_bytes;
 use cg_cli::check::check_bytes;
 use cg_cli::fault::CliFault;
 use cg_cli::input::read_input;
 use cg_cli::may::may_bytes;
 use cg_cli::replay::replay_from;
+use cg_cli::upgrade::upgrade_bytes;
 use cg_cli::write::write_whole;
 use std::alloc::Global;
 use std::env;
@@ -82,7 +88,9 @@ fn carried_out<R: AllocGlobal + Files, I: Read + Drop, W: Write>(
         Request::May(request) => may(rt, request, input, out),
         Request::Check(request) => check(rt, request, input, out),
         Request::Audit(request) => audit(rt, request, input, out),
+        Request::Advise(request) => advise(rt, request, input, out),
         Request::Replay(request) => replay(rt, request, input, out),
+        Request::Upgrade(request) => upgrade(rt, request, input, out),
     }
 }
 
@@ -133,18 +141,63 @@ fn audit<R: AllocGlobal + Files, I: Read + Drop, W: Write>(
     input: I,
     out: &mut W,
 ) -> Result<u8, CliFault>
-    ensures { ReportsOnTree request.now.tree (I.remaining input) (audit_said request.now)
+    ensures { OnTree request.now.tree (I.remaining input)
+        (AuditSays request.now (W.contents out.old) (W.contents out.new) result)
         (W.contents out.old) (W.contents out.new) result }
 {
     let tree = tree_text(rt, request.tree, input)?;
     let users = all_ids(rt.alloc(), request.users.as_slice())?;
-    audit_bytes(
-        rt.alloc(),
-        tree.as_slice(),
-        users.as_slice(),
-        request.subtrees.as_slice(),
-        out,
-    )
+    audited(rt.alloc(), tree.as_slice(), users.as_slice(), request, out)
+}
+
+/// Audits a tree, of which the first pair that isn't contained is asked for, or each.
+fn audited<W: Write>(
+    alloc: Global,
+    tree: &[u8],
+    users: &[UserIds<'_>],
+    request: &Audit<'_>,
+    out: &mut W,
+) -> Result<u8, CliFault>
+    ensures { MatchBool request.now.all
+        (ReportsPairs (all_report tree.now (map (λ user. (user.uid, user.gids.now)) users.now) (map (λ subtree. subtree.now) request.now.subtrees.items))
+        (W.contents out.old) (W.contents out.new) result)
+        (Reports (audit_report tree.now (map (λ user. (user.uid, user.gids.now)) users.now) (map (λ subtree. subtree.now) request.now.subtrees.items))
+        (W.contents out.old) (W.contents out.new) result) }
+{
+    let subtrees = request.subtrees.as_slice();
+    if request.all {
+        audit_all_bytes(alloc, tree, users, subtrees, out)
+    } else {
+        audit_bytes(alloc, tree, users, subtrees, out)
+    }
+}
+
+fn advise<R: AllocGlobal + Files, I: Read + Drop, W: Write>(
+    rt: &R,
+    request: &Check<'_>,
+    input: I,
+    out: &mut W,
+) -> Result<u8, CliFault>
+    ensures { ReportsOnTree request.now.tree (I.remaining input) (advise_said request.now)
+        (W.contents out.old) (W.contents out.new) result }
+{
+    let tree = tree_text(rt, request.tree, input)?;
+    let asked = ids(&request.user);
+    advise_bytes(rt.alloc(), tree.as_slice(), asked, request.subtree, out)
+}
+
+fn upgrade<R: AllocGlobal + Files, I: Read + Drop, W: Write>(
+    rt: &R,
+    request: &Upgrade<'_>,
+    input: I,
+    out: &mut W,
+) -> Result<u8, CliFault>
+    ensures { OnTree request.now.tree (I.remaining input)
+        (λ tree. Upgrades tree (W.contents out.old) (W.contents out.new) result)
+        (W.contents out.old) (W.contents out.new) result }
+{
+    let tree = tree_text(rt, request.tree, input)?;
+    upgrade_bytes(rt.alloc(), tree.as_slice(), out)
 }
 
 fn replay<R: AllocGlobal + Files, I: Read + Drop, W: Write>(

@@ -11,3 +11,9 @@ returns-in-Audit g c = rw c.in-Audit.is c.audit.ensures
 
 pub returns-in-Replay : goal.returns-in-Replay
 returns-in-Replay g c = rw c.in-Replay.is c.replay.ensures
+
+pub returns-in-Advise : goal.returns-in-Advise
+returns-in-Advise g c = rw c.in-Advise.is c.advise.ensures
+
+pub returns-in-Upgrade : goal.returns-in-Upgrade
+returns-in-Upgrade g c = rw c.in-Upgrade.is c.upgrade.ensures
