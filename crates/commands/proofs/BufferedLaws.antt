@@ -61,6 +61,7 @@ AuditSays-Keeps audit old mid new result tree h k = by_flag audit.all h
   where
     users = map ids_of audit.users.items
     subtrees = map (λ subtree. subtree.now) audit.subtrees.items
+
     by_flag : (all : Bool) → MatchBool all (ReportsPairs (all_report tree users subtrees) old mid result) (Reports (audit_report tree users subtrees) old mid result) → MatchBool all (ReportsPairs (all_report tree users subtrees) old new result) (Reports (audit_report tree users subtrees) old new result)
     by_flag true said = ReportsPairs-Keeps _ old mid new result said k
     by_flag false said = Reports-Keeps _ old mid new result said k

@@ -160,9 +160,9 @@ fn audited<W: Write>(
 ) -> Result<u8, CliFault>
     ensures { MatchBool request.now.all
         (ReportsPairs (all_report tree.now (map (λ user. (user.uid, user.gids.now)) users.now) (map (λ subtree. subtree.now) request.now.subtrees.items))
-            (W.contents out.old) (W.contents out.new) result)
+        (W.contents out.old) (W.contents out.new) result)
         (Reports (audit_report tree.now (map (λ user. (user.uid, user.gids.now)) users.now) (map (λ subtree. subtree.now) request.now.subtrees.items))
-            (W.contents out.old) (W.contents out.new) result) }
+        (W.contents out.old) (W.contents out.new) result) }
 {
     let subtrees = request.subtrees.as_slice();
     if request.all {
