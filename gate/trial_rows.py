@@ -127,6 +127,13 @@ def byte_trials():
         yield "check_bytes", tree, ["check", "1000", subtree], f"{lines(report)}status {status}\n"
     yield "audit_bytes", DELEGATION, ["audit", "1000", "1001", "/c0", "/c1"], "contained\nstatus 0\n"
     yield "audit_bytes", SECOND_USER, ["audit", "1000", "1001", "/c0", "/c1"], "pair 1001 /c0\nescapes\nset /c0 memory.max max\nstatus 1\n"
+    yield "audit_all_bytes", DELEGATION, ["audit_all", "1000", "1001", "/c0", "/c1"], "contained\nstatus 0\n"
+    yield "audit_all_bytes", SECOND_USER, ["audit_all", "1000", "1001", "/c0", "/c1"], "pair 1001 /c0\nescapes\nset /c0 memory.max max\nstatus 1\n"
+    yield "advise_bytes", DELEGATION, ["advise", "1000", "/c0"], "contained\nstatus 0\n"
+    yield ("advise_bytes", ANCESTOR_OWNED, ["advise", "1000", "/c0"],
+           "fails common-ancestor / cgroup.procs 1000:0 446 owner\nchown / cgroup.procs 0:0\nchmod / cgroup.procs 444\nstatus 1\n")
+    for tree in (DELEGATION, PREFIX):
+        yield "upgrade_bytes", tree, ["upgrade"], "format = 2"
     for tree, subtree, ops, outcomes, verdict in (*REPLAYS[:REPLAYS_OF_BYTES], CUT):
         status = "" if verdict.startswith("fault") else f"status {int(verdict != 'kept')}\n"
         said = f"{lines(outcomes)}{verdict}\n{status}"
@@ -140,6 +147,7 @@ def free_byte_trials():
     yield "may_bytes", ["may", "0", "11", "/c0"], "fault: uid\n"
     yield "may_bytes", ["may", "1000", "0", "/c0"], "fault: pid\n"
     yield "check_bytes", ["check", "0", "/c0"], "fault: uid\n"
+    yield "advise_bytes", ["advise", "0", "/c0"], "fault: uid\n"
     yield "replay_bytes", ["replay", "0", "-"], "fault: uid\n"
     yield "replay_from", ["replay_from", "0", "-"], "fault: uid\n"
 

@@ -3,23 +3,29 @@ use crate::begin::{Begin, Stopped};
 use crate::reader::Bytewise;
 use crate::said::{Said, wants_memory};
 use crate::words::Words;
+use cg_cli::advise::advise_bytes;
 use cg_cli::arguments::UserIds;
 use cg_cli::audit::audit_bytes;
+use cg_cli::audit_all::audit_all_bytes;
 use cg_cli::check::check_bytes;
 use cg_cli::fault::{CliFault, fault_text};
 use cg_cli::may::may_bytes;
 use cg_cli::replay::{replay_bytes, replay_from};
+use cg_cli::upgrade::upgrade_bytes;
 use std::alloc::Global;
 
 /// Room for every report, made before the call: a writer that wants memory is another trial.
-const ROOM: usize = 4096;
+const ROOM: usize = 65536;
 
 /// A call over bytes, but for its tree.
 #[derive(Drop)]
 enum Call<'a> {
     May(UserIds<'a>, u32, &'a str),
     Check(UserIds<'a>, &'a str),
+    Advise(UserIds<'a>, &'a str),
+    Upgrade,
     Audit(Vec<UserIds<'a>>, Vec<&'a str>),
+    AuditAll(Vec<UserIds<'a>>, Vec<&'a str>),
     ReplayBytes(UserIds<'a>, Option<&'a str>, Vec<u8>),
     ReplayFrom(UserIds<'a>, Option<&'a str>, Vec<u8>),
 }
@@ -29,6 +35,11 @@ impl Call<'_> {
         match self {
             Call::May(user, pid, to) => may_bytes(alloc, tree, *user, *pid, to, out),
             Call::Check(user, subtree) => check_bytes(alloc, tree, *user, subtree, out),
+            Call::Advise(user, subtree) => advise_bytes(alloc, tree, *user, subtree, out),
+            Call::Upgrade => upgrade_bytes(alloc, tree, out),
+            Call::AuditAll(users, subtrees) => {
+                audit_all_bytes(alloc, tree, users.as_slice(), subtrees.as_slice(), out)
+            }
             Call::Audit(users, subtrees) => {
                 audit_bytes(alloc, tree, users.as_slice(), subtrees.as_slice(), out)
             }
@@ -69,7 +80,10 @@ fn watched(word: &str) -> Option<&str> {
     if word == "-" { None } else { Some(word) }
 }
 
-fn audit<'a>(alloc: Global, words: &'a [String]) -> Result<Call<'a>, Stopped> {
+fn audited<'a>(
+    alloc: Global,
+    words: &'a [String],
+) -> Result<(Vec<UserIds<'a>>, Vec<&'a str>), Stopped> {
     let mut users = Vec::new(alloc);
     let mut subtrees = Vec::new(alloc);
     for word in words {
@@ -78,14 +92,23 @@ fn audit<'a>(alloc: Global, words: &'a [String]) -> Result<Call<'a>, Stopped> {
             Err(_) => subtrees.push(word.as_str())?,
         }
     }
-    Ok(Call::Audit(users, subtrees))
+    Ok((users, subtrees))
 }
 
 fn call_told<'a>(alloc: Global, words: &mut Words<'a>) -> Result<Call<'a>, Stopped> {
     match words.next()? {
         "may" => Ok(Call::May(user(words.id()?), words.id()?, words.next()?)),
         "check" => Ok(Call::Check(user(words.id()?), words.next()?)),
-        "audit" => audit(alloc, words.rest()),
+        "advise" => Ok(Call::Advise(user(words.id()?), words.next()?)),
+        "upgrade" => Ok(Call::Upgrade),
+        "audit" => {
+            let (users, subtrees) = audited(alloc, words.rest())?;
+            Ok(Call::Audit(users, subtrees))
+        }
+        "audit_all" => {
+            let (users, subtrees) = audited(alloc, words.rest())?;
+            Ok(Call::AuditAll(users, subtrees))
+        }
         "replay" => {
             let user = user(words.id()?);
             let subtree = watched(words.next()?);

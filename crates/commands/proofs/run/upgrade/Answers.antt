@@ -10,5 +10,5 @@ returns-in_err-tree g c =
 
 pub returns : goal.returns
 returns g c =
-    let said = rw c.as_slice.ensures.value at c.upgrade_bytes.ensures in
+    let said = rw c.as_slice.ensures.value at c.upgrade_bytes.ensures.report in
     inl (c.in_ok-tree.tree.items, c.in_ok-tree.ensures.text, said)
