@@ -56,15 +56,16 @@ ReportsPairs-Keeps (Err fault) old mid new (Ok status) h k = h
 ReportsPairs-Keeps (Err fault) old mid new (Err NoMemory) h k = (h.0, Keeps-Keeps old mid new h.1 k)
 ReportsPairs-Keeps (Err fault) old mid new (Err other) h k = (h.0, Keeps-Keeps old mid new h.1 k)
 
-AuditSays-Keeps : (audit : Audit) (old mid new : Option (List ℕ)) (result : Result ℕ CliFault) (tree : List ℕ) → AuditSays audit old mid result tree → Keeps mid new → AuditSays audit old new result tree
-AuditSays-Keeps audit old mid new result tree h k = by_flag audit.all h
-  where
-    users = map ids_of audit.users.items
-    subtrees = map (λ subtree. subtree.now) audit.subtrees.items
+AuditSays-by : (all : Bool) (pairs : Result (List Listed) CliFault) (report : Report) (old mid new : Option (List ℕ)) (result : Result ℕ CliFault)
+    → MatchBool all (ReportsPairs pairs old mid result) (Reports report old mid result) → Keeps mid new
+    → MatchBool all (ReportsPairs pairs old new result) (Reports report old new result)
+AuditSays-by true pairs report old mid new result said k = ReportsPairs-Keeps pairs old mid new result said k
+AuditSays-by false pairs report old mid new result said k = Reports-Keeps report old mid new result said k
 
-    by_flag : (all : Bool) → MatchBool all (ReportsPairs (all_report tree users subtrees) old mid result) (Reports (audit_report tree users subtrees) old mid result) → MatchBool all (ReportsPairs (all_report tree users subtrees) old new result) (Reports (audit_report tree users subtrees) old new result)
-    by_flag true said = ReportsPairs-Keeps _ old mid new result said k
-    by_flag false said = Reports-Keeps _ old mid new result said k
+AuditSays-Keeps : (audit : Audit) (old mid new : Option (List ℕ)) (result : Result ℕ CliFault) (tree : List ℕ) → AuditSays audit old mid result tree → Keeps mid new → AuditSays audit old new result tree
+AuditSays-Keeps audit old mid new result tree said k =
+    AuditSays-by audit.all (all_report tree (map ids_of audit.users.items) (map (λ subtree. subtree.now) audit.subtrees.items))
+    (audit_report tree (map ids_of audit.users.items) (map (λ subtree. subtree.now) audit.subtrees.items)) old mid new result said k
 
 Upgrades-Keeps : (tree : List ℕ) (old mid new : Option (List ℕ)) (result : Result ℕ CliFault) → Upgrades tree old mid result → Keeps mid new → Upgrades tree old new result
 Upgrades-Keeps tree old mid new result h k = record { text = h.text; document = h.document; reports = Reports-Keeps _ old mid new result h.reports k }
