@@ -19,7 +19,8 @@ class KitTest(unittest.TestCase):
         checkout = Checkout(self)
         with open(f"{checkout.played}/tools/rt", "w", encoding="ascii") as tool:
             tool.write(TOOL)
-        for words in (["verify"], ["gate/proofs", f"{checkout.room}/kept"], ["gate/edits"], ["gate/tests"]):
+        for words in (["verify"], ["gate/proofs", f"{checkout.room}/kept"], ["gate/edits"], ["gate/tests"],
+                      ["gate/trials"]):
             with self.subTest(words[0]):
                 ended = subprocess.run([f"{TOP}/{words[0]}", *words[1:]], cwd=TOP, env=checkout.environment, text=True,
                                        capture_output=True)

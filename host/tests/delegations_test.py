@@ -1,10 +1,11 @@
 """Tests of finding delegations, and of who stands behind a uid or a gid."""
+import os
 import subprocess
 import sys
 import tempfile
 import unittest
 
-from made_up import DELEGATED, TOP, MadeUpTest
+from made_up import DELEGATED, HERE, TOP, MadeUpTest
 from zirofen_host.accounts import Account, Accounts, Group, Range
 from zirofen_host.delegations import Delegations
 from zirofen_host.fault import Fault
@@ -168,8 +169,9 @@ class AccountsTest(unittest.TestCase):
 
 class ScriptTest(MadeUpTest):
     def script(self, *words, given=""):
-        return subprocess.run([sys.executable, f"{TOP}/host/delegations", "--accounts", self.host.etc, *words],
-                              input=given, capture_output=True, text=True)
+        return subprocess.run([sys.executable, f"{TOP}/host/delegations", "--accounts", self.host.etc, "--zirofen",
+                               f"{HERE}/made_up_program.py", *words], input=given, capture_output=True, text=True,
+                              env={**os.environ, "CALLS": os.devnull})
 
     def test_lines(self):
         self.host.accounts(passwd=PASSWD, group=GROUP, subuid=SUBORDINATE, subgid=SUBORDINATE)

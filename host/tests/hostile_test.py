@@ -10,7 +10,7 @@ import unittest
 from unittest import mock
 
 import made_up_program
-from check_test import HostTest, owned
+from check_test import BY_GROUP, HostTest, owned
 from made_up import TOP
 from zirofen_host import check, fault, processes, questions, report, walk
 from zirofen_host.accounts import Accounts
@@ -19,7 +19,7 @@ from zirofen_host.texts import Programs
 
 OLDEST = (3, 9)
 # modules that it has
-MODULES = set("argparse base64 bisect collections concurrent dataclasses datetime errno functools grp hashlib html itertools json os "
+MODULES = set("argparse atexit base64 bisect collections concurrent dataclasses datetime errno functools grp hashlib html itertools json os "
               "pwd re shlex shutil stat string subprocess sys tempfile textwrap time unicodedata".split())
 # what reads a text takes one of these
 READERS = {"tomllib", "tomli"}
@@ -235,8 +235,22 @@ class GrowthTest(HostTest):
                 pairs = {(user, path) for users, paths in plan for user in users for path in paths}
                 for path in of.subtrees:
                     for user in of.asked_as.values():
-                        if of.holds(user, path) or not of.handed_above(user, path):
+                        if not of.is_above(user.uid, path):
                             self.assertIn((user, path), pairs)
+                    self.assertTrue(any(of.holds(user, path) and (user, path) in pairs for user in of.asked_as.values()))
+
+    def test_many_cgroups_that_a_group_writes(self):
+        self.host.accounts(group="team:x:50:alice,bob,carol\n")
+        self.host.cgroup("/alice", owners=owned(1000))
+        for number in range(20):
+            self.host.cgroup(f"/alice/c{number:02}", owners=owned(1000, 50), modes=BY_GROUP)
+        with mock.patch.object(questions, "MANY", 10), mock.patch.object(questions, "BLOCK", 4):
+            found = self.report()
+        self.assertEqual([(row[0], row[2]) for row in self.rows(found)],
+                         [("1000", "contained")] + [("1001,1002", "contained")] * 20)
+        self.assertEqual([(each["who"], each["handed"], len(each["subtrees"])) for each in found["above"]],
+                         [("alice(1000)", "/alice", 20)])
+        self.assertEqual(found["status"], 0)
 
     def test_an_entry_tells_of_the_outermost(self):
         self.host.cgroup("/up", owners={"cgroup.procs": (0, 50)}, modes={"cgroup.procs": 0o664})

@@ -1,4 +1,5 @@
 """Tests of hosts that are too large for one text, and of hosts that change while they are walked over."""
+import io
 import os
 import shutil
 import unittest
@@ -6,7 +7,7 @@ from unittest import mock
 
 from check_test import BY_GROUP, MARK, HostTest, owned
 from made_up import MEMORY
-from zirofen_host import check, texts, walk
+from zirofen_host import check, progress, texts, walk
 from zirofen_host.tree import Row, Tree, read_tree
 from zirofen_host.mount import Mounts
 from zirofen_host.users import Entry
@@ -129,6 +130,31 @@ class LargeTest(HostTest):
         with mock.patch.object(texts, "ROOM", 300):
             packed = texts.Texts(tree, ["/0", f"/1/{'n' * 200}"])
         self.assertEqual((packed.list, packed.refused["/0"]), ([], "what it needs goes into no tree text: its paths are too long"))
+
+    def test_one_text_is_refused_after_one_walk(self):
+        for name in "abc":
+            self.host.cgroup(f"/{name}")
+        walks, start = [], walk.Walk.__init__
+
+        def started(of, *words):
+            walks.append(words)
+            start(of, *words)
+        with mock.patch.object(walk.Walk, "__init__", started), self.assertRaisesRegex(check.Fault, "4 cgroups, and a tree text has 3"):
+            walk.settled(self.host.mount, None, None, 3)
+        self.assertEqual(len(walks), 1)
+
+    def test_progress_is_told_at_a_terminal(self):
+        class Terminal(io.StringIO):
+            def isatty(self):
+                return True
+        for stream, told in ((Terminal(), True), (io.StringIO(), False)):
+            with mock.patch("sys.stderr", stream), mock.patch.object(progress, "SECONDS", 0), \
+                    mock.patch.object(progress, "_line", progress._Line()):
+                self.report()
+                progress.end()
+            shown = stream.getvalue()
+            self.assertEqual(["cgroups read" in shown, "known to be left" in shown, "\n" in shown], [told, told, False])
+            self.assertEqual(shown[-1:], "\r" if told else "")
 
     def test_texts_are_kept(self):
         self.small(2)

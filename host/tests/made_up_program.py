@@ -15,6 +15,7 @@ sys.dont_write_bytecode = True
 sys.path.insert(0, os.path.dirname(HERE))
 
 from zirofen_host.accounts import Accounts  # noqa: E402
+from zirofen_host.fault import Fault  # noqa: E402
 from zirofen_host.questions import Questions  # noqa: E402
 from zirofen_host.tree import read_tree  # noqa: E402
 from zirofen_host.users import User  # noqa: E402
@@ -116,10 +117,15 @@ def main(words):
         return fault("zirofen: not built: there is no rt on the PATH", 70)
     is_all = words[1] == "--all"
     given = options(words[2 if is_all else 1:])
-    if any(path.endswith("/odd") for path in given["--subtree"]):
+    if any(path.endswith("/odd") for path in given.get("--subtree", ())):
         return fault("fault: subtree missing")
     file = given["--tree"][0]
-    questions = questions_in(file, (os.stat(file).st_ino, os.stat(file).st_mtime_ns))
+    try:
+        questions = questions_in(file, (os.stat(file).st_ino, os.stat(file).st_mtime_ns))
+    except (Fault, UnicodeDecodeError):
+        return fault("fault: tree not-toml")
+    if words[0] == "replay":
+        return 0
     if words[0] == "audit":
         return audit(questions, given["--uid"], given["--subtree"], is_all)
     user = User(int(given["--uid"][0]), tuple(map(int, given.get("--gid", ()))))

@@ -56,9 +56,9 @@ class Asked:
 
     def __init__(self, snapshot, options, warn):
         self.options, self.warn, self.tree = options, warn, snapshot.tree
-        accounts = accounts_of(options, snapshot.running.values())
+        accounts = accounts_of(options, snapshot.processes_told, snapshot.accounts)
         self.delegations = Delegations(snapshot.tree, accounts)
-        self.users = users_of(options.user, accounts, not options.accounts)
+        self.users = users_of(options.user, accounts, not options.accounts and not snapshot.file)
         if not any(is_known(user, snapshot.tree, accounts) for user in self.users):
             warn(f"uid {self.users[0].uid} owns nothing, writes nothing of his own, has no process and no account here")
 
@@ -124,7 +124,7 @@ def program_for(snapshot, options, folder, uids):
     if texts.refused:
         raise Fault(f"nothing is asked of {path}: {texts.refused[path]}")
     texts.fill(lambda _: uids)
-    return Programs(options, folder, texts, snapshot.head()).of[path]
+    return Programs(options, folder, texts, snapshot).of[path]
 
 
 def ask(snapshot, options, warn):

@@ -70,8 +70,17 @@ class Program:
             raise Fault(f"can't run {self.program}: {error.strerror}") from None
         if ended.returncode in (CONTAINED, ESCAPES, UNSETTLED) and ended.stdout:
             return Ended(ended.returncode, ended.stdout.splitlines())
-        told = [line for line in ended.stderr.splitlines() if line] or [f"ended with status {ended.returncode}"]
+        told = told_by(ended)
         raise Refused(told[0], ended.returncode == NOT_BUILT or told[0].startswith("fault: tree"))
+
+    def refuse_text(self):
+        """Ends with the program's fault line where it doesn't take the text: no operation is tried in it."""
+        try:
+            ended = self.start(["replay", "--tree", self.tree, "--uid", "65534", "--ops", os.devnull])
+        except OSError as error:
+            raise Fault(f"can't run {self.program}: {error.strerror}") from None
+        if ended.returncode != CONTAINED:
+            raise Fault(told_by(ended)[0])
 
     def at_once(self, call, items):
         """Calls with each of the items, several at once; the results in their order."""
@@ -205,6 +214,11 @@ class Program:
             elif found:
                 found[-1][1].append(words)
         return found
+
+
+def told_by(ended):
+    """The lines of a fault; the first is the fault."""
+    return [line for line in ended.stderr.split("\n") if line] or [f"ended with status {ended.returncode}"]
 
 
 def blocks_of(items, words, room):

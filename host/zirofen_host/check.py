@@ -18,7 +18,7 @@ from zirofen_host.shell import change_commands, closing_commands
 from zirofen_host.texts import Programs, Texts
 from zirofen_host.tree import in_order
 from zirofen_host.unseen import Line, Unseen
-from zirofen_host.walk import MANAGERS_MARK, value_of
+from zirofen_host.walk import MANAGERS_MARK
 
 HERE = os.path.dirname(os.path.dirname(os.path.realpath(__file__)))
 PROGRAM = os.path.join(os.path.dirname(HERE), "zirofen")
@@ -104,7 +104,7 @@ class Checked:
 
     def __init__(self, snapshot, options, folder):
         self.snapshot, self.options = snapshot, options
-        self.accounts = accounts_of(options, snapshot.running.values())
+        self.accounts = accounts_of(options, snapshot.processes_told, snapshot.accounts)
         self.names = Names(self.accounts)
         self.questions = questions_of(snapshot, self.accounts)
         self.questions.leave_out(snapshot.spoiled)
@@ -112,32 +112,43 @@ class Checked:
         self.questions.leave_out(texts.refused)
         self.spoiled = {**snapshot.spoiled, **texts.refused}
         texts.fill(lambda path: self.questions.holders[path].uids)
-        self.program = Programs(options, folder, texts, snapshot.head())
+        self.program = Programs(options, folder, texts, snapshot)
         plan, cut = self.questions.plan
-        self.asked = {user for users, _ in plan for user in users}
         answers = self.program.ask(plan)
         further = self.questions.further(answers)
-        self.asked |= {user for users, _ in further for user in users}
         answers.update(self.program.ask(further))
+        self.asked, self.asked_of = set(), defaultdict(list)
+        for users, paths in (*plan, *further):
+            self.asked.update(users)
+            asked = frozenset(users)
+            for path in paths:
+                self.asked_of[path].append(asked)
         self.is_asked = bool(plan or cut)
         self.spoiled.update(self.program.refused)
         self.questions.leave_out(self.program.refused)
         self.judged = Judged(self.questions, answers, cut)
-        self.kernel_list = read_kernel_list(None if options.plain_folder else KERNEL_LIST)
+        self.kernel_list = snapshot.kernel_list or read_kernel_list(None if options.plain_folder else KERNEL_LIST)
         self.changed = set()
 
     def answers_of(self, subtree):
         """What those who hold a subtree were answered, each answer once with whom it is of."""
         groups = defaultdict(list)
-        for uid in sorted(self.questions.holders[subtree].uids):
-            asked = [user for user in self.asked_by_uid[uid] if self.questions.holds(user, subtree)]
+        uids = self.questions.holders[subtree].uids
+        for uid in sorted(uids):
+            asked = [user for user in self.asked_by_uid[uid] if self.questions.holds(user, subtree) and self.was_asked(user, subtree)]
             asked = max(asked, key=lambda user: len(user.gids), default=None)
             contained = (asked, Answer(CONTAINED, ["contained"]), False)
             user, answer, is_above = self.judged.own.get((uid, subtree), contained)
-            if user is None:
+            if user is not None:
+                groups[tuple(answer.lines), is_above].append((uid, user))
+            elif not self.questions.is_above(uid, subtree):
                 raise Fault(f"uid {uid} holds {subtree} and wasn't asked of it: this helper is wrong")
-            groups[tuple(answer.lines), is_above].append((uid, user))
+        if uids and not groups:
+            raise Fault(f"nobody was asked of {subtree}: this helper is wrong")
         return [self.answer(subtree, lines, is_above, found) for (lines, is_above), found in sorted(groups.items())]
+
+    def was_asked(self, user, subtree):
+        return any(user in users for users in self.asked_of[subtree])
 
     def answer(self, subtree, lines, is_above, found):
         holders = self.questions.holders[subtree]
@@ -266,8 +277,11 @@ class Checked:
                 for (uid, handed), subtrees in sorted(self.judged.above.items())]
 
     def unseen(self, mounts):
-        systemctl = None if self.options.plain_folder or not os.path.isdir("/run/systemd/system") else shutil.which("systemctl")
-        lines = Unseen(self.snapshot, self.questions, self.names, self.options.proc, systemctl).lines()
+        is_here = not self.options.plain_folder and not self.snapshot.file and os.path.isdir("/run/systemd/system")
+        proc, systemctl = None if self.snapshot.file else self.options.proc, shutil.which("systemctl") if is_here else None
+        lines = Unseen(self.snapshot, self.questions, self.names, proc, systemctl).lines()
+        if self.snapshot.file:
+            lines.append(Line("elsewhere", "", self.snapshot.unseen()))
         if "nsdelegate" in mounts.options(self.options.mount):
             lines.append(Line("nsdelegate", "", "the mount has it: what runs in a cgroup namespace is kept in there, "
                               "safer than the answers"))
@@ -275,7 +289,7 @@ class Checked:
 
     def report(self, mounts):
         """The value of the report, with its status."""
-        report = reporting.base(self.program.version, self.options.mount)
+        report = reporting.base(self.program.version, self.options.mount, self.snapshot.about)
         report["asked"] = self.is_asked
         report["has_advice"] = self.program.has_advise
         self.advise()
@@ -315,7 +329,7 @@ class Checked:
 
     def text_of(self, path, name):
         """What a file has beside the tree text, or nothing where it can't be read; it isn't read twice as the others are."""
-        return None if name in NO_VALUE else value_of(self.options.mount + path, name)
+        return None if name in NO_VALUE else self.snapshot.value_of(path, name)
 
 
 def setting_of(path, name):
@@ -327,6 +341,10 @@ def setting_of(path, name):
 def add_program_arguments(parser):
     """The options of every script that asks the program."""
     parser.add_argument("--keep", metavar="FILE", help="where the tree text is left, for further questions")
+    add_program_argument(parser)
+
+
+def add_program_argument(parser):
     parser.add_argument("--zirofen", metavar="PROGRAM", default=os.environ.get("ZIROFEN", PROGRAM),
                         help="the program, also by the environment's ZIROFEN (the wrapper beside this folder)")
 
@@ -342,7 +360,8 @@ def subtrees_by(options):
 
     def subtrees_of(snapshot, _):
         if not accounts:
-            accounts.append(accounts_of(options, read_processes(options.proc).values()))
+            running = snapshot.processes_told if snapshot.file else read_processes(options.proc).values()
+            accounts.append(accounts_of(options, running, snapshot.accounts))
         return [os.fsencode(path) for path in questions_of(snapshot, accounts[0]).subtrees]
     return subtrees_of
 

@@ -1,8 +1,8 @@
 """Who was handed what: the users who reach at a cgroup what they don't one level up."""
-import sys
 from collections import namedtuple
 
 from zirofen_host.accounts import Accounts
+from zirofen_host.fault import warn, write
 from zirofen_host.profile import ANYBODY, HANDED_OVER, MOST_GROUPS, ancestors, parent_of
 from zirofen_host.users import User
 
@@ -96,10 +96,11 @@ def add_account_arguments(parser):
                         help="a folder with passwd, group, subuid and subgid, in place of the host's own accounts")
 
 
-def accounts_of(options, processes):
+def accounts_of(options, processes, carried=None):
+    """The accounts of a folder, those that a text carries, or else this host's."""
     if options.accounts:
         return Accounts.of_folder(options.accounts, processes)
-    return Accounts.of_host(processes)
+    return carried(processes) if carried else Accounts.of_host(processes)
 
 
 def line(path, user):
@@ -112,13 +113,13 @@ def write_lines(delegations):
     found = delegations.find()
     first = {delegations.entry(each.path, each.name).gid for path in {each.path for each in found}
              for each in delegations.guarded(path)}
-    cut, all_matter = {}, True
+    lines, cut, all_matter = [], {}, True
     for path, user in found:
         user, left_out = delegations.with_few_groups(user, first)
         all_matter = all_matter and first.isdisjoint(left_out)
         cut.update({user.uid: len(left_out)} if left_out else {})
-        sys.stdout.write(line(path, user))
+        lines.append(line(path, user))
+    write(lines)
     for uid, count in sorted(cut.items()):
-        print(f"groups: uid {uid}: {count} of his groups that stand in the tree left out: a user has {MOST_GROUPS} at most",
-              file=sys.stderr)
+        warn(f"groups: uid {uid}: {count} of his groups that stand in the tree left out: a user has {MOST_GROUPS} at most")
     return all_matter

@@ -21,7 +21,7 @@ Cut = namedtuple("Cut", "user subtree count")
 # of those whom nothing but everybody's bits lets in, so many are asked of each subtree
 FURTHER = 8
 # so many pairs of whoever has what is above are asked one by one; the subtrees of a block are asked of who holds one of them
-MANY, BLOCK = 1000, 32
+MANY, BLOCK = 256, 32
 
 
 def unit_of(path):
@@ -170,7 +170,7 @@ class Questions:
             if len(left) < len(everybody):
                 self.expected_of[owners] = paths
                 for some in (paths[start:start + BLOCK] for start in range(0, len(paths), BLOCK)):
-                    by_users[frozenset(user for user in everybody if any(self.holds(user, path) for path in some))] += some
+                    by_users[frozenset(user for user in everybody if any(self.is_asked_as_holder(user, path) for path in some))] += some
         return [(sorted(users), paths) for users, paths in by_users.items() if users]
 
     def named_as_asked(self, path):
@@ -190,6 +190,17 @@ class Questions:
         what is above them makes them by the thousand."""
         theirs = frozenset(user for user in users if not owners.isdisjoint(self.accounts.roots(user.uid))) if owners else frozenset()
         return theirs if len(theirs) * len(paths) > MANY else frozenset()
+
+    def is_asked_as_holder(self, user, path):
+        """Whether he holds a subtree and isn't above it, or nobody holds it who isn't."""
+        if not self.holds(user, path):
+            return False
+        is_above = [self.is_above(uid, path) for uid in self.holders[path].uids]
+        return all(is_above) or not self.is_above(user.uid, path)
+
+    def is_above(self, uid, path):
+        """Whether a uid's person has a directory above, in his own name or a subordinate one."""
+        return path not in self.meant and any(self.is_of(place, uid) for place in ancestors(path))
 
     def further(self, answers):
         """What to ask where everybody is let in, and of all that were asked nobody escapes: some of those who hold something

@@ -1,6 +1,5 @@
 """The report on a host, as one value that JSON can carry, and its lines, which are made of that value alone."""
 import itertools
-import os
 import time
 
 from zirofen_host.asking import CONTAINED, ESCAPES, UNSETTLED, WORDS
@@ -14,11 +13,10 @@ WIDEST = (12, 24, 48)
 ANSWERS = {status: word for word, status in WORDS.items()}
 
 
-def base(program, mount):
-    """What the report is of."""
-    names = os.uname()
-    return {"version": VERSION, "program": program, "host": names.nodename, "kernel": f"{names.sysname} {names.release}",
-            "time": time.strftime("%Y-%m-%dT%H:%M:%SZ", time.gmtime()), "mount": mount}
+def base(program, mount, about):
+    """What the report is of; of a text that doesn't say it, the host and its kernel are empty."""
+    return {"version": VERSION, "program": program, "host": about["host"] or "", "kernel": about["kernel"] or "",
+            "time": about["time"] or time.strftime("%Y-%m-%dT%H:%M:%SZ", time.gmtime()), "mount": mount}
 
 
 def status_of(report):

@@ -1,5 +1,6 @@
 """From what was found on a host to a tree that the format carries, with a line for each thing bent or left out."""
 import os
+import time
 from collections import Counter, namedtuple
 
 from zirofen_host.fault import Fault
@@ -9,7 +10,7 @@ from zirofen_host.profile import (CONTROL_FILES, CONTROLLERS, LIMIT_FILES, MOST_
                                   shown, topmost)
 from zirofen_host.tree import Row, Tree, tree_text
 from zirofen_host.users import Entry
-from zirofen_host.walk import settled
+from zirofen_host.walk import settled, value_of
 
 Note = namedtuple("Note", "kind place detail")
 ANY_MODE = 0o777
@@ -23,12 +24,16 @@ class Snapshot:
 
     def __init__(self, walk, processes, changing=(), spoiled=()):
         self.walk = walk
+        self.places = walk.places
+        # it is of this host, and of no text
+        self.file = self.kernel_list = self.accounts = None
+        self.changing = dict(changing)
         self.running = processes
         self.notes = []
         self.kernel_threads = 0
         self.spoiled = {shown(path): why for path, why in dict(spoiled).items()}
         self.rows_found = {os.fsdecode(path): found for path, found in walk.found.items()}
-        self.note_changing(dict(changing))
+        self.note_changing()
         self.note_names()
         self.note_controllers()
         rows = {path: self.row(path, found) for path, found in self.rows_found.items()}
@@ -38,9 +43,9 @@ class Snapshot:
     def note(self, kind, place, detail):
         self.notes.append(Note(kind, place, detail))
 
-    def note_changing(self, changing):
-        for path in sorted(topmost(changing)):
-            self.note("changing", shown(path), f"left out, with all inside: {changing[path]}")
+    def note_changing(self):
+        for path in sorted(topmost(self.changing)):
+            self.note("changing", shown(path), f"left out, with all inside: {self.changing[path]}")
 
     def note_names(self):
         for path, count in sorted(self.walk.left_out.items()):
@@ -125,6 +130,22 @@ class Snapshot:
             if count > most:
                 raise Fault(f"{count} {what}, and a tree text has {most} at most: {hint}")
 
+    @property
+    def processes_told(self):
+        """The processes of which all is known that accounts are found by."""
+        return self.running.values()
+
+    @property
+    def about(self):
+        """What and when it is of."""
+        names = os.uname()
+        return {"host": names.nodename, "kernel": f"{names.sysname} {names.release}",
+                "time": time.strftime("%Y-%m-%dT%H:%M:%SZ", time.gmtime())}
+
+    def value_of(self, path, name):
+        """What a file has that the tree doesn't carry, now."""
+        return value_of(self.walk.full(os.fsencode(path)), name)
+
     def head(self):
         """What a text says at its head that it is of."""
         names = os.uname()
@@ -162,12 +183,12 @@ def add_arguments(parser):
                         help="the mount is a folder of plain files: nothing is asked of root, mounts and namespaces")
 
 
-def take(options, subtrees_of):
+def take(options, subtrees_of, most=None):
     """A snapshot, and what is known of the mounts. `subtrees_of` gives the subtrees that are asked of, by a snapshot that may
-    have changed while it was taken, and by what changed."""
+    have changed while it was taken, and by what changed. More cgroups than `most` are a fault after one walk."""
     mounts = Mounts("") if options.plain_folder else refuse_what_is_no_host(options.mount)
     walk, changing, spoiled = settled(options.mount, options.only,
-                                      lambda walk, changing: subtrees_of(Snapshot(walk, {}), changing))
+                                      lambda walk, changing: subtrees_of(Snapshot(walk, {}), changing), most)
     snapshot = Snapshot(walk, read_processes(options.proc), changing, spoiled)
     note_first_version(snapshot, mounts)
     return snapshot, mounts

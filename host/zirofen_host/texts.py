@@ -3,7 +3,6 @@
 A `contained` rests on the subtree's ancestors and on what is inside, so that these are all in one text; of processes, on
 which no `contained` rests, those inside go in first, and then as many of the others as there is room for, with their places.
 """
-import os
 from bisect import bisect_left
 from itertools import accumulate
 
@@ -73,6 +72,9 @@ class Text:
             self.rows.update(above)
             self.processes.append(process)
             self.bytes += size
+
+    def is_whole(self):
+        return len(self.rows) == len(self.host.order) and len(self.processes) == len(self.host.processes)
 
     def written(self, head):
         tree = self.host.tree
@@ -164,16 +166,17 @@ class Texts:
 class Programs:
     """The program, asked in the texts of a host, which stand in a folder or where they are to be kept."""
 
-    def __init__(self, options, folder, texts, head):
+    def __init__(self, options, folder, texts, snapshot):
         self.of, self.texts = {}, texts.list
         # subtrees whose text was refused, each with the program's line
         self.refused = {}
         self.any = Program(options.zirofen, None)
         for number, text in enumerate(self.texts, 1):
-            file = f"{options.keep}.{number}" if number > 1 else options.keep
-            file = file if options.keep else os.path.join(folder, f"{number}.toml")
-            with open(file, "w", encoding="ascii") as out:
-                out.write(text.written(head))
+            file = snapshot.file
+            if not (file and text.is_whole()):
+                file = f"{options.keep}.{number}" if options.keep and number > 1 else options.keep or f"{folder}/{number}.toml"
+                with open(file, "w", encoding="ascii") as out:
+                    out.write(text.written(snapshot.head()))
             program = Program(options.zirofen, file)
             self.of.update({path: program for path in text.subtrees})
 

@@ -109,19 +109,28 @@ def read_row(table):
                enabled=tuple(table.get("enabled", ())))
 
 
-def read_tree(text):
-    """The tree of a text. What is wrong with a text is the program's to tell, so nothing is looked at twice here."""
+def toml_reader():
+    """What reads TOML here."""
     try:
         import tomllib
     except ImportError:
-        raise Fault("reading a tree text takes Python 3.11 or newer") from None
+        try:
+            import tomli as tomllib
+        except ImportError:
+            raise Fault("reading a tree text takes Python 3.11 or newer, or the package tomli") from None
+    return tomllib
+
+
+def read_tree(text):
+    """The tree of a text that the program takes, so that nothing is looked at twice here."""
+    reader = toml_reader()
     try:
-        document = tomllib.loads(text)
+        document = reader.loads(text)
         rows = {row.path: row for row in map(read_row, document.get("cgroup", ()))}
         processes = [(each["pid"], each["uid"], each["at"]) for each in document.get("process", ())]
         tree = Tree(tuple(document["controllers"]), rows, processes)
-    except (AttributeError, KeyError, TypeError, ValueError):
-        raise Fault("this is no tree text: zirofen tells its fault") from None
-    if any(path != "/" and parent_of(path) not in rows for path in rows):
-        raise Fault("this is no tree text: zirofen tells its fault")
+    except (AttributeError, KeyError, TypeError, ValueError, RecursionError):
+        raise Fault("this is no tree text that this helper reads, which is TOML 1.0") from None
+    if "/" not in rows or any(path != "/" and parent_of(path) not in rows for path in rows):
+        raise Fault("this is no tree text: a cgroup has none above it")
     return tree

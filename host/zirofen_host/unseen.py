@@ -24,7 +24,7 @@ class Unseen:
         self.rows = snapshot.rows_found
         self.tree = snapshot.tree
         self.running = snapshot.running
-        self.places = snapshot.walk.places
+        self.places = snapshot.places
         self.questions = questions
         self.names = names
         self.proc = proc
@@ -44,6 +44,8 @@ class Unseen:
 
     def descriptors(self):
         """Files that a user was kept from after one of his processes had opened them. A kernel asks again at cgroup.procs."""
+        if self.proc is None:
+            return
         users = defaultdict(list)
         for user in self.questions.users:
             users[user.uid].append(user)

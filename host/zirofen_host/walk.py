@@ -304,13 +304,16 @@ def count_of(folder, name):
         os.close(here)
 
 
-def settled(mount, only, subtrees_of):
+def settled(mount, only, subtrees_of, most=None):
     """Walks until two walks in a row agree on all that can matter for a subtree: itself, what is inside, and its ancestors.
     Only what doesn't agree is walked over again. Gives the last walk, without what changed all the time or can't be read, with
     why each is left out; and the subtrees that this spoils, each with why. `subtrees_of` gives the subtrees that are asked of,
-    by a walk and by what changes."""
+    by a walk and by what changes. Where no more than so many cgroups are of use, one walk is enough to tell."""
     tops = None if only is None else (only,)
-    before, walk = Walk(mount, tops), Walk(mount, tops)
+    before = Walk(mount, tops)
+    if most is not None and len(before.found) > most:
+        raise Fault(f"{len(before.found)} cgroups, and a tree text has {most} at most: --only PATH writes less")
+    walk = Walk(mount, tops)
     if only is not None and only not in walk.found and only not in walk.unread:
         raise Fault(f"there is no cgroup {shown(only)}")
     changing = walk.differing(before)
@@ -325,11 +328,18 @@ def settled(mount, only, subtrees_of):
         spoiled = spoiled_by(changing, subtrees_of(walk, changing))
     if b"/" in changing:
         raise Fault(f"the root cgroup: {changing[b'/']}, through {MOST_WALKS} walks")
-    # what can't be read is told of also where it is in no subtree that is known of
-    spoiled.update({path: why for path, why in changing.items()
-                    if why != CHANGED and spoiled.keys().isdisjoint((path, *ancestors(path)))})
+    spoiled = spoiled_of(changing, subtrees_of(walk, changing) if changing else ())
     walk.without(changing)
-    return walk, changing, {path: ALL_THE_TIME if why == CHANGED else why for path, why in spoiled.items()}
+    return walk, changing, spoiled
+
+
+def spoiled_of(changing, subtrees):
+    """The subtrees that are spoiled at last; what can't be read is told of also where it is in no subtree that is known of."""
+    spoiled = {path: ALL_THE_TIME if why == CHANGED else why for path, why in spoiled_by(changing, subtrees).items()}
+    for path, why in changing.items():
+        if why != CHANGED and spoiled.keys().isdisjoint((path, *ancestors(path))):
+            spoiled[path] = why
+    return spoiled
 
 
 def spoiled_by(changing, subtrees):

@@ -1,5 +1,5 @@
 -- What a parse found, as the fields of requests. Own.
-use Rattle.std.specs.Prelude.{◌≡◌, ℕ, List, [], map, codes, Option, Some, None, option_and_then}
+use Rattle.std.specs.Prelude.{◌≡◌, ℕ, Bool, true, false, List, [], map, codes, Option, Some, None, option_and_then}
 use Rattle.std.specs.Option.{option_map, option_map_or}
 use Rattle.std.specs.Str.Parse.{without_leading_plus}
 use Rattle.clap.specs.Matches.{matched_of, first_value, one_text, raw_values, typed_values, subcommand_name_of}
@@ -12,6 +12,7 @@ use Rattle.arguments.specs.declared.request.May.{May}
 use Rattle.arguments.specs.declared.request.Check.{Check}
 use Rattle.arguments.specs.declared.request.Audit.{Audit}
 use Rattle.arguments.specs.declared.request.Replay.{Replay}
+use Rattle.arguments.specs.declared.request.Upgrade.{Upgrade}
 use Rattle.arguments.specs.declared.request.Request.{Request}
 use Rattle.arguments.specs.declared.request.Request.TheVariants as request
 
@@ -41,6 +42,10 @@ users_given found = all_read user_at (words_at found (codes "uid"))
 abbrev pub ids_of : NamedUser → ℕ × List ℕ
 ids_of user = (user.uid, user.gids.items)
 
+-- whether a flag is there, of which `clap` says `true` or `false`
+abbrev pub IsFlag : Option (List ℕ) → Bool → Type 0
+IsFlag said flag = (said ≡ Some (codes "true") → flag ≡ true) × (said ≡ Some (codes "false") → flag ≡ false)
+
 -- What the request of a command holds of what was found.
 
 pub record IsMay (found : Found) (may : May) : Type 0 where
@@ -58,6 +63,7 @@ pub record IsAudit (found : Found) (audit : Audit) : Type 0 where
   pub tree : option_map (λ file. file.now) audit.tree ≡ first_value found (codes "tree")
   pub users : users_given found ≡ Some (map ids_of audit.users.items)
   pub subtrees : words_at found (codes "subtree") ≡ map (λ subtree. subtree.now) audit.subtrees.items
+  pub all : IsFlag (one_text found (codes "all")) audit.all
 
 pub record IsReplay (found : Found) (replay : Replay) : Type 0 where
   pub tree : option_map (λ file. file.now) replay.tree ≡ first_value found (codes "tree")
@@ -65,19 +71,26 @@ pub record IsReplay (found : Found) (replay : Replay) : Type 0 where
   pub ops : first_value found (codes "ops") ≡ Some replay.ops.now
   pub subtree : option_map (λ path. path.now) replay.subtree ≡ first_value found (codes "subtree")
 
+pub record IsUpgrade (found : Found) (upgrade : Upgrade) : Type 0 where
+  pub tree : option_map (λ file. file.now) upgrade.tree ≡ first_value found (codes "tree")
+
 abbrev pub command_of : Request → Option (List ℕ)
 command_of (request.Help text) = None
 command_of (request.May may) = Some (codes "may")
 command_of (request.Check check) = Some (codes "check")
 command_of (request.Audit audit) = Some (codes "audit")
+command_of (request.Advise advise) = Some (codes "advise")
 command_of (request.Replay replay) = Some (codes "replay")
+command_of (request.Upgrade upgrade) = Some (codes "upgrade")
 
 abbrev pub Holds : Found → Request → Type 0
 Holds found (request.Help text) = Unit {0}
 Holds found (request.May may) = IsMay found may
 Holds found (request.Check check) = IsCheck found check
 Holds found (request.Audit audit) = IsAudit found audit
+Holds found (request.Advise advise) = IsCheck found advise
 Holds found (request.Replay replay) = IsReplay found replay
+Holds found (request.Upgrade upgrade) = IsUpgrade found upgrade
 
 -- A request is of the command that was met, and holds what was found of that command's own options.
 abbrev pub IsOf : ArgMatches → Request → Type 0

@@ -36,6 +36,9 @@ const AUDIT_HELP: &str = "\
 Status: 0 contained, 1 escapes, 2 unsettled, 3 a fault
 `contained` means that every subtree is held whatever all these users do, in whatever order. Else `pair` names the first
 user and subtree for which that isn't shown, and below it stands what `check` says of them, with its status.
+With --all every pair that isn't contained has these lines, by user and then subtree, and its line `pair` names the
+groups too; the status is 1 where one escapes, else 2 where one is unsettled. Users and subtrees that are named again count
+once.
 A user is UID or UID:GID,GID.. in decimal digits, with up to 32 gids, of which the first is the primary one.
 `fault: usage` means that the command line isn't as it says above.
 zirofen-tree(5) and zirofen(1), or docs/FORMATS.md, have the tree's format, and every line that is written.
@@ -57,6 +60,32 @@ Example:
   ok
   ok";
 
+const ADVISE_HELP: &str = "\
+Status: 0 contained, 1 a guard fails, 3 a fault
+`contained` means that the subtree is held whatever the user does. Else each guard that fails for him has a line `fails`
+with where it stands, its owner, its mode and by what he reaches it: `owner`, `group` or `others`. Below it stand the
+changes that mend it, the least that do. With all of them made the subtree is contained, and no advice undoes another's.
+Don't follow it where he is meant to have what is named, since it was handed to him: then the question was the wrong one. An
+owner that a service manager sets comes back with the unit: change the unit.
+`fault: usage` means that the command line isn't as it says above.
+docs/FORMATS.md of the repository has the tree's format, and every line that is written.
+
+Example:
+  zirofen advise --tree examples/delegation-ancestor-group.toml --uid 1000 --gid 50 --subtree /c0
+  fails common-ancestor / cgroup.procs 0:50 664 group
+  chmod / cgroup.procs 644";
+
+const UPGRADE_HELP: &str = "\
+Status: 0 the tree is written, 3 a fault
+The tree is written in format 2 with every key: what was left out becomes visible, and two trees can be compared line by
+line. It is the same tree, and upgraded again it is the same text.
+`fault: usage` means that the command line isn't as it says above.
+docs/FORMATS.md of the repository has the tree's format, and every line that is written.
+
+Example:
+  zirofen upgrade --tree examples/fault-no-parent.toml
+  fault: tree no-parent cgroup 2";
+
 /// The command line of the program.
 pub(crate) fn command<'a>(alloc: Global) -> Result<Command<'a>, AllocError> {
     Command::new(alloc, "zirofen")
@@ -67,7 +96,9 @@ pub(crate) fn command<'a>(alloc: Global) -> Result<Command<'a>, AllocError> {
         .subcommand(may_command(alloc)?)?
         .subcommand(check_command(alloc)?)?
         .subcommand(audit_command(alloc)?)?
-        .subcommand(replay_command(alloc)?)
+        .subcommand(advise_command(alloc)?)?
+        .subcommand(replay_command(alloc)?)?
+        .subcommand(upgrade_command(alloc)?)
 }
 
 fn may_command<'a>(alloc: Global) -> Result<Command<'a>, AllocError> {
@@ -128,7 +159,34 @@ fn audit_command<'a>(alloc: Global) -> Result<Command<'a>, AllocError> {
                 .required(true)
                 .action(ArgAction::Append)
                 .help("The top of a subtree, once or more"),
+        )?
+        .arg(
+            Arg::new(alloc, "all")
+                .long("all")
+                .action(ArgAction::SetTrue)
+                .help("Every pair that isn't contained, and not the first alone"),
         )
+}
+
+fn advise_command<'a>(alloc: Global) -> Result<Command<'a>, AllocError> {
+    Command::new(alloc, "advise")
+        .about("Says what to change so that a subtree is contained against a user")
+        .after_help(ADVISE_HELP)
+        .arg(tree_argument(alloc))?
+        .arg(uid_argument(alloc))?
+        .arg(gid_argument(alloc))?
+        .arg(
+            subtree_argument(alloc)
+                .required(true)
+                .help("The top of the subtree"),
+        )
+}
+
+fn upgrade_command<'a>(alloc: Global) -> Result<Command<'a>, AllocError> {
+    Command::new(alloc, "upgrade")
+        .about("Writes the tree again, in format 2 with every key")
+        .after_help(UPGRADE_HELP)
+        .arg(tree_argument(alloc))
 }
 
 fn replay_command<'a>(alloc: Global) -> Result<Command<'a>, AllocError> {

@@ -5,3 +5,4 @@ mod command;
 pub mod fault;
 pub mod named_user;
 pub mod request;
+pub mod usage;

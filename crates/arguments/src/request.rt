@@ -2,7 +2,7 @@
 ghost use Rattle.std.specs.Prelude.{◌≡◌, ◌≢◌, ◌⊎◌, Some, None, IfOk, IfErr, MatchResult, codes, map, ok_or};
 ghost use Rattle.clap.specs.Matches.{found_of, first_value, values_left};
 ghost use Rattle.arguments.specs.UserWords.{all_read, user_at};
-ghost use Rattle.arguments.specs.Given.{number_read, words_at, number_at, numbers_at, user_given, users_given, ids_of, IsMay, IsCheck, IsAudit, IsReplay, IsOf};
+ghost use Rattle.arguments.specs.Given.{number_read, words_at, number_at, numbers_at, user_given, users_given, ids_of, IsMay, IsCheck, IsAudit, IsReplay, IsUpgrade, IsOf};
 
 use crate::command::command;
 use crate::fault::ArgumentsFault;
@@ -19,7 +19,9 @@ pub enum Request<'a> {
     May(May<'a>),
     Check(Check<'a>),
     Audit(Audit<'a>),
+    Advise(Check<'a>),
     Replay(Replay<'a>),
+    Upgrade(Upgrade<'a>),
 }
 
 impl<'a> Request<'a> {
@@ -42,7 +44,9 @@ impl<'a> Request<'a> {
             Some(("may", given)) => Ok(Request::May(May::from_matches(alloc, given)?)),
             Some(("check", given)) => Ok(Request::Check(Check::from_matches(alloc, given)?)),
             Some(("audit", given)) => Ok(Request::Audit(Audit::from_matches(alloc, given)?)),
+            Some(("advise", given)) => Ok(Request::Advise(Check::from_matches(alloc, given)?)),
             Some(("replay", given)) => Ok(Request::Replay(Replay::from_matches(alloc, given)?)),
+            Some(("upgrade", given)) => Ok(Request::Upgrade(Upgrade::from_matches(given))),
             _ => Err(ArgumentsFault::Usage),
         }
     }
@@ -74,7 +78,7 @@ impl<'a> May<'a> {
     }
 }
 
-/// Whether a subtree is contained against a user.
+/// A subtree and a user: whether it is contained against him, or what to change so that it is.
 #[derive(Drop)]
 pub struct Check<'a> {
     pub tree: Option<&'a str>,
@@ -103,6 +107,8 @@ pub struct Audit<'a> {
     pub tree: Option<&'a str>,
     pub users: Vec<NamedUser>,
     pub subtrees: Vec<&'a str>,
+    /// Whether every pair that isn't contained is asked for, and not the first alone.
+    pub all: bool,
 }
 
 impl<'a> Audit<'a> {
@@ -117,7 +123,25 @@ impl<'a> Audit<'a> {
             tree: matches.get_str("tree"),
             users: users_of(alloc, given(matches, "uid")?)?,
             subtrees: given(matches, "subtree")?.to_vec(alloc)?,
+            all: matches.get_flag("all"),
         })
+    }
+}
+
+/// The tree to be written again.
+#[derive(Debug, Drop)]
+pub struct Upgrade<'a> {
+    pub tree: Option<&'a str>,
+}
+
+impl<'a> Upgrade<'a> {
+    /// What was given to the command.
+    fn from_matches(matches: &ArgMatches<'a>) -> Upgrade<'a>
+        ensures { IsUpgrade (found_of matches.now) result }
+    {
+        Upgrade {
+            tree: matches.get_str("tree"),
+        }
     }
 }
 

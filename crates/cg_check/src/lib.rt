@@ -139,7 +139,7 @@ pub fn first_fault<H: Hierarchy>(tree: &H, subtrees: &[Path]) -> Option<CheckFau
 }
 
 /// Why a subtree isn't checked, where it isn't.
-fn fault_of<H: Hierarchy>(tree: &H, subtree: &Path) -> Option<CheckFault>
+pub fn fault_of<H: Hierarchy>(tree: &H, subtree: &Path) -> Option<CheckFault>
     ensures fault { result ≡ first (subtree_faults (H.state tree.now) subtree.now) }
     ensures formed { result ≡ None → IsWellFormed (H.state tree.now) }
 {

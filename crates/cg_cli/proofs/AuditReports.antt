@@ -45,14 +45,14 @@ user_fault true found fault is = λ same. cc
 user_fault false None fault is = λ same. cc
 user_fault false (Some who) fault is = let never : ⊥ = cc in absurd never
 
-users_fault : (given : List (ℕ × List ℕ)) (fault : CliFault) → users_read given ≡ Err fault → fault ≢ Write
+pub users_fault : (given : List (ℕ × List ℕ)) (fault : CliFault) → users_read given ≡ Err fault → fault ≢ Write
 users_fault given fault is =
     each_fault (λ f. f ≢ Write) (λ ids. user_read ids.0 ids.1) (λ ids f. user_fault (nat_eq ids.0 0) (user_of ids.0 ids.1) f) given fault is
 
-paths_fault : (texts : List (List ℕ)) (fault : CliFault) → paths_read texts ≡ Err fault → fault ≡ BadPath
+pub paths_fault : (texts : List (List ℕ)) (fault : CliFault) → paths_read texts ≡ Err fault → fault ≡ BadPath
 paths_fault texts fault is = each_fault (λ f. f ≡ BadPath) path_read (λ text f. or_fault_is (path_at text) BadPath f) texts fault is
 
-lifted_takes : (fault : TreeFault) → takes_memory (Err (lifted fault)) ≡ true
+pub lifted_takes : (fault : TreeFault) → takes_memory (Err (lifted fault)) ≡ true
 lifted_takes TreeNoMemory = refl
 lifted_takes fault = refl
 

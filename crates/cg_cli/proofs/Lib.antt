@@ -4,9 +4,13 @@ mod ReplayRuns
 mod ReplayEnds
 mod ReplayReads
 mod CheckReports
+mod AdviseReports
+mod AdvisedTrees
 mod EachRead
 mod AuditReports
 mod AuditStatus
+mod Once
+mod AllPairs
 mod Closings
 mod ReplayCalls
 mod EscapeReplays

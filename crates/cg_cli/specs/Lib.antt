@@ -8,5 +8,9 @@ pub mod Courses
 pub mod Replays
 pub mod Replaying
 pub mod Containment
+pub mod Upgrades
 pub mod Audits
+pub mod Once
+pub mod AllPairs
+pub mod Advising
 pub mod EscapeReplays

@@ -71,7 +71,7 @@ fn read_users(alloc: Global, users: &[UserIds<'_>]) -> Result<Vec<User>, CliFaul
 }
 
 /// Whether every user can be one.
-fn test_users(users: &[UserIds<'_>]) -> Result<(), CliFault>
+pub(crate) fn test_users(users: &[UserIds<'_>]) -> Result<(), CliFault>
     ensures faults { (fault : CliFault)
         → users_read (map (λ user. (user.uid, user.gids.now)) users.now) ≡ Err fault → result ≡ Err fault }
     ensures fault { IfErr result (λ fault. users_read (map (λ user. (user.uid, user.gids.now)) users.now) ≡ Err fault) }

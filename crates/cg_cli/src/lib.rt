@@ -1,12 +1,15 @@
 //! The commands over bytes: a tree's text and a writer in, a status or a fault out.
 #![tactic(auto)]
 
+pub mod advise;
 pub mod arguments;
 pub mod audit;
+pub mod audit_all;
 pub mod check;
 pub mod fault;
 pub mod input;
 pub mod laws;
 pub mod may;
 pub mod replay;
+pub mod upgrade;
 pub mod write;

@@ -2,7 +2,13 @@
 #![tactic(auto)]
 
 #[cfg(test)]
+mod advise;
+#[cfg(test)]
+mod answers_written;
+#[cfg(test)]
 mod audit;
+#[cfg(test)]
+mod audit_all;
 #[cfg(test)]
 mod changed;
 #[cfg(test)]
@@ -21,6 +27,8 @@ mod replay_ends;
 mod samples;
 #[cfg(test)]
 mod strangers;
+#[cfg(test)]
+mod upgrade;
 #[cfg(test)]
 mod vectors;
 #[cfg(test)]

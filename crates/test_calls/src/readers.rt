@@ -38,23 +38,25 @@ impl Read for FailsAfter {
     }
 }
 
-/// Shows a text in pieces of a size, counts how often it was asked, and is interrupted at one ask.
+/// Shows a text in pieces of a size, counts how often it was asked, and fails at one ask.
 #[derive(Drop)]
 pub struct Pieces<'a> {
     pub rest: &'a [u8],
     pub size: usize,
     pub asked: u64,
     pub fails_at: u64,
+    pub kind: ErrorKind,
 }
 
 impl<'a> Pieces<'a> {
-    /// Never fails.
+    /// Never fails; is interrupted where it is told at which ask.
     pub fn new(text: &'a [u8], size: usize) -> Pieces<'a> {
         Pieces {
             rest: text,
             size,
             asked: 0,
             fails_at: 0,
+            kind: ErrorKind::Interrupted,
         }
     }
 }
@@ -72,7 +74,7 @@ impl BufRead for Pieces<'_> {
     fn fill_buf(&mut self) -> io::Result<&[u8]> {
         self.asked = self.asked.saturating_add(1);
         if self.asked == self.fails_at {
-            return Err(io::Error::from(ErrorKind::Interrupted));
+            return Err(io::Error::from(self.kind));
         }
         Ok(&self.rest[..self.size.min(self.rest.len())])
     }

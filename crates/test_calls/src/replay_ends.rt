@@ -9,7 +9,8 @@ use cg_cli::replay::{replay_bytes, replay_from};
 use cg_lines::lines::LineFault;
 use cg_text::tree::{Place, TreeFault};
 use std::alloc::{AllocError, Global};
-use std::io::{BufRead, Write};
+use std::io::{BufRead, ErrorKind, Write};
+use std::process::Abort;
 use std::test::Fail;
 
 /// Operations of user 1000, and their report where `/c0` is watched.
@@ -212,15 +213,16 @@ fn first_lines(text: &[u8], count: usize) -> &[u8] {
     text
 }
 
-#[test]
-fn a_failed_read_leaves_the_lines_before_it(rt: HostRuntime) {
+/// A reader that fails in one way at each ask in turn: with what fault the replay ends, and what it has written.
+fn assert_failed_reads(rt: &impl Abort, alloc: Global, kind: ErrorKind, fault: CliFault) {
     for (ops, report) in REPLAYS {
         for given in 0..=ops.len() {
             let mut pieces = Pieces::new(ops, 1);
             pieces.fails_at = given as u64 + 1;
-            let mut out = Vec::new(rt.alloc());
-            let ending = watched_reader(rt.alloc(), &mut pieces, &mut out);
-            assert_eq!(rt; ending, Err(CliFault::Read));
+            pieces.kind = kind;
+            let mut out = Vec::new(alloc);
+            let ending = watched_reader(alloc, &mut pieces, &mut out);
+            assert_eq!(rt; ending, Err(fault));
             assert_eq!(rt; pieces.asked, pieces.fails_at);
             assert_eq!(rt;
                 out.as_slice(),
@@ -228,6 +230,13 @@ fn a_failed_read_leaves_the_lines_before_it(rt: HostRuntime) {
             );
         }
     }
+}
+
+#[test]
+fn a_failed_read_leaves_the_lines_before_it(rt: HostRuntime) {
+    assert_failed_reads(&rt, rt.alloc(), ErrorKind::Interrupted, CliFault::Read);
+    assert_failed_reads(&rt, rt.alloc(), ErrorKind::IsADirectory, CliFault::Read);
+    assert_failed_reads(&rt, rt.alloc(), ErrorKind::OutOfMemory, CliFault::NoMemory);
 }
 
 #[test]

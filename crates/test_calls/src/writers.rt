@@ -5,20 +5,27 @@ use std::alloc::Global;
 use std::io;
 use std::io::{ErrorKind, Write};
 
-/// Takes `room` bytes, is interrupted once, and takes every byte from then on.
+/// Takes `room` bytes, fails once, and takes every byte from then on.
 #[derive(Drop)]
 pub struct FailsOnce {
     pub taken: Vec<u8>,
     pub has_failed: bool,
     room: usize,
+    kind: ErrorKind,
 }
 
 impl FailsOnce {
+    /// Is interrupted.
     pub fn new(alloc: Global, room: usize) -> FailsOnce {
+        FailsOnce::of_kind(alloc, room, ErrorKind::Interrupted)
+    }
+
+    pub fn of_kind(alloc: Global, room: usize, kind: ErrorKind) -> FailsOnce {
         FailsOnce {
             taken: Vec::new(alloc),
             has_failed: false,
             room,
+            kind,
         }
     }
 }
@@ -32,7 +39,7 @@ impl Write for FailsOnce {
         let free = self.room.saturating_sub(self.taken.len());
         if free == 0 {
             self.has_failed = true;
-            return Err(io::Error::from(ErrorKind::Interrupted));
+            return Err(io::Error::from(self.kind));
         }
         let count = free.min(buf.len());
         self.taken.extend_from_slice(&buf[..count])?;

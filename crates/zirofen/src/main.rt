@@ -1,24 +1,41 @@
 //! Zirofen's program: a request of the command line is carried out.
 #![tactic(auto)]
 
-mod again;
-mod fault;
-mod run;
-
-use again::Again;
+use cg_cli::write::write_whole;
+use cg_help::help::help_text;
+use cg_help::kept::Kept;
+use commands::again::Again;
+use commands::fault::Fault;
+use commands::run::run;
+use std::io::Write;
 use std::process::ExitCode;
 
 /// The status of a fault.
 const FAULT: u8 = 3;
 
 fn main(rt: HostRuntime) -> ExitCode {
-    let mut out = Again { inner: rt.stdout() };
-    match run::run(&rt, rt.stdin(), &mut out) {
+    let mut input = Kept {
+        inner: rt.stdin(),
+        bytes: Vec::new(rt.alloc()),
+    };
+    match run(&rt, &mut input, rt.stdout()) {
         Ok(status) => ExitCode::from(status),
         Err(fault) => {
             let mut errors = Again { inner: rt.stderr() };
             fault.print(rt.alloc(), &mut errors);
+            print_help(&rt, fault, input.bytes.as_slice(), &mut errors);
             ExitCode::from(FAULT)
         }
+    }
+}
+
+/// Writes what a second look finds, below the fault's line. Where that fails there is none.
+fn print_help<W: Write>(rt: &HostRuntime, fault: Fault, input: &[u8], out: &mut W) {
+    let fault = match fault {
+        Fault::Usage => None,
+        Fault::Cli(inner) => Some(inner),
+    };
+    if let Ok(help) = help_text(rt, fault.as_ref(), input) {
+        let _ = write_whole(out, help.as_slice());
     }
 }

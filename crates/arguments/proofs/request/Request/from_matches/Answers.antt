@@ -23,3 +23,13 @@ pub returns-in_ok-from_matches-in-Some-replay-default : goal.returns-in_ok-from_
 returns-in_ok-from_matches-in-Some-replay-default c =
     let met = c.in-Some-replay-default in
     (found_of met.given.now, ap (λ (name : List ℕ). Some name) (sym met.is-replay) ∙ met.ensures.name, sym met.ensures.rows, c.in_ok-from_matches-in-Some-replay-default.ensures.given)
+
+pub returns-in_ok-from_matches-in-Some-advise-default : goal.returns-in_ok-from_matches-in-Some-advise-default
+returns-in_ok-from_matches-in-Some-advise-default c =
+    let met = c.in-Some-advise-default in
+    (found_of met.given.now, ap (λ (name : List ℕ). Some name) (sym met.is-advise) ∙ met.ensures.name, sym met.ensures.rows, c.in_ok-from_matches-in-Some-advise-default.ensures.given)
+
+pub returns-in-Some-upgrade-default : goal.returns-in-Some-upgrade-default
+returns-in-Some-upgrade-default c =
+    let met = c.in-Some-upgrade-default in
+    (found_of met.given.now, ap (λ (name : List ℕ). Some name) (sym met.is-upgrade) ∙ met.ensures.name, sym met.ensures.rows, c.from_matches-in-Some-upgrade-default.ensures)

@@ -1,0 +1,326 @@
+-- Pairs written one after another, and what the report on them is where it ends early.
+use Rattle.std.proofs.Common.{◌≡◌, ◌≢◌, ℕ, suc, ◌+◌, ◌<◌, ◌||◌, Bool, true, false, cond, nat_eq, List, [], ◌∷◌, ◌++◌, length, get_or, take, drop, drop-cons, add-one, Option, Some, None, Result, Ok, Err, IfOk, refl, sym, ap, ◌∙◌, subst, append_assoc, append-nil, length-append, arith}
+use Rattle.std.specs.List.{list_any, flat_map}
+use Rattle.std.specs.Io.KnownBytes.{Appends}
+use Rattle.std.proofs.KnownBytes.{Appends-nil, Appends-trans}
+use Rattle.std.proofs.lemmas.List.{take-append-le}
+use Rattle.std.proofs.lemmas.List.Concat.{flat_map-append}
+use Rattle.cg_cgroup.specs.Paths.{Names, same_path}
+use Rattle.cg_cgroup.specs.Identity.{Identity}
+use Rattle.cg_tree.specs.States.{State}
+use Rattle.cg_ops.specs.Clauses.{first}
+use Rattle.cg_text.specs.TreeTexts.{tree_of}
+use Rattle.cg_text.specs.declared.tree.fault.TreeFault.{TreeFault}
+use Rattle.cg_text.specs.declared.tree.fault.TreeFault.TheVariants.{NoMemory as TreeNoMemory}
+use Rattle.cg_runs.specs.declared.fault.CheckFault.{CheckFault}
+use Rattle.cg_runs.specs.declared.fault.CheckFault.TheVariants.{RootSubtree, NoSuchSubtree, NoMemory as CheckNoMemory}
+use Rattle.cg_check.specs.Answers.{answer}
+use Rattle.cg_check.specs.Checks.{subtree_faults, unless_fault, checked, takes_memory as check_takes, Gives}
+use Rattle.cg_check.specs.Listed.{Listed, listed_unless_contained, listed_of, listed}
+use Rattle.cg_check.specs.declared.answer.Answer.{Answer}
+use Rattle.cg_check.specs.declared.answer.Answer.TheVariants.{Contained, Escapes, Unsettled}
+use Rattle.cg_check.proofs.Checking.{checked-answer}
+use Rattle.cg_report.specs.PairLines.{pair_text, pairs_text}
+use Rattle.cg_cli.specs.Faults.{lifted, lifted_check}
+use Rattle.cg_cli.specs.Audits.{users_read, paths_read}
+use Rattle.cg_cli.specs.Containment.{in_call, answer_status}
+use Rattle.cg_cli.specs.Once.{once, same_user}
+use Rattle.cg_cli.specs.Reports.{takes_memory}
+use Rattle.cg_cli.specs.Written.{AppendsPart}
+use Rattle.cg_cli.specs.AllPairs.{is_escape, pairs_status, worse, listing_text, LeavesWhole, WritesPairs, read_then, pairs_found, all_report, ReportsPairs, UnlistedAreContained}
+use Rattle.cg_cli.specs.declared.fault.CliFault.{CliFault}
+use Rattle.cg_cli.specs.declared.fault.CliFault.TheVariants.{BadPath, Write, NoMemory}
+use Rattle.cg_cli.proofs.AuditReports.{lifted_takes, paths_fault}
+use Rattle.cg_cli.proofs.CheckReports.{keeps}
+use Rattle.cg_cli.proofs.ReplayEnds.{part_behind}
+
+-- ---- statuses
+
+abbrev some_escape : List Listed → Bool
+some_escape pairs = list_any (λ (pair : Listed). is_escape pair.found) pairs
+
+escape_of_both : (xs ys : List Listed) → some_escape (xs ++ ys) ≡ some_escape xs || some_escape ys
+escape_of_both [] ys = refl
+escape_of_both (x ∷ xs) ys =
+    ap (λ b. is_escape x.found || b) (escape_of_both xs ys) ∙ either_way (is_escape x.found) (some_escape xs) (some_escape ys)
+  where
+    either_way : (a b c : Bool) → a || (b || c) ≡ (a || b) || c
+    either_way true b c = refl
+    either_way false b c = refl
+
+-- the status of two lists, one behind the other, is the worse of theirs
+status_of_both : (xs ys : List Listed) → pairs_status (xs ++ ys) ≡ worse (pairs_status xs) (pairs_status ys)
+status_of_both [] [] = refl
+status_of_both [] (y ∷ ys) = by_escape (some_escape (y ∷ ys))
+  where
+    by_escape : (b : Bool) → cond b 1 2 ≡ worse 0 (cond b 1 2)
+    by_escape true = refl
+    by_escape false = refl
+status_of_both (x ∷ xs) [] = ap (λ l. pairs_status (x ∷ l)) (append-nil xs) ∙ by_escape (some_escape (x ∷ xs))
+  where
+    by_escape : (b : Bool) → cond b 1 2 ≡ worse (cond b 1 2) 0
+    by_escape true = refl
+    by_escape false = refl
+status_of_both (x ∷ xs) (y ∷ ys) = ap (λ b. cond b 1 2) (escape_of_both (x ∷ xs) (y ∷ ys)) ∙ by_escapes (some_escape (x ∷ xs)) (some_escape (y ∷ ys))
+  where
+    by_escapes : (b c : Bool) → cond (b || c) 1 2 ≡ worse (cond b 1 2) (cond c 1 2)
+    by_escapes true c = refl
+    by_escapes false true = refl
+    by_escapes false false = refl
+
+no_status : (pairs : List Listed) → pairs_status pairs ≡ 0 → pairs ≡ []
+no_status [] zero = refl
+no_status (pair ∷ pairs) zero = by_escape (some_escape (pair ∷ pairs)) zero
+  where
+    by_escape : {P : Type 0} (b : Bool) → ◌≡◌ {A = ℕ} (cond b 1 2) 0 → P
+    by_escape true h = let never : ⊥ = cc in absurd never
+    by_escape false h = let never : ⊥ = cc in absurd never
+
+-- ---- one after another
+
+text_of_both : (xs ys : List Listed) → pairs_text (xs ++ ys) ≡ pairs_text xs ++ pairs_text ys
+text_of_both xs ys = flat_map-append pair_text xs ys
+
+-- of some pairs a front is written, and the rest is still to come
+pub record Front (pairs rest : List Listed) (old new : Option (List ℕ)) (worst : ℕ) : Type 0 where
+  pub front : List Listed
+  pub whole : front ++ rest ≡ pairs
+  pub status : pairs_status front ≡ worst
+  pub text : Appends old new (pairs_text front)
+
+pub begins : (pairs rest : List Listed) (known : Option (List ℕ)) → rest ≡ pairs → Front pairs rest known known 0
+begins pairs rest known same = record { front = []; whole = same; status = refl; text = Appends-nil known }
+
+module _ (pairs here rest : List Listed) (old mid new : Option (List ℕ)) (status : ℕ) (far : Front pairs (here ++ rest) old mid status) where
+  pub goes_on : (more : ℕ) → WritesPairs here mid new (Ok more) → Front pairs rest old new (worse status more)
+  goes_on more written = record {
+    front = far.front ++ here;
+    whole = append_assoc far.front here rest ∙ far.whole;
+    status = status_of_both far.front here ∙ ap (λ n. worse n (pairs_status here)) far.status ∙ ap (worse status) written.0;
+    text = subst (Appends old new) (sym (text_of_both far.front here)) (Appends-trans old mid new _ _ far.text written.1);
+  }
+
+  all_text : pairs_text pairs ≡ pairs_text far.front ++ (pairs_text here ++ pairs_text rest)
+  all_text = ap pairs_text (sym far.whole) ∙ text_of_both far.front (here ++ rest) ∙ ap (λ text. pairs_text far.front ++ text) (text_of_both here rest)
+
+  part_of : AppendsPart mid new (pairs_text here) → AppendsPart mid new (pairs_text here ++ pairs_text rest)
+  part_of part = (
+    part.0,
+    omega (arith, part.1, length-append (pairs_text here) (pairs_text rest)),
+    subst (Appends mid new) (sym (take-append-le part.0 (pairs_text here) (pairs_text rest) (omega (arith, part.1)))) part.2,
+  )
+
+  pub stops : (fault : CliFault) → WritesPairs here mid new (Err fault) → WritesPairs pairs old new (Err fault)
+  stops Write part = subst (AppendsPart old new) (sym all_text) (part_behind old mid new _ _ far.text (part_of part))
+  stops NoMemory left = (
+    far.front ++ left.0,
+    left.1 ++ rest,
+    append_assoc far.front left.0 (left.1 ++ rest) ∙ ap (λ l. far.front ++ l) (sym (append_assoc left.0 left.1 rest) ∙ ap (λ l. l ++ rest) left.2) ∙ far.whole,
+    subst (Appends old new) (sym (text_of_both far.front left.0)) (Appends-trans old mid new _ _ far.text left.3),
+  )
+  stops fault never = absurd never
+
+pub ends : (pairs rest : List Listed) (old new : Option (List ℕ)) (status : ℕ) → rest ≡ [] → Front pairs rest old new status → WritesPairs pairs old new (Ok status)
+ends pairs rest old new status none far =
+    let same : far.front ≡ pairs = sym (append-nil far.front) ∙ ap (λ l. far.front ++ l) (sym none) ∙ far.whole in
+    (ap pairs_status (sym same) ∙ far.status, subst (λ l. Appends old new (pairs_text l)) same far.text)
+
+-- ---- of one user
+
+-- the pair with a subtree is the next
+pub here_next : (st : State) (user : Identity) (subtrees : List Names) (i : ℕ) (subtree : Names) (pairs : List Listed) (old new : Option (List ℕ)) (worst : ℕ) → i < length subtrees → subtree ≡ get_or subtrees i subtree
+    → Front pairs (listed_of st (drop i subtrees) user) old new worst
+    → Front pairs (listed_unless_contained user subtree (answer st user subtree) ++ listed_of st (drop (i + 1) subtrees) user) old new worst
+here_next st user subtrees i subtree pairs old new worst within at =
+    subst (λ rest. Front pairs (listed_of st rest user) old new worst) (drop-cons subtrees i subtree within ∙ (λ j. sym at j ∷ drop (sym (add-one i) j) subtrees))
+
+-- the pairs of the first user who is left are the next
+pub user_next : (st : State) (subtrees : List Names) (left : List Identity) (user : Identity) (pairs : List Listed) (old new : Option (List ℕ)) (worst : ℕ) → 0 < length left → user ≡ get_or left 0 user
+    → Front pairs (listed st left subtrees) old new worst → Front pairs (listed_of st subtrees user ++ listed st (drop 1 left) subtrees) old new worst
+user_next st subtrees left user pairs old new worst within at =
+    subst (λ rest. Front pairs (listed st rest subtrees) old new worst) (drop-cons left 0 user within ∙ (λ j. sym at j ∷ drop 1 left))
+
+pub passes_on : (pairs rest next : List Listed) (old new : Option (List ℕ)) (worst worse : ℕ) → next ≡ rest → worse ≡ worst → Front pairs rest old new worst → Front pairs next old new worse
+passes_on pairs rest next old new worst worse of_rest of_worst far =
+    subst (λ (n : ℕ). Front pairs next old new n) (sym of_worst) (subst (λ l. Front pairs l old new worst) (sym of_rest) far)
+
+-- ---- one pair
+
+module _ (st : State) (user : Identity) (subtree : Names) where
+  abbrev here : Answer → List Listed
+  here found = listed_unless_contained user subtree found
+
+  one_status : (found : Answer) → pairs_status (here found) ≡ answer_status found
+  one_status Contained = refl
+  one_status (Escapes ops) = refl
+  one_status (Unsettled failed) = refl
+
+  one_text : (found : Answer) → found ≢ Contained → pairs_text (here found) ≡ pair_text (record { user = user; subtree = subtree; found = found })
+  one_text Contained other = absurd (other refl)
+  one_text (Escapes ops) other = append-nil _
+  one_text (Unsettled failed) other = append-nil _
+
+  module _ (faultless : first (subtree_faults st subtree) ≡ None) where
+    is_answer : (found : Answer) → Gives check_takes (checked st user subtree) (Ok found) → answer st user subtree ≡ found
+    is_answer found gives = same_Ok (sym (checked-answer st user subtree (sym faultless)) ∙ gives)
+      where
+        same_Ok : {x y : Answer} → let r : Result Answer CheckFault = Ok x in let s : Result Answer CheckFault = Ok y in r ≡ s → x ≡ y
+        same_Ok same = cc
+
+    pub contained_writes : (found : Answer) (known : Option (List ℕ)) → Gives check_takes (checked st user subtree) (Ok found) → found ≡ Contained → WritesPairs (here (answer st user subtree)) known known (Ok 0)
+    contained_writes found known gives contained =
+        subst (λ a. WritesPairs (here a) known known (Ok 0)) (sym (is_answer found gives ∙ contained)) (refl, Appends-nil known)
+
+    pub pair_writes : (found : Answer) (old new : Option (List ℕ)) (text : List ℕ) (status : ℕ) → Gives check_takes (checked st user subtree) (Ok found) → found ≢ Contained
+        → text ≡ pair_text (record { user = user; subtree = subtree; found = found }) → status ≡ answer_status found → Appends old new text → WritesPairs (here (answer st user subtree)) old new (Ok status)
+    pair_writes found old new text status gives other is status_is written =
+        subst (λ a. WritesPairs (here a) old new (Ok status)) (sym (is_answer found gives))
+        (one_status found ∙ sym status_is, subst (Appends old new) (is ∙ sym (one_text found other)) written)
+
+    pub pair_stops : (found : Answer) (old new : Option (List ℕ)) (text : List ℕ) → Gives check_takes (checked st user subtree) (Ok found) → found ≢ Contained
+        → text ≡ pair_text (record { user = user; subtree = subtree; found = found }) → AppendsPart old new text → WritesPairs (here (answer st user subtree)) old new (Err Write)
+    pair_stops found old new text gives other is part =
+        subst (λ a. AppendsPart old new (pairs_text (here a))) (sym (is_answer found gives))
+        (subst (AppendsPart old new) (is ∙ sym (one_text found other)) part)
+
+    pub fault_wants : (fault : CheckFault) (known : Option (List ℕ)) → Gives check_takes (checked st user subtree) (Err fault) → WritesPairs (here (answer st user subtree)) known known (Err (lifted_check fault))
+    fault_wants RootSubtree known gives = let never : ⊥ = let e = sym (checked-answer st user subtree (sym faultless)) ∙ gives in cc in absurd never
+    fault_wants NoSuchSubtree known gives = let never : ⊥ = let e = sym (checked-answer st user subtree (sym faultless)) ∙ gives in cc in absurd never
+    fault_wants CheckNoMemory known gives = ([], here (answer st user subtree), refl, Appends-nil known)
+
+pub wants : (pairs : List Listed) (known : Option (List ℕ)) → WritesPairs pairs known known (Err NoMemory)
+wants pairs known = ([], pairs, refl, Appends-nil known)
+
+-- ---- all pairs
+
+pub fault_said : (fault : CliFault) (known : Option (List ℕ)) → ReportsPairs (Err fault) known known (Err fault)
+fault_said NoMemory known = (refl, keeps known)
+fault_said fault known = (refl, keeps known)
+
+module _ (st : State) (users : List Identity) (subtrees : List Names) where
+  pub subtree_said : (fault : CheckFault) (known : Option (List ℕ)) → Some fault ≡ first (flat_map (subtree_faults st) subtrees) → ReportsPairs (pairs_found st users subtrees) known known (Err (lifted_check fault))
+  subtree_said fault known is =
+      subst (λ o. ReportsPairs (in_call (unless_fault o (listed st users subtrees))) known known (Err (lifted_check fault))) is (fault_said (lifted_check fault) known)
+
+  module _ (none : None ≡ first (flat_map (subtree_faults st) subtrees)) where
+    abbrev pairs : List Listed
+    pairs = listed st users subtrees
+
+    by_pairs : (old new : Option (List ℕ)) (result : Result ℕ CliFault) → ReportsPairs (Ok pairs) old new result → ReportsPairs (pairs_found st users subtrees) old new result
+    by_pairs old new result = subst (λ o. ReportsPairs (in_call (unless_fault o pairs)) old new result) none
+
+    listed_text : (all : List Listed) → pairs_status all ≢ 0 → pairs_text all ≡ listing_text all
+    listed_text [] other = absurd (other refl)
+    listed_text (pair ∷ all) other = refl
+
+    part_text : (all : List Listed) (old new : Option (List ℕ)) → AppendsPart old new (pairs_text all) → AppendsPart old new (listing_text all)
+    part_text [] old new part = absurd (omega (arith, part.1))
+    part_text (pair ∷ all) old new part = part
+
+    pub stop_said : (fault : CliFault) (old new : Option (List ℕ)) → WritesPairs pairs old new (Err fault) → ReportsPairs (pairs_found st users subtrees) old new (Err fault)
+    stop_said fault old new written = by_pairs old new (Err fault) (by_fault fault written)
+      where
+        by_fault : (fault : CliFault) → WritesPairs pairs old new (Err fault) → ReportsPairs (Ok pairs) old new (Err fault)
+        by_fault Write part = part_text pairs old new part
+        by_fault NoMemory left = left
+        by_fault fault never = absurd never
+
+    pub listing_said : (status : ℕ) (old new : Option (List ℕ)) → WritesPairs pairs old new (Ok status) → status ≢ 0 → ReportsPairs (pairs_found st users subtrees) old new (Ok status)
+    listing_said status old new written other =
+        by_pairs old new (Ok status) (written.0, subst (Appends old new) (listed_text pairs (λ zero. other (sym written.0 ∙ zero))) written.1)
+
+    none_listed : (status : ℕ) (old mid : Option (List ℕ)) → WritesPairs pairs old mid (Ok status) → status ≡ 0 → pairs ≡ []
+    none_listed status old mid written zero = no_status pairs (written.0 ∙ zero)
+
+    pub contained_said : (status : ℕ) (old mid new : Option (List ℕ)) → WritesPairs pairs old mid (Ok status) → status ≡ 0 → Appends mid new (listing_text []) → ReportsPairs (pairs_found st users subtrees) old new (Ok status)
+    contained_said status old mid new written zero text =
+        let empty = none_listed status old mid written zero in
+        by_pairs old new (Ok status)
+        (written.0, subst (λ l. Appends old new (listing_text l)) (sym empty) (Appends-trans old mid new [] (listing_text []) (subst (λ l. Appends old mid (pairs_text l)) empty written.1) text))
+
+    pub contained_stops : (status : ℕ) (old mid new : Option (List ℕ)) → WritesPairs pairs old mid (Ok status) → status ≡ 0 → AppendsPart mid new (listing_text []) → ReportsPairs (pairs_found st users subtrees) old new (Err Write)
+    contained_stops status old mid new written zero part =
+        let empty = none_listed status old mid written zero in
+        by_pairs old new (Err Write)
+        (subst (λ l. AppendsPart old new (listing_text l)) (sym empty) (part_behind old mid new [] (listing_text []) (subst (λ l. Appends old mid (pairs_text l)) empty written.1) part))
+
+-- ---- what is read before
+
+same_Ok : {A : Type 0} (x y : A) → let r : Result A CliFault = Ok x in let s : Result A CliFault = Ok y in r ≡ s → x ≡ y
+same_Ok x y same = cc
+
+abbrev chain : Result (List Identity) CliFault → Result (List Names) CliFault → Result State TreeFault → Result (List Listed) CliFault
+chain users subtrees tree =
+    read_then users (λ users. read_then subtrees (λ subtrees. read_then (elim tree [ Ok st ↦ Ok st | Err fault ↦ Err (lifted fault) ]) (λ st. pairs_found st (once same_user users) (once same_path subtrees))))
+
+abbrev takes : Result (List Listed) CliFault → Bool
+takes (Ok found) = true
+takes (Err fault) = takes_memory (Err fault)
+
+wanted : (report : Result (List Listed) CliFault) (known : Option (List ℕ)) → takes report ≡ true → ReportsPairs report known known (Err NoMemory)
+wanted (Ok found) known some = ([], found, refl, Appends-nil known)
+wanted (Err fault) known some = (some, keeps known)
+
+fault_reports : (report : Result (List Listed) CliFault) (fault : CliFault) (known : Option (List ℕ)) → (fault ≢ NoMemory → report ≡ Err fault) → (fault ≡ NoMemory → takes report ≡ true) → ReportsPairs report known known (Err fault)
+fault_reports report NoMemory known stated memory = wanted report known (memory refl)
+fault_reports report fault known stated memory = subst (λ r. ReportsPairs r known known (Err fault)) (sym (stated (λ same. cc))) (refl, keeps known)
+
+pairs_take : (fault : Option CheckFault) (found : List Listed) → takes (in_call (unless_fault fault found)) ≡ true
+pairs_take None found = refl
+pairs_take (Some RootSubtree) found = refl
+pairs_take (Some NoSuchSubtree) found = refl
+pairs_take (Some CheckNoMemory) found = refl
+
+tree_takes : (users : List Identity) (subtrees : List Names) (tree : Result State TreeFault) → takes (chain (Ok users) (Ok subtrees) tree) ≡ true
+tree_takes users subtrees (Ok st) = pairs_take (first (flat_map (subtree_faults st) (once same_path subtrees))) (listed st (once same_user users) (once same_path subtrees))
+tree_takes users subtrees (Err fault) = lifted_takes fault
+
+paths_take : (users : List Identity) (subtrees : Result (List Names) CliFault) (tree : Result State TreeFault) → ((fault : CliFault) → subtrees ≡ Err fault → fault ≡ BadPath) → takes (chain (Ok users) subtrees tree) ≡ true
+paths_take users (Ok subtrees) tree of_paths = tree_takes users subtrees tree
+paths_take users (Err fault) tree of_paths = ap (λ f. takes_memory (Err f)) (of_paths fault refl)
+
+users_take : (users : Result (List Identity) CliFault) (subtrees : Result (List Names) CliFault) (tree : Result State TreeFault) → ((fault : CliFault) → users ≡ Err fault → NoMemory ≡ fault) → ((fault : CliFault) → subtrees ≡ Err fault → fault ≡ BadPath) → takes (chain users subtrees tree) ≡ true
+users_take (Ok users) subtrees tree of_users of_paths = paths_take users subtrees tree of_paths
+users_take (Err fault) subtrees tree of_users of_paths = ap (λ f. takes_memory (Err f)) (sym (of_users fault refl))
+
+module _ (text : List ℕ) (given : List (ℕ × List ℕ)) (texts : List (List ℕ)) (known : Option (List ℕ)) where
+  pub users_fault_said : (fault : CliFault) → (fault ≢ NoMemory → users_read given ≡ Err fault) → ((other : CliFault) → users_read given ≡ Err other → fault ≡ other) → ReportsPairs (all_report text given texts) known known (Err fault)
+  users_fault_said fault stated first =
+      fault_reports (all_report text given texts) fault known (λ other. ap (λ u. chain u (paths_read texts) (tree_of text)) (stated other))
+      (λ same. users_take (users_read given) (paths_read texts) (tree_of text) (λ f is. sym same ∙ first f is) (paths_fault texts))
+
+  module _ (users : List Identity) (of_users : users_read given ≡ Ok users) where
+    pub paths_fault_said : (fault : CliFault) → (fault ≢ NoMemory → paths_read texts ≡ Err fault) → ReportsPairs (all_report text given texts) known known (Err fault)
+    paths_fault_said fault stated =
+        fault_reports (all_report text given texts) fault known
+        (λ other. ap (λ u. chain u (paths_read texts) (tree_of text)) of_users ∙ ap (λ p. chain (Ok users) p (tree_of text)) (stated other))
+        (λ same. ap (λ u. takes (chain u (paths_read texts) (tree_of text))) of_users ∙ paths_take users (paths_read texts) (tree_of text) (paths_fault texts))
+
+    module _ (subtrees : List Names) (of_paths : paths_read texts ≡ Ok subtrees) where
+      by_tree : all_report text given texts ≡ chain (Ok users) (Ok subtrees) (tree_of text)
+      by_tree = ap (λ u. chain u (paths_read texts) (tree_of text)) of_users ∙ ap (λ p. chain (Ok users) p (tree_of text)) of_paths
+
+      pub tree_fault_said : (fault : TreeFault) → (fault ≢ TreeNoMemory → tree_of text ≡ Err fault) → ReportsPairs (all_report text given texts) known known (Err (lifted fault))
+      tree_fault_said TreeNoMemory stated = wanted (all_report text given texts) known (ap takes by_tree ∙ tree_takes users subtrees (tree_of text))
+      tree_fault_said fault stated =
+          subst (λ r. ReportsPairs r known known (Err (lifted fault))) (sym (by_tree ∙ ap (chain (Ok users) (Ok subtrees)) (stated (λ same. cc)))) (refl, keeps known)
+
+      module _ (kept_users : List Identity) (kept_subtrees : List Names) (users_once : kept_users ≡ once same_user users) (subtrees_once : kept_subtrees ≡ once same_path subtrees) (st : State) (of_text : tree_of text ≡ Ok st) where
+        pub tree_said : (new : Option (List ℕ)) (result : Result ℕ CliFault) → ReportsPairs (pairs_found st kept_users kept_subtrees) known new result → ReportsPairs (all_report text given texts) known new result
+        tree_said new result said =
+            subst (λ r. ReportsPairs r known new result) (sym (by_tree ∙ ap (chain (Ok users) (Ok subtrees)) of_text))
+            (subst (λ r. ReportsPairs r known new result) (λ i. pairs_found st (users_once i) (subtrees_once i)) said)
+
+        pub unlisted_said : (result : Result ℕ CliFault) → IfOk result (λ status. UnlistedAreContained st kept_users kept_subtrees)
+            → IfOk result (λ status. (start : State) (who : List Identity) (paths : List Names) → tree_of text ≡ Ok start → users_read given ≡ Ok who → paths_read texts ≡ Ok paths → UnlistedAreContained start (once same_user who) (once same_path paths))
+        unlisted_said (Err fault) said = tt
+        unlisted_said (Ok status) said = λ start who paths is_start is_who are_paths.
+            let e : st ≡ start = same_start (sym of_text ∙ is_start) in
+            let f : users ≡ who = same_Ok users who (sym of_users ∙ is_who) in
+            let h : subtrees ≡ paths = same_Ok subtrees paths (sym of_paths ∙ are_paths) in
+            subst (λ (s : State). UnlistedAreContained s (once same_user who) (once same_path paths)) e
+            (subst (λ l. UnlistedAreContained st l (once same_path paths)) (users_once ∙ ap (once same_user) f)
+            (subst (λ l. UnlistedAreContained st kept_users l) (subtrees_once ∙ ap (once same_path) h) said))
+          where
+            same_start : {start : State} → let r : Result State TreeFault = Ok st in let s : Result State TreeFault = Ok start in r ≡ s → st ≡ start
+            same_start same = cc

@@ -1,0 +1,33 @@
+use Rattle.std.proofs.Common.{◌-◌, length, take, drop, ap, ◌∙◌}
+use Rattle.std.proofs.lemmas.List.{take_rest}
+use Rattle.std.proofs.lemmas.Result.{err_from_is_err_and}
+use Rattle.cg_check.specs.Listed.{listed_of, listed}
+use Rattle.cg_check.proofs.ListedLaws.{listed_past}
+use Rattle.cg_cli.proofs.AllPairs.{begins, goes_on, stops, passes_on, user_next}
+use Rattle.cg_cli.proofs.audit_all.write_pairs.Goals as goal
+
+pub users-init : goal.users-init
+users-init g c =
+    begins (listed (g.H.Hierarchy.state c.args.tree.now) c.args.users.now c.args.subtrees.now) (listed (g.H.Hierarchy.state c.args.tree.now) c.from_first_unguarded-left.result.now c.args.subtrees.now) (g.W.Write.contents c.args.out.now)
+    (listed_past (g.H.Hierarchy.state c.args.tree.now) c.args.subtrees.now c.args.users.now c.from_first_unguarded-left.result.now c.from_first_unguarded-left.ensures)
+
+pub returns-in_err-write_user : goal.returns-in_err-write_user
+returns-in_err-write_user g c =
+    let p = err_from_is_err_and c.from_residual.result c.from_residual.ensures.1 in
+    let st = g.H.Hierarchy.state c.args.tree.now in
+    let far = user_next st c.args.subtrees.now c.users.left.now c.user-item.result (listed st c.args.users.now c.args.subtrees.now) (g.W.Write.contents c.args.out.now) (g.W.Write.contents c.users.out) c.users.worst c.in-len1-up.len_at_least c.user-item.is c.users.invariant in
+    rw (p.1, p.2)
+    (stops (listed st c.args.users.now c.args.subtrees.now) (listed_of st c.args.subtrees.now c.user-item.result) (listed st (drop 1 c.users.left.now) c.args.subtrees.now)
+    (g.W.Write.contents c.args.out.now) (g.W.Write.contents c.users.out) (g.W.Write.contents c.write_user.new.out) c.users.worst far c.in_err-write_user.field-0.0 c.in_err-write_user.ensures)
+
+pub users-preserved : goal.users-preserved
+users-preserved g c =
+    let st = g.H.Hierarchy.state c.args.tree.now in
+    let far = user_next st c.args.subtrees.now c.users.left.now c.user-item.result (listed st c.args.users.now c.args.subtrees.now) (g.W.Write.contents c.args.out.now) (g.W.Write.contents c.users.out) c.users.worst c.in-len1-up.len_at_least c.user-item.is c.users.invariant in
+    passes_on (listed st c.args.users.now c.args.subtrees.now) (listed st (drop 1 c.users.left.now) c.args.subtrees.now) (listed st c.from_first_unguarded-left-in-len1-up.result.now c.args.subtrees.now)
+    (g.W.Write.contents c.args.out.now) (g.W.Write.contents c.write_user.new.out) _ c.worse-worst.result
+    (listed_past st c.args.subtrees.now (take (length c.users.left.now - 1) (drop 1 c.users.left.now)) c.from_first_unguarded-left-in-len1-up.result.now c.from_first_unguarded-left-in-len1-up.ensures
+    ∙ ap (λ rest. listed st rest c.args.subtrees.now) (take_rest c.users.left.now 1))
+    c.worse-worst.ensures
+    (goes_on (listed st c.args.users.now c.args.subtrees.now) (listed_of st c.args.subtrees.now c.user-item.result) (listed st (drop 1 c.users.left.now) c.args.subtrees.now)
+    (g.W.Write.contents c.args.out.now) (g.W.Write.contents c.users.out) (g.W.Write.contents c.write_user.new.out) c.users.worst far c.in_ok-write_user.field-0 c.in_ok-write_user.ensures)

@@ -1,0 +1,13 @@
+use Rattle.std.proofs.Common.{length}
+use Rattle.cg_check.specs.Listed.{listed}
+use Rattle.cg_cli.proofs.AllPairs.{Front}
+use Rattle.cg_cli.proofs.audit_all.write_pairs.Given as goal
+
+-- the pairs of the users before those who are left are written
+abbrev pub invariant-users : goal.invariant-users
+invariant-users g l =
+    Front (listed (g.H.Hierarchy.state l.tree) l.fn.users l.subtrees) (listed (g.H.Hierarchy.state l.tree) l.left l.subtrees)
+    (g.W.Write.contents l.initial.out) (g.W.Write.contents l.out) l.worst
+
+abbrev pub decreases-users : goal.decreases-users
+decreases-users g l = length l.left

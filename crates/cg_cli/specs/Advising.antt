@@ -1,0 +1,35 @@
+-- The report of the advice for a user and a subtree. Own.
+use Rattle.std.specs.Prelude.{ℕ, List, Option, Some, None, Result, Ok, codes}
+use Rattle.cg_cgroup.specs.Paths.{Names}
+use Rattle.cg_cgroup.specs.Identity.{Identity}
+use Rattle.cg_tree.specs.States.{State}
+use Rattle.cg_ops.specs.Clauses.{first}
+use Rattle.cg_runs.specs.declared.fault.CheckFault.{CheckFault}
+use Rattle.cg_advice.specs.AdviceLines.{advice_lines}
+use Rattle.cg_check.specs.Checks.{subtree_faults, unless_fault}
+use Rattle.cg_cli.specs.Arguments.{user_read, path_read}
+use Rattle.cg_cli.specs.Reports.{Report, report_on}
+use Rattle.cg_cli.specs.Containment.{in_call}
+use Rattle.cg_cli.specs.May.{tree_read}
+
+abbrev pub contained_line : List ℕ
+contained_line = codes "contained\n"
+
+-- contained where there is nothing to change, with status 0, and else the lines with status 1
+abbrev pub lines_report : Option (List ℕ) → Report
+lines_report None = record { text = contained_line; ending = Ok 0 }
+lines_report (Some lines) = record { text = lines; ending = Ok 1 }
+
+-- the fault of the subtree, or the advice
+abbrev pub advised : State → Identity → Names → Result (Option (List ℕ)) CheckFault
+advised st user subtree = unless_fault (first (subtree_faults st subtree)) (advice_lines st user subtree)
+
+abbrev pub advice_report : State → Identity → Names → Report
+advice_report st user subtree = report_on (in_call (advised st user subtree)) lines_report
+
+-- The user is looked at first, then the path, the tree's text, and whether the subtree is one that can be checked.
+abbrev pub advise_report : List ℕ → ℕ → List ℕ → List ℕ → Report
+advise_report text uid gids subtree =
+    report_on (user_read uid gids) (λ user.
+    report_on (path_read subtree) (λ path.
+    report_on (tree_read text) (λ st. advice_report st user path)))

@@ -1,0 +1,18 @@
+-- Lists in which what is named again counts once, where it stands first. Own.
+use Rattle.std.specs.Prelude.{◌≡◌, Bool, not, ◌&&◌, nat_eq, List, [], ◌∷◌, Result, Ok}
+use Rattle.std.specs.List.{filter}
+use Rattle.std.specs.Cmp.Lexicographic.{pointwise}
+use Rattle.cg_cgroup.specs.Identity.{Identity}
+use Rattle.cg_cli.specs.declared.fault.CliFault.{CliFault}
+
+abbrev pub once : {A : Type 0} → (A → A → Bool) → List A → List A
+once same [] = []
+once same (x ∷ xs) = x ∷ filter (λ y. not (same x y)) (once same xs)
+
+-- the same uid, and the same gids in the same order
+abbrev pub same_user : Identity → Identity → Bool
+same_user user other = nat_eq user.uid other.uid && pointwise nat_eq user.gids other.gids
+
+-- All of it is read, and each counts once.
+abbrev pub IsReadOnce : {A : Type 0} → (A → A → Bool) → Result (List A) CliFault → List A → Type 0
+IsReadOnce {A} same given read = (all : List A) × (given ≡ Ok all) × (read ≡ once same all)

@@ -1,0 +1,83 @@
+//! What to change so that a subtree is contained against a user.
+ghost use Rattle.std.specs.Prelude.{◌≡◌, ◌≢◌, Ok, Err, Some, IfOk, MatchResult};
+ghost use Rattle.cg_cgroup.specs.Identity.{Identity};
+ghost use Rattle.cg_cgroup.specs.Paths.{Names, path_at};
+ghost use Rattle.cg_cgroup.specs.Users.{user_of};
+ghost use Rattle.cg_tree.specs.States.{State};
+ghost use Rattle.cg_text.specs.TreeTexts.{tree_of};
+ghost use Rattle.cg_runs.specs.Held.{IsContained};
+ghost use Rattle.cg_cli.specs.Advising.{contained_line, advised, advice_report, advise_report};
+ghost use Rattle.cg_cli.specs.Reports.{Reports};
+
+use crate::arguments::{UserIds, read_path, read_user};
+use crate::fault::CliFault;
+use crate::write::write_whole;
+use cg_advice::text::advice_lines;
+use cg_cgroup::memory::NoMemory;
+use cg_cgroup::path::Path;
+use cg_cgroup::user::User;
+use cg_check::fault_of;
+use cg_runs::fault::CheckFault;
+use cg_text::tree::read_tree;
+use cg_tree::hierarchy::Hierarchy;
+use std::alloc::Global;
+use std::io::Write;
+
+/// Writes what to change so that the subtree is contained against the user: `contained` with status 0 where it is; else,
+/// with status 1, a line for each guard that fails, with the reason, and below it the changes that mend it.
+///
+/// # Errors
+/// The first that holds of `Uid`, `Gids`, `BadPath`, `Tree` and `Subtree`, and then nothing is written; `Write` where a
+/// write failed or took nothing; `NoMemory` where an allocation was refused.
+pub fn advise_bytes<W: Write>(
+    alloc: Global,
+    tree: &[u8],
+    user: UserIds<'_>,
+    subtree: &str,
+    out: &mut W,
+) -> Result<u8, CliFault>
+    ensures report { Reports (advise_report tree.now user.entry.uid user.entry.gids.now subtree.now)
+        (W.contents out.old) (W.contents out.new) result }
+    ensures contained { result ≡ Ok 0 → (st : State) (who : Identity) (path : Names)
+        → tree_of tree.now ≡ Ok st → user_of user.entry.uid user.entry.gids.now ≡ Some who → path_at subtree.now ≡ Some path
+        → IsContained st who path }
+{
+    let user = read_user(user)?;
+    let subtree = read_path(alloc, subtree)?;
+    let tree = read_tree(alloc, tree)?;
+    let (text, status) = advised(alloc, &tree, &user, &subtree)?;
+    write_whole(out, text.as_slice())?;
+    Ok(status)
+}
+
+/// What is said of a subtree, and the status.
+fn advised<H: Hierarchy>(
+    alloc: Global,
+    tree: &H,
+    user: &User,
+    subtree: &Path,
+) -> Result<(Vec<u8>, u8), CheckFault>
+    ensures said { MatchResult result
+        (λ said. advice_report (H.state tree.now) user.now subtree.now ≡ record { text = said.0.items; ending = Ok said.1 })
+        (λ fault. fault ≢ CheckFault.NoMemory → advised (H.state tree.now) user.now subtree.now ≡ Err fault) }
+    ensures contained { IfOk result (λ said. said.1 ≡ 0 → IsContained (H.state tree.now) user.now subtree.now) }
+{
+    if let Some(fault) = fault_of(tree, subtree) {
+        return Err(fault);
+    }
+    match advice_lines(alloc, tree, user, subtree) {
+        Err(NoMemory) => Err(CheckFault::NoMemory),
+        Ok(Some(lines)) => Ok((lines, 1)),
+        Ok(None) => match contained_line(alloc) {
+            Err(NoMemory) => Err(CheckFault::NoMemory),
+            Ok(line) => Ok((line, 0)),
+        },
+    }
+}
+
+/// The line of a subtree that is contained.
+fn contained_line(alloc: Global) -> Result<Vec<u8>, NoMemory>
+    ensures { IfOk result (λ line. line.items ≡ contained_line) }
+{
+    Ok(b"contained\n".to_vec(alloc)?)
+}

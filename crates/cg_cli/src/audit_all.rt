@@ -1,0 +1,190 @@
+//! All pairs of some users and some subtrees that aren't contained.
+ghost use Rattle.std.specs.Prelude.{◌≡◌, ◌≢◌, List, [], map, Ok, Err, None, IfOk, MatchResult};
+ghost use Rattle.std.specs.List.{flat_map};
+ghost use Rattle.cg_cgroup.specs.Identity.{Identity};
+ghost use Rattle.cg_cgroup.specs.Paths.{Names, same_path};
+ghost use Rattle.cg_tree.specs.States.{State};
+ghost use Rattle.cg_ops.specs.Clauses.{first};
+ghost use Rattle.cg_text.specs.TreeTexts.{tree_of};
+ghost use Rattle.cg_check.specs.Answers.{answer};
+ghost use Rattle.cg_check.specs.Checks.{subtree_faults};
+ghost use Rattle.cg_check.specs.Listed.{listed_unless_contained, listed_of, listed};
+ghost use Rattle.cg_cli.specs.Audits.{users_read, paths_read};
+ghost use Rattle.cg_cli.specs.Once.{once, same_user, IsReadOnce};
+ghost use Rattle.cg_cli.specs.declared.fault.CliFault.{CliFault};
+ghost use Rattle.cg_cli.specs.AllPairs.{worse, WritesPairs, pairs_found, all_report, ReportsPairs, UnlistedAreContained};
+
+use crate::arguments::{UserIds, read_path, read_user};
+use crate::audit::test_users;
+use crate::check::status;
+use crate::fault::CliFault;
+use crate::write::write_whole;
+use cg_cgroup::path::Path;
+use cg_cgroup::user::User;
+use cg_check::answer::Answer;
+use cg_check::{check, first_fault, from_first_unguarded};
+use cg_report::pair::pair_text;
+use cg_text::tree::read_tree;
+use cg_tree::hierarchy::Hierarchy;
+use std::alloc::Global;
+use std::collections::BTreeSet;
+use std::io::Write;
+
+/// Writes every pair of a user and a subtree that isn't contained, by user and then subtree, as soon as it is found: the
+/// line that names it, and what `check_bytes` writes of it; or `contained` where there is none. The status is 1 where one
+/// escapes, else 2 where one is unsettled, else 0. A user or a subtree that is named again counts once.
+///
+/// # Errors
+/// The first that holds of `Uid` and `Gids` for each user in turn, `BadPath`, `Tree` and `Subtree`, and then nothing is
+/// written; `Write` where a write failed or took nothing; `NoMemory` where an allocation was refused, and then a front of
+/// the pairs is written, each of them whole.
+pub fn audit_all_bytes<W: Write>(
+    alloc: Global,
+    tree: &[u8],
+    users: &[UserIds<'_>],
+    subtrees: &[&str],
+    out: &mut W,
+) -> Result<u8, CliFault>
+    ensures report { ReportsPairs
+        (all_report tree.now (map (λ user. (user.uid, user.gids.now)) users.now) (map (λ subtree. subtree.now) subtrees.now))
+        (W.contents out.old) (W.contents out.new) result }
+    ensures unlisted { IfOk result (λ status. (st : State) (who : List Identity) (paths : List Names)
+        → tree_of tree.now ≡ Ok st → users_read (map (λ user. (user.uid, user.gids.now)) users.now) ≡ Ok who
+        → paths_read (map (λ subtree. subtree.now) subtrees.now) ≡ Ok paths → UnlistedAreContained st (once same_user who) (once same_path paths)) }
+{
+    let users = users_once(alloc, users)?;
+    let subtrees = paths_once(alloc, subtrees)?;
+    let tree = read_tree(alloc, tree)?;
+    write_listing(alloc, &tree, users.as_slice(), subtrees.as_slice(), out)
+}
+
+/// The users, each where he is named first, or the first fault of one, which takes no memory to find.
+fn users_once(alloc: Global, users: &[UserIds<'_>]) -> Result<Vec<User>, CliFault>
+    ensures read { MatchResult result
+        (λ read. IsReadOnce same_user (users_read (map (λ user. (user.uid, user.gids.now)) users.now)) read.items)
+        (λ fault. fault ≢ CliFault.NoMemory → users_read (map (λ user. (user.uid, user.gids.now)) users.now) ≡ Err fault) }
+    ensures faults { (fault : CliFault)
+        → users_read (map (λ user. (user.uid, user.gids.now)) users.now) ≡ Err fault → result ≡ Err fault }
+{
+    test_users(users)?;
+    let mut seen = BTreeSet::new(alloc);
+    let mut read = Vec::new(alloc);
+    for user in users {
+        let one = read_user(*user)?;
+        let is_new = seen.insert((user.uid, user.gids))?;
+        if is_new {
+            read.push(one)?;
+        }
+    }
+    Ok(read)
+}
+
+/// The paths, each where it is named first.
+fn paths_once(alloc: Global, texts: &[&str]) -> Result<Vec<Path>, CliFault>
+    ensures { MatchResult result
+        (λ read. IsReadOnce same_path (paths_read (map (λ text. text.now) texts.now)) read.items)
+        (λ fault. fault ≢ CliFault.NoMemory → paths_read (map (λ text. text.now) texts.now) ≡ Err fault) }
+{
+    let mut seen = BTreeSet::new(alloc);
+    let mut read = Vec::new(alloc);
+    for text in texts {
+        let path = read_path(alloc, text)?;
+        let is_new = seen.insert(path.try_clone(alloc)?)?;
+        if is_new {
+            read.push(path)?;
+        }
+    }
+    Ok(read)
+}
+
+/// Writes all pairs that aren't contained, or that there is none.
+fn write_listing<H: Hierarchy + Drop, W: Write>(
+    alloc: Global,
+    tree: &H,
+    users: &[User],
+    subtrees: &[Path],
+    out: &mut W,
+) -> Result<u8, CliFault>
+    ensures report { ReportsPairs (pairs_found (H.state tree.now) users.now subtrees.now)
+        (W.contents out.old) (W.contents out.new) result }
+    ensures unlisted { IfOk result (λ status. UnlistedAreContained (H.state tree.now) users.now subtrees.now) }
+{
+    if let Some(fault) = first_fault(tree, subtrees) {
+        return Err(CliFault::from(fault));
+    }
+    let status = write_pairs(alloc, tree, users, subtrees, out)?;
+    if status == 0 {
+        write_whole(out, b"contained\n")?;
+    }
+    Ok(status)
+}
+
+/// Writes the pairs of some users. Those before the next who has one are passed over together.
+fn write_pairs<H: Hierarchy + Drop, W: Write>(
+    alloc: Global,
+    tree: &H,
+    users: &[User],
+    subtrees: &[Path],
+    out: &mut W,
+) -> Result<u8, CliFault>
+    requires there { first (flat_map (subtree_faults (H.state tree.now)) subtrees.now) ≡ None }
+    ensures { WritesPairs (listed (H.state tree.now) users.now subtrees.now) (W.contents out.old) (W.contents out.new) result }
+{
+    let mut worst = 0;
+    let mut left = from_first_unguarded(tree, users, subtrees);
+    'users: while let [user, others @ ..] = left {
+        worst = worse(worst, write_user(alloc, tree, user, subtrees, out)?);
+        left = from_first_unguarded(tree, others, subtrees);
+    }
+    Ok(worst)
+}
+
+/// Writes the pairs of a user.
+fn write_user<H: Hierarchy + Drop, W: Write>(
+    alloc: Global,
+    tree: &H,
+    user: &User,
+    subtrees: &[Path],
+    out: &mut W,
+) -> Result<u8, CliFault>
+    requires there { first (flat_map (subtree_faults (H.state tree.now)) subtrees.now) ≡ None }
+    ensures { WritesPairs (listed_of (H.state tree.now) subtrees.now user.now) (W.contents out.old) (W.contents out.new) result }
+{
+    let mut worst = 0;
+    for subtree in subtrees {
+        worst = worse(worst, write_pair(alloc, tree, user, subtree, out)?);
+    }
+    Ok(worst)
+}
+
+/// Writes a pair, unless it is contained.
+fn write_pair<H: Hierarchy + Drop, W: Write>(
+    alloc: Global,
+    tree: &H,
+    user: &User,
+    subtree: &Path,
+    out: &mut W,
+) -> Result<u8, CliFault>
+    requires there { first (subtree_faults (H.state tree.now) subtree.now) ≡ None }
+    ensures { WritesPairs (listed_unless_contained user.now subtree.now (answer (H.state tree.now) user.now subtree.now))
+        (W.contents out.old) (W.contents out.new) result }
+{
+    let answer = check(alloc, tree, user, subtree)?;
+    if let Answer::Contained = answer {
+        return Ok(0);
+    }
+    let text = pair_text(alloc, user, subtree, &answer)?;
+    write_whole(out, text.as_slice())?;
+    Ok(status(&answer))
+}
+
+/// The worse of two statuses: 1 before 2, and 2 before 0.
+fn worse(status: u8, other: u8) -> u8
+    ensures { result ≡ worse status other }
+{
+    if status == 1 || other == 0 {
+        status
+    } else {
+        other
+    }
+}

@@ -1,0 +1,42 @@
+//! What a request names.
+use arguments::request::Request;
+use std::alloc::{AllocError, Global};
+
+/// The file of the tree, where one is named.
+pub(crate) fn tree_of<'a>(request: &Request<'a>) -> Option<&'a str> {
+    match request {
+        Request::May(request) => request.tree,
+        Request::Check(request) => request.tree,
+        Request::Audit(request) => request.tree,
+        Request::Advise(request) => request.tree,
+        Request::Replay(request) => request.tree,
+        Request::Upgrade(request) => request.tree,
+        _ => None,
+    }
+}
+
+/// The file of the operations.
+pub(crate) fn operations_of<'a>(request: &Request<'a>) -> Option<&'a str> {
+    match request {
+        Request::Replay(request) => Some(request.ops),
+        _ => None,
+    }
+}
+
+/// The paths, in the order in which they are looked at.
+pub(crate) fn paths_of<'a>(
+    alloc: Global,
+    request: &Request<'a>,
+) -> Result<Vec<&'a str>, AllocError> {
+    match request {
+        Request::May(request) => Vec::from_slice(alloc, &[request.to]),
+        Request::Check(request) => Vec::from_slice(alloc, &[request.subtree]),
+        Request::Audit(request) => Vec::from_slice(alloc, request.subtrees.as_slice()),
+        Request::Advise(request) => Vec::from_slice(alloc, &[request.subtree]),
+        Request::Replay(request) => match request.subtree {
+            Some(subtree) => Vec::from_slice(alloc, &[subtree]),
+            None => Ok(Vec::new(alloc)),
+        },
+        _ => Ok(Vec::new(alloc)),
+    }
+}

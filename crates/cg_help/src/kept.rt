@@ -1,0 +1,29 @@
+//! An input that is kept while it is read.
+ghost use Rattle.std.specs.Prelude.{◌≡◌, ◌⊎◌, ◌++◌, IfOk, OnErr, take};
+ghost use Rattle.std.specs.Io.{ReadsAtMost};
+ghost use Rattle.std.specs.Io.KnownBytes.{ReadConsumes};
+
+use std::io;
+use std::io::Read;
+
+/// A reader whose bytes are kept for a second look, as far as there is memory for them.
+#[derive(Drop)]
+pub struct Kept<R> {
+    pub inner: R,
+    pub bytes: Vec<u8>,
+}
+
+impl<R: Read> Read for Kept<R> {
+    ghost remaining = { λ kept. R.remaining kept.inner };
+
+    fn read(&mut self, buf: &mut [u8]) -> io::Result<usize>
+        ensures bound { ReadsAtMost result buf.new }
+        ensures bytes { ReadConsumes (R.remaining self.old.inner) (R.remaining self.new.inner) result buf.new }
+        ensures kept { IfOk result (λ count. (self.new.bytes.items ≡ self.old.bytes.items ++ take count buf.new)
+            ⊎ (self.new.bytes.items ≡ self.old.bytes.items)) }
+    {
+        let count = self.inner.read(buf)?;
+        let _ = self.bytes.extend_from_slice(&buf[..count]);
+        Ok(count)
+    }
+}

@@ -1,0 +1,12 @@
+//! What stands below the line of a fault: help, from a second look at the words, the files and the input.
+//!
+//! No answer rests on it. Where the second look fails, or finds nothing, there is no help.
+#![tactic(auto)]
+
+mod files;
+mod given;
+pub mod help;
+pub mod kept;
+mod paths;
+pub mod shown;
+mod trees;

@@ -1,0 +1,97 @@
+//! Why a text is no path.
+use crate::shown::quoted;
+use std::alloc::{AllocError, Global};
+
+/// The greatest number of bytes of a path, and of a name.
+const LONGEST_PATH: usize = 4095;
+
+const LONGEST_NAME: usize = 255;
+
+/// Where a host has its cgroups.
+const MOUNT: &str = "/sys/fs/cgroup";
+
+/// Why a text is no path, in words; nothing where it is one.
+pub(crate) fn why_no_path(alloc: Global, text: &str) -> Result<Option<String>, AllocError> {
+    let shown = quoted(alloc, text)?;
+    let why = why_not(text);
+    if why == "" {
+        return why_no_name(alloc, text, shown.as_str());
+    }
+    Ok(Some(format!(in alloc; "'{shown}': {why}")?))
+}
+
+/// What is wrong with a text as a whole; nothing where its names decide.
+fn why_not(text: &str) -> &'static str {
+    if text.is_empty() {
+        "a path is empty; the root is /"
+    } else if !text.starts_with('/') {
+        "a path begins with /, and / is the mount"
+    } else if LONGEST_PATH < text.len() {
+        "a path has at most 4095 bytes"
+    } else if text.ends_with('/') && text != "/" {
+        "a path but the root's never ends with /"
+    } else {
+        ""
+    }
+}
+
+/// Which name of a path that begins with a slash is none, in words.
+fn why_no_name(alloc: Global, text: &str, shown: &str) -> Result<Option<String>, AllocError> {
+    for name in text.split('/').skip(1) {
+        let why = why_not_named(name);
+        if why != "" && text != "/" {
+            let name = quoted(alloc, name)?;
+            return Ok(Some(format!(in alloc; "'{shown}': the name '{name}' {why}")?));
+        }
+    }
+    Ok(None)
+}
+
+/// What is wrong with a name; nothing where it is one.
+fn why_not_named(name: &str) -> &'static str {
+    if name.is_empty() {
+        "is empty: // stands in it"
+    } else if LONGEST_NAME < name.len() {
+        "has more than 255 bytes"
+    } else if !name
+        .as_bytes()
+        .iter()
+        .all(|byte| 33 <= *byte && *byte <= 126)
+    {
+        "has a space, or a byte that is no printable ASCII"
+    } else if is_reserved(name) {
+        "is reserved: a file or a directory's own entry has it"
+    } else {
+        ""
+    }
+}
+
+fn is_reserved(name: &str) -> bool {
+    matches!(
+        name,
+        "." | ".."
+            | "cgroup.controllers"
+            | "cgroup.procs"
+            | "cgroup.subtree_control"
+            | "cgroup.max.descendants"
+            | "cgroup.max.depth"
+            | "cpu.weight"
+            | "memory.min"
+            | "memory.low"
+            | "memory.high"
+            | "memory.max"
+            | "pids.max"
+    )
+}
+
+/// What may be wrong with a path that no row of the tree has.
+pub(crate) fn why_missing(alloc: Global, text: &str) -> Result<String, AllocError> {
+    let shown = quoted(alloc, text)?;
+    if text.starts_with(MOUNT) {
+        format!(in alloc;
+            "'{shown}' begins with the mount: paths are below /sys/fs/cgroup, and don't name it"
+        )
+    } else {
+        format!(in alloc; "'{shown}' has to be the path of a row of the tree")
+    }
+}

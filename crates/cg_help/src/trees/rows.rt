@@ -1,0 +1,230 @@
+//! Rows that don't go together.
+use crate::shown::quoted;
+use crate::trees::table::{label, row, rows, shown_value, text_at, texts_at};
+use cg_text::tree::Place;
+use std::alloc::{AllocError, Global};
+use toml::{Table, Value};
+
+/// Which text of `controllers` or `enabled` is no controller.
+pub(super) fn controller_said(
+    alloc: Global,
+    top: &Table,
+    place: Place,
+) -> Result<Option<String>, AllocError> {
+    let Some(row) = row(top, place) else {
+        return Ok(None);
+    };
+    let key = match place {
+        Place::Top => "controllers",
+        _ => "enabled",
+    };
+    match unknown_controller(texts_at(row, key)) {
+        Some(text) => {
+            let label = label(alloc, top, place)?;
+            let shown = quoted(alloc, text)?;
+            Ok(Some(format!(in alloc;
+                "{label}: '{shown}' of {key} isn't cpu, memory or pids: leave it out"
+            )?))
+        }
+        None => Ok(None),
+    }
+}
+
+fn unknown_controller(texts: &[Value]) -> Option<&str> {
+    for value in texts {
+        if let Some(text) = value.as_str() {
+            if !matches!(text, "cpu" | "memory" | "pids") {
+                return Some(text);
+            }
+        }
+    }
+    None
+}
+
+/// That an earlier row has the same path or PID.
+pub(super) fn double_said(
+    alloc: Global,
+    top: &Table,
+    place: Place,
+    key: &str,
+) -> Result<Option<String>, AllocError> {
+    let Some(row) = row(top, place) else {
+        return Ok(None);
+    };
+    let Some(value) = row.get(key) else {
+        return Ok(None);
+    };
+    let label = label(alloc, top, place)?;
+    let shown = shown_value(alloc, value)?;
+    Ok(Some(format!(in alloc; "{label}: an earlier row has {key} {shown}")?))
+}
+
+/// That the row above isn't there.
+pub(super) fn parent_said(
+    alloc: Global,
+    top: &Table,
+    place: Place,
+) -> Result<Option<String>, AllocError> {
+    let Some(path) = text_at(top, place, "path") else {
+        return Ok(None);
+    };
+    let label = label(alloc, top, place)?;
+    let shown = quoted(alloc, parent_of(path))?;
+    Ok(Some(format!(in alloc; "{label}: no row has the parent's path, '{shown}'")?))
+}
+
+/// The parent of a path that isn't the root.
+fn parent_of(path: &str) -> &str {
+    match path.rsplit_once('/') {
+        Some(("", _)) => "/",
+        Some((parent, _)) => parent,
+        None => "/",
+    }
+}
+
+/// What a row enables that isn't enabled above.
+pub(super) fn enabled_said(
+    alloc: Global,
+    top: &Table,
+    place: Place,
+) -> Result<Option<String>, AllocError> {
+    let Some(row) = row(top, place) else {
+        return Ok(None);
+    };
+    let path = text_at(top, place, "path").unwrap_or("/");
+    let available = available_at(top, path);
+    let label = label(alloc, top, place)?;
+    match first_beside(texts_at(row, "enabled"), available) {
+        Some(name) => {
+            let above = quoted(alloc, parent_of(path))?;
+            let name = quoted(alloc, name)?;
+            if path == "/" {
+                Ok(Some(format!(in alloc; "{label}: {name} isn't in controllers")?))
+            } else {
+                Ok(Some(format!(in alloc; "{label}: the row of '{above}' doesn't enable {name}")?))
+            }
+        }
+        None => Ok(None),
+    }
+}
+
+/// What can be enabled at a path: at the root what the tree has, elsewhere what the parent's row enables.
+fn available_at<'a>(top: &'a Table, path: &str) -> &'a [Value] {
+    if path == "/" {
+        return texts_at(top, "controllers");
+    }
+    match row_of(top, parent_of(path)) {
+        Some(parent) => texts_at(parent, "enabled"),
+        None => &[],
+    }
+}
+
+/// The row that has a path.
+fn row_of<'a>(top: &'a Table, path: &str) -> Option<&'a Table> {
+    for value in rows(top, "cgroup") {
+        if let Some(row) = value.as_table() {
+            if has_path(row, path) {
+                return Some(row);
+            }
+        }
+    }
+    None
+}
+
+fn has_path(row: &Table, path: &str) -> bool {
+    match row.get("path") {
+        Some(value) => value.as_str() == Some(path),
+        None => false,
+    }
+}
+
+/// The first text that isn't among others.
+fn first_beside<'a>(texts: &'a [Value], others: &[Value]) -> Option<&'a str> {
+    for value in texts {
+        if let Some(text) = value.as_str() {
+            if !is_among(text, others) {
+                return Some(text);
+            }
+        }
+    }
+    None
+}
+
+fn is_among(text: &str, others: &[Value]) -> bool {
+    for other in others {
+        if other.as_str() == Some(text) {
+            return true;
+        }
+    }
+    false
+}
+
+/// Which limit file doesn't stand at a row's cgroup.
+pub(super) fn file_said(
+    alloc: Global,
+    top: &Table,
+    place: Place,
+) -> Result<Option<String>, AllocError> {
+    let Some(row) = row(top, place) else {
+        return Ok(None);
+    };
+    let path = text_at(top, place, "path").unwrap_or("/");
+    let Some(Value::Table(files)) = row.get("files") else {
+        return Ok(None);
+    };
+    let label = label(alloc, top, place)?;
+    match first_standing_nowhere(files, path, available_at(top, path)) {
+        Some((name, controller)) => {
+            let above = quoted(alloc, parent_of(path))?;
+            if path == "/" {
+                Ok(Some(format!(in alloc; "{label}: {name} never stands at the root")?))
+            } else {
+                Ok(Some(format!(in alloc;
+                    "{label}: {name} doesn't stand there: the row of '{above}' doesn't enable {controller}"
+                )?))
+            }
+        }
+        None => Ok(None),
+    }
+}
+
+/// The first file of a controller that isn't enabled above, with its controller; at the root the first of any.
+fn first_standing_nowhere<'a>(
+    files: &'a Table,
+    path: &str,
+    enabled: &[Value],
+) -> Option<(&'a str, &'static str)> {
+    for (name, _) in files {
+        if let Some(controller) = controller_of(name.as_str()) {
+            if path == "/" || !is_among(controller, enabled) {
+                return Some((name.as_str(), controller));
+            }
+        }
+    }
+    None
+}
+
+/// The controller that brings a limit file.
+fn controller_of(file: &str) -> Option<&'static str> {
+    match file {
+        "cpu.weight" => Some("cpu"),
+        "memory.min" | "memory.low" | "memory.high" | "memory.max" => Some("memory"),
+        "pids.max" => Some("pids"),
+        _ => None,
+    }
+}
+
+/// What is wrong with the place of a process.
+pub(super) fn place_said(
+    alloc: Global,
+    top: &Table,
+    place: Place,
+    why: &str,
+) -> Result<Option<String>, AllocError> {
+    let Some(at) = text_at(top, place, "at") else {
+        return Ok(None);
+    };
+    let label = label(alloc, top, place)?;
+    let shown = quoted(alloc, at)?;
+    Ok(Some(format!(in alloc; "{label}: {shown} {why}")?))
+}

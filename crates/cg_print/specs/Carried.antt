@@ -1,0 +1,58 @@
+-- What a tree text can carry. Own.
+use Rattle.std.specs.Prelude.{◌≡◌, ℕ, ◌≤◌, true, List, length, Some, is_some}
+use Rattle.std.specs.List.{AllByRecursion}
+use Rattle.std.specs.FinMap as map
+use Rattle.cg_cgroup.specs.Paths.{Names, IsPath}
+use Rattle.cg_cgroup.specs.Numbers.{is_pid}
+use Rattle.cg_cgroup.specs.Cgroups.{file_of, entry_in}
+use Rattle.cg_cgroup.specs.declared.user.Entry.{Entry}
+use Rattle.cg_cgroup.specs.declared.files.EntryName.{EntryName}
+use Rattle.cg_cgroup.specs.declared.files.LimitFile.{LimitFile}
+use Rattle.cg_cgroup.specs.declared.cgroup.LimitEntry.{LimitEntry}
+use Rattle.cg_cgroup.specs.declared.cgroup.Cgroup.{Cgroup}
+use Rattle.cg_cgroup.specs.declared.process.Process.{Process}
+use Rattle.cg_tree.specs.States.{State, process_at, is_used}
+use Rattle.cg_tree.specs.WellFormed.{IsWellFormed}
+use Rattle.cg_text.specs.Document.{most_rows}
+
+-- a uid or a gid
+abbrev pub IsId : ℕ → Type 0
+IsId number = number ≤ 4294967295
+
+abbrev pub HasIds : Entry → Type 0
+HasIds entry = IsId entry.uid × IsId entry.gid
+
+-- a limit file, where it stands
+abbrev pub FileHasIds : Cgroup → LimitFile → Type 0
+FileHasIds row file = (held : LimitEntry) → file_of row file ≡ Some held → HasIds held.entry
+
+-- all owners and groups of a cgroup
+abbrev pub HasIdsOnly : Cgroup → Type 0
+HasIdsOnly row = (name : EntryName) (entry : Entry) → entry_in row name ≡ Some entry → HasIds entry
+
+-- a cgroup at a path, whose owners and groups are numbers of 32 bits
+pub record IsNamedRow (place : Names) (row : Cgroup) : Type 0 where
+  pub path : IsPath place
+  pub ids : HasIdsOnly row
+
+pub record IsNamedProcess (number : ℕ) (process : Process) : Type 0 where
+  pub pid : is_pid number ≡ true
+  pub uid : IsId process.uid
+
+abbrev pub AreNamedRows : List (Names × Cgroup) → Type 0
+AreNamedRows rows = AllByRecursion (λ e. IsNamedRow e.0 e.1) rows
+
+abbrev pub AreNamedProcesses : List (ℕ × Process) → Type 0
+AreNamedProcesses live = AllByRecursion (λ e. IsNamedProcess e.0 e.1) live
+
+-- what holds of the state of each tree that is kept
+pub record IsKept (st : State) : Type 0 where
+  pub formed : IsWellFormed st
+  pub rows : AreNamedRows (map.entries st.rows)
+  pub live : AreNamedProcesses (map.entries st.live)
+
+-- Few enough cgroups and processes; and a PID that isn't live was never used, as a text has no word for it.
+pub record IsCarried (st : State) : Type 0 where
+  pub cgroups : length (map.entries st.rows) ≤ most_rows
+  pub processes : length (map.entries st.live) ≤ most_rows
+  pub used : (pid : ℕ) → is_used st pid ≡ is_some (process_at st pid)

@@ -1,0 +1,88 @@
+-- The document that is written of a tree: format 2, with every key. Own.
+use Rattle.std.specs.Prelude.{ℕ, pos, List, map as map_list, fold, codes, Option}
+use Rattle.std.specs.Option.{option_map}
+use Rattle.std.specs.List.{filter}
+use Rattle.std.specs.FinMap as map
+use Rattle.toml.specs.Data.{Data, string, integer, array, table, Members, no_members}
+use Rattle.toml.specs.View.{items_of}
+use Rattle.cg_cgroup.specs.Paths.{Names, path_text}
+use Rattle.cg_cgroup.specs.Texts as texts
+use Rattle.cg_cgroup.specs.Files.{all_controllers, controller_name, enables, all_files, file_name}
+use Rattle.cg_cgroup.specs.Cgroups.{file_of}
+use Rattle.cg_cgroup.specs.declared.user.Entry.{Entry}
+use Rattle.cg_cgroup.specs.declared.files.Limit.{Limit}
+use Rattle.cg_cgroup.specs.declared.files.Limit.TheVariants.{Max, At}
+use Rattle.cg_cgroup.specs.declared.files.ControllerSet.{ControllerSet}
+use Rattle.cg_cgroup.specs.declared.files.LimitFile.{LimitFile}
+use Rattle.cg_cgroup.specs.declared.cgroup.LimitEntry.{LimitEntry}
+use Rattle.cg_cgroup.specs.declared.cgroup.Cgroup.{Cgroup}
+use Rattle.cg_cgroup.specs.declared.process.Process.{Process}
+use Rattle.cg_tree.specs.States.{State}
+use Rattle.cg_print.specs.Keys.{with_key, with_optional}
+
+abbrev pub number : ℕ → Data
+number n = integer (pos n)
+
+-- the names of the controllers of a set, in their order
+abbrev pub names_in : ControllerSet → List (List ℕ)
+names_in set = map_list controller_name (filter (enables set) all_controllers)
+
+abbrev pub texts_array : List (List ℕ) → Data
+texts_array texts = array (items_of (map_list string texts))
+
+-- ---- one cgroup
+
+unfoldable pub entry_table : Entry → Members
+entry_table entry = with_key (codes "mode") (number entry.mode) (with_key (codes "gid") (number entry.gid) (with_key (codes "uid") (number entry.uid) no_members))
+
+abbrev pub value_written : Limit → Data
+value_written Max = string (codes "max")
+value_written (At n) = number n
+
+unfoldable pub limit_table : LimitEntry → Members
+limit_table held = with_key (codes "value") (value_written held.value) (entry_table held.entry)
+
+-- what is written of a limit file, where it stands
+abbrev pub table_of_file : Option LimitEntry → Option Data
+table_of_file found = option_map (λ held. table (limit_table held)) found
+
+abbrev pub with_file : Cgroup → Members → LimitFile → Members
+with_file row keys file = with_optional (file_name file) (table_of_file (file_of row file)) keys
+
+-- the two control files, and the limit files that stand
+unfoldable pub files_table : Cgroup → Members
+files_table row =
+    fold (with_file row)
+    (with_key texts.cgroup_subtree_control (table (entry_table row.subtree_control)) (with_key texts.cgroup_procs (table (entry_table row.procs)) no_members)) all_files
+
+unfoldable pub cgroup_table : Names → Cgroup → Members
+cgroup_table path row =
+    with_key (codes "files") (table (files_table row))
+    (with_key (codes "dir") (table (entry_table row.dir))
+    (with_key (codes "enabled") (texts_array (names_in row.enabled))
+    (with_key (codes "path") (string (path_text path)) no_members)))
+
+-- ---- one process
+
+unfoldable pub process_table : ℕ → Process → Members
+process_table pid process =
+    with_key (codes "at") (string (path_text process.place))
+    (with_key (codes "uid") (number process.uid)
+    (with_key (codes "pid") (number pid) no_members))
+
+-- ---- the whole
+
+-- the cgroups in the order of their paths
+abbrev pub cgroups_written : State → List Data
+cgroups_written st = map_list (λ e. table (cgroup_table e.0 e.1)) (map.entries st.rows)
+
+-- the live processes in the order of their PIDs
+abbrev pub processes_written : State → List Data
+processes_written st = map_list (λ e. table (process_table e.0 e.1)) (map.entries st.live)
+
+unfoldable pub tree_document : State → Members
+tree_document st =
+    with_key (codes "process") (array (items_of (processes_written st)))
+    (with_key (codes "cgroup") (array (items_of (cgroups_written st)))
+    (with_key (codes "controllers") (texts_array (names_in st.controllers))
+    (with_key (codes "format") (number 2) no_members)))

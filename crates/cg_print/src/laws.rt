@@ -1,0 +1,33 @@
+//! What holds of every tree that is written.
+ghost use Rattle.std.specs.Prelude.{◌≡◌, ◌≢◌, ◌≤◌, ℕ, List, length, Some, Ok, MatchResult};
+ghost use Rattle.cg_tree.specs.States.{State};
+ghost use Rattle.cg_text.specs.TreeTexts.{longest_text, document_of, tree_of};
+ghost use Rattle.cg_text.specs.declared.tree.fault.TreeFault.TheVariants.{NoMemory as MemoryFault, TooLong};
+ghost use Rattle.cg_print.specs.Carried.{IsKept, IsCarried};
+ghost use Rattle.cg_print.specs.Documents.{tree_document};
+
+use crate::tree::tree_text;
+use cg_cgroup::memory::NoMemory;
+use cg_rows::rows::Rows;
+use cg_text::tree::{TreeFault, read_tree};
+use cg_tree::hierarchy::Hierarchy;
+use std::alloc::Global;
+
+/// The tree that `read_tree` reads of what `tree_text` writes of a tree. Where a text can carry the tree it is an equal one,
+/// unless the text is too long or memory is wanted.
+pub fn written_is_read<H: Hierarchy>(alloc: Global, tree: &H) -> Result<Rows, TreeFault>
+    ensures again { IsCarried (H.state tree.now) → MatchResult result
+        (λ rows. rows ≡ H.state tree.now)
+        (λ fault. fault ≢ MemoryFault → fault ≡ TooLong) }
+{
+    match tree_text(alloc, tree) {
+        Ok(text) => read_tree(alloc, text.as_slice()),
+        Err(NoMemory) => Err(TreeFault::NoMemory),
+    }
+}
+
+/// A text of the document of a tree that is kept has that tree's state, where a text can carry it and isn't too long.
+pub fn texts_are_of_their_trees()
+    ensures { (text : List ℕ) (st : State) → document_of text ≡ Some (tree_document st) → IsKept st → IsCarried st
+        → length text ≤ longest_text → tree_of text ≡ Ok st }
+{}

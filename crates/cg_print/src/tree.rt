@@ -1,0 +1,51 @@
+//! The text of a tree.
+ghost use Rattle.std.specs.Prelude.{◌≡◌, ◌≤◌, length, Some, IfOk};
+ghost use Rattle.toml.specs.View.{table_view};
+ghost use Rattle.cg_text.specs.TreeTexts.{longest_text, document_of};
+ghost use Rattle.cg_text.specs.HasState.{HasState};
+ghost use Rattle.cg_print.specs.Carried.{IsKept, IsCarried};
+ghost use Rattle.cg_print.specs.Documents.{tree_document};
+
+use crate::cgroups::cgroups_array;
+use crate::keys::{names_array, put};
+use crate::processes::processes_array;
+use cg_cgroup::memory::NoMemory;
+use cg_tree::hierarchy::Hierarchy;
+use std::alloc::Global;
+use toml::{Table, Value};
+
+/// The document of a tree.
+#[tactic(auto, unfolding(crate::specs::Documents::tree_document))]
+fn document_of<H: Hierarchy>(alloc: Global, tree: &H) -> Result<Table, NoMemory>
+    ensures written { IfOk result (λ keys. table_view keys ≡ tree_document (H.state tree.now)) }
+    ensures kept { IfOk result (λ _. IsKept (H.state tree.now)) }
+{
+    let mut keys = Table::new(alloc);
+    put(alloc, &mut keys, "format", Value::Integer(2))?;
+    put(
+        alloc,
+        &mut keys,
+        "controllers",
+        names_array(alloc, tree.controllers())?,
+    )?;
+    put(alloc, &mut keys, "cgroup", cgroups_array(alloc, tree)?)?;
+    put(alloc, &mut keys, "process", processes_array(alloc, tree)?)?;
+    Ok(keys)
+}
+
+/// The text of a tree, in format 2 and with every key written: the cgroups in the order of their paths, the live processes
+/// by rising PIDs. It is TOML as `toml` spells it. Fails where memory is wanted.
+///
+/// The text has the tree's state, so that it is read as an equal tree, where it is at most 16777216 bytes long, the tree has
+/// at most 4096 cgroups and 4096 processes, and no PID was used but those of the live processes.
+pub fn tree_text<H: Hierarchy>(alloc: Global, tree: &H) -> Result<Vec<u8>, NoMemory>
+    ensures document { IfOk result (λ text. document_of text.items ≡ Some (tree_document (H.state tree.now))) }
+    ensures state { IfOk result (λ text. IsCarried (H.state tree.now) → length text.items ≤ longest_text
+        → HasState text.items (H.state tree.now)) }
+{
+    let document = document_of(alloc, tree)?;
+    match toml::table_to_string(alloc, &document) {
+        Ok(text) => Ok(text.into_bytes()),
+        Err(_) => Err(NoMemory),
+    }
+}

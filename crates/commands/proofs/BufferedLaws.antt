@@ -1,0 +1,93 @@
+-- What was written stays written where what a buffer holds is passed on.
+use Rattle.std.proofs.Common.{◌≡◌, ◌∙◌, ℕ, Bool, true, false, List, map, inl, inr}
+use Rattle.std.specs.Prelude.{Option, Some, None, Result, Ok, Err, MatchBool}
+use Rattle.std.specs.Io.KnownBytes.{Appends, Keeps}
+use Rattle.arguments.specs.declared.request.Audit.{Audit}
+use Rattle.arguments.specs.declared.request.Request.{Request}
+use Rattle.arguments.specs.declared.request.Request.TheVariants as request
+use Rattle.arguments.specs.Given.{ids_of}
+use Rattle.cg_check.specs.Listed.{Listed}
+use Rattle.cg_cli.specs.AllPairs.{all_report, ReportsPairs}
+use Rattle.cg_cli.specs.Audits.{audit_report}
+use Rattle.cg_cli.specs.Upgrades.{Upgrades}
+use Rattle.cg_cli.specs.Written.{AppendsPart}
+use Rattle.cg_cli.specs.Replays.{closed}
+use Rattle.cg_cli.specs.Replaying.{Reporting, HasFront, Replays, ReplaysFrom}
+use Rattle.cg_cli.specs.Reports.{Said, Report, Reports}
+use Rattle.cg_cli.specs.Courses.{Course}
+use Rattle.cg_cli.specs.declared.fault.CliFault.{CliFault}
+use Rattle.cg_cli.specs.declared.fault.CliFault.TheVariants.{Read, Write, NoMemory}
+use Rattle.commands.specs.Requests.{IsUnread, AuditSays, OnTree, ReplaysOnTree, CarriesOut}
+
+Appends-Keeps : (old mid new : Option (List ℕ)) (bs : List ℕ) → Appends old mid bs → Keeps mid new → Appends old new bs
+Appends-Keeps None mid new bs a k = tt
+Appends-Keeps (Some xs) None new bs a k = absurd a
+Appends-Keeps (Some xs) (Some ys) None bs a k = absurd k
+Appends-Keeps (Some xs) (Some ys) (Some zs) bs a k = k ∙ a
+
+Keeps-Keeps : (old mid new : Option (List ℕ)) → Keeps old mid → Keeps mid new → Keeps old new
+Keeps-Keeps None mid new a k = tt
+Keeps-Keeps (Some xs) None new a k = absurd a
+Keeps-Keeps (Some xs) (Some ys) None a k = absurd k
+Keeps-Keeps (Some xs) (Some ys) (Some zs) a k = k ∙ a
+
+AppendsPart-Keeps : (old mid new : Option (List ℕ)) (text : List ℕ) → AppendsPart old mid text → Keeps mid new → AppendsPart old new text
+AppendsPart-Keeps old mid new text a k = (a.0, a.1, Appends-Keeps old mid new _ a.2 k)
+
+Reports-Keeps : (report : Report) (old mid new : Option (List ℕ)) (result : Result ℕ CliFault) → Reports report old mid result → Keeps mid new → Reports report old new result
+Reports-Keeps report old mid new (Ok status) h k = (h.0, Appends-Keeps old mid new report.text h.1 k)
+Reports-Keeps report old mid new (Err Write) h k = AppendsPart-Keeps old mid new report.text h k
+Reports-Keeps report old mid new (Err NoMemory) h k = (h.0, Keeps-Keeps old mid new h.1 k)
+Reports-Keeps report old mid new (Err fault) h k = (h.0, Keeps-Keeps old mid new h.1 k)
+
+IsUnread-Keeps : (old mid new : Option (List ℕ)) (result : Result ℕ CliFault) → IsUnread old mid result → Keeps mid new → IsUnread old new result
+IsUnread-Keeps old mid new result h k = (h.0, Keeps-Keeps old mid new h.1 k)
+
+OnTree-Keeps : {A : Type 0} (file : Option A) (given : Option (List ℕ)) (before after : List ℕ → Type 0) (old mid new : Option (List ℕ)) (result : Result ℕ CliFault) → ((tree : List ℕ) → before tree → after tree) → OnTree file given before old mid result → Keeps mid new → OnTree file given after old new result
+OnTree-Keeps file given before after old mid new result passed (inl h) k = inl (h.0, h.1, passed h.0 h.2)
+OnTree-Keeps file given before after old mid new result passed (inr h) k = inr (IsUnread-Keeps old mid new result h k)
+
+ReportsPairs-Keeps : (pairs : Result (List Listed) CliFault) (old mid new : Option (List ℕ)) (result : Result ℕ CliFault) → ReportsPairs pairs old mid result → Keeps mid new → ReportsPairs pairs old new result
+ReportsPairs-Keeps (Ok pairs) old mid new (Ok status) h k = (h.0, Appends-Keeps old mid new _ h.1 k)
+ReportsPairs-Keeps (Ok pairs) old mid new (Err Write) h k = AppendsPart-Keeps old mid new _ h k
+ReportsPairs-Keeps (Ok pairs) old mid new (Err NoMemory) h k = (h.0, h.1, h.2, Appends-Keeps old mid new _ h.3 k)
+ReportsPairs-Keeps (Ok pairs) old mid new (Err fault) h k = h
+ReportsPairs-Keeps (Err fault) old mid new (Ok status) h k = h
+ReportsPairs-Keeps (Err fault) old mid new (Err NoMemory) h k = (h.0, Keeps-Keeps old mid new h.1 k)
+ReportsPairs-Keeps (Err fault) old mid new (Err other) h k = (h.0, Keeps-Keeps old mid new h.1 k)
+
+AuditSays-Keeps : (audit : Audit) (old mid new : Option (List ℕ)) (result : Result ℕ CliFault) (tree : List ℕ) → AuditSays audit old mid result tree → Keeps mid new → AuditSays audit old new result tree
+AuditSays-Keeps audit old mid new result tree h k = by_flag audit.all h
+  where
+    users = map ids_of audit.users.items
+    subtrees = map (λ subtree. subtree.now) audit.subtrees.items
+
+    by_flag : (all : Bool) → MatchBool all (ReportsPairs (all_report tree users subtrees) old mid result) (Reports (audit_report tree users subtrees) old mid result) → MatchBool all (ReportsPairs (all_report tree users subtrees) old new result) (Reports (audit_report tree users subtrees) old new result)
+    by_flag true said = ReportsPairs-Keeps _ old mid new result said k
+    by_flag false said = Reports-Keeps _ old mid new result said k
+
+Upgrades-Keeps : (tree : List ℕ) (old mid new : Option (List ℕ)) (result : Result ℕ CliFault) → Upgrades tree old mid result → Keeps mid new → Upgrades tree old new result
+Upgrades-Keeps tree old mid new result h k = record { text = h.text; document = h.document; reports = Reports-Keeps _ old mid new result h.reports k }
+
+Replays-Keeps : (lines : Reporting) (ops : List ℕ) (old mid new : Option (List ℕ)) (result : Result ℕ CliFault) → Replays closed lines ops old mid result → Keeps mid new → Replays closed lines ops old new result
+Replays-Keeps lines ops old mid new (Err Write) h k = AppendsPart-Keeps old mid new _ h k
+Replays-Keeps lines ops old mid new (Err NoMemory) h k = (h.0, h.1, h.2, Appends-Keeps old mid new _ h.3 k)
+Replays-Keeps lines ops old mid new (Err Read) h k = absurd h
+Replays-Keeps lines ops old mid new ended h k = (h.0, Appends-Keeps old mid new _ h.1 k)
+
+ReplaysFrom-Keeps : (lines : Reporting) (before left old mid new : Option (List ℕ)) (result : Result ℕ CliFault) → ReplaysFrom closed lines before left old mid result → Keeps mid new → ReplaysFrom closed lines before left old new result
+ReplaysFrom-Keeps lines before left old mid new (Err Read) h k = (h.0, h.1, Appends-Keeps old mid new _ h.2 k, h.3)
+ReplaysFrom-Keeps lines before left old mid new ended h k = (h.0, h.1, Replays-Keeps lines h.0 old mid new ended h.2 k)
+
+ReplaysOnTree-Keeps : {A : Type 0} (file : Option A) (given : Option (List ℕ)) (said : List ℕ → Reporting) (old mid new : Option (List ℕ)) (result : Result ℕ CliFault) → ReplaysOnTree file given said old mid result → Keeps mid new → ReplaysOnTree file given said old new result
+ReplaysOnTree-Keeps file given said old mid new result (inl h) k = inl (h.0, h.1, h.2, h.3, ReplaysFrom-Keeps (said h.0) h.2 h.3 old mid new result h.4 k)
+ReplaysOnTree-Keeps file given said old mid new result (inr h) k = inr (IsUnread-Keeps old mid new result h k)
+
+pub CarriesOut-Keeps : (asked : Request) (given old mid new : Option (List ℕ)) (result : Result ℕ CliFault) → CarriesOut asked given old mid result → Keeps mid new → CarriesOut asked given old new result
+CarriesOut-Keeps (request.Help text) given old mid new result h k = Reports-Keeps _ old mid new result h k
+CarriesOut-Keeps (request.May may) given old mid new result h k = OnTree-Keeps may.tree given _ _ old mid new result (λ tree said. Reports-Keeps _ old mid new result said k) h k
+CarriesOut-Keeps (request.Check check) given old mid new result h k = OnTree-Keeps check.tree given _ _ old mid new result (λ tree said. Reports-Keeps _ old mid new result said k) h k
+CarriesOut-Keeps (request.Audit audit) given old mid new result h k = OnTree-Keeps audit.tree given _ _ old mid new result (λ tree said. AuditSays-Keeps audit old mid new result tree said k) h k
+CarriesOut-Keeps (request.Advise advise) given old mid new result h k = OnTree-Keeps advise.tree given _ _ old mid new result (λ tree said. Reports-Keeps _ old mid new result said k) h k
+CarriesOut-Keeps (request.Replay replay) given old mid new result h k = ReplaysOnTree-Keeps replay.tree given _ old mid new result h k
+CarriesOut-Keeps (request.Upgrade upgrade) given old mid new result h k = OnTree-Keeps upgrade.tree given _ _ old mid new result (λ tree said. Upgrades-Keeps tree old mid new result said k) h k

@@ -1,0 +1,2 @@
+mod BufferedLaws
+mod RequestLaws

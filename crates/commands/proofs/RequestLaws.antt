@@ -1,0 +1,15 @@
+-- A command that ends before it has written anything.
+use Rattle.std.proofs.Common.{◌≡◌, ◌∙◌, ℕ, List, refl, ap, inl, inr}
+use Rattle.std.specs.Prelude.{◌⊎◌, Option, Some, None, Result, Err}
+use Rattle.std.specs.Io.KnownBytes.{Keeps}
+use Rattle.cg_cli.specs.declared.fault.CliFault.{CliFault}
+use Rattle.cg_cli.specs.declared.fault.CliFault.TheVariants.{Read, NoMemory}
+use Rattle.commands.specs.Requests.{IsUnread}
+
+Keeps-refl : (known : Option (List ℕ)) → Keeps known known
+Keeps-refl None = tt
+Keeps-refl (Some xs) = refl
+
+pub unread : (known : Option (List ℕ)) (fault : CliFault) (result : Result ℕ CliFault) → result ≡ Err fault → (fault ≡ Read) ⊎ (fault ≡ NoMemory) → IsUnread known known result
+unread known fault result is (inl e) = (inl (is ∙ ap (λ (it : CliFault). Err it) e), Keeps-refl known)
+unread known fault result is (inr e) = (inr (is ∙ ap (λ (it : CliFault). Err it) e), Keeps-refl known)

@@ -1,0 +1,74 @@
+//! Why the program ends without a command's status.
+ghost use Rattle.std.specs.Prelude.{◌≡◌};
+ghost use Rattle.commands.specs.Faults.{lifted};
+ghost use Rattle.commands.specs.declared.fault.Fault.TheVariants.{Cli};
+ghost use Rattle.cg_cli.specs.declared.fault.CliFault.TheVariants.{NoMemory as MemoryFault};
+
+use arguments::fault::ArgumentsFault;
+use cg_cli::fault::{CliFault, fault_text};
+use cg_cli::write::write_whole;
+use std::alloc::{AllocError, Global};
+use std::io;
+use std::io::Write;
+
+/// Why the program ends without a command's status.
+#[derive(Clone, Copy, Debug, PartialEq, Eq)]
+pub enum Fault {
+    /// The command line is none of the program's.
+    Usage,
+    /// A command, or what stands around it, failed.
+    Cli(CliFault),
+}
+
+impl Fault {
+    /// Why the words of the command line can't be had: words that are no text are none of the program's.
+    pub fn of_words(error: io::Error) -> Fault {
+        if error.kind() == io::ErrorKind::OutOfMemory {
+            Fault::Cli(CliFault::NoMemory)
+        } else {
+            Fault::Usage
+        }
+    }
+
+    /// Writes the fault's line. Where even that fails there is nobody left to tell.
+    pub fn print<W: Write>(self, alloc: Global, out: &mut W) {
+        let fault = match self {
+            Fault::Usage => {
+                let _ = write_whole(out, b"fault: usage\n");
+                return;
+            }
+            Fault::Cli(fault) => fault,
+        };
+        let _ = match fault_text(alloc, &fault) {
+            Ok(line) => write_whole(out, line.as_slice()),
+            Err(_) => write_whole(out, b"fault: memory\n"),
+        };
+    }
+}
+
+impl From<CliFault> for Fault {
+    ghost from_gives = { λ inner fault. fault ≡ Cli inner };
+
+    fn from(fault: CliFault) -> Fault {
+        Fault::Cli(fault)
+    }
+}
+
+impl From<AllocError> for Fault {
+    ghost from_gives = { λ _ fault. fault ≡ Cli MemoryFault };
+
+    fn from(_failed: AllocError) -> Fault {
+        Fault::Cli(CliFault::NoMemory)
+    }
+}
+
+impl From<ArgumentsFault> for Fault {
+    ghost from_gives = { λ inner fault. fault ≡ lifted inner };
+
+    fn from(inner: ArgumentsFault) -> Fault {
+        match inner {
+            ArgumentsFault::Usage => Fault::Usage,
+            ArgumentsFault::NoMemory => Fault::Cli(CliFault::NoMemory),
+        }
+    }
+}

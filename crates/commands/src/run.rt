@@ -1,0 +1,304 @@
+//! A request is carried out: its tree, its files, and the call that answers.
+ghost use Rattle.std.specs.Prelude.{◌≡◌, ◌⊎◌, [], map, Ok, Err, IfOk, IfErr, MatchBool};
+ghost use Rattle.std.specs.Io.Buffered.{writer_buffer, writer_contents};
+ghost use Rattle.std.specs.Io.KnownBytes.{Keeps};
+ghost use Rattle.cg_cli.specs.AllPairs.{all_report, ReportsPairs};
+ghost use Rattle.cg_cli.specs.Audits.{audit_report};
+ghost use Rattle.cg_cli.specs.Replays.{closed};
+ghost use Rattle.cg_cli.specs.Replaying.{ReplaysFrom};
+ghost use Rattle.cg_cli.specs.Reports.{Reports};
+ghost use Rattle.cg_cli.specs.Upgrades.{Upgrades};
+ghost use Rattle.arguments.specs.Given.{ids_of};
+ghost use Rattle.commands.specs.Requests.{IsTree, may_said, check_said, advise_said, AuditSays, OnTree, replay_said, ReportsOnTree, IsFlushed, ReplaysOnTree, CarriesOut, CarriesOutBuffered};
+
+use crate::again::Again;
+use crate::fault::Fault;
+use arguments::named_user::NamedUser;
+use arguments::request::{Audit, Check, May, Replay, Request, Upgrade};
+use cg_cli::advise::advise_bytes;
+use cg_cli::arguments::UserIds;
+use cg_cli::audit::audit_bytes;
+use cg_cli::audit_all::audit_all_bytes;
+use cg_cli::check::check_bytes;
+use cg_cli::fault::CliFault;
+use cg_cli::input::read_input;
+use cg_cli::may::may_bytes;
+use cg_cli::replay::replay_from;
+use cg_cli::upgrade::upgrade_bytes;
+use cg_cli::write::write_whole;
+use std::alloc::Global;
+use std::env;
+use std::fs::File;
+use std::io::{BufRead, BufReader, BufWriter, Read, Write};
+use std::rt::{Env, Files};
+
+/// Carries out what the program's arguments ask for, and gives its status.
+///
+/// The tree is read from `input` where no file is named, and the report goes to `out`, through a buffer.
+pub fn run<R: AllocGlobal + Env + Files, I: Read + Drop, W: Write + Drop>(
+    rt: &R,
+    input: I,
+    out: W,
+) -> Result<u8, Fault> {
+    let Ok(mut report) = BufWriter::new(rt.alloc(), Again { inner: out }) else {
+        return Err(Fault::Cli(CliFault::NoMemory));
+    };
+    let ended = answered(rt, input, &mut report);
+    // what a write left that failed isn't written again
+    let _ = report.into_parts();
+    ended
+}
+
+fn answered<R: AllocGlobal + Env + Files, I: Read + Drop, W: Write + Drop>(
+    rt: &R,
+    input: I,
+    report: &mut BufWriter<W>,
+) -> Result<u8, Fault> {
+    let alloc = rt.alloc();
+    let words: Vec<String> = env::args(rt).map_err(Fault::of_words)?.collect(alloc)?;
+    let request = Request::from_words(alloc, words.as_slice())?;
+    Ok(reported(rt, &request, input, report)?)
+}
+
+/// Carries a request out whose report is held in a buffer.
+fn reported<R: AllocGlobal + Files, I: Read + Drop, W: Write + Drop>(
+    rt: &R,
+    request: &Request<'_>,
+    input: I,
+    report: &mut BufWriter<W>,
+) -> Result<u8, CliFault>
+    ensures carried { CarriesOutBuffered request.now (I.remaining input)
+        (writer_contents W.contents report.old) (writer_contents W.contents report.new) result }
+    ensures whole { IfOk result (λ status. writer_buffer report.new ≡ []) }
+{
+    let ended = carried_out(rt, request, input, report);
+    flushed(ended, report)
+}
+
+fn carried_out<R: AllocGlobal + Files, I: Read + Drop, W: Write>(
+    rt: &R,
+    request: &Request<'_>,
+    input: I,
+    out: &mut W,
+) -> Result<u8, CliFault>
+    ensures { CarriesOut request.now (I.remaining input) (W.contents out.old) (W.contents out.new) result }
+{
+    match request {
+        Request::Help(text) => shown(text.as_str(), out),
+        Request::May(request) => may(rt, request, input, out),
+        Request::Check(request) => check(rt, request, input, out),
+        Request::Audit(request) => audit(rt, request, input, out),
+        Request::Advise(request) => advise(rt, request, input, out),
+        Request::Replay(request) => replay(rt, request, input, out),
+        Request::Upgrade(request) => upgrade(rt, request, input, out),
+    }
+}
+
+fn shown<W: Write>(text: &str, out: &mut W) -> Result<u8, CliFault>
+    ensures { Reports (record { text = text.now; ending = Ok 0 }) (W.contents out.old) (W.contents out.new) result }
+{
+    write_whole(out, text.as_bytes())?;
+    Ok(0)
+}
+
+fn may<R: AllocGlobal + Files, I: Read + Drop, W: Write>(
+    rt: &R,
+    request: &May<'_>,
+    input: I,
+    out: &mut W,
+) -> Result<u8, CliFault>
+    ensures { ReportsOnTree request.now.tree (I.remaining input) (may_said request.now)
+        (W.contents out.old) (W.contents out.new) result }
+{
+    let tree = tree_text(rt, request.tree, input)?;
+    may_bytes(
+        rt.alloc(),
+        tree.as_slice(),
+        ids(&request.user),
+        request.pid,
+        request.to,
+        out,
+    )
+}
+
+fn check<R: AllocGlobal + Files, I: Read + Drop, W: Write>(
+    rt: &R,
+    request: &Check<'_>,
+    input: I,
+    out: &mut W,
+) -> Result<u8, CliFault>
+    ensures { ReportsOnTree request.now.tree (I.remaining input) (check_said request.now)
+        (W.contents out.old) (W.contents out.new) result }
+{
+    let tree = tree_text(rt, request.tree, input)?;
+    let user = ids(&request.user);
+    check_bytes(rt.alloc(), tree.as_slice(), user, request.subtree, out)
+}
+
+fn audit<R: AllocGlobal + Files, I: Read + Drop, W: Write>(
+    rt: &R,
+    request: &Audit<'_>,
+    input: I,
+    out: &mut W,
+) -> Result<u8, CliFault>
+    ensures { OnTree request.now.tree (I.remaining input)
+        (AuditSays request.now (W.contents out.old) (W.contents out.new) result)
+        (W.contents out.old) (W.contents out.new) result }
+{
+    let tree = tree_text(rt, request.tree, input)?;
+    let users = all_ids(rt.alloc(), request.users.as_slice())?;
+    audited(rt.alloc(), tree.as_slice(), users.as_slice(), request, out)
+}
+
+/// Audits a tree, of which the first pair that isn't contained is asked for, or each.
+fn audited<W: Write>(
+    alloc: Global,
+    tree: &[u8],
+    users: &[UserIds<'_>],
+    request: &Audit<'_>,
+    out: &mut W,
+) -> Result<u8, CliFault>
+    ensures { MatchBool request.now.all
+        (ReportsPairs (all_report tree.now (map (λ user. (user.uid, user.gids.now)) users.now) (map (λ subtree. subtree.now) request.now.subtrees.items))
+        (W.contents out.old) (W.contents out.new) result)
+        (Reports (audit_report tree.now (map (λ user. (user.uid, user.gids.now)) users.now) (map (λ subtree. subtree.now) request.now.subtrees.items))
+        (W.contents out.old) (W.contents out.new) result) }
+{
+    let subtrees = request.subtrees.as_slice();
+    if request.all {
+        audit_all_bytes(alloc, tree, users, subtrees, out)
+    } else {
+        audit_bytes(alloc, tree, users, subtrees, out)
+    }
+}
+
+fn advise<R: AllocGlobal + Files, I: Read + Drop, W: Write>(
+    rt: &R,
+    request: &Check<'_>,
+    input: I,
+    out: &mut W,
+) -> Result<u8, CliFault>
+    ensures { ReportsOnTree request.now.tree (I.remaining input) (advise_said request.now)
+        (W.contents out.old) (W.contents out.new) result }
+{
+    let tree = tree_text(rt, request.tree, input)?;
+    let asked = ids(&request.user);
+    advise_bytes(rt.alloc(), tree.as_slice(), asked, request.subtree, out)
+}
+
+fn upgrade<R: AllocGlobal + Files, I: Read + Drop, W: Write>(
+    rt: &R,
+    request: &Upgrade<'_>,
+    input: I,
+    out: &mut W,
+) -> Result<u8, CliFault>
+    ensures { OnTree request.now.tree (I.remaining input)
+        (λ tree. Upgrades tree (W.contents out.old) (W.contents out.new) result)
+        (W.contents out.old) (W.contents out.new) result }
+{
+    let tree = tree_text(rt, request.tree, input)?;
+    upgrade_bytes(rt.alloc(), tree.as_slice(), out)
+}
+
+fn replay<R: AllocGlobal + Files, I: Read + Drop, W: Write>(
+    rt: &R,
+    request: &Replay<'_>,
+    input: I,
+    out: &mut W,
+) -> Result<u8, CliFault>
+    ensures { ReplaysOnTree request.now.tree (I.remaining input) (replay_said request.now)
+        (W.contents out.old) (W.contents out.new) result }
+{
+    let alloc = rt.alloc();
+    let tree = tree_text(rt, request.tree, input)?;
+    let inner = opened(rt, request.ops)?;
+    let Ok(mut ops) = BufReader::new(alloc, Again { inner }) else {
+        return Err(CliFault::NoMemory);
+    };
+    replayed(alloc, tree.as_slice(), request, &mut ops, out)
+}
+
+/// Replays what a reader gives.
+fn replayed<R: BufRead, W: Write>(
+    alloc: Global,
+    tree: &[u8],
+    request: &Replay<'_>,
+    ops: &mut R,
+    out: &mut W,
+) -> Result<u8, CliFault>
+    ensures { ReplaysFrom closed
+        (replay_said request.now tree.now)
+        (R.remaining ops.old) (R.remaining ops.new) (W.contents out.old) (W.contents out.new) result }
+{
+    replay_from(alloc, tree, ids(&request.user), request.subtree, ops, out)
+}
+
+/// How a call ended whose report is held in a buffer: its own fault comes before the flush's. Where a write has failed
+/// already, nothing more is written.
+fn flushed<W: Write + Drop>(
+    ended: Result<u8, CliFault>,
+    report: &mut BufWriter<W>,
+) -> Result<u8, CliFault>
+    ensures ended { IsFlushed ended result }
+    ensures whole { IfOk result (λ status. writer_buffer report.new ≡ []) }
+    ensures failed { ended ≡ Err CliFault.Write → report.new ≡ report.old }
+    ensures kept { Keeps (writer_contents W.contents report.old) (writer_contents W.contents report.new) }
+{
+    match ended {
+        Err(CliFault::Write) => Err(CliFault::Write),
+        Err(fault) => {
+            let _ = report.flush();
+            Err(fault)
+        }
+        Ok(status) => match report.flush() {
+            Ok(()) => Ok(status),
+            Err(_) => Err(CliFault::Write),
+        },
+    }
+}
+
+/// The user as a call takes him.
+fn ids(user: &NamedUser) -> UserIds<'_>
+    ensures uid { result.uid ≡ user.now.uid }
+    ensures gids { result.gids.now ≡ user.now.gids.items }
+{
+    UserIds {
+        uid: user.uid,
+        gids: user.gids.as_slice(),
+    }
+}
+
+fn all_ids<'a>(alloc: Global, users: &'a [NamedUser]) -> Result<Vec<UserIds<'a>>, CliFault>
+    ensures ids { IfOk result (λ all. map (λ user. (user.uid, user.gids.now)) all.items ≡ map ids_of users.now) }
+    ensures fault { IfErr result (λ fault. fault ≡ CliFault.NoMemory) }
+{
+    let mut all = Vec::new(alloc);
+    for user in users {
+        all.push(ids(user))?;
+    }
+    Ok(all)
+}
+
+/// The text of the tree: of the file where one is named, and else of the input.
+fn tree_text<R: AllocGlobal + Files, I: Read + Drop>(
+    rt: &R,
+    file: Option<&str>,
+    input: I,
+) -> Result<Vec<u8>, CliFault>
+    ensures text { IfOk result (λ text. IsTree file.entry (I.remaining input) text.items) }
+    ensures fault { IfErr result (λ fault. (fault ≡ CliFault.Read) ⊎ (fault ≡ CliFault.NoMemory)) }
+{
+    match file {
+        None => read_input(rt.alloc(), input),
+        Some(name) => read_input(rt.alloc(), opened(rt, name)?),
+    }
+}
+
+fn opened<R: Files>(rt: &R, name: &str) -> Result<R::File, CliFault>
+    ensures { IfErr result (λ fault. (fault ≡ CliFault.Read) ⊎ (fault ≡ CliFault.NoMemory)) }
+{
+    match File::open(rt, name) {
+        Ok(file) => Ok(file),
+        Err(error) => Err(CliFault::of_read(&error)),
+    }
+}

@@ -1,0 +1,68 @@
+//! Whether a tree reads as another.
+use cg_cgroup::memory::NoMemory;
+use cg_cgroup::path::Path;
+use cg_cgroup::process::Pid;
+use cg_tree::hierarchy::Hierarchy;
+use std::alloc::Global;
+
+/// Beyond the PIDs of every tree and row.
+const PIDS: u32 = 100;
+
+/// Whether two trees read alike: their paths, the cgroups there, their live PIDs, and of the first hundred PIDs and the live
+/// ones the places, owners and whether they were used.
+pub fn reads_alike<H: Hierarchy>(alloc: Global, tree: &H, other: &H) -> Result<bool, NoMemory> {
+    let paths = other.paths(alloc)?;
+    let pids = other.pids(alloc)?;
+    Ok(
+        tree.paths(alloc)? == paths
+            && tree.pids(alloc)? == pids
+            && tree.controllers() == other.controllers()
+            && have_same_rows(tree, other, paths.as_slice())
+            && have_same_processes(tree, other, pids.as_slice())
+            && have_same_pids(tree, other),
+    )
+}
+
+fn have_same_rows<H: Hierarchy>(tree: &H, other: &H, paths: &[Path]) -> bool {
+    for path in paths {
+        if tree.get(path, path.depth()).copied() != other.get(path, path.depth()).copied() {
+            return false;
+        }
+    }
+    true
+}
+
+fn have_same_processes<H: Hierarchy>(tree: &H, other: &H, pids: &[Pid]) -> bool {
+    for pid in pids {
+        if !is_same_process(tree, other, *pid) {
+            return false;
+        }
+    }
+    true
+}
+
+fn have_same_pids<H: Hierarchy>(tree: &H, other: &H) -> bool {
+    for number in 1..PIDS {
+        let Some(pid) = Pid::new(number) else {
+            return false;
+        };
+        if !is_same_process(tree, other, pid) {
+            return false;
+        }
+    }
+    true
+}
+
+fn is_same_process<H: Hierarchy>(tree: &H, other: &H, pid: Pid) -> bool {
+    tree.owner(pid) == other.owner(pid)
+        && tree.is_used(pid) == other.is_used(pid)
+        && is_same_place(tree.place(pid), other.place(pid))
+}
+
+fn is_same_place(one: Option<&Path>, other: Option<&Path>) -> bool {
+    match (one, other) {
+        (None, None) => true,
+        (Some(one), Some(other)) => one == other,
+        _ => false,
+    }
+}

@@ -1,0 +1,110 @@
+"""The helpers on a real mount, where this machine has one, in a part of it that is made for this and removed again."""
+import json
+import os
+import subprocess
+import sys
+import unittest
+
+from check_test import PROGRAM, REAL_PROGRAM
+from made_up import TOP
+from zirofen_host.mount import mounts_of_host, refuse_what_is_no_host
+from zirofen_host.fault import Fault
+
+LOOP = """
+import os, sys
+places = [os.path.join(sys.argv[1], name) for name in ("a", "a/b", "a/b/c", "d")]
+while True:
+    for place in places:
+        os.mkdir(place)
+    for place in reversed(places):
+        os.rmdir(place)
+"""
+
+
+def real_mount():
+    """A mount of the whole hierarchy in which cgroups can be made, or None."""
+    for mount in mounts_of_host().second:
+        try:
+            refuse_what_is_no_host(mount)
+            place = os.path.join(mount, f"zirofen-can-{os.getpid()}")
+            os.mkdir(place)
+            os.rmdir(place)
+            return mount
+        except (Fault, OSError):
+            continue
+    return None
+
+
+MOUNT = real_mount() if os.geteuid() == 0 else None
+
+
+@unittest.skipUnless(MOUNT, "there is no mount of cgroups here that can be written to")
+class RealMountTest(unittest.TestCase):
+    def setUp(self):
+        self.top = f"/zirofen-test-{os.getpid()}"
+        self.make("")
+        for name, uid in (("alice", 1000), ("bob", 1001)):
+            self.make(f"/{name}")
+            for file in ("", "/cgroup.procs", "/cgroup.subtree_control"):
+                os.chown(f"{MOUNT}{self.top}/{name}{file}", uid, uid)
+        self.make("/beside")
+
+    def make(self, path):
+        place = f"{MOUNT}{self.top}{path}"
+        os.mkdir(place)
+        self.addCleanup(os.rmdir, place)
+
+    def report(self, *words):
+        ended = subprocess.run([sys.executable, f"{TOP}/host/check", "--mount", MOUNT, "--only", self.top, "--json", "--zirofen",
+                                REAL_PROGRAM or PROGRAM, *words], capture_output=True, text=True,
+                               env={**os.environ, "MADE_UP": "all,advise", "CALLS": os.devnull})
+        self.assertEqual(ended.stderr, "")
+        found = json.loads(ended.stdout)
+        answers = {each["path"]: answer["lines"][0] for each in found["subtrees"] for answer in each["answers"]}
+        return found, ended.returncode, {path[len(self.top):]: line for path, line in answers.items()}
+
+    def loop(self, path):
+        running = subprocess.Popen([sys.executable, "-c", LOOP, f"{MOUNT}{self.top}{path}"])
+        self.addCleanup(self.end, running, path)
+
+    def end(self, running, path):
+        running.kill()
+        running.wait()
+        for name in ("a/b/c", "a/b", "a", "d"):
+            place = f"{MOUNT}{self.top}{path}/{name}"
+            if os.path.isdir(place):
+                os.rmdir(place)
+
+    def test_a_quiet_one(self):
+        found, status, answers = self.report()
+        self.assertEqual((status, answers, found["faults"]), (0, {"/alice": "contained", "/bob": "contained"}, []))
+
+    def test_what_comes_and_goes_beside(self):
+        self.loop("/beside")
+        for _ in range(3):
+            found, status, answers = self.report()
+            self.assertEqual((status, answers, found["faults"]), (0, {"/alice": "contained", "/bob": "contained"}, []))
+
+    def test_what_comes_and_goes_in_one_of_two(self):
+        self.loop("/alice")
+        for _ in range(3):
+            found, status, answers = self.report()
+            self.assertEqual(answers["/bob"], "contained")
+            spoiled = [path for each in found["faults"] for path in each["subtrees"]]
+            self.assertEqual((status, spoiled), (3, [f"{self.top}/alice"]) if "/alice" not in answers else (0, []))
+
+    def test_an_escape_and_a_text_of_it(self):
+        os.chown(f"{MOUNT}{self.top}/bob/cgroup.max.depth", 1001, 1001)
+        _, status, answers = self.report()
+        self.assertEqual((status, answers), (1, {"/alice": "contained", "/bob": "escapes"}))
+        text = subprocess.run([sys.executable, f"{TOP}/host/snapshot", "--mount", MOUNT, "--only", self.top, "--with-host"],
+                              capture_output=True, text=True).stdout
+        there = subprocess.run([sys.executable, f"{TOP}/host/check", "--tree", "-", "--zirofen", REAL_PROGRAM or PROGRAM],
+                               input=text, capture_output=True, text=True,
+                               env={**os.environ, "MADE_UP": "all,advise", "CALLS": os.devnull})
+        self.assertEqual((there.returncode, there.stderr), (1, ""))
+        self.assertIn(f"escapes    {self.top}/bob", there.stdout)
+
+
+if __name__ == "__main__":
+    unittest.main()
