@@ -16,10 +16,10 @@ from trial import classes, comparing, machine, making, script, turned
 WRONG = 10
 
 
-def recorded():
-    """Cases with what the program said of each, and what a kernel said."""
+def recorded(kind):
+    """Cases of a kind with what the program said of each, and what a kernel said."""
     with gzip.open(os.path.join(TOP, "tests", "recorded.json.gz"), "rt") as text:
-        parts = json.load(text)
+        parts = json.load(text)[kind]
     cases = [making.Case.of_record(record) for record in parts["cases"]]
     records, ended = script.records_of(parts["said"])
     return cases, parts["answers"], records, ended
@@ -28,7 +28,7 @@ def recorded():
 class KernelTest(unittest.TestCase):
     @classmethod
     def setUpClass(cls):
-        cls.cases, cls.answers, cls.records, cls.ended = recorded()
+        cls.cases, cls.answers, cls.records, cls.ended = recorded("operations")
 
     def compared(self, turn=None):
         """Of each case that was recorded its differences, as a wrong program's where there is one."""
@@ -50,6 +50,13 @@ class KernelTest(unittest.TestCase):
         found = [(number, each) for number, compared in self.compared() for each in compared.differences]
         self.assertEqual([each for each in found if not each[1].kind], [])
         self.assertGreaterEqual({each.kind for _, each in found}, {"internal process", "range of values", "name of a file"})
+
+    def test_recorded_escapes_break_as_the_program_says(self):
+        cases, answers, records, ended = recorded("escapes")
+        self.assertTrue(ended)
+        there = [comparing.break_of(case, records[number], case.subtrees[0]) for number, case in enumerate(cases)]
+        self.assertEqual(there, [said[-1] for said in answers])
+        self.assertGreaterEqual({said.split(" ")[2] for said in there}, {"gone", "crossed", "limits"})
 
     def test_wrong_programs_are_found(self):
         found = [name for name, turn in turned.TURNED.items()

@@ -75,7 +75,7 @@ def settle_entry(entry, default, bits):
 def settled_value(rng, file, value):
     """A value that stands there as it was written, and that doesn't end what runs."""
     if value == rules.MAX or not file.startswith("memory."):
-        return min(value, GREATEST.get(file, value)) if value != rules.MAX else value
+        return value if value == rules.MAX else min(value, GREATEST.get(file, rules.MOST) - 1)
     if value == rules.MOST:
         return rules.MAX
     return (value or (rng.choice([0, 1]) if file in ("memory.min", "memory.low") else 1)) * 2 ** 24

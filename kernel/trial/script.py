@@ -35,6 +35,10 @@ def lines_of(number, case):
         lines += [f"set {text_of(path)} {file} {value}" for file, value in cgroup.values.items()
                   if value != rules.default_of(file)]
         lines += [f"own {text_of(path)} {name} {entry.uid} {entry.gid} {entry.mode:o}" for name, entry in cgroup.entries.items()]
+        if case.verb == "try":
+            # a delegation that hands over the one hands over the other; the model has no cgroup.threads
+            procs = cgroup.entries[rules.PROCS]
+            lines.append(f"own {text_of(path)} cgroup.threads {procs.uid} {procs.gid} {procs.mode:o}")
     lines.append("state")
     for user, step in case.steps:
         lines += ["user " + " ".join(map(str, [user[0], *user[1]])), f"{case.verb} {spelled(step)}"]
