@@ -14,6 +14,7 @@ use cg_cli::fault::CliFault;
 use cg_runs::fault::CheckFault;
 use std::alloc::{AllocError, Global};
 use std::env;
+use std::io;
 use std::rt::{Env, Files};
 
 /// What is told of the words of `audit` that clap has nothing against.
@@ -21,11 +22,11 @@ const USERS: &str = "a user of audit is UID or UID:GID,GID.. in decimal digits, 
 
 /// The help below the line of a fault, or nothing; a command line that is none of the program's has no fault of a call.
 ///
-/// The words and the files are looked at once more; `input` is what standard input gave.
+/// The words and the files are looked at once more; `input` is what standard input gave, where all of it was kept.
 pub fn help_text<R: AllocGlobal + Env + Files>(
     rt: &R,
     fault: Option<&CliFault>,
-    input: &[u8],
+    input: Option<&[u8]>,
 ) -> Result<Vec<u8>, NoMemory>
     ensures { IfOk result (λ help. IsHelp help.items) }
 {
@@ -38,13 +39,14 @@ pub fn help_text<R: AllocGlobal + Env + Files>(
 fn said<R: AllocGlobal + Env + Files>(
     rt: &R,
     fault: Option<&CliFault>,
-    input: &[u8],
+    input: Option<&[u8]>,
 ) -> Result<Option<String>, NoMemory> {
     let alloc = rt.alloc();
-    let Ok(words) = env::args(rt) else {
-        return plainly(alloc, "an argument isn't UTF-8");
+    let words: Vec<String> = match env::args(rt) {
+        Ok(words) => words.collect(alloc)?,
+        Err(error) if error.kind() == io::ErrorKind::OutOfMemory => return Ok(None),
+        Err(_) => return plainly(alloc, "an argument isn't UTF-8"),
     };
-    let words: Vec<String> = words.collect(alloc)?;
     let Some(fault) = fault else {
         return usage_said(alloc, words.as_slice());
     };
@@ -79,7 +81,7 @@ fn fault_said<R: AllocGlobal + Files>(
     rt: &R,
     fault: &CliFault,
     request: &Request<'_>,
-    input: &[u8],
+    input: Option<&[u8]>,
 ) -> Result<Option<String>, NoMemory> {
     let alloc = rt.alloc();
     match fault {
@@ -136,11 +138,14 @@ fn missing_path(alloc: Global, request: &Request<'_>) -> Result<Option<String>, 
 fn tree_bytes<R: AllocGlobal + Files>(
     rt: &R,
     request: &Request<'_>,
-    input: &[u8],
+    input: Option<&[u8]>,
 ) -> Result<Option<Vec<u8>>, AllocError> {
     match tree_of(request) {
         Some(name) => Ok(read_again(rt, name)),
-        None => Ok(Some(Vec::from_slice(rt.alloc(), input)?)),
+        None => match input {
+            Some(bytes) => Ok(Some(Vec::from_slice(rt.alloc(), bytes)?)),
+            None => Ok(None),
+        },
     }
 }
 

@@ -1,5 +1,5 @@
 //! An input that is kept while it is read.
-ghost use Rattle.std.specs.Prelude.{◌≡◌, ◌⊎◌, ◌++◌, IfOk, OnErr, take};
+ghost use Rattle.std.specs.Prelude.{◌≡◌, ◌⊎◌, ◌++◌, false, IfOk, OnErr, take};
 ghost use Rattle.std.specs.Io.{ReadsAtMost};
 ghost use Rattle.std.specs.Io.KnownBytes.{ReadConsumes};
 
@@ -11,6 +11,8 @@ use std::io::Read;
 pub struct Kept<R> {
     pub inner: R,
     pub bytes: Vec<u8>,
+    /// Whether nothing was read that isn't kept.
+    pub is_whole: bool,
 }
 
 impl<R: Read> Read for Kept<R> {
@@ -19,11 +21,16 @@ impl<R: Read> Read for Kept<R> {
     fn read(&mut self, buf: &mut [u8]) -> io::Result<usize>
         ensures bound { ReadsAtMost result buf.new }
         ensures bytes { ReadConsumes (R.remaining self.old.inner) (R.remaining self.new.inner) result buf.new }
-        ensures kept { IfOk result (λ count. (self.new.bytes.items ≡ self.old.bytes.items ++ take count buf.new)
-            ⊎ (self.new.bytes.items ≡ self.old.bytes.items)) }
+        ensures kept { IfOk result (λ count. ((self.new.bytes.items ≡ self.old.bytes.items ++ take count buf.new) × (self.new.is_whole ≡ self.old.is_whole))
+            ⊎ ((self.new.bytes.items ≡ self.old.bytes.items) × (self.new.is_whole ≡ false))) }
     {
         let count = self.inner.read(buf)?;
-        let _ = self.bytes.extend_from_slice(&buf[..count]);
+        if self.is_whole {
+            match self.bytes.extend_from_slice(&buf[..count]) {
+                Ok(()) => {}
+                Err(_) => self.is_whole = false,
+            }
+        }
         Ok(count)
     }
 }

@@ -30,19 +30,22 @@ impl Fault {
         }
     }
 
-    /// Writes the fault's line. Where even that fails there is nobody left to tell.
-    pub fn print<W: Write>(self, alloc: Global, out: &mut W) {
+    /// Writes the fault's line, or that of want of memory where there is none for it, and says whether its own was written.
+    /// Where even that fails there is nobody left to tell.
+    pub fn print<W: Write>(self, alloc: Global, out: &mut W) -> bool {
         let fault = match self {
             Fault::Usage => {
-                let _ = write_whole(out, b"fault: usage\n");
-                return;
+                return write_whole(out, b"fault: usage\n").is_ok();
             }
             Fault::Cli(fault) => fault,
         };
-        let _ = match fault_text(alloc, &fault) {
-            Ok(line) => write_whole(out, line.as_slice()),
-            Err(_) => write_whole(out, b"fault: memory\n"),
-        };
+        match fault_text(alloc, &fault) {
+            Ok(line) => write_whole(out, line.as_slice()).is_ok(),
+            Err(_) => {
+                let _ = write_whole(out, b"fault: memory\n");
+                false
+            }
+        }
     }
 }
 

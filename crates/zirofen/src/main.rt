@@ -7,7 +7,7 @@ use cg_help::kept::Kept;
 use commands::again::Again;
 use commands::fault::Fault;
 use commands::run::run;
-use std::io::Write;
+use std::io::{Read, Write};
 use std::process::ExitCode;
 
 /// The status of a fault.
@@ -17,23 +17,30 @@ fn main(rt: HostRuntime) -> ExitCode {
     let mut input = Kept {
         inner: rt.stdin(),
         bytes: Vec::new(rt.alloc()),
+        is_whole: true,
     };
     match run(&rt, &mut input, rt.stdout()) {
         Ok(status) => ExitCode::from(status),
         Err(fault) => {
             let mut errors = Again { inner: rt.stderr() };
-            fault.print(rt.alloc(), &mut errors);
-            print_help(&rt, fault, input.bytes.as_slice(), &mut errors);
+            if fault.print(rt.alloc(), &mut errors) {
+                print_help(&rt, fault, &input, &mut errors);
+            }
             ExitCode::from(FAULT)
         }
     }
 }
 
 /// Writes what a second look finds, below the fault's line. Where that fails there is none.
-fn print_help<W: Write>(rt: &HostRuntime, fault: Fault, input: &[u8], out: &mut W) {
+fn print_help<I: Read, W: Write>(rt: &HostRuntime, fault: Fault, input: &Kept<I>, out: &mut W) {
     let fault = match fault {
         Fault::Usage => None,
         Fault::Cli(inner) => Some(inner),
+    };
+    let input = if input.is_whole {
+        Some(input.bytes.as_slice())
+    } else {
+        None
     };
     if let Ok(help) = help_text(rt, fault.as_ref(), input) {
         let _ = write_whole(out, help.as_slice());
