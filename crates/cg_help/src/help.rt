@@ -13,9 +13,8 @@ use cg_cgroup::memory::NoMemory;
 use cg_cli::fault::CliFault;
 use cg_runs::fault::CheckFault;
 use std::alloc::{AllocError, Global};
-use std::env;
-use std::io;
 use std::rt::{Env, Files};
+use std::{env, io};
 
 /// What is told of the words of `audit` that clap has nothing against.
 const USERS: &str = "a user of audit is UID or UID:GID,GID.. in decimal digits, with no spaces";
