@@ -145,7 +145,7 @@ class PackageTest(unittest.TestCase):
         known = package.completions.read_helpers(package.host_help)
         self.assertEqual(list(known), package.helpers())
         for name, (_, options) in known.items():
-            wanted = set(re.findall(r"^ +(?:-\w, )?(--[\w-]+)", package.host_help(name).split("options:")[1], re.M))
+            wanted = set(re.findall(r"^  (?:-\w, )?(--[\w-]+)", package.host_help(name).split("options:")[1], re.M))
             self.assertEqual({it.name for it in options}, wanted)
 
     def complete(self, shell, *words):
