@@ -5,7 +5,7 @@ from collections import namedtuple
 OPTION = re.compile(r"\s+(?:(-\w), )?(--[\w-]+)(?: <([^>]*)>)?(?:\.\.\.)?(?:\s\s+(.*))?")
 
 # as the helpers' --help has them: a help that doesn't fit beside its option stands below it
-HELPERS_OPTION = re.compile(r"  (?:-\w, )?(--[\w-]+)(?: ([A-Z]+))?(?:  +(.*))?")
+HELPERS_OPTION = re.compile(r"  (?:-\w, )?(--[\w-]+)(?: ([A-Z]+|\{[^}]*\}))?(?:, --[\w-]+(?: \S+)?)?(?:  +(.*))?")
 FILES = ("FILE", "FOLDER", "PROGRAM")
 
 # value: what is named after it, or nothing; FILE is completed by names of files
