@@ -1,0 +1,84 @@
+"""The numbers of docs/THEOREMS.md: of each theorem the lines that one has to believe, and of each file how many are its.
+
+A row of the first table names calls in its third column, each with clauses behind a colon or with all; items are told apart by
+semicolons. The table whose first column is File is written from these rows: a column for each theorem, a row for each file.
+"""
+import re
+
+from believed import World, closure
+from crates import read
+
+ITEM = re.compile(r"`(\w+(?:::\w+)+)`(?:: (`\w+`(?:(?:, | and )`\w+`)*))?")
+ROW = re.compile(r"\| (\d+) \|")
+
+
+def lines_of(definitions):
+    """Returns the files of definitions and types, each with how many of their lines it has."""
+    found = {}
+    for it in definitions:
+        found[it.file] = found.get(it.file, 0) + len(it.lines)
+    return found
+
+
+def sums_of(files):
+    """Returns how many lines of definitions, and how many of types of the code, files have."""
+    definitions = sum(count for file, count in files.items() if file.endswith(".antt"))
+    return definitions, sum(files.values()) - definitions
+
+
+def place_of(world):
+    """Returns what puts files in the order in which crates, and the definitions of a crate, stand on each other."""
+    order = [*read(world.top)]
+
+    def place(file):
+        crate, folder, *inner = file.split("/")[1:]
+        with open(f"{world.top}/crates/{crate}/specs/Lib.antt", encoding="utf-8") as it:
+            listed = re.findall(r"^pub mod (\w+)", it.read(), re.M)
+        name = inner[0].partition(".")[0]
+        return order.index(crate), folder == "specs", listed.index(name) if name in listed else -1, file
+
+    return place
+
+
+def reached_by(world, cell):
+    """Returns the files that the calls of a cell reach, with their lines."""
+    roots = [world.named(name, re.findall(r"\w+", clauses.replace(" and ", " "))) for name, clauses in ITEM.findall(cell)]
+    if not roots:
+        raise LookupError(f"no call is named in '{cell.strip()}'")
+    return lines_of(closure(roots)[0])
+
+
+def table_of(world, theorems):
+    """Returns the lines of the table of files, for theorems by their numbers."""
+    files = sorted({file for it in theorems.values() for file in it}, key=place_of(world))
+    rows = [[f"`{file[len('crates/'):]}`", *(str(it.get(file, "")) for it in theorems.values())] for file in files]
+    return [f"| {' | '.join(it)} |" for it in [["File", *theorems], ["---"] * (len(theorems) + 1), *rows]]
+
+
+def mended(text, top="."):
+    """Returns the text of the page with the numbers that the sources give, and how many theorems it has."""
+    world, theorems, lines, written = World(top), {}, [], False
+    for line in text.split("\n"):
+        if ROW.match(line):
+            cells = line.strip("| ").split(" | ")
+            number, theorem, calls = cells[:3]
+            theorems[number] = reached_by(world, calls)
+            line = "| " + " | ".join([number, theorem, calls, *map(str, sums_of(theorems[number]))]) + " |"
+        if line.startswith("| File |"):
+            lines += table_of(world, theorems)
+            written = True
+        elif not (written and line.startswith("|")):
+            lines.append(line)
+    return "\n".join(lines), len(theorems)
+
+
+def faults_of(text, top="."):
+    """Returns how many things were looked at, and what is wrong, in words."""
+    try:
+        right, count = mended(text, top)
+    except LookupError as error:
+        return 1, [str(error)]
+    wrong = [line for line in text.split("\n") if line not in right.split("\n")]
+    missing = [line for line in right.split("\n") if line not in text.split("\n")]
+    faults = [f"the sources have '{line[:60]}..', and the page has not: gate/believed --write" for line in missing]
+    return count + right.count("\n| `"), faults or [f"the sources have no '{line[:60]}..'" for line in wrong]
