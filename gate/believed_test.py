@@ -165,6 +165,9 @@ PAGE = """# Theorems
 | `low/specs/Old.antt` | 3 |
 
 All else is here.
+
+| Other | Table |
+|---|---|
 """
 
 
@@ -247,20 +250,22 @@ class Contracts(Small):
 
 class Page(Small):
     def test_numbers_and_files(self):
-        text, count = theorems.mended(PAGE, self.top)
-        self.assertEqual(count, 2)
+        text = theorems.mended(PAGE, self.top)
         self.assertIn("`high::called`: `many`; `high::shown` | 11 | 8 |\n| 2 | Held | `high::called` | 9 | 9 |", text)
         files = "| File | 1 | 2 |\n| --- | --- | --- |\n| `low/src/kinds.rt` | 6 | 7 |\n| `low/src/named.rt` | 1 | 1 |\n"
         self.assertIn(files + "| `low/src/named/inner.rt` | 1 | 1 |\n| `low/specs/Steps.antt` | 4 | 2 |\n", text)
-        self.assertTrue(text.endswith("| `low/specs/Words.antt` | 7 | 7 |\n\nAll else is here.\n"))
+        self.assertTrue(text.endswith("| `low/specs/Words.antt` | 7 | 7 |\n\nAll else is here.\n\n| Other | Table |\n|---|---|\n"))
 
     def test_faults(self):
-        right = theorems.mended(PAGE, self.top)[0]
-        self.assertEqual(theorems.faults_of(right, self.top), (7, []))
-        self.assertEqual(theorems.faults_of(right.replace("| 11 | 8 |", "| 11 | 9 |"), self.top)[1][0].split("'")[1][:12], "| 1 | Called")
-        self.assertEqual(len(theorems.faults_of(right.replace("| 6 | 7 |", "| 6 | 6 |"), self.top)[1]), 1)
-        old = right.replace("\n\nAll", "\n| `low/specs/Old.antt` | 1 | 1 |\n\nAll")
-        self.assertEqual(theorems.faults_of(old, self.top)[1], ["the sources have no '| `low/specs/Old.antt` | 1 | 1 |..'"])
+        right = theorems.mended(PAGE, self.top)
+        self.assertEqual(theorems.faults_of(right, self.top), (11, []))
+        for old, new, fault in (
+            ("| 11 | 8 |", "| 11 | 9 |", "has '| 1 | Called | `high::called`: `many`; `high::shown` | 11 | 8 ..'"),
+            ("| 6 | 7 |", "| 6 | 6 |", "has '| `low/src/kinds.rt` | 6 | 7 |..'"),
+            ("\n\nAll", "\n| `low/specs/Old.antt` | 1 | 1 |\n\nAll", "has no '| `low/specs/Old.antt` | 1 | 1 |..'"),
+        ):
+            faults = theorems.faults_of(right.replace(old, new), self.top)[1]
+            self.assertEqual(faults, [f"by the sources it {fault}: gate/believed --write"])
         nothing = right.replace("`many`", "`none`")
         self.assertEqual(theorems.faults_of(nothing, self.top), (1, ["there is no call high::called with none"]))
 

@@ -56,8 +56,8 @@ def table_of(world, theorems):
 
 
 def mended(text, top="."):
-    """Returns the text of the page with the numbers that the sources give, and how many theorems it has."""
-    world, theorems, lines, written = World(top), {}, [], False
+    """Returns the text of the page with the numbers that the sources give."""
+    world, theorems, lines, is_within = World(top), {}, [], False
     for line in text.split("\n"):
         if ROW.match(line):
             cells = line.strip("| ").split(" | ")
@@ -66,19 +66,20 @@ def mended(text, top="."):
             line = "| " + " | ".join([number, theorem, calls, *map(str, sums_of(theorems[number]))]) + " |"
         if line.startswith("| File |"):
             lines += table_of(world, theorems)
-            written = True
-        elif not (written and line.startswith("|")):
-            lines.append(line)
-    return "\n".join(lines), len(theorems)
+            is_within = True
+        is_within = is_within and line.startswith("|")
+        lines += [] if is_within else [line]
+    return "\n".join(lines)
 
 
 def faults_of(text, top="."):
     """Returns how many things were looked at, and what is wrong, in words."""
     try:
-        right, count = mended(text, top)
+        right = mended(text, top)
     except LookupError as error:
         return 1, [str(error)]
     wrong = [line for line in text.split("\n") if line not in right.split("\n")]
     missing = [line for line in right.split("\n") if line not in text.split("\n")]
-    faults = [f"the sources have '{line[:60]}..', and the page has not: gate/believed --write" for line in missing]
-    return count + right.count("\n| `"), faults or [f"the sources have no '{line[:60]}..'" for line in wrong]
+    faults = [f"by the sources it has '{line[:60]}..': gate/believed --write" for line in missing]
+    rows = sum(line.startswith("| ") for line in right.split("\n"))
+    return rows, faults or [f"by the sources it has no '{line[:60]}..': gate/believed --write" for line in wrong]
