@@ -5,7 +5,7 @@ parameter, a field, what a pattern or a `λ` names) is none of these. A type of 
 with a model by the `Value` that contracts see, a trait by its ghost members, a constant by its line. What a library of the
 toolchain defines is told by its name alone. Lines are those of the text without imports, comments and blanks.
 """
-import collections, functools, os, re
+import collections, functools, glob, os, re
 
 from edited import text_of
 
@@ -239,6 +239,12 @@ class World:
         for at, _, names in sorted(os.walk(folder)):
             for it in sorted(names):
                 yield self.code([module[0], *os.path.relpath(f"{at}/{it}", f"{self.top}/crates/{module[0]}/src")[:-3].split("/")])
+
+
+def definitions_of(world):
+    """Yields all definitions of the crates' specs, file by file."""
+    for path in sorted(glob.glob(f"{world.top}/crates/*/specs/**/*.antt", recursive=True)):
+        yield from dict.fromkeys(world.read(Specs, os.path.relpath(path, world.top)).own.values())
 
 
 def closure(roots):

@@ -1,12 +1,11 @@
 """Tests of what gate/believed counts, over two small crates and over this repository's own."""
-import glob
 import os
 import tempfile
 import unittest
 
 import named_once
 import theorems
-from believed import Specs, World, closure
+from believed import World, closure, definitions_of
 
 WORDS = """-- Words of the crate below, which a reader of contracts meets.
 use Rattle.std.specs.Prelude.{◌≡◌, ◌+◌, ℕ, List, Option, Some, None}
@@ -260,14 +259,18 @@ class Page(Small):
         right = theorems.mended(PAGE, self.top)
         self.assertEqual(theorems.faults_of(right, self.top), (11, []))
         for old, new, fault in (
-            ("| 11 | 8 |", "| 11 | 9 |", "has '| 1 | Called | `high::called`: `many`; `high::shown` | 11 | 8 ..'"),
-            ("| 6 | 7 |", "| 6 | 6 |", "has '| `low/src/kinds.rt` | 6 | 7 |..'"),
-            ("\n\nAll", "\n| `low/specs/Old.antt` | 1 | 1 |\n\nAll", "has no '| `low/specs/Old.antt` | 1 | 1 |..'"),
+            ("| 11 | 8 |", "| 11 | 9 |", "has '| 1 | Called | `high::called`: `many`; `high::shown` | 11 | 8 |'"),
+            ("| 6 | 7 |", "| 6 | 6 |", "has '| `low/src/kinds.rt` | 6 | 7 |'"),
+            ("\n\nAll", "\n| `low/specs/Old.antt` | 1 | 1 |\n\nAll", "has no '| `low/specs/Old.antt` | 1 | 1 |'"),
         ):
             faults = theorems.faults_of(right.replace(old, new), self.top)[1]
             self.assertEqual(faults, [f"by the sources it {fault}: gate/believed --write"])
         nothing = right.replace("`many`", "`none`")
         self.assertEqual(theorems.faults_of(nothing, self.top), (1, ["there is no call high::called with none"]))
+
+
+    def test_what_no_theorem_reaches(self):
+        self.assertEqual([it.name for it in theorems.unreached(PAGE, World(self.top))], ["other", "bound", "Held", "Course", "told"])
 
 
 class Names(Small):
@@ -312,9 +315,8 @@ class Repository(unittest.TestCase):
             self.assertFalse({"cg_indexed", "cg_rows"} & crates, name)
 
     def test_all_that_definitions_name_is_there(self):
-        for path in glob.glob(f"{self.world.top}/crates/*/specs/**/*.antt", recursive=True):
-            for it in self.world.read(Specs, os.path.relpath(path, self.world.top)).own.values():
-                self.assertIsInstance(it.named, set)
+        for it in definitions_of(self.world):
+            self.assertIsInstance(it.named, set)
 
 
 if __name__ == "__main__":

@@ -3,20 +3,18 @@
 A line there is 'NAME CRATE CRATE ..: WHY', where a crate stands as often as it has such a definition. One idea has one name: a
 line is for two ideas of one name that nobody sees together, and goes once one of them has another.
 """
-import glob, os, re
+import re
 
-from believed import Specs, World
+from believed import World, definitions_of
 
 LISTED = "gate/names_twice.txt"
 
 
 def names_twice(top):
     """Returns how many names definitions have, and those of several with the crates in which these stand."""
-    world, found = World(top), {}
-    for path in sorted(glob.glob(f"{top}/crates/*/specs/**/*.antt", recursive=True)):
-        file = os.path.relpath(path, top)
-        for it in dict.fromkeys(world.read(Specs, file).own.values()):
-            found.setdefault(it.name, []).append(file.split("/")[1])
+    found = {}
+    for it in definitions_of(World(top)):
+        found.setdefault(it.name, []).append(it.file.split("/")[1])
     return len(found), {name: crates for name, crates in found.items() if len(crates) > 1}
 
 

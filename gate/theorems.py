@@ -5,8 +5,9 @@ semicolons. The table whose first column is File is written from these rows: a c
 """
 import re
 
-from believed import World, closure
+from believed import World, closure, definitions_of
 from crates import read
+from edited import text_of
 
 ITEM = re.compile(r"`(\w+(?:::\w+)+)`(?:: (`\w+`(?:(?:, | and )`\w+`)*))?")
 ROW = re.compile(r"\| (\d+) \|")
@@ -32,20 +33,25 @@ def place_of(world):
 
     def place(file):
         crate, folder, *inner = file.split("/")[1:]
-        with open(f"{world.top}/crates/{crate}/specs/Lib.antt", encoding="utf-8") as it:
-            listed = re.findall(r"^pub mod (\w+)", it.read(), re.M)
-        name = inner[0].partition(".")[0]
+        name, library = inner[0].partition(".")[0], f"{world.top}/crates/{crate}/specs/Lib.antt"
+        listed = re.findall(r"^pub mod (\w+)", text_of(library), re.M) if folder == "specs" else []
         return order.index(crate), folder == "specs", listed.index(name) if name in listed else -1, file
 
     return place
 
 
 def reached_by(world, cell):
-    """Returns the files that the calls of a cell reach, with their lines."""
+    """Returns the definitions and types that the calls of a cell reach."""
     roots = [world.named(name, re.findall(r"\w+", clauses.replace(" and ", " "))) for name, clauses in ITEM.findall(cell)]
     if not roots:
         raise LookupError(f"no call is named in '{cell.strip()}'")
-    return lines_of(closure(roots)[0])
+    return closure(roots)[0]
+
+
+def unreached(text, world):
+    """Returns the definitions that no theorem of the page reaches, file by file."""
+    reached = [reached_by(world, line.split(" | ")[2]) for line in text.split("\n") if ROW.match(line)]
+    return [it for it in definitions_of(world) if not any(it in found for found in reached)]
 
 
 def table_of(world, theorems):
@@ -62,7 +68,7 @@ def mended(text, top="."):
         if ROW.match(line):
             cells = line.strip("| ").split(" | ")
             number, theorem, calls = cells[:3]
-            theorems[number] = reached_by(world, calls)
+            theorems[number] = lines_of(reached_by(world, calls))
             line = "| " + " | ".join([number, theorem, calls, *map(str, sums_of(theorems[number]))]) + " |"
         if line.startswith("| File |"):
             lines += table_of(world, theorems)
@@ -78,8 +84,11 @@ def faults_of(text, top="."):
         right = mended(text, top)
     except LookupError as error:
         return 1, [str(error)]
-    wrong = [line for line in text.split("\n") if line not in right.split("\n")]
-    missing = [line for line in right.split("\n") if line not in text.split("\n")]
-    faults = [f"by the sources it has '{line[:60]}..': gate/believed --write" for line in missing]
-    rows = sum(line.startswith("| ") for line in right.split("\n"))
-    return rows, faults or [f"by the sources it has no '{line[:60]}..': gate/believed --write" for line in wrong]
+    old, new = text.split("\n"), right.split("\n")
+    faults = [f"by the sources it has '{shortened(it)}': gate/believed --write" for it in new if it not in old]
+    more = [f"by the sources it has no '{shortened(it)}': gate/believed --write" for it in old if it not in new]
+    return sum(it.startswith("| ") for it in new), faults or more
+
+
+def shortened(line):
+    return line if len(line) <= 80 else f"{line[:40]}..{line[-30:]}"
