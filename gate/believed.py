@@ -25,6 +25,7 @@ TYPE = re.compile(r"^(?:pub(?:\([\w ]+\))? )?(struct|enum|trait|const) (?!fn )(\
 VALUE = re.compile(r"^impl[^\n]* Model for (\w+)[^\n]*\{$.*?^( *ghost Value = .*?;)$", re.M | re.S)
 USE = re.compile(r"^(?:pub(?:\([\w ]+\))? )?use ([^;]+);", re.M)
 BLOCK = re.compile(r"^(?:pub )?(?:trait|impl)\b.*", re.M)
+END = re.compile(r"\n *(?=requires|ensures)| \{|;\n")
 CLAUSE = re.compile(r"\s*(?:requires|ensures)(?: (\w+))? (?=\{)")
 
 Library = collections.namedtuple("Library", "crate name")
@@ -133,13 +134,13 @@ class Code(File):
         for head in re.finditer(rf"^ *(?:pub(?:\([\w ]+\))? )?(?:const |unsafe )*fn {name}\b", self.text, re.M):
             around = [it[0] for it in BLOCK.finditer(self.text, 0, head.start())][-1:] if head[0][0] == " " else []
             if bool(owner) == bool(around) and all(re.search(rf"\b{owner}\b", it) for it in around):
-                end = re.compile(r"\n *(?=requires|ensures)| \{|;\n").search(self.text, head.end())
-                at, texts = end.end() if "\n " in end[0] else end.start(), {}
+                end = END.search(self.text, head.end())
+                at, told = end.end() if "\n " in end[0] else end.start(), []
                 for found in iter(lambda: CLAUSE.match(self.text, at), None):
                     at = past_braces(self.text, found.end())
-                    texts[found[1] or at] = self.text[found.end() : at]
-                if texts and {*clauses} <= {*texts}:
-                    asked = [texts[it] for it in clauses or texts]
+                    told.append((found[1], self.text[found.end() : at]))
+                if told and {*clauses} <= {it for it, _ in told}:
+                    asked = [text for it, text in told if not clauses or it in clauses]
                     return self.spoken_of(name, self.text[head.end() : end.start()], around, asked)
         return None
 

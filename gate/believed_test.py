@@ -114,6 +114,7 @@ pub use parts::shown;
 /// A call.
 pub fn called<K: Keeps>(kind: Kind, keeper: &K, told: u32) -> Result<u8, Fault>
     requires few { told ≡ 1 }
+    requires kept { stepped ≡ stepped }
     // of the kind
     ensures many { IfOk result (λ stepped. many kind ≡ record { text = stepped }) }
     ensures kept { K.held keeper.now ≡ doubled told }
@@ -229,8 +230,8 @@ class Contracts(Small):
         kinds = {"many": 3, "MOST": 1, **Definitions.KINDS}
         self.assertEqual(self.reached("high::called", "many"), kinds)
         self.assertEqual(self.reached("high::called", "few"), {})
-        self.assertEqual(self.reached("high::called", "kept"), {"twice": 4, "◌>>=◌": 2, "Keeps": 1})
-        self.assertEqual(self.reached("high::called"), {**kinds, "Keeps": 1})
+        self.assertEqual(self.reached("high::called", "kept"), {"stepped": 2, "twice": 4, "◌>>=◌": 2, "Keeps": 1})
+        self.assertEqual(self.reached("high::called"), {**kinds, "stepped": 2, "Keeps": 1})
 
     def test_call_of_a_type(self):
         self.assertIn("Course", self.reached("high::Kind::of"))
@@ -250,9 +251,9 @@ class Contracts(Small):
 class Page(Small):
     def test_numbers_and_files(self):
         text = theorems.mended(PAGE, self.top)
-        self.assertIn("`high::called`: `many`; `high::shown` | 11 | 8 |\n| 2 | Held | `high::called` | 9 | 9 |", text)
+        self.assertIn("`high::called`: `many`; `high::shown` | 11 | 8 |\n| 2 | Held | `high::called` | 11 | 9 |", text)
         files = "| File | 1 | 2 |\n| --- | --- | --- |\n| `low/src/kinds.rt` | 6 | 7 |\n| `low/src/named.rt` | 1 | 1 |\n"
-        self.assertIn(files + "| `low/src/named/inner.rt` | 1 | 1 |\n| `low/specs/Steps.antt` | 4 | 2 |\n", text)
+        self.assertIn(files + "| `low/src/named/inner.rt` | 1 | 1 |\n| `low/specs/Steps.antt` | 4 | 4 |\n", text)
         self.assertTrue(text.endswith("| `low/specs/Words.antt` | 7 | 7 |\n\nAll else is here.\n\n| Other | Table |\n|---|---|\n"))
 
     def test_faults(self):
