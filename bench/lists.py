@@ -7,15 +7,15 @@ MOST_OPERATIONS = 65536
 
 
 class List:
-    """A tree's text, operations that prepare it, and those that are measured."""
+    """A tree's text, operations that prepare it, those that are measured, and a list half as long, the first half if no other."""
 
-    def __init__(self, name, tree, ops, before=()):
+    def __init__(self, name, tree, ops, before=(), half=None):
         self.name, self.tree, self.ops, self.before = name, tree, list(ops), list(before)
+        self.half = half or self.ops[: len(self.ops) // 2]
 
     def texts(self):
         """The lines of what prepares, of that with half of the operations, and of that with all."""
-        counts = (0, len(self.ops) // 2, len(self.ops))
-        return ["".join(op + "\n" for op in self.before + self.ops[:count]) for count in counts]
+        return ["".join(op + "\n" for op in self.before + ops) for ops in ([], self.half, self.ops)]
 
 
 def root_alone(controllers=()):
@@ -116,6 +116,17 @@ def after_mkdirs(at):
     return head(["memory"]) + "".join(rows), controls(at, 16000), before
 
 
+def removed(count):
+    """A cgroup is made and removed so many times beside one that stays, and then memory turned on and off above, twice as often."""
+    return ["mkdir /s/x", "rmdir /s/x"] * count + controls("/s", 2 * count)
+
+
+def removed_at_once(count):
+    """The same where all are made before the first is removed."""
+    paths = ["/s/x%05d" % i for i in range(count)]
+    return ["mkdir " + path for path in paths] + ["rmdir " + path for path in paths] + controls("/s", 2 * count)
+
+
 def lists():
     """Every list, the trees of some being as large as a text may have them."""
     rng = random.Random(20261122)
@@ -131,4 +142,7 @@ def lists():
     yield List("16000 controls, 1 child of 49000", *after_mkdirs("/few"))
     yield List("16000 controls, 49000 children", *after_mkdirs("/many"))
     tree, places = wide(rng)
+    for name, ops in (("in turn", removed), ("at once", removed_at_once)):
+        many = MOST_OPERATIONS // 4
+        yield List("65536: removed %s, controls" % name, of_children(1), ops(many), half=ops(many // 2))
     yield List("65536: make, set, chmod, remove", tree, in_turn([rng.choice(places) for _ in range(MOST_OPERATIONS // 4)]))

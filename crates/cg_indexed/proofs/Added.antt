@@ -1,9 +1,9 @@
 -- A cgroup more.
-use Rattle.std.proofs.Common.{◌≡◌, ℕ, zero, suc, ◌+◌, ◌-◌, ◌<◌, ◌≢◌, true, false, cond, ◌&&◌, not, nat_eq, eq-eqb, eqb-true, List, [], ◌∷◌, ◌++◌, length, count_by, take, refl, sym, ap, ◌∙◌, true≢false, Some, None, Option, is_some, option_map, arith, ◌⊎◌, ⊎_elim, inl, inr}
+use Rattle.std.proofs.Common.{◌≡◌, ℕ, zero, suc, ◌+◌, ◌-◌, ◌<◌, ◌≤◌, ◌≢◌, true, false, cond, ◌&&◌, not, nat_eq, eq-eqb, eqb-true, List, length, count_by, take, refl, sym, ap, ◌∙◌, true≢false, Some, None, Option, is_some, option_map, arith, ◌⊎◌, ⊎_elim, inl, inr}
 use Rattle.std.specs.Prelude.{slice_set}
 use Rattle.std.specs.List.{list_any}
 use Rattle.std.proofs.lemmas.Bool.{cases_Bool}
-use Rattle.std.proofs.lemmas.List.{get_or_append_left, get_or_at, length-append, length-set, length-map, take_all}
+use Rattle.std.proofs.lemmas.List.{length-set, length-map, take_all}
 use Rattle.std.proofs.lemmas.List.Sums.{count_by-le-length}
 use Rattle.std.specs.Cmp.{first_so}
 use Rattle.std.specs.FinMap as map
@@ -21,7 +21,7 @@ use Rattle.cg_cgroup.proofs.PathLaws.{inside_decides, inside-length}
 use Rattle.cg_cgroup.proofs.Options.{same_some, some_value}
 use Rattle.cg_tree.proofs.MapLaws.{any_entry, list_any-map}
 use Rattle.cg_tree.proofs.StateCounts.{count_below-with_row}
-use Rattle.cg_indexed.specs.Links.{no_link, link_at, new_link, ArePlaced, one_more, raised}
+use Rattle.cg_indexed.specs.Links.{no_link, link_at, new_link, put_at, ArePlaced, one_more, raised}
 use Rattle.cg_indexed.specs.Nodes.{Node, IsKin, new_node, no_cgroup, node_at, no_uses, uses_of, recounted}
 use Rattle.cg_indexed.specs.Kept.{Held, held_of, enabled_of, values_of, child_uses, AreKept, new_held, tree_of}
 use Rattle.cg_indexed.specs.declared.links.Link.{Link}
@@ -32,7 +32,8 @@ use Rattle.cg_indexed.proofs.Values.{values-insert, get-put, values_same, values
 use Rattle.cg_indexed.proofs.Read.{paths_are, row_is}
 use Rattle.cg_indexed.proofs.Limits.{parent_take}
 use Rattle.cg_indexed.proofs.Climb.{changed_at, placed_changed, changed_length, below_parent, not_inside_parent}
-use Rattle.cg_indexed.proofs.Changed.{node_set}
+use Rattle.cg_indexed.proofs.Changed.{node_set, kept_reread}
+use Rattle.cg_indexed.proofs.Puts.{put_here, put_other, put_longer, put_within, put_paired}
 
 -- ---- paths above
 
@@ -66,59 +67,48 @@ module _ (places : FinMap path_cmp ℕ) (links : List Link) (placed : ArePlaced 
         | Some j ↦ λ e. absurd (true≢false (ap is_some (sym (placed.above r j e) ∙ ap (map.get places) (parent-is_child p r child) ∙ none)))
       ] refl
 
--- ---- one more of each, that no path has
+-- ---- something at a place that no path has
 
-module _ (places : FinMap path_cmp ℕ) (links : List Link) (nodes : List Node) (kept : AreKept places links nodes) (link : Link) (node : Node) where
+module _ (places : FinMap path_cmp ℕ) (links : List Link) (nodes : List Node) (kept : AreKept places links nodes) (k : ℕ) (free : (q : Names) (j : ℕ) → map.get places q ≡ Some j → j ≢ k) (link : Link) (node : Node) where
   abbrev more_links : List Link
-  more_links = links ++ link ∷ []
+  more_links = put_at links k link
 
   abbrev more_nodes : List Node
-  more_nodes = nodes ++ node ∷ []
+  more_nodes = put_at nodes k node
 
-  same_link : (j : ℕ) → j < length links → link_at more_links j ≡ link_at links j
-  same_link j l = get_or_append_left links (link ∷ []) no_link j l
+  same_link : (q : Names) (j : ℕ) → map.get places q ≡ Some j → link_at more_links j ≡ link_at links j
+  same_link q j has = put_other links k link j no_link (kept.placed.within q j has) (free q j has)
 
-  same_node : (j : ℕ) → j < length links → node_at more_nodes j ≡ node_at nodes j
-  same_node j l = get_or_append_left nodes (node ∷ []) (new_node no_cgroup None) j (omega (arith, l, kept.paired))
+  same_node : (q : Names) (j : ℕ) → map.get places q ≡ Some j → node_at more_nodes j ≡ node_at nodes j
+  same_node q j has = let l = kept.placed.within q j has in put_other nodes k node j (new_node no_cgroup None) (omega (arith, l, kept.paired)) (free q j has)
 
   paired_more : length more_nodes ≡ length more_links
-  paired_more = omega (arith, kept.paired, length-append nodes (node ∷ []), length-append links (link ∷ []))
+  paired_more = put_paired nodes links k node link kept.paired
 
   pub kept_more : AreKept places more_links more_nodes
-  kept_more = record {
-    placed = record {
-      within = λ p i is. let l = kept.placed.within p i is in omega (arith, l, length-append links (link ∷ []));
-      apart = kept.placed.apart;
-      above = λ p i is. kept.placed.above p i is ∙ ap (λ n. Some n.above) (sym (same_link i (kept.placed.within p i is)));
-    };
-    paired = paired_more;
-    below = λ p i is. ap (λ n. n.below) (same_link i (kept.placed.within p i is)) ∙ kept.below p i is;
-    descendants = λ p i is. let l = kept.placed.within p i is in ap (λ n. n.max_descendants) (same_link i l) ∙ kept.descendants p i is ∙ ap (λ n. n.cgroup.max_descendants.value) (sym (same_node i l));
-    depths = λ p i is. let l = kept.placed.within p i is in ap (λ n. n.max_depth) (same_link i l) ∙ kept.depths p i is ∙ ap (λ n. n.cgroup.max_depth.value) (sym (same_node i l));
-    uses = λ p i is controller.
-        ap (λ n. uses_of n.uses controller) (same_node i (kept.placed.within p i is)) ∙ kept.uses p i is controller
-        ∙ ap (λ sets. child_uses sets p controller) (values_same enabled_of places nodes more_nodes (λ q j has. ap enabled_of (sym (same_node j (kept.placed.within q j has)))));
-    kin = λ p i is.
-        let l = kept.placed.within p i is in
-        kin_reread links more_links i (node_at nodes i) (node_at more_nodes i) (ap (λ n. n.kin) (same_node i l)) (ap (λ n. n.above) (same_link i l)) (kept.kin p i is);
-  }
+  kept_more =
+      kept_reread places links more_links nodes more_nodes kept (put_longer links k link) paired_more
+      (λ q j has. ap (λ l. l.above) (same_link q j has))
+      (λ q j has. ap (λ l. l.below) (same_link q j has))
+      (λ q j has. ap (λ l. l.max_descendants) (same_link q j has) ∙ kept.descendants q j has ∙ ap (λ n. n.cgroup.max_descendants.value) (sym (same_node q j has)))
+      (λ q j has. ap (λ l. l.max_depth) (same_link q j has) ∙ kept.depths q j has ∙ ap (λ n. n.cgroup.max_depth.value) (sym (same_node q j has)))
+      (λ q j has. ap enabled_of (same_node q j has))
+      (λ q j has. ap (λ n. n.uses) (same_node q j has))
+      (λ q j has a of. sym (ap (λ n. n.kin) (same_node q j has)) ∙ of)
 
   pub held_more : values_of held_of places more_nodes ≡ values_of held_of places nodes
-  held_more = values_same held_of places more_nodes nodes (λ q j is. ap held_of (same_node j (kept.placed.within q j is)))
+  held_more = values_same held_of places more_nodes nodes (λ q j has. ap held_of (same_node q j has))
 
 -- ---- a path more
 
 module _ (places : FinMap path_cmp ℕ) (links : List Link) (nodes : List Node) (kept : AreKept places links nodes) (few : map.len places < 9223372036854775808)
     (p : Names) (root : is_root p ≡ false) (none : map.get places p ≡ None) (i : ℕ) (parent_is : map.get places (parent p) ≡ Some i) (row : Cgroup)
-    (share : Option ℕ) (parents : (a : ℕ) → share ≡ Some a → a ≡ i) where
+    (share : Option ℕ) (parents : (a : ℕ) → share ≡ Some a → a ≡ i) (k : ℕ) (fits : k ≤ length links) (free : (q : Names) (j : ℕ) → map.get places q ≡ Some j → j ≢ k) where
   abbrev pushed_links : List Link
-  pushed_links = links ++ new_link i row ∷ []
+  pushed_links = put_at links k (new_link i row)
 
   abbrev pushed_nodes : List Node
-  pushed_nodes = nodes ++ new_node row share ∷ []
-
-  abbrev k : ℕ
-  k = length links
+  pushed_nodes = put_at nodes k (new_node row share)
 
   abbrev next : FinMap path_cmp ℕ
   next = map.insert places p k
@@ -133,11 +123,11 @@ module _ (places : FinMap path_cmp ℕ) (links : List Link) (nodes : List Node) 
   next_other q apart = next_get q ∙ ap (λ b. cond b (Some k) (map.get places q)) (same_path-not q p apart)
 
   -- a path of the new table is the new one, or an old one
-  which : (q : Names) (j : ℕ) → map.get next q ≡ Some j → ((q ≡ p) × (j ≡ k)) ⊎ ((q ≢ p) × (map.get places q ≡ Some j) × (j < k))
+  which : (q : Names) (j : ℕ) → map.get next q ≡ Some j → ((q ≡ p) × (j ≡ k)) ⊎ ((q ≢ p) × (map.get places q ≡ Some j))
   which q j is =
-      elim (same_path q p) as (λ b. same_path q p ≡ b → ((q ≡ p) × (j ≡ k)) ⊎ ((q ≢ p) × (map.get places q ≡ Some j) × (j < k))) [
+      elim (same_path q p) as (λ b. same_path q p ≡ b → ((q ≡ p) × (j ≡ k)) ⊎ ((q ≢ p) × (map.get places q ≡ Some j))) [
         | true ↦ λ e. let same = same_path-is q p e in inl (same, same_some j k (sym is ∙ ap (map.get next) same ∙ next_same))
-        | false ↦ λ e. let apart = same_path-other q p e in let old = sym (next_other q apart) ∙ is in inr (apart, old, kept.placed.within q j old)
+        | false ↦ λ e. let apart = same_path-other q p e in inr (apart, sym (next_other q apart) ∙ is)
       ] refl
 
   -- what is there is no path that isn't
@@ -148,30 +138,31 @@ module _ (places : FinMap path_cmp ℕ) (links : List Link) (nodes : List Node) 
   parent_next = next_other (parent p) (old_other (parent p) i parent_is) ∙ parent_is
 
   new_link_there : link_at pushed_links k ≡ new_link i row
-  new_link_there = get_or_at links (new_link i row) [] no_link k refl
+  new_link_there = put_here links k (new_link i row) no_link fits
 
   new_node_there : node_at pushed_nodes k ≡ new_node row share
-  new_node_there = get_or_at nodes (new_node row share) [] (new_node no_cgroup None) k kept.paired
+  new_node_there = put_here nodes k (new_node row share) (new_node no_cgroup None) (omega (arith, fits, kept.paired))
 
-  old_link : (j : ℕ) → j < k → link_at pushed_links j ≡ link_at links j
-  old_link j l = same_link places links nodes kept (new_link i row) (new_node row share) j l
+  old_link : (q : Names) (j : ℕ) → map.get places q ≡ Some j → link_at pushed_links j ≡ link_at links j
+  old_link = same_link places links nodes kept k free (new_link i row) (new_node row share)
 
-  old_node : (j : ℕ) → j < k → node_at pushed_nodes j ≡ node_at nodes j
-  old_node j l = same_node places links nodes kept (new_link i row) (new_node row share) j l
+  old_node : (q : Names) (j : ℕ) → map.get places q ≡ Some j → node_at pushed_nodes j ≡ node_at nodes j
+  old_node = same_node places links nodes kept k free (new_link i row) (new_node row share)
 
   placed_next : ArePlaced next pushed_links
   placed_next = record {
-    within = λ q j is. ⊎_elim (λ h. omega (arith, h.1, length-append links (new_link i row ∷ []))) (λ h. omega (arith, h.2, length-append links (new_link i row ∷ []))) (which q j is);
+    within = λ q j is.
+        ⊎_elim (λ h. let l = put_within links k (new_link i row) fits in omega (arith, l, h.1)) (λ h. let l = kept.placed.within q j h.1 in let more = put_longer links k (new_link i row) in omega (arith, l, more)) (which q j is);
     apart = λ q r j is has.
         ⊎_elim
-        (λ h. ⊎_elim (λ g. h.0 ∙ sym g.0) (λ g. absurd (omega (arith, h.1, g.2))) (which r j has))
-        (λ h. ⊎_elim (λ g. absurd (omega (arith, g.1, h.2))) (λ g. kept.placed.apart q r j h.1 g.1) (which r j has)) (which q j is);
+        (λ h. ⊎_elim (λ g. h.0 ∙ sym g.0) (λ g. absurd (free r j g.1 h.1)) (which r j has))
+        (λ h. ⊎_elim (λ g. absurd (free q j h.1 g.1)) (λ g. kept.placed.apart q r j h.1 g.1) (which r j has)) (which q j is);
     above = λ q j is.
         ⊎_elim
         (λ h. ap (λ x. map.get next (parent x)) h.0 ∙ parent_next ∙ ap (λ n. Some n.above) (sym (ap (link_at pushed_links) h.1 ∙ new_link_there)))
         (λ h.
         let up = kept.placed.above q j h.1 in
-        next_other (parent q) (old_other (parent q) _ up) ∙ up ∙ ap (λ n. Some n.above) (sym (old_link j h.2))) (which q j is);
+        next_other (parent q) (old_other (parent q) _ up) ∙ up ∙ ap (λ n. Some n.above) (sym (old_link q j h.1))) (which q j is);
   }
 
   abbrev after_links : List Link
@@ -186,7 +177,7 @@ module _ (places : FinMap path_cmp ℕ) (links : List Link) (nodes : List Node) 
 
   node_after : (q : Names) (j : ℕ) → map.get next q ≡ Some j → node_at after_nodes j ≡ cond (same_path q (parent p)) (recounted no_controllers row.enabled (node_at pushed_nodes i)) (node_at pushed_nodes j)
   node_after q j is =
-      node_set next pushed_links placed_next (parent p) i parent_next pushed_nodes (recounted no_controllers row.enabled (node_at pushed_nodes i)) (paired_more places links nodes kept (new_link i row) (new_node row share)) q j is
+      node_set next pushed_links placed_next (parent p) i parent_next pushed_nodes (recounted no_controllers row.enabled (node_at pushed_nodes i)) (paired_more places links nodes kept k free (new_link i row) (new_node row share)) q j is
 
   -- what neither changes
   kept_link : {A : Type 0} (g : Link → A) → ((l : Link) → g (one_more l) ≡ g l) → (q : Names) (j : ℕ) → map.get next q ≡ Some j → g (link_at after_links j) ≡ g (link_at pushed_links j)
@@ -216,7 +207,7 @@ module _ (places : FinMap path_cmp ℕ) (links : List Link) (nodes : List Node) 
   map_next : {A : Type 0} (g : Node → A) → ((q : Names) (j : ℕ) → map.get next q ≡ Some j → g (node_at after_nodes j) ≡ g (node_at pushed_nodes j)) → values_of g next after_nodes ≡ map.insert (values_of g places nodes) p (g (new_node row share))
   map_next g same =
       values_put g places next nodes after_nodes p k (g (new_node row share)) next_get (same p k next_same ∙ ap g new_node_there)
-      (λ q j apart has. same q j (next_other q (same_path-other q p apart) ∙ has) ∙ ap g (old_node j (kept.placed.within q j has)))
+      (λ q j apart has. same q j (next_other q (same_path-other q p apart) ∙ has) ∙ ap g (old_node q j has))
 
   pub held_next : values_of held_of next after_nodes ≡ map.insert (values_of held_of places nodes) p (new_held row)
   held_next = map_next held_of row_after
@@ -238,8 +229,8 @@ module _ (places : FinMap path_cmp ℕ) (links : List Link) (nodes : List Node) 
           sym (ap map.keys (values-insert (λ (h : Held). h.cgroup) (values_of held_of places nodes) p (new_held row)))
           ∙ ap (λ m. map.keys (tree_of m).rows) (sym held_next) ∙ paths_are next after_nodes (values_of held_of next after_nodes) refl
 
-  fits : (q : Names) → count_by (below q) (map.keys places) < 9223372036854775808
-  fits q =
+  few_below : (q : Names) → count_by (below q) (map.keys places) < 9223372036854775808
+  few_below q =
       let most = count_by-le-length (below q) (map.keys places) in
       omega (arith, most, length-map (map.entries places) (λ e. e.0), map.len-entries places)
 
@@ -253,8 +244,8 @@ module _ (places : FinMap path_cmp ℕ) (links : List Link) (nodes : List Node) 
       ∙ ap (λ n. n.below) (ap (link_at pushed_links) h.1 ∙ new_link_there)
       ∙ sym (ap (λ b. cond b (1 + count_by (below q) (map.keys places)) (count_by (below q) (map.keys places))) out ∙ ap (λ x. count_by (below x) (map.keys places)) h.0 ∙ none_below places links kept.placed p none))
       (λ h.
-      let old = ap (λ n. n.below) (old_link j h.2) ∙ kept.below q j h.1 in
-      let small = fits q in
+      let old = ap (λ n. n.below) (old_link q j h.1) ∙ kept.below q j h.1 in
+      let small = few_below q in
       elim (inside q (parent p)) as (λ b. (cond b (one_more (link_at pushed_links j)) (link_at pushed_links j)).below ≡ cond b (1 + count_by (below q) (map.keys places)) (count_by (below q) (map.keys places))) [
         | true ↦ omega (arith, old, small)
         | false ↦ old
@@ -281,14 +272,14 @@ module _ (places : FinMap path_cmp ℕ) (links : List Link) (nodes : List Node) 
       ∙ elim (same_path q (parent p)) as (λ b. same_path q (parent p) ≡ b → uses_of (cond b (recounted no_controllers row.enabled (node_at pushed_nodes i)) (node_at pushed_nodes j)).uses controller ≡ cond (b && enables row.enabled controller) (1 + u) u) [
         | true ↦ λ e.
             let at_parent : map.get places q ≡ Some i = ap (map.get places) (same_path-is q (parent p) e) ∙ parent_is in
-            let was = ap (λ n. uses_of n.uses controller) (old_node i (kept.placed.within q i at_parent)) ∙ kept.uses q i at_parent controller in
+            let was = ap (λ n. uses_of n.uses controller) (old_node q i at_parent) ∙ kept.uses q i at_parent controller in
             recount_exact no_controllers row.enabled (node_at pushed_nodes i).uses controller u (was ∙ sym (none_enabled controller u)) (few_before q controller)
         | false ↦ λ e.
             ⊎_elim
             (λ h.
             ap (λ n. uses_of n.uses controller) (ap (node_at pushed_nodes) h.1 ∙ new_node_there) ∙ nothing controller
             ∙ sym (ap (λ x. child_uses sets x controller) h.0 ∙ no_uses-childless sets p p controller (λ r child. value_none enabled_of places nodes r (no_child_there places links kept.placed p none r child))))
-            (λ h. ap (λ n. uses_of n.uses controller) (old_node j h.2) ∙ kept.uses q j h.1 controller) (which q j is)
+            (λ h. ap (λ n. uses_of n.uses controller) (old_node q j h.1) ∙ kept.uses q j h.1 controller) (which q j is)
       ] refl
       ∙ sym afresh
     where
@@ -309,7 +300,7 @@ module _ (places : FinMap path_cmp ℕ) (links : List Link) (nodes : List Node) 
       kept_link g same q j is
       ∙ ⊎_elim
       (λ w. ap g (ap (link_at pushed_links) w.1 ∙ new_link_there) ∙ new ∙ ap (λ n. h n.cgroup) (sym (ap (node_at pushed_nodes) w.1 ∙ new_node_there)))
-      (λ w. ap g (old_link j w.2) ∙ old q j w.1 ∙ ap (λ n. h n.cgroup) (sym (old_node j w.2))) (which q j is)
+      (λ w. ap g (old_link q j w.1) ∙ old q j w.1 ∙ ap (λ n. h n.cgroup) (sym (old_node q j w.1))) (which q j is)
       ∙ ap h (sym (cgroup_after q j is))
 
   above_after : (q : Names) (j : ℕ) → map.get next q ≡ Some j → (link_at after_links j).above ≡ (link_at pushed_links j).above
@@ -319,19 +310,18 @@ module _ (places : FinMap path_cmp ℕ) (links : List Link) (nodes : List Node) 
   new_kin q j is last a has =
       let share_is : share ≡ Some a = sym (kin_after q j is ∙ ap (λ n. n.kin) (ap (node_at pushed_nodes) last ∙ new_node_there)) ∙ has in
       let up : (link_at after_links j).above ≡ a = above_after q j is ∙ ap (λ l. l.above) (ap (link_at pushed_links) last ∙ new_link_there) ∙ sym (parents a share_is) in
-      let below = kept.placed.within (parent p) i parent_is in
       both_true (eq-eqb (link_at after_links j).above a up)
-      (elim (nat_eq j a) as (λ b. nat_eq j a ≡ b → not b ≡ true) [ true ↦ λ e. let same = eqb-true j a e in absurd (omega (arith, same, last, parents a share_is, below)) | false ↦ λ e. refl ] refl)
+      (elim (nat_eq j a) as (λ b. nat_eq j a ≡ b → not b ≡ true) [ true ↦ λ e. let same = eqb-true j a e in absurd (free (parent p) i parent_is (sym (parents a share_is) ∙ sym same ∙ last)) | false ↦ λ e. refl ] refl)
 
   kin_next : (q : Names) (j : ℕ) → map.get next q ≡ Some j → IsKin after_links j (node_at after_nodes j)
   kin_next q j is =
       ⊎_elim (λ h. new_kin q j is h.1)
-      (λ h. kin_reread links after_links j (node_at nodes j) (node_at after_nodes j) (kin_after q j is ∙ ap (λ n. n.kin) (old_node j h.2)) (above_after q j is ∙ ap (λ l. l.above) (old_link j h.2)) (kept.kin q j h.1)) (which q j is)
+      (λ h. kin_reread links after_links j (node_at nodes j) (node_at after_nodes j) (kin_after q j is ∙ ap (λ n. n.kin) (old_node q j h.1)) (above_after q j is ∙ ap (λ l. l.above) (old_link q j h.1)) (kept.kin q j h.1)) (which q j is)
 
   pub kept_next : AreKept next after_links after_nodes
   kept_next = record {
     placed = placed_changed one_more (λ n. refl) next (length p) i pushed_links placed_next;
-    paired = length-set pushed_nodes i (recounted no_controllers row.enabled (node_at pushed_nodes i)) ∙ paired_more places links nodes kept (new_link i row) (new_node row share) ∙ sym (changed_length one_more (λ n. refl) (length p) i pushed_links);
+    paired = length-set pushed_nodes i (recounted no_controllers row.enabled (node_at pushed_nodes i)) ∙ paired_more places links nodes kept k free (new_link i row) (new_node row share) ∙ sym (changed_length one_more (λ n. refl) (length p) i pushed_links);
     below = λ q j is. ap (λ n. n.below) (link_after q j is) ∙ counts q j is ∙ sym (count_next q);
     descendants = limit_next (λ l. l.max_descendants) (λ r. r.max_descendants.value) (λ l. refl) refl kept.descendants;
     depths = limit_next (λ l. l.max_depth) (λ r. r.max_depth.value) (λ l. refl) refl kept.depths;

@@ -1,5 +1,5 @@
 -- Kept cgroups once what is at the place of one path changes.
-use Rattle.std.proofs.Common.{◌≡◌, ◌≢◌, ℕ, true, false, cond, ◌&&◌, not, nat_eq, List, length, get_or, refl, sym, ap, ◌∙◌, Some, None, arith}
+use Rattle.std.proofs.Common.{◌≡◌, ◌≢◌, ℕ, ◌≤◌, true, false, cond, ◌&&◌, not, nat_eq, List, length, get_or, refl, sym, ap, ◌∙◌, Some, None, arith}
 use Rattle.std.specs.Prelude.{slice_set}
 use Rattle.std.proofs.lemmas.List.{get_or-set_same, get_or-set_other, length-set}
 use Rattle.std.specs.FinMap as map
@@ -64,7 +64,7 @@ module _ (places : FinMap path_cmp ℕ) (links : List Link) (placed : ArePlaced 
 
 -- ---- what is kept stays so where no path, no link upwards, no count and no set that is enabled changes
 
-module _ (places : FinMap path_cmp ℕ) (links links' : List Link) (nodes nodes' : List Node) (kept : AreKept places links nodes) (long : length links' ≡ length links) (paired : length nodes' ≡ length links')
+module _ (places : FinMap path_cmp ℕ) (links links' : List Link) (nodes nodes' : List Node) (kept : AreKept places links nodes) (long : length links ≤ length links') (paired : length nodes' ≡ length links')
     (above : (q : Names) (j : ℕ) → map.get places q ≡ Some j → (link_at links' j).above ≡ (link_at links j).above)
     (below : (q : Names) (j : ℕ) → map.get places q ≡ Some j → (link_at links' j).below ≡ (link_at links j).below)
     (descendants : (q : Names) (j : ℕ) → map.get places q ≡ Some j → (link_at links' j).max_descendants ≡ (node_at nodes' j).cgroup.max_descendants.value)
@@ -96,7 +96,7 @@ module _ (places : FinMap path_cmp ℕ) (links : List Link) (nodes : List Node) 
   pub kept_node : AreKept places links (slice_set nodes i x)
   kept_node =
       let rows = kept_of_node places links kept.placed p i is (λ n. n.cgroup) nodes x kept.paired cgroup in
-      kept_reread places links links nodes (slice_set nodes i x) kept refl (length-set nodes i x ∙ kept.paired) (λ q j has. refl) (λ q j has. refl)
+      kept_reread places links links nodes (slice_set nodes i x) kept (omega arith) (length-set nodes i x ∙ kept.paired) (λ q j has. refl) (λ q j has. refl)
       (λ q j has. kept.descendants q j has ∙ ap (λ r. r.max_descendants.value) (sym (rows q j has)))
       (λ q j has. kept.depths q j has ∙ ap (λ r. r.max_depth.value) (sym (rows q j has)))
       (λ q j has. ap (λ r. r.enabled) (rows q j has))
@@ -128,7 +128,7 @@ module _ (places : FinMap path_cmp ℕ) (links : List Link) (nodes : List Node) 
 
   pub kept_put : AreKept places put_links put_nodes
   kept_put =
-      kept_reread places links put_links nodes put_nodes kept (length-set links i (with_limits row (link_at links i)))
+      kept_reread places links put_links nodes put_nodes kept (omega (arith, length-set links i (with_limits row (link_at links i))))
       (length-set nodes i (with_cgroup row (node_at nodes i)) ∙ kept.paired ∙ sym (length-set links i (with_limits row (link_at links i))))
       (kept_of_link places links kept.placed p i is (λ l. l.above) (with_limits row (link_at links i)) refl)
       (kept_of_link places links kept.placed p i is (λ l. l.below) (with_limits row (link_at links i)) refl)

@@ -1,7 +1,7 @@
 -- Cgroups that are shared are shared by children, also once links or nodes change.
-use Rattle.std.proofs.Common.{◌≡◌, ℕ, ◌&&◌, not, nat_eq, List, [], ◌∷◌, ◌++◌, sym, ap, ◌∙◌, true≢false, Option, Some, None, cond, Bool, true, false}
+use Rattle.std.proofs.Common.{◌≡◌, ℕ, ◌&&◌, not, nat_eq, List, sym, ap, ◌∙◌, true≢false, Option, Some, None, cond, Bool, true, false}
 use Rattle.std.specs.Prelude.{is_none}
-use Rattle.cg_indexed.specs.Links.{link_at}
+use Rattle.cg_indexed.specs.Links.{link_at, put_at}
 use Rattle.cg_cgroup.proofs.Options.{same_some}
 use Rattle.cg_cgroup.specs.declared.cgroup.Cgroup.{Cgroup}
 use Rattle.cg_indexed.specs.Nodes.{Node, new_node, kin_if, IsKin}
@@ -15,14 +15,14 @@ pub kin_of_either : (b : Bool) (n n' : Node) (a : ℕ) → n.kin ≡ None → (c
 kin_of_either true n n' a own is = absurd (true≢false (ap is_none (sym own ∙ is)))
 kin_of_either false n n' a own is = is
 
--- one place more, with a cgroup that it may share with the other children of a place
-pub record IsOneMore (above : ℕ) (row : Cgroup) (old new : List Node) : Type 0 where
+-- a cgroup put at a place, which it may share with the other children of a place
+pub record IsPutNew (at above : ℕ) (row : Cgroup) (old new : List Node) : Type 0 where
   pub kin : Option ℕ
   pub parents : (a : ℕ) → kin ≡ Some a → a ≡ above
-  pub more : new ≡ old ++ new_node row kin ∷ []
+  pub put : new ≡ put_at old at (new_node row kin)
 
-pub is_one_more : (shares : Bool) {above : ℕ} {row : Cgroup} {old new : List Node} → new ≡ old ++ new_node row (kin_if shares above) ∷ [] → IsOneMore above row old new
-is_one_more shares {above} more = record { kin = kin_if shares above; parents = parents shares; more = more }
+pub is_put_new : (shares : Bool) {at above : ℕ} {row : Cgroup} {old new : List Node} → new ≡ put_at old at (new_node row (kin_if shares above)) → IsPutNew at above row old new
+is_put_new shares {at} {above} put = record { kin = kin_if shares above; parents = parents shares; put = put }
   where
     parents : (b : Bool) (a : ℕ) → kin_if b above ≡ Some a → a ≡ above
     parents true a is = sym (same_some above a is)

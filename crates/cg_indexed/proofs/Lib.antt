@@ -6,6 +6,7 @@ pub mod Refits
 pub mod Kin
 pub mod Values
 pub mod Counts
+pub mod Puts
 pub mod Read
 pub mod Changed
 pub mod Added

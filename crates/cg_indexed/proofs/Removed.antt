@@ -2,7 +2,7 @@
 use Rattle.std.proofs.Common.{◌≡◌, ℕ, ◌+◌, ◌≢◌, true, false, cond, ◌&&◌, List, length, count_by, refl, sym, ap, ◌∙◌, true≢false, Some, None, is_some, option_map, arith}
 use Rattle.std.specs.Prelude.{slice_set}
 use Rattle.std.specs.List.{list_any}
-use Rattle.std.proofs.lemmas.List.{length-set}
+use Rattle.std.proofs.lemmas.List.{length-set, get_or-set_other}
 use Rattle.std.specs.FinMap as map
 use Rattle.std.specs.FinMap.{FinMap}
 use Rattle.cg_cgroup.specs.Paths.{Names, path_cmp, same_path, inside, below, is_child, parent, is_root}
@@ -16,7 +16,7 @@ use Rattle.cg_cgroup.proofs.PathParents.{length-parent, is_child-parent, parent-
 use Rattle.cg_tree.proofs.MapLaws.{entry_any, list_any-map}
 use Rattle.cg_tree.proofs.StateCounts.{count_below-without_row}
 use Rattle.cg_cgroup.proofs.Options.{same_some}
-use Rattle.cg_indexed.specs.Links.{link_at, ArePlaced, one_less, lowered}
+use Rattle.cg_indexed.specs.Links.{no_link, link_at, to_nowhere, ArePlaced, one_less, lowered}
 use Rattle.cg_indexed.specs.Nodes.{Node, node_at, uses_of, recounted}
 use Rattle.cg_indexed.specs.Kept.{Held, held_of, enabled_of, values_of, child_uses, AreKept, tree_of}
 use Rattle.cg_indexed.specs.declared.links.Link.{Link}
@@ -25,7 +25,7 @@ use Rattle.cg_indexed.proofs.Counts.{uses-remove, recount_fewer, is_child-parent
 use Rattle.cg_indexed.proofs.Values.{values-remove, get-without, values_gone, value_there}
 use Rattle.cg_indexed.proofs.Read.{paths_are, row_is}
 use Rattle.cg_indexed.proofs.Climb.{changed_at, placed_changed, changed_length, below_parent}
-use Rattle.cg_indexed.proofs.Changed.{node_set}
+use Rattle.cg_indexed.proofs.Changed.{node_set, kept_reread}
 
 module _ (places : FinMap path_cmp ℕ) (links : List Link) (nodes : List Node) (kept : AreKept places links nodes) (p : Names) (root : is_root p ≡ false) (here : ℕ) (is : map.get places p ≡ Some here)
     (childless : list_any (is_child p) (map.keys places) ≡ false) where
@@ -156,8 +156,8 @@ module _ (places : FinMap path_cmp ℕ) (links : List Link) (nodes : List Node) 
       → (q : Names) (j : ℕ) → map.get next q ≡ Some j → g (link_at after_links j) ≡ h (node_at after_nodes j).cgroup
   limit_left g h same old q j has = kept_link g same q j has ∙ old q j (left q j has).1 ∙ ap (λ (x : Held). h x.cgroup) (sym (row_after q j has))
 
-  pub kept_left : AreKept next after_links after_nodes
-  kept_left = record {
+  kept_lowered : AreKept next after_links after_nodes
+  kept_lowered = record {
     placed = placed_changed one_less (λ n. refl) next (length p) i links placed_next;
     paired = length-set nodes i (recounted enabled no_controllers (node_at nodes i)) ∙ kept.paired ∙ sym (changed_length one_less (λ n. refl) (length p) i links);
     below = λ q j has. ap (λ n. n.below) (link_after q j has) ∙ counts q j (left q j has).1;
@@ -166,3 +166,23 @@ module _ (places : FinMap path_cmp ℕ) (links : List Link) (nodes : List Node) 
     uses = uses_left;
     kin = λ q j has. kin_reread links after_links j (node_at nodes j) (node_at after_nodes j) (kin_after q j has) (kept_link (λ l. l.above) (λ l. refl) q j has) (kept.kin q j (left q j has).1);
   }
+
+  -- its place is left: no path that is there has it
+
+  abbrev last_links : List Link
+  last_links = slice_set after_links here (to_nowhere (link_at after_links here))
+
+  stays : (q : Names) (j : ℕ) → map.get next q ≡ Some j → link_at last_links j ≡ link_at after_links j
+  stays q j has =
+      let old = left q j has in
+      get_or-set_other after_links here j (to_nowhere (link_at after_links here)) no_link (λ same. old.0 (kept.placed.apart q p here (old.1 ∙ ap Some same) is))
+
+  pub kept_left : AreKept next last_links after_nodes
+  kept_left =
+      let long = length-set after_links here (to_nowhere (link_at after_links here)) in
+      kept_reread next after_links last_links after_nodes after_nodes kept_lowered (omega (arith, long)) (kept_lowered.paired ∙ sym long)
+      (λ q j has. ap (λ l. l.above) (stays q j has))
+      (λ q j has. ap (λ l. l.below) (stays q j has))
+      (λ q j has. ap (λ l. l.max_descendants) (stays q j has) ∙ kept_lowered.descendants q j has)
+      (λ q j has. ap (λ l. l.max_depth) (stays q j has) ∙ kept_lowered.depths q j has)
+      (λ q j has. refl) (λ q j has. refl) (λ q j has a of. of)

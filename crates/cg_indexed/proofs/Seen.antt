@@ -1,18 +1,19 @@
 -- Nodes as they are kept and as they are seen.
 use Rattle.std.proofs.Common.{◌≡◌, ℕ, ◌<◌, Bool, true, false, cond, ◌&&◌, not, nat_eq, nat_lt, subst, List, [], ◌∷◌, ◌++◌, length, refl, sym, ap, ◌∙◌, true≢false, Option, Some, None, arith, eq-eqb, eqb-true}
 use Rattle.std.specs.Prelude.{slice_set, is_none}
-use Rattle.std.proofs.lemmas.List.{map-set, map_push, length-map, length-append, length-set, ext_get_or, get_or_append_left, get_or_at, get_or-set_same, get_or-set_other}
+use Rattle.std.proofs.lemmas.List.{map-set, length-map, length-append, length-set, ext_get_or, get_or_append_left, get_or_at, get_or-set_same, get_or-set_other}
 use Rattle.std.proofs.lemmas.Bool.{ltb-true, ltb-false}
 use Rattle.std.proofs.Math.ListN as seq
 use Rattle.std.specs.Cmp.{first_so}
 use Rattle.cg_cgroup.specs.declared.files.ControllerSet.{ControllerSet}
 use Rattle.cg_cgroup.specs.declared.cgroup.Cgroup.{Cgroup}
-use Rattle.cg_indexed.specs.Links.{link_at}
+use Rattle.cg_indexed.specs.Links.{link_at, put_at}
 use Rattle.cg_indexed.specs.Nodes.{Node, new_node, no_cgroup, new_slot, node_at, slot_at, shared_at, node_of, nodes_of, AreShared, HasGrown, refitted_node, refitted_shared, refitted_slot, links_to, IsKin, Refits, RefitsShared, RefitsSlots}
 use Rattle.cg_indexed.specs.declared.links.Link.{Link}
 use Rattle.cg_indexed.specs.declared.nodes.Shared.{Shared}
 use Rattle.cg_indexed.specs.declared.nodes.Slot.{Slot}
 use Rattle.cg_indexed.specs.declared.nodes.Uses.{Uses}
+use Rattle.cg_indexed.proofs.Puts.{put_mapped}
 
 pub node_seen : (shared : List Shared) (slots : List Slot) (i : ℕ) → node_at (nodes_of shared slots) i ≡ node_of shared (slot_at slots i)
 node_seen shared slots i = seq.get_or-map (node_of shared) slots i (new_slot no_cgroup None)
@@ -50,7 +51,7 @@ are_grown old new slots are grows = record {
       omega (arith, within, ap length grows.grown, length-append old grows.rest);
 }
 
-pub are_more : (shared : List Shared) (slots : List Slot) (slot : Slot) → AreShared shared slots → ((k : ℕ) → slot.shared ≡ Some k → k < length shared) → AreShared shared (slots ++ slot ∷ [])
+are_more : (shared : List Shared) (slots : List Slot) (slot : Slot) → AreShared shared slots → ((k : ℕ) → slot.shared ≡ Some k → k < length shared) → AreShared shared (slots ++ slot ∷ [])
 are_more shared slots slot are new = record {
   within = λ i k l is.
       elim (nat_lt i (length slots)) as (λ b. nat_lt i (length slots) ≡ b → k < length shared) [
@@ -64,7 +65,14 @@ are_more shared slots slot are new = record {
       ] refl;
 }
 
--- ---- a place more
+pub are_put : (shared : List Shared) (slots : List Slot) (i : ℕ) (slot : Slot) → AreShared shared slots → ((k : ℕ) → slot.shared ≡ Some k → k < length shared) → AreShared shared (put_at slots i slot)
+are_put shared slots i slot are new =
+    elim (nat_lt i (length slots)) as (λ b. nat_lt i (length slots) ≡ b → AreShared shared (cond b (slice_set slots i slot) (slots ++ slot ∷ []))) [
+      | true ↦ λ e. are_set shared slots i slot are new (ltb-true i (length slots) e)
+      | false ↦ λ e. are_more shared slots slot are new
+    ] refl
+
+-- ---- a new one at a place
 
 pub seen_grown : (old new : List Shared) (slots : List Slot) → AreShared old slots → HasGrown old new → nodes_of new slots ≡ nodes_of old slots
 seen_grown old new slots are grows =
@@ -81,10 +89,10 @@ seen_grown old new slots are grows =
         let there : shared_at new k ≡ shared_at old k = ap (λ xs. shared_at xs k) grows.grown ∙ get_or_append_left old grows.rest (record { above = 0; cgroup = no_cgroup }) k (within k refl) in
         (λ t. record { cgroup = (there t).cgroup; live = live; uses = uses; kin = Some (there t).above })
 
-pub seen_more : (shared : List Shared) (slots : List Slot) (row : Cgroup) (above k : ℕ) → shared_at shared k ≡ record { above = above; cgroup = row }
-    → nodes_of shared (slots ++ new_slot row (Some k) ∷ []) ≡ nodes_of shared slots ++ new_node row (Some above) ∷ []
-seen_more shared slots row above k is =
-    map_push (node_of shared) slots (new_slot row (Some k)) ∙ ap (λ (x : Shared). nodes_of shared slots ++ new_node x.cgroup (Some x.above) ∷ []) is
+pub seen_put : (shared : List Shared) (slots : List Slot) (i : ℕ) (row : Cgroup) (above k : ℕ) → shared_at shared k ≡ record { above = above; cgroup = row }
+    → nodes_of shared (put_at slots i (new_slot row (Some k))) ≡ put_at (nodes_of shared slots) i (new_node row (Some above))
+seen_put shared slots i row above k is =
+    put_mapped (node_of shared) slots i (new_slot row (Some k)) ∙ ap (λ (x : Shared). put_at (nodes_of shared slots) i (new_node x.cgroup (Some x.above))) is
 
 -- ---- refits
 

@@ -1,5 +1,5 @@
 -- Links from places to those of the parents, and what a climb along them changes and finds.
-use Rattle.std.specs.Prelude.{◌≡◌, ℕ, zero, suc, ◌+◌, ◌-◌, ◌<◌, min, Bool, not, ◌&&◌, cond, nat_lt, Option, List, length, get_or, Some, None, slice_set}
+use Rattle.std.specs.Prelude.{◌≡◌, ℕ, zero, suc, ◌+◌, ◌-◌, ◌<◌, min, Bool, not, ◌&&◌, cond, nat_lt, Option, List, [], ◌∷◌, ◌++◌, length, get_or, Some, None, slice_set}
 use Rattle.std.specs.FinMap as map
 use Rattle.cg_cgroup.specs.Paths.{Names, path_cmp, parent}
 use Rattle.cg_tree.specs.Limits.{is_under}
@@ -20,6 +20,23 @@ new_link above row = record { above = above; below = 0; max_descendants = row.ma
 
 abbrev pub with_limits : Cgroup → Link → Link
 with_limits row link = record link { max_descendants = row.max_descendants.value; max_depth = row.max_depth.value }
+
+-- the link of a place that is no cgroup's: no list has such a place
+abbrev pub to_nowhere : Link → Link
+to_nowhere link = record link { above = 18446744073709551615 }
+
+-- whether a place is there, and no cgroup's
+abbrev pub is_vacant : List Link → ℕ → Bool
+is_vacant links i = nat_lt i (length links) && not (nat_lt (link_at links i).above (length links))
+
+-- the place of a new cgroup: one that was left, where it is nobody's, or else the next
+abbrev pub place_for : List Link → Option ℕ → ℕ
+place_for links None = length links
+place_for links (Some i) = cond (is_vacant links i) i (length links)
+
+-- the list with this at a place of it, or else behind the others
+abbrev pub put_at : {A : Type 0} → List A → ℕ → A → List A
+put_at xs i x = cond (nat_lt i (length xs)) (slice_set xs i x) (xs ++ x ∷ [])
 
 -- each path has a place of its own, and knows its parent's; the root knows its own
 pub record ArePlaced (places : map.FinMap path_cmp ℕ) (links : List Link) : Type 0 where

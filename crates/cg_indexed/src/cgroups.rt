@@ -9,7 +9,7 @@ ghost use Rattle.cg_tree.specs.WellFormed.{has_row};
 ghost use Rattle.cg_tree.specs.Limits.{NoneIsFull, IsNearestFull};
 ghost use Rattle.cg_indexed.specs.Kept.{AreFittedBelow, tree_of, new_held, with_row_of, one_live_more, one_live_less, enabling_held, change_held, change_each_held};
 
-use crate::links::{Link, climb, lower, put_limits, raise};
+use crate::links::{Link, climb, leave, lower, place_for, put_limits, put_link, raise};
 use crate::nodes::{Nodes, differing, enable, lower_live, raise_live, recount};
 use crate::path_index::PathIndex;
 use cg_cgroup::cgroup::Cgroup;
@@ -25,12 +25,14 @@ const FEW: u64 = 16;
 
 /// Cgroups by path, each with the number of its live processes.
 ///
-/// Each cgroup has a place, which it keeps, and knows its parent's. A place that was a cgroup's is no other's.
+/// Each cgroup has a place, which it keeps, and knows its parent's. The place of one that is removed is another's later.
 #[derive(Drop)]
 pub struct Cgroups {
     places: PathIndex,
     links: Vec<Link>,
     nodes: Nodes,
+    /// Places that were left; each is looked at before it is believed.
+    vacant: Vec<usize>,
 }
 
 impl Model for Cgroups {
@@ -57,11 +59,13 @@ impl Cgroups {
         places.insert(alloc, &Path::root(alloc), 0)?;
         let mut links = Vec::new(alloc);
         links.push(Link::new(0, &root))?;
+        let vacant = Vec::new(alloc);
         let nodes = Nodes::new(alloc, root)?;
         Ok(Cgroups {
             places,
             links,
             nodes,
+            vacant,
         })
     }
 
@@ -194,15 +198,13 @@ impl Cgroups {
         let Some(above) = self.places.get(path, path.parent_len()) else {
             unreachable!()
         };
-        let place = self.links.len();
         // What `size` says bounds the counts.
         let _size = self.places.size();
         let shares = self.links[above].below >= FEW;
+        let place = place_for(&self.links, self.vacant.pop());
         self.links.reserve(1)?;
-        self.nodes.push(above, cgroup, shares)?;
-        let Ok(()) = self.links.push(Link::new(above, &cgroup)) else {
-            unreachable!()
-        };
+        self.nodes.put_new(place, above, cgroup, shares)?;
+        put_link(&mut self.links, place, Link::new(above, &cgroup));
         self.places.insert(alloc, path, place)?;
         raise(&mut self.links, above, path.depth());
         recount(
@@ -228,7 +230,10 @@ impl Cgroups {
         let enabled = self.nodes.cgroup(place).enabled;
         self.places.remove(path);
         lower(&mut self.links, above, path.depth());
+        leave(&mut self.links, place);
         recount(&mut self.nodes, above, enabled, ControllerSet::none());
+        // Where memory is wanted, nobody has the place again.
+        let _ = self.vacant.push(place);
     }
 
     /// How many levels the deepest cgroup below a cgroup lies below it; 0 where there is none.
@@ -254,6 +259,7 @@ impl Cgroups {
             places: self.places.try_clone()?,
             links: Vec::from_slice(alloc, &self.links)?,
             nodes: self.nodes.try_clone(alloc)?,
+            vacant: Vec::from_slice(alloc, &self.vacant)?,
         })
     }
 }

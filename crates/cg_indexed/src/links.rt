@@ -1,10 +1,14 @@
 //! Links from places of cgroups to those of their parents, and climbs along them.
 ghost use Rattle.std.specs.Prelude.{◌≡◌, ◌<◌, length, slice_set};
-ghost use Rattle.cg_indexed.specs.Links.{link_at, new_link, with_limits, is_full_link, raised, lowered, climbed};
+ghost use Rattle.std.specs.Vec.{vec_len, vec_capacity};
+ghost use Rattle.cg_indexed.specs.Links.{link_at, new_link, with_limits, to_nowhere, is_vacant, place_for, put_at, is_full_link, raised, lowered, climbed};
 
 use cg_cgroup::cgroup::Cgroup;
 use cg_cgroup::files::Limit;
 use cg_tree::limits::is_under;
+
+/// Where the link of a place leads that is no cgroup's: there is no such place.
+const NOWHERE: usize = usize::MAX;
 
 /// What a climb reads of a cgroup.
 #[derive(Clone, Copy)]
@@ -48,6 +52,50 @@ pub fn put_limits(links: &mut [Link], at: usize, cgroup: &Cgroup)
     let link = &mut links[at];
     link.max_descendants = cgroup.max_descendants.value;
     link.max_depth = cgroup.max_depth.value;
+}
+
+/// The place of a new cgroup: one that was left, where it is nobody's, or else the next.
+pub fn place_for(links: &[Link], left: Option<usize>) -> usize
+    ensures { result ≡ place_for links.now left }
+{
+    let Some(place) = left else {
+        return links.len();
+    };
+    if is_vacant(links, place) {
+        place
+    } else {
+        links.len()
+    }
+}
+
+/// Whether a place is there, and its link leads to none.
+fn is_vacant(links: &[Link], at: usize) -> bool
+    ensures { result ≡ is_vacant links.now at }
+{
+    at < links.len() && links[at].above >= links.len()
+}
+
+/// Puts a link at a place, or behind the others, where there is room for one.
+pub fn put_link(links: &mut Vec<Link>, at: usize, link: Link)
+    requires { vec_len links.old < vec_capacity links.old }
+    ensures { links.new.items ≡ put_at links.old.items at link }
+{
+    if at < links.len() {
+        links[at] = link;
+        return;
+    }
+    let Ok(()) = links.push(link) else {
+        unreachable!()
+    };
+}
+
+/// Leaves a place, which is no cgroup's any more.
+pub fn leave(links: &mut [Link], at: usize)
+    requires { at < length links.old }
+    ensures { links.new ≡ slice_set links.old at (to_nowhere (link_at links.old at)) }
+{
+    let link = &mut links[at];
+    link.above = NOWHERE;
 }
 
 /// Counts one more below a place and those above it, `count` places in all.

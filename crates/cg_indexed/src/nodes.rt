@@ -1,5 +1,6 @@
 //! Cgroups at their places, and what is counted of their children and processes.
-ghost use Rattle.std.specs.Prelude.{◌≡◌, true, ◌<◌, length, slice_set, [], ◌∷◌, None, IfOk, OnOk, OnErr, ◌++◌};
+ghost use Rattle.std.specs.Prelude.{◌≡◌, true, ◌<◌, length, slice_set, [], ◌∷◌, None, IfOk, OnOk, OnErr};
+ghost use Rattle.cg_indexed.specs.Links.{put_at};
 ghost use Rattle.cg_indexed.specs.Nodes.{Refits, RefitsShared, RefitsSlots, HasGrown, IsSharedAt, kin_if, new_node, new_slot, node_at, slot_at, more_if, less_if, uses_after, uses_of, with_cgroup, with_own, with_live, with_uses, slot_with_live, slot_with_uses, one_more_live, one_less_live, recounted, enabled_at, differing, with_files_from};
 
 use crate::links::Link;
@@ -187,22 +188,27 @@ impl Nodes {
         put_uses(&mut self.slots, at, uses);
     }
 
-    /// Adds a place with a cgroup, which it shares with other children of the place `above` where `shares` says so. Fails
-    /// where memory is wanted.
-    pub fn push(&mut self, above: usize, cgroup: Cgroup, shares: bool) -> Result<(), NoMemory>
-        ensures ok { OnOk result (self.new ≡ self.old ++ new_node cgroup (kin_if shares above) ∷ []) }
+    /// Puts a new cgroup at a place, or behind the others. It is shared with other children of the place `above` where
+    /// `shares` says so. Fails where memory is wanted.
+    pub fn put_new(
+        &mut self,
+        at: usize,
+        above: usize,
+        cgroup: Cgroup,
+        shares: bool,
+    ) -> Result<(), NoMemory>
+        ensures ok { OnOk result (self.new ≡ put_at self.old at (new_node cgroup (kin_if shares above))) }
         ensures err { OnErr result (self.new ≡ self.old) }
     {
+        have_hint(&mut self.hints, at)?;
         if !shares {
-            self.hints.push(0)?;
-            self.slots.push(Slot::new(cgroup, None))?;
+            put_slot(&mut self.slots, at, Slot::new(cgroup, None))?;
             return Ok(());
         }
-        self.hints.push(0)?;
         let hint = hint_at(&self.hints, above);
         let index = share(&mut self.shared, hint, above, &cgroup)?;
         note_hint(&mut self.hints, above, index);
-        self.slots.push(Slot::new(cgroup, Some(index)))?;
+        put_slot(&mut self.slots, at, Slot::new(cgroup, Some(index)))?;
         Ok(())
     }
 
@@ -231,6 +237,27 @@ impl Nodes {
             hints: Vec::from_slice(alloc, &self.hints)?,
         })
     }
+}
+
+/// Puts what is kept at a place there, or behind the others. Fails where memory is wanted.
+fn put_slot(slots: &mut Vec<Slot>, at: usize, slot: Slot) -> Result<(), NoMemory>
+    ensures ok { OnOk result (slots.new.items ≡ put_at slots.old.items at slot) }
+    ensures err { OnErr result (slots.new.items ≡ slots.old.items) }
+{
+    if at < slots.len() {
+        slots[at] = slot;
+        return Ok(());
+    }
+    slots.push(slot)?;
+    Ok(())
+}
+
+/// Sees that a place has a hint. Fails where memory is wanted.
+fn have_hint(hints: &mut Vec<usize>, at: usize) -> Result<(), NoMemory> {
+    if at >= hints.len() {
+        hints.push(0)?;
+    }
+    Ok(())
 }
 
 /// Which one children of a place may share.

@@ -1,17 +1,19 @@
-use Rattle.std.proofs.Common.{◌≡◌, ◌-◌, ◌<◌, ap, sym, ◌∙◌, subst, length, take, List, true≢false, is_some, Some, None, [], ◌∷◌, ◌++◌, arith}
-use Rattle.std.proofs.lemmas.List.{with_items_is, length-append}
+use Rattle.std.proofs.Common.{◌≡◌, ℕ, ◌-◌, ◌<◌, ◌≤◌, ◌≢◌, ap, sym, ◌∙◌, subst, length, take, List, true≢false, is_some, Some, None, arith}
+use Rattle.std.proofs.lemmas.List.{with_items_is}
 use Rattle.std.proofs.lemmas.Result.{err_from_is_err_and}
 use Rattle.std.specs.Prelude.{slice_set}
 use Rattle.std.specs.FinMap as map
 use Rattle.std.specs.Vec.{with_items}
-use Rattle.cg_cgroup.specs.Paths.{parent}
+use Rattle.cg_cgroup.specs.Paths.{Names, parent}
 use Rattle.cg_cgroup.specs.Files.{no_controllers}
 use Rattle.cg_cgroup.proofs.Options.{none_value}
-use Rattle.cg_indexed.specs.Links.{new_link, raised}
+use Rattle.cg_indexed.specs.Links.{new_link, place_for, put_at, raised}
 use Rattle.cg_indexed.specs.Nodes.{Node, new_node, node_at, recounted}
 use Rattle.cg_indexed.specs.Kept.{held_of, values_of, AreKept, new_held}
+use Rattle.cg_indexed.specs.declared.links.Link.{Link}
 use Rattle.cg_indexed.proofs.Read.{there_is}
-use Rattle.cg_indexed.proofs.Kin.{IsOneMore, is_one_more}
+use Rattle.cg_indexed.proofs.Kin.{IsPutNew, is_put_new}
+use Rattle.cg_indexed.proofs.Puts.{put_longer, place_fits, nobodys}
 use Rattle.cg_indexed.proofs.Added.{kept_more, held_more, held_next, kept_next}
 use Rattle.cg_indexed.proofs.cgroups.Cgroups.add.Goals as goal
 
@@ -27,46 +29,62 @@ insert-requires c = sym (there_is c.self.inside.places c.self.inside.nodes c.arg
 pub invariant_of-self-in_err-insert : goal.invariant_of-self-in_err-insert
 invariant_of-self-in_err-insert c =
     let links = c.self.inside.links.items in
-    let one = is_one_more _ c.in_ok-push.ensures.ok in
-    subst (λ m. AreKept m c.push-2.new.self.items c.push.new.self) (sym c.in_err-insert.ensures.err)
-    (subst (λ ls. AreKept c.self.inside.places ls c.push.new.self) (sym (c.in-Ok.ensures.items ∙ ap (λ ls. ls ++ c.new.result ∷ []) c.in_ok-reserve.ensures.items))
-    (subst (AreKept c.self.inside.places (links ++ c.new.result ∷ [])) (sym one.more) (kept_more c.self.inside.places links c.self.inside.nodes c.self.invariant c.new.result (new_node c.args.cgroup one.kin))))
+    let put = is_put_new _ c.in_ok-put_new.ensures.ok in
+    let free = nobodys c.self.inside.places c.self.inside.links.items c.self.invariant.placed c.pop.result c.place_for-place.result (c.place_for-place.ensures ∙ ap (λ (ls : List Link). place_for ls c.pop.result) c.deref.ensures.value) in
+    subst (λ m. AreKept m c.put_link.new.links.items c.put_new.new.self) (sym c.in_err-insert.ensures.err)
+    (subst (λ ls. AreKept c.self.inside.places ls c.put_new.new.self) (sym (c.put_link.ensures ∙ ap (λ ls. put_at ls c.place_for-place.result c.new.result) c.in_ok-reserve.ensures.items))
+    (subst (AreKept c.self.inside.places (put_at links c.place_for-place.result c.new.result)) (sym put.put)
+    (kept_more c.self.inside.places links c.self.inside.nodes c.self.invariant c.place_for-place.result free c.new.result (new_node c.args.cgroup put.kin))))
 
 pub returns-in_err-insert-clause-err : goal.returns-in_err-insert-clause-err
 returns-in_err-insert-clause-err c =
     let p = err_from_is_err_and c.from_residual-in_err-insert.result c.from_residual-in_err-insert.ensures.1 in
-    let one = is_one_more _ c.in_ok-push.ensures.ok in
+    let put = is_put_new _ c.in_ok-put_new.ensures.ok in
+    let free = nobodys c.self.inside.places c.self.inside.links.items c.self.invariant.placed c.pop.result c.place_for-place.result (c.place_for-place.ensures ∙ ap (λ (ls : List Link). place_for ls c.pop.result) c.deref.ensures.value) in
     rw p.1
-    ((λ t. values_of held_of (c.in_err-insert.ensures.err t) (one.more t))
-    ∙ held_more c.self.inside.places c.self.inside.links.items c.self.inside.nodes c.self.invariant c.new.result (new_node c.args.cgroup one.kin) ∙ c.self.view_is)
+    ((λ t. values_of held_of (c.in_err-insert.ensures.err t) (put.put t))
+    ∙ held_more c.self.inside.places c.self.inside.links.items c.self.inside.nodes c.self.invariant c.place_for-place.result free c.new.result (new_node c.args.cgroup put.kin) ∙ c.self.view_is)
+
+-- the tables after the calls
+put_is : (c : goal.After-recount) → IsPutNew c.place_for-place.result c.in-Some.above c.args.cgroup c.self.inside.nodes c.put_new.new.self
+put_is c = is_put_new _ c.in_ok-put_new.ensures.ok
 
 pub recount-requires : goal.recount-requires
 recount-requires c =
     let l = c.self.invariant.placed.within _ c.in-Some.above (sym c.in-Some.ensures) in
-    let one = is_one_more _ c.in_ok-push.ensures.ok in
-    omega (arith, l, c.self.invariant.paired, ap length one.more, length-append c.self.inside.nodes (new_node c.args.cgroup one.kin ∷ []))
+    let put = is_put_new _ c.in_ok-put_new.ensures.ok in
+    omega (arith, l, c.self.invariant.paired, ap length put.put, put_longer c.self.inside.nodes c.place_for-place.result (new_node c.args.cgroup put.kin))
 
--- the tables after the calls
-one_is : (c : goal.After-recount) → IsOneMore c.in-Some.above c.args.cgroup c.self.inside.nodes c.push.new.self
-one_is c = is_one_more _ c.in_ok-push.ensures.ok
+abbrev pushed_links : (c : goal.After-recount) → List Link
+pushed_links c = put_at c.self.inside.links.items c.place_for-place.result (new_link c.in-Some.above c.args.cgroup)
 
-pushed_links : (c : goal.After-recount) → c.push-2.new.self.items ≡ c.self.inside.links.items ++ new_link c.in-Some.above c.args.cgroup ∷ []
-pushed_links c = c.in-Ok.ensures.items ∙ (λ t. c.in_ok-reserve.ensures.items t ++ c.new.ensures t ∷ [])
+pushed_are : (c : goal.After-recount) → c.put_link.new.links.items ≡ pushed_links c
+pushed_are c = c.put_link.ensures ∙ (λ t. put_at (c.in_ok-reserve.ensures.items t) c.place_for-place.result (c.new.ensures t))
 
-links_are : (c : goal.After-recount) → (with_items c.push-2.new.self c.raise.new.links).items ≡ raised (c.self.inside.links.items ++ new_link c.in-Some.above c.args.cgroup ∷ []) c.in-Some.above (length c.args.path.now)
+links_are : (c : goal.After-recount) → (with_items c.put_link.new.links c.raise.new.links).items ≡ raised (pushed_links c) c.in-Some.above (length c.args.path.now)
 links_are c =
-    with_items_is c.push-2.new.self c.raise.new.links (omega (arith, c.raise.auto.links, ap length c.deref_mut.ensures.value, c.push-2.new.self.ok.0))
-    ∙ c.raise.ensures ∙ (λ t. raised ((c.deref_mut.ensures.value ∙ pushed_links c) t) c.in-Some.above (c.depth.ensures.depth t))
+    with_items_is c.put_link.new.links c.raise.new.links (omega (arith, c.raise.auto.links, ap length c.deref_mut.ensures.value, c.put_link.new.links.ok.0))
+    ∙ c.raise.ensures ∙ (λ t. raised ((c.deref_mut.ensures.value ∙ pushed_are c) t) c.in-Some.above (c.depth.ensures.depth t))
 
 abbrev pushed_nodes : (c : goal.After-recount) → List Node
-pushed_nodes c = c.self.inside.nodes ++ new_node c.args.cgroup (one_is c).kin ∷ []
+pushed_nodes c = put_at c.self.inside.nodes c.place_for-place.result (new_node c.args.cgroup (put_is c).kin)
 
 nodes_are : (c : goal.After-recount) → c.recount.new.nodes ≡ slice_set (pushed_nodes c) c.in-Some.above (recounted no_controllers c.args.cgroup.enabled (node_at (pushed_nodes c) c.in-Some.above))
 nodes_are c =
-    c.recount.ensures ∙ (λ t. slice_set ((one_is c).more t) c.in-Some.above (recounted (c.none.ensures t) c.args.cgroup.enabled (node_at ((one_is c).more t) c.in-Some.above)))
+    c.recount.ensures ∙ (λ t. slice_set ((put_is c).put t) c.in-Some.above (recounted (c.none.ensures t) c.args.cgroup.enabled (node_at ((put_is c).put t) c.in-Some.above)))
 
-table_is : (c : goal.After-recount) → c.insert.new.self ≡ map.insert c.self.inside.places c.args.path.now (length c.self.inside.links.items)
-table_is c = c.in_ok-insert.ensures.ok ∙ ap (map.insert c.self.inside.places c.args.path.now) (omega (arith, c.len-place.ensures, c.self.inside.links.ok.0))
+table_is : (c : goal.After-recount) → c.insert.new.self ≡ map.insert c.self.inside.places c.args.path.now c.place_for-place.result
+table_is c = c.in_ok-insert.ensures.ok
+
+-- the place is in the list or behind it, and no path's
+place_is : (c : goal.After-recount) → c.place_for-place.result ≡ place_for c.self.inside.links.items c.pop.result
+place_is c = c.place_for-place.ensures ∙ ap (λ (ls : List Link). place_for ls c.pop.result) c.deref.ensures.value
+
+fits : (c : goal.After-recount) → c.place_for-place.result ≤ length c.self.inside.links.items
+fits c = omega (arith, place_is c, place_fits c.self.inside.links.items c.pop.result)
+
+free : (c : goal.After-recount) → (q : Names) (j : ℕ) → map.get c.self.inside.places q ≡ Some j → j ≢ c.place_for-place.result
+free c = nobodys c.self.inside.places c.self.inside.links.items c.self.invariant.placed c.pop.result c.place_for-place.result (place_is c)
 
 few : (c : goal.After-recount) → map.len c.self.inside.places < 9223372036854775808
 few c = omega (arith, c.size-size.ensures.bound, c.size-size.ensures.small)
@@ -81,13 +99,13 @@ at_parent c =
 
 pub invariant_of-self-2 : goal.invariant_of-self-2
 invariant_of-self-2 c =
-    subst (λ m. AreKept m (with_items c.push-2.new.self c.raise.new.links).items c.recount.new.nodes) (sym (table_is c))
-    (subst (λ ls. AreKept (map.insert c.self.inside.places c.args.path.now (length c.self.inside.links.items)) ls c.recount.new.nodes) (sym (links_are c))
-    (subst (AreKept (map.insert c.self.inside.places c.args.path.now (length c.self.inside.links.items)) _) (sym (nodes_are c))
-    (kept_next c.self.inside.places c.self.inside.links.items c.self.inside.nodes c.self.invariant (few c) c.args.path.now c.requires.not_root (none_there c) c.in-Some.above (at_parent c) c.args.cgroup (one_is c).kin (one_is c).parents)))
+    subst (λ m. AreKept m (with_items c.put_link.new.links c.raise.new.links).items c.recount.new.nodes) (sym (table_is c))
+    (subst (λ ls. AreKept (map.insert c.self.inside.places c.args.path.now c.place_for-place.result) ls c.recount.new.nodes) (sym (links_are c))
+    (subst (AreKept (map.insert c.self.inside.places c.args.path.now c.place_for-place.result) _) (sym (nodes_are c))
+    (kept_next c.self.inside.places c.self.inside.links.items c.self.inside.nodes c.self.invariant (few c) c.args.path.now c.requires.not_root (none_there c) c.in-Some.above (at_parent c) c.args.cgroup (put_is c).kin (put_is c).parents c.place_for-place.result (fits c) (free c))))
 
 pub returns-clause-ok : goal.returns-clause-ok
 returns-clause-ok c =
     (λ t. values_of held_of (table_is c t) (nodes_are c t))
-    ∙ held_next c.self.inside.places c.self.inside.links.items c.self.inside.nodes c.self.invariant (few c) c.args.path.now c.requires.not_root (none_there c) c.in-Some.above (at_parent c) c.args.cgroup (one_is c).kin (one_is c).parents
+    ∙ held_next c.self.inside.places c.self.inside.links.items c.self.inside.nodes c.self.invariant (few c) c.args.path.now c.requires.not_root (none_there c) c.in-Some.above (at_parent c) c.args.cgroup (put_is c).kin (put_is c).parents c.place_for-place.result (fits c) (free c)
     ∙ ap (λ m. map.insert m c.args.path.now (new_held c.args.cgroup)) c.self.view_is
