@@ -1,28 +1,28 @@
 -- What the code for the first escape stands on: the list of the opening, part by part; the first escape by what is found
 -- in the opened tree; and what an answer says.
-use Rattle.std.proofs.Common.{◌≡◌, ℕ, ◌≤◌, ◌+◌, ◌-◌, Bool, true, false, not, ◌&&◌, List, [], ◌∷◌, ◌++◌, find, length, refl, sym, ap, ◌∙◌, subst, Option, Some, None, option_map, true≢false, append_assoc, arith, cond, ◌==◌}
+use Rattle.std.proofs.Common.{◌≡◌, ℕ, ◌≤◌, ◌+◌, ◌-◌, Bool, true, false, not, ◌&&◌, List, [], ◌∷◌, ◌++◌, find, length, refl, sym, ap, ◌∙◌, subst, Option, Some, None, option_map, true≢false, append_assoc, arith, cond, ◌==◌, take, drop, option_and_then}
 use Rattle.std.proofs.lemmas.Bool.Decides.{nat_tests}
 use Rattle.std.proofs.lemmas.Bool.{and_parts, false_from_ne_true}
-use Rattle.std.proofs.lemmas.List.Concat.{flat_map-append}
 use Rattle.std.proofs.lemmas.List.{append-nil}
+use Rattle.std.specs.Prelude.{slice_get}
 use Rattle.std.specs.List.{flat_map}
 use Rattle.cg_cgroup.specs.Paths.{Names}
 use Rattle.cg_cgroup.specs.Identity.{Identity}
 use Rattle.cg_cgroup.specs.Numbers.{mode_of}
-use Rattle.cg_cgroup.specs.Users.{opened}
-use Rattle.cg_cgroup.specs.Cgroups.{entry_in}
+use Rattle.cg_cgroup.specs.Users.{owns, writes, opened}
 use Rattle.cg_cgroup.specs.declared.user.Entry.{Entry}
-use Rattle.cg_cgroup.specs.declared.files.EntryName.{EntryName}
-use Rattle.cg_cgroup.specs.declared.files.EntryName.TheVariants.{Dir, SubtreeControl}
-use Rattle.cg_cgroup.specs.declared.cgroup.Cgroup.{Cgroup}
 use Rattle.cg_cgroup.proofs.UserLaws.{opened-le}
 use Rattle.cg_tree.specs.States.{State, row_at}
 use Rattle.cg_tree.specs.WellFormed.{IsWellFormed}
 use Rattle.cg_ops.specs.Steps.{after_all}
 use Rattle.cg_ops.specs.declared.operation.Op.{Op}
 use Rattle.cg_guards.specs.Limits.{limits, fits_descendants, fits_depth}
-use Rattle.cg_guards.specs.Guards.{Guarded, ancestors, limit_files, parent_control, parent_dir}
-use Rattle.cg_guards.specs.declared.guard.Guard.TheVariants.{CommonAncestor}
+use Rattle.cg_ops.specs.Clauses.{present}
+use Rattle.cg_ops.specs.declared.operation.Op.TheVariants.{Chmod}
+use Rattle.cg_guards.specs.Guards.{Guarded, guarded_entries, guarded_entry}
+use Rattle.cg_guards.specs.Standing.{found, standing}
+use Rattle.cg_guards.specs.declared.table.GuardedEntry.{GuardedEntry}
+use Rattle.cg_guards.proofs.TableWalk.{of_guarded, walk_turn, drop_all}
 use Rattle.cg_guards.specs.Guarding.{IsSubtree}
 use Rattle.cg_guards.proofs.Crossing.{none-crosses-same}
 use Rattle.cg_runs.specs.Held.{by_user}
@@ -31,7 +31,7 @@ use Rattle.cg_runs.proofs.BrokenLaws.{whole-broken, broken-whole}
 use Rattle.cg_tries.specs.Tries.{opening_of, opening, with_opening, plain_tries}
 use Rattle.cg_tries.specs.Escapes.{breaks, first_escape, IsUnbroken}
 use Rattle.cg_tries.proofs.Seen.{is_empty, empty_is, breaks-run}
-use Rattle.cg_check.specs.Opened.{is_free}
+use Rattle.cg_check.specs.Opened.{is_free, chmod_at}
 use Rattle.cg_check.proofs.Openings.{opened_state, unless_free, unbroken-opened, subtree-opened, first_escape-is}
 
 -- ---- the opening
@@ -40,34 +40,45 @@ mode_there : (bits : ℕ) → bits ≤ 511 → mode_of bits ≡ None → ⊥
 mode_there bits fits none = grind (arith, nat_tests)
 
 -- an opened mode is a mode
-pub opened-mode : (st : State) (path : Names) (row : Cgroup) (name : EntryName) (entry : Entry) → IsWellFormed st → row_at st path ≡ Some row → entry_in row name ≡ Some entry → mode_of (opened entry.mode) ≡ None → ⊥
-opened-mode st path row name entry formed here is = mode_there (opened entry.mode) (opened-le entry.mode ((formed.rows path row here).modes name entry is))
+pub opened-mode : (mode : ℕ) → mode ≤ 511 → mode_of (opened mode) ≡ None → ⊥
+opened-mode mode small is = mode_there (opened mode) (opened-le mode small) is
 
-pub opening-parts : (st : State) (user : Identity) (subtree : Names)
-    → ((flat_map (opening_of st user subtree) (ancestors (length subtree)) ++ flat_map (opening_of st user subtree) (limit_files (length subtree))) ++ opening_of st user subtree (parent_control subtree)) ++ opening_of st user subtree (parent_dir subtree)
-    ≡ opening st user subtree
-opening-parts st user subtree =
-    append_assoc (flat_map chmods_of (ancestors (length subtree)) ++ flat_map chmods_of (limit_files (length subtree))) (chmods_of (parent_control subtree)) (chmods_of (parent_dir subtree))
-    ∙ (λ i. (sym (flat_map-append chmods_of (ancestors (length subtree)) (limit_files (length subtree))) i) ++ (chmods_of (parent_control subtree) ++ sym (append-nil (chmods_of (parent_dir subtree))) i))
-    ∙ sym (flat_map-append chmods_of (ancestors (length subtree) ++ limit_files (length subtree)) (parent_control subtree ∷ parent_dir subtree ∷ []))
-  where
-    chmods_of : Guarded → List Op
-    chmods_of = opening_of st user subtree
+module _ (st : State) (user : Identity) (subtree : Names) where
+  of_standing : (guarded : Guarded) → opening_of st user subtree guarded ≡ of_guarded st subtree (chmod_at user subtree) guarded
+  of_standing guarded = by_entry (guarded_entry st subtree guarded)
+    where
+      by_entry : (there : Option Entry)
+          → present there (λ entry. cond (owns user entry && not (writes user entry)) (Chmod (take guarded.len subtree) guarded.name (opened entry.mode) ∷ []) [])
+          ≡ present (option_map (found guarded) there) (chmod_at user subtree)
+      by_entry None = refl
+      by_entry (Some entry) = refl
 
--- the same as it is put together, part after part
-module _ (st : State) (user : Identity) (subtree : Names) (len : ℕ) (above : len + 1 ≡ length subtree) where
-  abbrev opening_at : ℕ → EntryName → List Op
-  opening_at n name = opening_of st user subtree (record { guard = CommonAncestor; len = n; name = name })
+  -- the chmods of the entries from a place on
+  abbrev pub opening_from : ℕ → List Op
+  opening_from place = flat_map (opening_of st user subtree) (drop place (guarded_entries subtree))
 
-  pub opening-built : (none ancestral filed controlled all : List Op) → none ≡ [] → ancestral ≡ none ++ flat_map (opening_of st user subtree) (ancestors (length subtree))
-      → filed ≡ ancestral ++ flat_map (opening_of st user subtree) (limit_files (length subtree)) → controlled ≡ filed ++ opening_at len SubtreeControl → all ≡ controlled ++ opening_at len Dir
-      → all ≡ opening st user subtree
-  opening-built none ancestral filed controlled all a b c d e =
-      let level : len ≡ length subtree - 1 = omega (arith, above) in
-      e ∙ ap (λ ops. ops ++ opening_at len Dir) (d ∙ ap (λ ops. ops ++ opening_at len SubtreeControl) (c
-      ∙ ap (λ ops. ops ++ flat_map (opening_of st user subtree) (limit_files (length subtree))) (b ∙ ap (λ ops. ops ++ flat_map (opening_of st user subtree) (ancestors (length subtree))) a)))
-      ∙ (λ i. ((flat_map (opening_of st user subtree) (ancestors (length subtree)) ++ flat_map (opening_of st user subtree) (limit_files (length subtree))) ++ opening_at (level i) SubtreeControl) ++ opening_at (level i) Dir)
-      ∙ opening-parts st user subtree
+  module _ (place : ℕ) (here : Option GuardedEntry) (is : here ≡ option_and_then (standing st subtree) (slice_get (guarded_entries subtree) place)) where
+    opening_turn : opening_from place ≡ present here (chmod_at user subtree) ++ opening_from (place + 1)
+    opening_turn =
+        ap (λ each. flat_map each (drop place (guarded_entries subtree))) (λ i guarded. of_standing guarded i)
+        ∙ walk_turn st subtree (chmod_at user subtree) (guarded_entries subtree) place here is
+        ∙ ap (λ each. present here (chmod_at user subtree) ++ flat_map each (drop (place + 1) (guarded_entries subtree))) (λ i guarded. sym (of_standing guarded) i)
+
+  pub opening_begins : (chmods : List Op) → chmods ≡ [] → chmods ++ opening_from 0 ≡ opening st user subtree
+  opening_begins chmods none = ap (λ ops. ops ++ opening st user subtree) none
+
+  pub opening_passes : (place : ℕ) (chmods : List Op) → None ≡ option_and_then (standing st subtree) (slice_get (guarded_entries subtree) place) → chmods ++ opening_from (place + 1) ≡ chmods ++ opening_from place
+  opening_passes place chmods is = ap (λ rest. chmods ++ rest) (sym (opening_turn place None is))
+
+  pub opening_grows : (place : ℕ) (at : GuardedEntry) (chmods more : List Op) → Some at ≡ option_and_then (standing st subtree) (slice_get (guarded_entries subtree) place)
+      → more ≡ chmods ++ chmod_at user subtree at → more ++ opening_from (place + 1) ≡ chmods ++ opening_from place
+  opening_grows place at chmods more is added =
+      ap (λ ops. ops ++ opening_from (place + 1)) added ∙ append_assoc chmods (chmod_at user subtree at) (opening_from (place + 1))
+      ∙ ap (λ rest. chmods ++ rest) (sym (opening_turn place (Some at) is))
+
+  pub opening_ends : (place : ℕ) (chmods : List Op) → length (guarded_entries subtree) ≤ place → chmods ++ opening_from place ≡ opening st user subtree → chmods ≡ opening st user subtree
+  opening_ends place chmods all whole =
+      sym (ap (λ rest. chmods ++ flat_map (opening_of st user subtree) rest) (drop_all (guarded_entries subtree) place all) ∙ append-nil chmods) ∙ whole
 
 pub opened-is : (st copy new : State) (user : Identity) (subtree : Names) (chmods carried : List Op) → new ≡ after_all copy (by_user user carried) → copy ≡ st → carried ≡ chmods → chmods ≡ opening st user subtree
     → new ≡ opened_state st user subtree

@@ -1,5 +1,5 @@
 -- The first pair that isn't contained, found subtree by subtree among the users before the first found so far.
-use Rattle.std.proofs.Common.{◌≡◌, ◌≢◌, below_more, ℕ, zero, suc, ◌+◌, ◌<◌, ◌≤◌, true, false, List, [], ◌∷◌, ◌++◌, length, get_or, take, take_all, refl, sym, ap, ◌∙◌, Option, Some, None, is_none, Ok, arith}
+use Rattle.std.proofs.Common.{◌≡◌, ◌≢◌, below_more, ℕ, zero, suc, ◌+◌, ◌<◌, ◌≤◌, true, false, List, [], ◌∷◌, ◌++◌, length, get_or, take, take_all, Bool, refl, sym, ap, ◌∙◌, subst, Option, Some, None, is_none, Ok, arith}
 use Rattle.std.specs.List.{take_while, prefix_len}
 use Rattle.std.proofs.lemmas.List.{get_or-take}
 use Rattle.std.proofs.lemmas.List.Sums.{prefix_len-le-length, prefix_len_passes, prefix_len_stops}
@@ -10,7 +10,8 @@ use Rattle.cg_tree.specs.States.{State}
 use Rattle.cg_ops.specs.Clauses.{first}
 use Rattle.cg_ops.proofs.ClauseLaws.{first_none, first_some}
 use Rattle.cg_guards.specs.Guards.{failures}
-use Rattle.cg_guards.specs.GuardedUsers.{is_guarded}
+use Rattle.cg_cgroup.specs.declared.user.Entry.{Entry}
+use Rattle.cg_guards.specs.GuardedUsers.{is_guarded, AreSpared}
 use Rattle.cg_guards.specs.declared.guard.Failed.{Failed}
 use Rattle.cg_check.specs.Answers.{answer}
 use Rattle.cg_check.specs.Checks.{takes_memory}
@@ -143,6 +144,11 @@ other_default : {A : Type 0} (xs : List A) (i : ℕ) (d e : A) → i < length xs
 other_default [] i d e within = absurd (omega (arith, within))
 other_default (x ∷ xs) zero d e within = refl
 other_default (x ∷ xs) (suc i) d e within = other_default xs i d e (omega (arith, within))
+
+-- as many of the first are all
+pub all_left : (p : Identity → Bool) (before : Option Entry) (left next : List Identity) → next ≡ take_while p left → length next ≡ length left → AreSpared before next → AreSpared before left
+all_left p before left next is same =
+    subst (AreSpared before) (is ∙ take_all (prefix_len p left) left (omega (arith, ap length is ∙ length-prefix_len p left, same)))
 
 -- ---- one subtree more
 

@@ -11,3 +11,4 @@ pub mod AllContained
 pub mod AnswerLaws
 mod LimitFiles
 pub mod ListedLaws
+pub mod ListedPairs

@@ -1,13 +1,16 @@
 -- All pairs of a user and a subtree that aren't contained.
-use Rattle.std.specs.Prelude.{Bool, true, false, List, [], ◌∷◌}
+use Rattle.std.specs.Prelude.{Bool, true, false, List, [], ◌∷◌, slice_get}
 use Rattle.std.specs.List.{flat_map, filter, list_all}
 use Rattle.cg_cgroup.specs.Paths.{Names}
 use Rattle.cg_cgroup.specs.Identity.{Identity}
 use Rattle.cg_tree.specs.States.{State}
+use Rattle.cg_ops.specs.Clauses.{present}
 use Rattle.cg_guards.specs.GuardedUsers.{is_guarded}
 use Rattle.cg_check.specs.Answers.{answer}
 use Rattle.cg_check.specs.declared.answer.Answer.{Answer}
 use Rattle.cg_check.specs.declared.answer.Answer.TheVariants.{Contained, Escapes, Unsettled}
+use Rattle.cg_check.specs.declared.answer.AllAnswer.{AllAnswer}
+use Rattle.cg_check.specs.declared.answer.AllAnswer.TheVariants as all
 
 -- A pair that isn't contained, and its answer.
 pub record Listed : Type 0 where
@@ -27,6 +30,12 @@ listed_of st subtrees user = flat_map (λ subtree. listed_unless_contained user 
 -- By user and then subtree.
 abbrev pub listed : State → List Identity → List Names → List Listed
 listed st users subtrees = flat_map (listed_of st subtrees) users
+
+-- a pair that is named by its places, with the user and the subtree that stand there
+abbrev pub listed_at : List Identity → List Names → AllAnswer → List Listed
+listed_at users subtrees all.Contained = []
+listed_at users subtrees (all.Pair user subtree found) =
+    present (slice_get users user) (λ who. present (slice_get subtrees subtree) (λ path. record { user = who; subtree = path; found = found } ∷ []))
 
 abbrev pub is_contained : Answer → Bool
 is_contained Contained = true

@@ -1,10 +1,12 @@
--- How the first escape is found in the opened tree. Nothing in it has to be believed.
-use Rattle.std.specs.Prelude.{Bool, false, ◌&&◌, List, [], ◌∷◌}
-use Rattle.cg_cgroup.specs.Paths.{parent}
+-- How the first escape is found in the opened tree, and the opening. Nothing in it has to be believed.
+use Rattle.std.specs.Prelude.{Bool, false, not, ◌&&◌, cond, List, [], ◌∷◌, take}
+use Rattle.cg_cgroup.specs.Paths.{Names, parent}
 use Rattle.cg_cgroup.specs.Identity.{Identity}
+use Rattle.cg_cgroup.specs.Users.{owns, writes, opened}
 use Rattle.cg_tree.specs.States.{State}
 use Rattle.cg_ops.specs.declared.operation.Op.{Op}
-use Rattle.cg_ops.specs.declared.operation.Op.TheVariants.{Mkdir}
+use Rattle.cg_ops.specs.declared.operation.Op.TheVariants.{Chmod, Mkdir}
+use Rattle.cg_guards.specs.declared.table.GuardedEntry.{GuardedEntry}
 use Rattle.cg_tries.specs.Finding.{allowed, passes_at}
 
 -- a try begins with an operation that nothing bars, and a process may pass to a cgroup that it makes
@@ -13,3 +15,7 @@ is_free st user [] = false
 is_free st user (op ∷ []) = allowed st user op
 is_free st user (Mkdir path ∷ op ∷ ops) = allowed st user (Mkdir path) && passes_at st user (parent path)
 is_free st user (other ∷ op ∷ ops) = false
+
+-- the chmod by which the user comes to write a guarded entry, where he owns it and doesn't write it
+abbrev pub chmod_at : Identity → Names → GuardedEntry → List Op
+chmod_at user subtree at = cond (owns user at.entry && not (writes user at.entry)) (Chmod (take at.len subtree) at.name (opened at.entry.mode) ∷ []) []

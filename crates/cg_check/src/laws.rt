@@ -1,6 +1,6 @@
 //! Laws of the answers, over the definitions alone. The contract of each function is the law; none does anything.
-ghost use Rattle.std.specs.Prelude.{◌≡◌, ◌≢◌, List, Some, false, true, [], ◌∷◌, ◌&&◌};
-ghost use Rattle.std.specs.List.{Contains};
+ghost use Rattle.std.specs.Prelude.{◌≡◌, ◌≢◌, List, Some, false, true, [], ◌∷◌, ◌&&◌, length};
+ghost use Rattle.std.specs.List.{Contains, flat_map};
 ghost use Rattle.cg_cgroup.specs.Paths.{Names};
 ghost use Rattle.cg_cgroup.specs.Identity.{Identity};
 ghost use Rattle.cg_cgroup.specs.Users.{reaches};
@@ -16,7 +16,8 @@ ghost use Rattle.cg_runs.specs.Held.{IsHeld, by_user};
 ghost use Rattle.cg_tries.specs.Tries.{tries};
 ghost use Rattle.cg_guards.specs.declared.guard.Failed.{Failed};
 ghost use Rattle.cg_check.specs.Answers.{answer, MayBeUnsettled};
-ghost use Rattle.cg_check.specs.Listed.{unlisted};
+ghost use Rattle.cg_check.specs.AllAnswers.{pairs_from};
+ghost use Rattle.cg_check.specs.Listed.{listed, listed_at, unlisted};
 ghost use Rattle.cg_check.specs.Several.{AreContained};
 ghost use Rattle.cg_check.specs.declared.answer.Answer.TheVariants.{Escapes, Unsettled};
 
@@ -45,6 +46,15 @@ pub fn limit_file_escapes()
 pub fn unsettled_names_guards_above()
     ensures { (st : State) (user : Identity) (subtree : Names) (failed : Failed)
         → answer st user subtree ≡ Unsettled failed → MayBeUnsettled failed.guard }
+{}
+
+/// What is listed of users and subtrees are all pairs that aren't contained, in their order: each with the user and the
+/// subtree at its places, and as many as there are.
+pub fn pairs_are_listed()
+    ensures each { (st : State) (users : List Identity) (subtrees : List Names)
+        → listed st users subtrees ≡ flat_map (listed_at users subtrees) (pairs_from st 0 users subtrees) }
+    ensures count { (st : State) (users : List Identity) (subtrees : List Names)
+        → length (listed st users subtrees) ≡ length (pairs_from st 0 users subtrees) }
 {}
 
 /// A subtree is contained against the users of a list with whom it isn't listed, all of them together: whatever they do,

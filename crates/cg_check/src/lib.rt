@@ -84,7 +84,8 @@ pub fn check_all<H: Hierarchy + Drop>(
 }
 
 /// The users from the first on for whom a guard of one of some subtrees fails: those before him are contained in all of
-/// them. Each subtree is asked once for all users who are left, and nothing is allocated.
+/// them. Each subtree is asked once for all users who are left, and nothing is allocated. Where all hold and the guarded
+/// entries have one owner, the users are gone over once.
 pub fn from_first_unguarded<'a, H: Hierarchy>(
     tree: &H,
     users: &'a [User],
@@ -94,8 +95,9 @@ pub fn from_first_unguarded<'a, H: Hierarchy>(
     ensures { result.now ≡ drop (prefix_len (is_guarded_of_all (H.state tree.now) subtrees.now) users.now) users.now }
 {
     let mut left = users;
+    let mut asked = None;
     for subtree in subtrees {
-        left = guarded_users(tree, left, subtree);
+        left = guarded_users(tree, left, &mut asked, subtree);
     }
     let (_, from) = users.split_at(left.len());
     from
@@ -103,7 +105,6 @@ pub fn from_first_unguarded<'a, H: Hierarchy>(
 
 /// The places of the first pair of a user and a subtree for which a guard fails, by user and then subtree. Each subtree is
 /// asked for those users alone who come before all that were found with the subtrees before it.
-#[tactic(auto, using(crate::proofs::FirstUnguarded::below_start, crate::proofs::FirstUnguarded::below_end, crate::proofs::FirstUnguarded::below_found, crate::proofs::FirstUnguarded::below_kept, crate::proofs::Pairs::subtree_at))]
 fn first_unguarded<H: Hierarchy>(
     tree: &H,
     users: &[User],
@@ -113,9 +114,10 @@ fn first_unguarded<H: Hierarchy>(
     ensures { IsFirstUnguarded (H.state tree.now) users.now subtrees.now result }
 {
     let mut guarded = users;
+    let mut asked = None;
     let mut found = None;
     for (place, subtree) in subtrees.iter().enumerate() {
-        let left = guarded_users(tree, guarded, subtree);
+        let left = guarded_users(tree, guarded, &mut asked, subtree);
         if left.len() == guarded.len() {
             continue;
         }

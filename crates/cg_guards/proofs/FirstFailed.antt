@@ -1,79 +1,56 @@
--- The first failure of a list of guards, one guard after another.
-use Rattle.std.proofs.Common.{◌≡◌, ℕ, zero, suc, ◌-◌, ◌<◌, List, [], ◌∷◌, ◌++◌, map, Some, None, refl, sym, ap, ◌∙◌, arith, true, not, length, take, take_all, option_and_then, get_or, drop, add-one, ◌+◌, drop-cons}
+-- The first failure of the guarded entries, one place after another.
+use Rattle.std.proofs.Common.{◌≡◌, ℕ, ◌+◌, ◌≤◌, List, [], ◌∷◌, ◌++◌, Option, Some, None, refl, sym, ap, ◌∙◌, arith, true, false, not, length, take, take_all, drop, option_and_then}
+use Rattle.std.specs.Prelude.{slice_get}
 use Rattle.std.specs.List.{flat_map}
-use Rattle.std.proofs.lemmas.List.Concat.{flat_map-append}
+use Rattle.std.specs.Option.{option_map}
 use Rattle.cg_cgroup.specs.Paths.{Names}
 use Rattle.cg_cgroup.specs.Identity.{Identity}
 use Rattle.cg_cgroup.specs.Users.{reaches}
-use Rattle.cg_cgroup.specs.Cgroups.{entry_in}
-use Rattle.cg_cgroup.specs.declared.files.LimitFile.{LimitFile}
-use Rattle.cg_cgroup.specs.declared.files.EntryName.TheVariants.{File}
 use Rattle.cg_cgroup.specs.declared.cgroup.Cgroup.{Cgroup}
+use Rattle.cg_cgroup.specs.declared.user.Entry.{Entry}
 use Rattle.cg_tree.specs.States.{State, row_at, count_below}
 use Rattle.cg_ops.specs.Clauses.{first, present, unless}
-use Rattle.cg_ops.proofs.ClauseLaws.{first_none, first_some}
-use Rattle.cg_guards.specs.Guards.{Guarded, ancestor, ancestors, limit_file, limit_files, parent_control, parent_dir, guarded_entries, entry_failures}
+use Rattle.cg_guards.specs.Guards.{Guarded, guarded_entries, guarded_entry, entry_failures}
 use Rattle.cg_guards.specs.Limits.{is_within_limit, fits_descendants}
+use Rattle.cg_guards.specs.Standing.{found, standing}
 use Rattle.cg_guards.specs.declared.guard.Failed.{Failed}
-use Rattle.cg_guards.specs.declared.guard.Guard.TheVariants.{LimitFile as LimitFileGuard}
+use Rattle.cg_guards.specs.declared.table.GuardedEntry.{GuardedEntry}
+use Rattle.cg_guards.proofs.TableWalk.{of_guarded, walk_turn, drop_all}
 
 module _ (st : State) (user : Identity) (subtree : Names) where
-  pub ancestor_some : (len : ℕ) (failed : Failed) → 0 < len → Some failed ≡ first (entry_failures st user subtree (ancestor (len - 1))) → Some failed ≡ first (flat_map (entry_failures st user subtree) (ancestors len))
-  ancestor_some zero failed low h = absurd (omega arith)
-  ancestor_some (suc len) failed low h = let e : suc len - 1 ≡ len = omega arith in sym (first_some _ _ failed (sym (rw e at h)))
+  abbrev pub failing : GuardedEntry → List Failed
+  failing at = unless (not (reaches user at.entry)) (record { guard = at.guard; len = at.len })
 
-  pub ancestor_none : (len : ℕ) → 0 < len → None ≡ first (entry_failures st user subtree (ancestor (len - 1)))
-      → first (flat_map (entry_failures st user subtree) (ancestors (len - 1))) ≡ first (flat_map (entry_failures st user subtree) (ancestors len))
-  ancestor_none zero low h = absurd (omega arith)
-  ancestor_none (suc len) low h = let e : suc len - 1 ≡ len = omega arith in rw e (sym (first_none _ _ (sym (rw e at h))))
+  of_standing : (guarded : Guarded) → entry_failures st user subtree guarded ≡ of_guarded st subtree failing guarded
+  of_standing guarded = by_entry (guarded_entry st subtree guarded)
+    where
+      by_entry : (there : Option Entry) → present there (λ entry. unless (not (reaches user entry)) (record { guard = guarded.guard; len = guarded.len })) ≡ present (option_map (found guarded) there) failing
+      by_entry None = refl
+      by_entry (Some entry) = refl
 
--- where the subtree isn't there, no file of it is
-pub files_absent : (st : State) (user : Identity) (subtree : Names) (files : List LimitFile) → row_at st (take (length subtree) subtree) ≡ None
-    → first (flat_map (entry_failures st user subtree) (map (limit_file (length subtree)) files)) ≡ None
-files_absent st user subtree [] none = refl
-files_absent st user subtree (file ∷ files) none =
-    let gone = ap (λ found. present (option_and_then (λ row. entry_in row (File file)) found) (λ entry. unless (not (reaches user entry)) (record { guard = LimitFileGuard file; len = length subtree }))) none in
-    first_none _ _ (ap first gone) ∙ files_absent st user subtree files none
+  -- what fails from a place on
+  abbrev pub failures_from : ℕ → List Failed
+  failures_from place = flat_map (entry_failures st user subtree) (drop place (guarded_entries subtree))
 
--- ---- one limit file after another, at a row that is there
+  module _ (place : ℕ) (here : Option GuardedEntry) (is : here ≡ option_and_then (standing st subtree) (slice_get (guarded_entries subtree) place)) where
+    pub failures_turn : failures_from place ≡ present here failing ++ failures_from (place + 1)
+    failures_turn =
+        ap (λ each. flat_map each (drop place (guarded_entries subtree))) (λ i guarded. of_standing guarded i)
+        ∙ walk_turn st subtree failing (guarded_entries subtree) place here is
+        ∙ ap (λ each. present here failing ++ flat_map each (drop (place + 1) (guarded_entries subtree))) (λ i guarded. sym (of_standing guarded) i)
 
-abbrev failures_in : Cgroup → Identity → ℕ → LimitFile → List Failed
-failures_in row user len file = present (entry_in row (File file)) (λ entry. unless (not (reaches user entry)) (record { guard = LimitFileGuard file; len = len }))
+  pub none_fails : (place : ℕ) → None ≡ option_and_then (standing st subtree) (slice_get (guarded_entries subtree) place) → first (failures_from (place + 1)) ≡ first (failures_from place)
+  none_fails place is = ap first (sym (failures_turn place None is))
 
-module _ (st : State) (user : Identity) (subtree : Names) (row : Cgroup) (len : ℕ) (level : len ≡ length subtree) (is : Some row ≡ row_at st (take len subtree)) where
-  abbrev of_files : List LimitFile → List Failed
-  of_files files = flat_map (entry_failures st user subtree) (map (limit_file (length subtree)) files)
+  module _ (place : ℕ) (at : GuardedEntry) (is : Some at ≡ option_and_then (standing st subtree) (slice_get (guarded_entries subtree) place)) where
+    pub here_fails : reaches user at.entry ≡ true → Some (record { guard = at.guard; len = at.len }) ≡ first (failures_from place)
+    here_fails reached = sym (ap first (failures_turn place (Some at) is) ∙ ap (λ b. first (unless (not b) (record { guard = at.guard; len = at.len }) ++ failures_from (place + 1))) reached)
 
-  one_file : (file : LimitFile) → failures_in row user len file ≡ entry_failures st user subtree (limit_file (length subtree) file)
-  one_file file =
-      ap (λ found. present (option_and_then (λ r. entry_in r (File file)) found) (λ entry. unless (not (reaches user entry)) (record { guard = LimitFileGuard file; len = len }))) is
-      ∙ ap (λ n. present (option_and_then (λ r. entry_in r (File file)) (row_at st (take n subtree))) (λ entry. unless (not (reaches user entry)) (record { guard = LimitFileGuard file; len = n }))) level
+    pub here_holds : reaches user at.entry ≡ false → first (failures_from (place + 1)) ≡ first (failures_from place)
+    here_holds spared = sym (ap first (failures_turn place (Some at) is) ∙ ap (λ b. first (unless (not b) (record { guard = at.guard; len = at.len }) ++ failures_from (place + 1))) spared)
 
-  pub file_some : (files : List LimitFile) (i : ℕ) (d : LimitFile) (failed : Failed) → i < length files → Some failed ≡ first (failures_in row user len (get_or files i d)) → Some failed ≡ first (of_files (drop i files))
-  file_some files i d failed within h =
-      sym (ap (λ rest. first (of_files rest)) (drop-cons files i d within) ∙ first_some _ _ failed (ap first (sym (one_file (get_or files i d))) ∙ sym h))
-
-  pub file_none : (files : List LimitFile) (i : ℕ) (d : LimitFile) → i < length files → None ≡ first (failures_in row user len (get_or files i d)) → first (of_files (drop (i + 1) files)) ≡ first (of_files (drop i files))
-  file_none files i d within h =
-      ap (λ n. first (of_files (drop n files))) (add-one i)
-      ∙ sym (ap (λ rest. first (of_files rest)) (drop-cons files i d within) ∙ first_none _ _ (ap first (sym (one_file (get_or files i d))) ∙ sym h))
-
--- ---- the kinds of guards, one after another
-
-module _ (f : Guarded → List Failed) (subtree : Names) where
-  abbrev last_two : List Guarded
-  last_two = parent_control subtree ∷ parent_dir subtree ∷ []
-
-  joined : flat_map f (guarded_entries subtree) ≡ (flat_map f (ancestors (length subtree)) ++ flat_map f (limit_files (length subtree))) ++ flat_map f last_two
-  joined =
-      flat_map-append f (ancestors (length subtree) ++ limit_files (length subtree)) last_two
-      ∙ ap (λ xs. xs ++ flat_map f last_two) (flat_map-append f (ancestors (length subtree)) (limit_files (length subtree)))
-
-  pub second_fails : (failed : Failed) → None ≡ first (flat_map f (ancestors (length subtree))) → Some failed ≡ first (flat_map f (limit_files (length subtree))) → Some failed ≡ first (flat_map f (guarded_entries subtree))
-  second_fails failed none h = sym (ap first joined ∙ first_some _ _ failed (first_none _ _ (sym none) ∙ sym h))
-
-  pub third_decides : None ≡ first (flat_map f (ancestors (length subtree))) → None ≡ first (flat_map f (limit_files (length subtree))) → first (flat_map f last_two) ≡ first (flat_map f (guarded_entries subtree))
-  third_decides none nor = sym (ap first joined ∙ first_none _ _ (first_none _ _ (sym none) ∙ sym nor))
+  pub none_left : (place : ℕ) → length (guarded_entries subtree) ≤ place → None ≡ first (failures_from place)
+  none_left place all = sym (ap (λ rest. first (flat_map (entry_failures st user subtree) rest)) (drop_all (guarded_entries subtree) place all))
 
 -- ---- counts, of a cgroup that is there
 

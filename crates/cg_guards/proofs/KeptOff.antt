@@ -1,23 +1,24 @@
 -- The users of a list before the first who reaches one of some entries.
-use Rattle.std.proofs.Common.{◌≡◌, ℕ, zero, suc, ◌+◌, ◌-◌, ◌<◌, ◌≤◌, Bool, true, false, not, ◌&&◌, cond, List, [], ◌∷◌, ◌++◌, map, length, take, take_all, drop, drop-cons, add-one, get_or, Option, Some, None, is_none, refl, sym, ap, ◌∙◌, subst, arith, option_and_then}
+use Rattle.std.proofs.Common.{◌≡◌, ℕ, ◌+◌, ◌<◌, ◌≤◌, Bool, true, false, not, ◌&&◌, ◌||◌, nat_eq, bit_and, cond, List, [], ◌∷◌, ◌++◌, length, take, take_all, drop, drop-cons, add-one, get_or, Option, Some, None, is_none, refl, sym, ap, ◌∙◌, arith, option_and_then, eqb-true}
+use Rattle.std.specs.Prelude.{slice_get}
 use Rattle.std.specs.List.{flat_map, take_while, prefix_len}
 use Rattle.std.proofs.lemmas.List.Sums.{take_while-cons}
-use Rattle.std.proofs.lemmas.List.Concat.{flat_map-append}
+use Rattle.std.proofs.lemmas.Nat.{and_assoc}
 use Rattle.cg_cgroup.specs.Paths.{Names}
 use Rattle.cg_cgroup.specs.Identity.{Identity}
-use Rattle.cg_cgroup.specs.Users.{reaches}
-use Rattle.cg_cgroup.specs.Cgroups.{entry_in}
+use Rattle.cg_cgroup.specs.Users.{in_group, has_bit, writes, reaches}
 use Rattle.cg_cgroup.specs.declared.user.Entry.{Entry}
-use Rattle.cg_cgroup.specs.declared.files.LimitFile.{LimitFile}
-use Rattle.cg_cgroup.specs.declared.files.EntryName.TheVariants.{SubtreeControl, Dir, File}
-use Rattle.cg_cgroup.specs.declared.cgroup.Cgroup.{Cgroup}
-use Rattle.cg_tree.specs.States.{State, row_at}
-use Rattle.cg_ops.specs.Clauses.{first, present, unless}
-use Rattle.cg_guards.specs.Guards.{Guarded, ancestor, ancestors, limit_file, limit_files, parent_control, parent_dir, guarded_entries, guarded_entry, entry_failures}
+use Rattle.cg_tree.specs.States.{State}
+use Rattle.cg_ops.specs.Clauses.{first, unless}
+use Rattle.cg_guards.specs.Guards.{guarded_entries, entry_failures}
 use Rattle.cg_guards.specs.Limits.{fits_descendants, fits_depth}
-use Rattle.cg_guards.specs.GuardedUsers.{is_spared, is_kept_off, kept_off, is_guarded}
+use Rattle.cg_guards.specs.GuardedUsers.{is_spared, is_alike, is_asked, AreSpared, is_kept_off, kept_off, is_guarded}
+use Rattle.cg_guards.specs.Standing.{standing}
 use Rattle.cg_guards.specs.declared.guard.Failed.{Failed}
 use Rattle.cg_guards.specs.declared.guard.Guard.TheVariants.{AlreadyOver}
+use Rattle.cg_guards.specs.declared.table.GuardedEntry.{GuardedEntry}
+use Rattle.cg_guards.proofs.FirstFailed.{failing, failures_from, failures_turn}
+use Rattle.cg_guards.proofs.TableWalk.{drop_all}
 
 -- ---- the front of a list
 
@@ -55,112 +56,98 @@ module _ {A : Type 0} (p : A → Bool) (xs : List A) (i : ℕ) (x : A) (within :
 pub none_stops : {A : Type 0} (p : A → Bool) (xs : List A) (i : ℕ) → prefix_len p xs ≡ i + prefix_len p (drop i xs) → length xs ≤ i → xs ≡ take_while p xs
 none_stops p xs i far all = sym (take_all (prefix_len p xs) xs (omega (arith, far, all)))
 
+-- ---- entries that the same users reach
+
+-- by the owner, the group and the bits
+abbrev reach : Bool → Bool → Bool → Bool → Bool → Bool
+reach owner member of_owner of_group of_others = cond owner of_owner (cond member of_group of_others) || owner
+
+any_owner : (owner member of_owner other of_group of_others : Bool) → reach owner member of_owner of_group of_others ≡ reach owner member other of_group of_others
+any_owner true member true true of_group of_others = refl
+any_owner true member true false of_group of_others = refl
+any_owner true member false true of_group of_others = refl
+any_owner true member false false of_group of_others = refl
+any_owner false member of_owner other of_group of_others = refl
+
+both_true : (a b : Bool) → a && b ≡ true → (a ≡ true) × (b ≡ true)
+both_true true b h = (refl, h)
+both_true false b h = let never : ⊥ = cc in absurd never
+
+pub alike-reached : (user : Identity) (entry other : Entry) → is_alike entry other ≡ true → reaches user entry ≡ reaches user other
+unfolding writes
+alike-reached user entry other is =
+    any_owner (nat_eq entry.uid user.uid) (in_group user entry.gid) (has_bit entry.mode 128) (has_bit other.mode 128) (has_bit entry.mode 16) (has_bit entry.mode 2)
+    ∙ (λ i. reach (nat_eq (uids i) user.uid) (in_group user (gids i)) (has_bit other.mode 128) (same_bit 16 (and_assoc 16 entry.mode 18) (and_assoc 16 other.mode 18) i) (same_bit 2 (and_assoc 2 entry.mode 18) (and_assoc 2 other.mode 18) i))
+  where
+    parts : ((nat_eq entry.uid other.uid && nat_eq entry.gid other.gid) ≡ true) × (nat_eq (bit_and entry.mode 18) (bit_and other.mode 18) ≡ true)
+    parts = both_true (nat_eq entry.uid other.uid && nat_eq entry.gid other.gid) (nat_eq (bit_and entry.mode 18) (bit_and other.mode 18)) is
+
+    owners : (nat_eq entry.uid other.uid ≡ true) × (nat_eq entry.gid other.gid ≡ true)
+    owners = both_true (nat_eq entry.uid other.uid) (nat_eq entry.gid other.gid) parts.0
+
+    uids : entry.uid ≡ other.uid
+    uids = eqb-true entry.uid other.uid owners.0
+
+    gids : entry.gid ≡ other.gid
+    gids = eqb-true entry.gid other.gid owners.1
+
+    bits : bit_and entry.mode 18 ≡ bit_and other.mode 18
+    bits = eqb-true (bit_and entry.mode 18) (bit_and other.mode 18) parts.1
+
+    same_bit : (bit : ℕ) → bit_and (bit_and entry.mode 18) bit ≡ bit_and entry.mode bit → bit_and (bit_and other.mode 18) bit ≡ bit_and other.mode bit → has_bit entry.mode bit ≡ has_bit other.mode bit
+    same_bit bit one two = ap (λ n. nat_eq n bit) (sym one ∙ ap (λ n. bit_and n bit) bits ∙ two)
+
+pub asked_spares : (before : Option Entry) (entry : Entry) (users : List Identity) → is_asked before entry ≡ true → AreSpared before users → users ≡ take_while (is_spared (Some entry)) users
+asked_spares None entry users is spared = let never : ⊥ = cc in absurd never
+asked_spares (Some before) entry users is spared = sym spared ∙ ap (λ p. take_while p users) (λ i user. not (alike-reached user before entry is i))
+
+pub spared_again : (entry : Option Entry) (users next : List Identity) → next ≡ take_while (is_spared entry) users → AreSpared entry next
+spared_again entry users next is =
+    ap (take_while (is_spared entry)) is ∙ while_both (is_spared entry) (is_spared entry) users ∙ ap (λ p. take_while p users) (λ i user. twice (is_spared entry user) i) ∙ sym is
+  where
+    twice : (b : Bool) → b && b ≡ b
+    twice true = refl
+    twice false = refl
+
+pub none_spared : (users : List Identity) → AreSpared None users
+none_spared users = while_all (is_spared None) users (λ user. refl)
+
 -- ---- one entry after another
 
 none_of_both : {R : Type 0} (xs ys : List R) → is_none (first (xs ++ ys)) ≡ is_none (first xs) && is_none (first ys)
 none_of_both [] ys = refl
 none_of_both (x ∷ xs) ys = refl
 
-pub all_spared : (found : Option Entry) (users : List Identity) → None ≡ found → users ≡ take_while (is_spared found) users
-all_spared found users none = sym (while_all _ users (λ user. refl)) ∙ ap (λ entry. take_while (is_spared entry) users) none
-
-drop_all : {A : Type 0} (xs : List A) (n : ℕ) → length xs ≤ n → drop n xs ≡ []
-drop_all [] zero all = refl
-drop_all [] (suc n) all = refl
-drop_all (x ∷ xs) zero all = absurd (omega (arith, all))
-drop_all (x ∷ xs) (suc n) all = drop_all xs n (omega (arith, all))
-
 module _ (st : State) (subtree : Names) where
-  both_off : (some others : List Guarded) (user : Identity) → is_kept_off st subtree (some ++ others) user ≡ is_kept_off st subtree some user && is_kept_off st subtree others user
-  both_off some others user =
-      ap (λ all. is_none (first all)) (flat_map-append (entry_failures st user subtree) some others)
-      ∙ none_of_both (flat_map (entry_failures st user subtree) some) (flat_map (entry_failures st user subtree) others)
+  -- those kept off the entries from a place on
+  abbrev pub kept_from : ℕ → List Identity → List Identity
+  kept_from place users = kept_off st subtree (drop place (guarded_entries subtree)) users
 
-  pub off_turn : (some others : List Guarded) (users : List Identity) → kept_off st subtree others (kept_off st subtree some users) ≡ kept_off st subtree (some ++ others) users
-  off_turn some others users =
-      while_both (is_kept_off st subtree some) (is_kept_off st subtree others) users
-      ∙ ap (λ p. take_while p users) (λ i user. sym (both_off some others user) i)
+  pub absent_turn : (place : ℕ) (users : List Identity) → None ≡ option_and_then (standing st subtree) (slice_get (guarded_entries subtree) place) → kept_from (place + 1) users ≡ kept_from place users
+  absent_turn place users is = ap (λ p. take_while p users) (λ i user. is_none (first (sym (failures_turn st user subtree place None is) i)))
 
-  -- an entry that isn't there keeps everyone off, and one that is those who don't reach it
-  one_off : (guarded : Guarded) (user : Identity) → is_spared (guarded_entry st subtree guarded) user ≡ is_kept_off st subtree (guarded ∷ []) user
-  one_off guarded user = by_entry (record { guard = guarded.guard; len = guarded.len }) (guarded_entry st subtree guarded)
-    where
-      by_entry : (failed : Failed) (found : Option Entry) → is_spared found user ≡ is_none (first (present found (λ entry. unless (not (reaches user entry)) failed) ++ []))
-      by_entry failed None = refl
-      by_entry failed (Some entry) = elim (reaches user entry) as (λ b. not b ≡ is_none (first (unless (not b) failed ++ []))) [ true ↦ refl | false ↦ refl ]
+  module _ (place : ℕ) (at : GuardedEntry) (is : Some at ≡ option_and_then (standing st subtree) (slice_get (guarded_entries subtree) place)) where
+    one_more : (user : Identity) → is_kept_off st subtree (drop place (guarded_entries subtree)) user ≡ is_spared (Some at.entry) user && is_kept_off st subtree (drop (place + 1) (guarded_entries subtree)) user
+    one_more user =
+        ap (λ failed. is_none (first failed)) (failures_turn st user subtree place (Some at) is)
+        ∙ none_of_both (failing st user subtree at) (failures_from st user subtree (place + 1))
+        ∙ ap (λ b. b && is_kept_off st subtree (drop (place + 1) (guarded_entries subtree)) user) (by_reach (record { guard = at.guard; len = at.len }) (reaches user at.entry))
+      where
+        by_reach : (failed : Failed) (b : Bool) → is_none (first (unless (not b) failed)) ≡ not b
+        by_reach failed true = refl
+        by_reach failed false = refl
 
-  pub entry_off : (guarded : Guarded) (row : Cgroup) (users : List Identity) → Some row ≡ row_at st (take guarded.len subtree) → take_while (is_spared (entry_in row guarded.name)) users ≡ kept_off st subtree (guarded ∷ []) users
-  entry_off guarded row users is =
-      ap (λ found. take_while (is_spared (option_and_then (λ r. entry_in r guarded.name) found)) users) is
-      ∙ ap (λ p. take_while p users) (λ i user. one_off guarded user i)
+    pub entry_turn : (users next : List Identity) → next ≡ take_while (is_spared (Some at.entry)) users → kept_from (place + 1) next ≡ kept_from place users
+    entry_turn users next turned =
+        ap (kept_from (place + 1)) turned
+        ∙ while_both (is_spared (Some at.entry)) (is_kept_off st subtree (drop (place + 1) (guarded_entries subtree))) users
+        ∙ ap (λ p. take_while p users) (λ i user. sym (one_more user) i)
 
-  pub absent_off : (guarded : Guarded) (users : List Identity) → None ≡ row_at st (take guarded.len subtree) → users ≡ kept_off st subtree (guarded ∷ []) users
-  absent_off guarded users none =
-      all_spared (guarded_entry st subtree guarded) users (ap (option_and_then (λ r. entry_in r guarded.name)) none)
-      ∙ ap (λ p. take_while p users) (λ i user. one_off guarded user i)
+  pub walk_end : (place : ℕ) (users : List Identity) → length (guarded_entries subtree) ≤ place → users ≡ kept_from place users
+  walk_end place users all =
+      sym (ap (λ rest. kept_off st subtree rest users) (drop_all (guarded_entries subtree) place all) ∙ while_all (is_kept_off st subtree []) users (λ user. refl))
 
-  -- ---- of a list
-
-  none_off : (users : List Identity) → kept_off st subtree [] users ≡ users
-  none_off users = while_all (is_kept_off st subtree []) users (λ user. refl)
-
-  pub ancestors_turn : (len : ℕ) (users left : List Identity) → 0 < len → left ≡ kept_off st subtree (ancestor (len - 1) ∷ []) users → kept_off st subtree (ancestors (len - 1)) left ≡ kept_off st subtree (ancestors len) users
-  ancestors_turn zero users left low is = absurd (omega arith)
-  ancestors_turn (suc len) users left low is =
-      let e : suc len - 1 ≡ len = omega arith in
-      rw e (ap (kept_off st subtree (ancestors len)) (rw e at is) ∙ off_turn (ancestor len ∷ []) (ancestors len) users)
-
-  pub ancestors_end : (users : List Identity) → users ≡ kept_off st subtree (ancestors 0) users
-  ancestors_end users = sym (none_off users)
-
-  module _ (len : ℕ) where
-    abbrev of_files : List LimitFile → List Guarded
-    of_files files = map (limit_file len) files
-
-    pub files_absent : (files : List LimitFile) (users : List Identity) → None ≡ row_at st (take len subtree) → users ≡ kept_off st subtree (of_files files) users
-    files_absent [] users none = sym (none_off users)
-    files_absent (file ∷ files) users none =
-        files_absent files users none
-        ∙ ap (kept_off st subtree (of_files files)) (absent_off (limit_file len file) users none)
-        ∙ off_turn (limit_file len file ∷ []) (of_files files) users
-
-    pub file_turn : (files : List LimitFile) (i : ℕ) (d : LimitFile) (row : Cgroup) (users left : List Identity) → i < length files → Some row ≡ row_at st (take len subtree)
-        → left ≡ take_while (is_spared (entry_in row (File (get_or files i d)))) users → kept_off st subtree (of_files (drop (i + 1) files)) left ≡ kept_off st subtree (of_files (drop i files)) users
-    file_turn files i d row users left within is turned =
-        ap (λ n. kept_off st subtree (of_files (drop n files)) left) (add-one i)
-        ∙ ap (kept_off st subtree (of_files (drop (suc i) files))) (turned ∙ entry_off (limit_file len (get_or files i d)) row users is)
-        ∙ off_turn (limit_file len (get_or files i d) ∷ []) (of_files (drop (suc i) files)) users
-        ∙ sym (ap (λ rest. kept_off st subtree (of_files rest) users) (drop-cons files i d within))
-
-    pub files_end : (files : List LimitFile) (i : ℕ) (users : List Identity) → length files ≤ i → users ≡ kept_off st subtree (of_files (drop i files)) users
-    files_end files i users all = sym (ap (λ rest. kept_off st subtree (of_files rest) users) (drop_all files i all) ∙ none_off users)
-
-  module _ (len : ℕ) (users : List Identity) (level : len + 1 ≡ length subtree) where
-    upper : len ≡ length subtree - 1
-    upper = omega (arith, level)
-
-    pub parents_absent : None ≡ row_at st (take len subtree) → users ≡ kept_off st subtree (parent_control subtree ∷ parent_dir subtree ∷ []) users
-    parents_absent none =
-        let gone : None ≡ row_at st (take (length subtree - 1) subtree) = subst (λ n. None ≡ row_at st (take n subtree)) upper none in
-        absent_off (parent_dir subtree) users gone
-        ∙ ap (kept_off st subtree (parent_dir subtree ∷ [])) (absent_off (parent_control subtree) users gone)
-        ∙ off_turn (parent_control subtree ∷ []) (parent_dir subtree ∷ []) users
-
-  module _ (len : ℕ) (row : Cgroup) (users : List Identity) (level : len + 1 ≡ length subtree) where
-    pub parents_turn : Some row ≡ row_at st (take len subtree)
-        → take_while (is_spared (entry_in row Dir)) (take_while (is_spared (entry_in row SubtreeControl)) users) ≡ kept_off st subtree (parent_control subtree ∷ parent_dir subtree ∷ []) users
-    parents_turn is =
-        let there : Some row ≡ row_at st (take (length subtree - 1) subtree) = subst (λ n. Some row ≡ row_at st (take n subtree)) (upper len users level) is in
-        ap (take_while (is_spared (entry_in row Dir))) (entry_off (parent_control subtree) row users there)
-        ∙ entry_off (parent_dir subtree) row (kept_off st subtree (parent_control subtree ∷ []) users) there
-        ∙ off_turn (parent_control subtree ∷ []) (parent_dir subtree ∷ []) users
-
-  -- ---- of all
-
-  pub kinds_turn : (users : List Identity) → kept_off st subtree (parent_control subtree ∷ parent_dir subtree ∷ []) (kept_off st subtree (limit_files (length subtree)) (kept_off st subtree (ancestors (length subtree)) users)) ≡ kept_off st subtree (guarded_entries subtree) users
-  kinds_turn users =
-      ap (kept_off st subtree (parent_control subtree ∷ parent_dir subtree ∷ [])) (off_turn (ancestors (length subtree)) (limit_files (length subtree)) users)
-      ∙ off_turn (ancestors (length subtree) ++ limit_files (length subtree)) (parent_control subtree ∷ parent_dir subtree ∷ []) users
+  -- ---- and the limits
 
   abbrev fits : Bool
   fits = fits_descendants st subtree && fits_depth st subtree

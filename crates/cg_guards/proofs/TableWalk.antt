@@ -103,6 +103,12 @@ few_names path h = omega (arith, names_bytes path, path_bytes path h)
 
 -- ---- a walk over the table
 
+pub drop_all : {A : Type 0} (xs : List A) (n : ℕ) → length xs ≤ n → drop n xs ≡ []
+drop_all [] zero all = refl
+drop_all [] (suc n) all = refl
+drop_all (x ∷ xs) zero all = absurd (omega (arith, all))
+drop_all (x ∷ xs) (suc n) all = drop_all xs n (omega (arith, all))
+
 module _ {A : Type 0} (st : State) (subtree : Names) (each : GuardedEntry → List A) where
   abbrev pub of_guarded : Guarded → List A
   of_guarded guarded = present (standing st subtree guarded) each

@@ -1,24 +1,30 @@
 //! For which users of a list the guards of a subtree hold. Nothing is allocated, and what doesn't depend on the user is
 //! asked of the tree once for all of them.
-ghost use Rattle.std.specs.Prelude.{◌≡◌, ◌≤◌, true, false, ◌&&◌, ◌∷◌, [], not, length, map};
+ghost use Rattle.std.specs.Prelude.{◌≡◌, false, Some};
 ghost use Rattle.std.specs.List.{take_while};
 ghost use Rattle.cg_cgroup.specs.Paths.{is_root};
-ghost use Rattle.cg_cgroup.specs.Cgroups.{entry_in};
-ghost use Rattle.cg_guards.specs.Guards.{ancestor, ancestors, limit_file, limit_files, parent_control, parent_dir, guarded_entries};
+ghost use Rattle.cg_guards.specs.Guards.{guarded_entries};
 ghost use Rattle.cg_guards.specs.Guarding.{IsSubtree};
-ghost use Rattle.cg_guards.specs.GuardedUsers.{is_spared, kept_off, is_guarded};
+ghost use Rattle.cg_guards.specs.GuardedUsers.{is_spared, is_alike, is_asked, AreSpared, kept_off, is_guarded};
 
 use crate::failed::{is_over, reaches};
-use cg_cgroup::cgroup::Cgroup;
-use cg_cgroup::files::{EntryName, LimitFile};
+use crate::table::{guarded_count, guarded_entry};
 use cg_cgroup::path::Path;
-use cg_cgroup::user::User;
+use cg_cgroup::user::{Entry, User};
 use cg_tree::hierarchy::Hierarchy;
 
-/// The users before the first for whom a guard of the subtree fails.
-pub fn guarded_users<'a, H: Hierarchy>(tree: &H, users: &'a [User], subtree: &Path) -> &'a [User]
-    requires { IsSubtree (H.state tree.now) subtree.now }
-    ensures { result.now ≡ take_while (is_guarded (H.state tree.now) subtree.now) users.now }
+/// The users before the first for whom a guard of the subtree fails. `asked` holds an entry that none of them reaches, the
+/// last that was asked, so that it isn't asked of them again with the next subtree.
+pub fn guarded_users<'a, H: Hierarchy>(
+    tree: &H,
+    users: &'a [User],
+    asked: &mut Option<Entry>,
+    subtree: &Path,
+) -> &'a [User]
+    requires subtree { IsSubtree (H.state tree.now) subtree.now }
+    requires asked { AreSpared asked.old users.now }
+    ensures users { result.now ≡ take_while (is_guarded (H.state tree.now) subtree.now) users.now }
+    ensures asked { AreSpared asked.new result.now }
 {
     if users.is_empty() {
         return users;
@@ -26,78 +32,59 @@ pub fn guarded_users<'a, H: Hierarchy>(tree: &H, users: &'a [User], subtree: &Pa
     if is_over(tree, subtree) {
         return &users[..0];
     }
-    let users = off_ancestors(tree, users, subtree);
-    let users = off_files(tree, users, subtree, &LimitFile::ALL);
-    off_parent(tree, users, subtree)
+    off_entries(tree, users, asked, subtree)
 }
 
-/// Those before the first who reaches the `cgroup.procs` of a proper ancestor.
-fn off_ancestors<'a, H: Hierarchy>(tree: &H, users: &'a [User], subtree: &Path) -> &'a [User]
-    ensures { result.now ≡ kept_off (H.state tree.now) subtree.now (ancestors (length subtree.now)) users.now }
+/// Those before the first who reaches a guarded entry. Most entries have one owner, so one that is like the last is passed
+/// over.
+fn off_entries<'a, H: Hierarchy>(
+    tree: &H,
+    users: &'a [User],
+    asked: &mut Option<Entry>,
+    subtree: &Path,
+) -> &'a [User]
+    requires subtree { is_root subtree.now ≡ false }
+    requires asked { AreSpared asked.old users.now }
+    ensures users { result.now ≡ kept_off (H.state tree.now) subtree.now (guarded_entries subtree.now) users.now }
+    ensures asked { AreSpared asked.new result.now }
 {
     let mut left = users;
-    for len in (0..subtree.depth()).rev() {
-        left = off_ancestor(tree, left, subtree, len);
+    for place in 0..guarded_count(subtree) {
+        let Some(at) = guarded_entry(tree, subtree, place) else {
+            continue;
+        };
+        if is_asked(*asked, &at.entry) {
+            continue;
+        }
+        left = off_entry(left, &at.entry);
+        *asked = Some(at.entry);
     }
     left
 }
 
-/// Those before the first who reaches the `cgroup.procs` of the first `len` names.
-fn off_ancestor<'a, H: Hierarchy>(
-    tree: &H,
-    users: &'a [User],
-    subtree: &Path,
-    len: usize,
-) -> &'a [User]
-    requires { len ≤ length subtree.now }
-    ensures { result.now ≡ kept_off (H.state tree.now) subtree.now (ancestor len ∷ []) users.now }
+/// Whether an entry is like the one that was asked before, where there is one.
+fn is_asked(before: Option<Entry>, entry: &Entry) -> bool
+    ensures { result ≡ is_asked before entry.now }
 {
-    match tree.get(subtree, len) {
-        Some(cgroup) => off_entry(cgroup, users, EntryName::Procs),
-        None => users,
+    match before {
+        Some(before) => is_alike(&before, entry),
+        None => false,
     }
 }
 
-/// Those before the first who reaches one of these limit files of the subtree.
-fn off_files<'a, H: Hierarchy>(
-    tree: &H,
-    users: &'a [User],
-    subtree: &Path,
-    files: &[LimitFile],
-) -> &'a [User]
-    ensures { result.now ≡ kept_off (H.state tree.now) subtree.now (map (limit_file (length subtree.now)) files.now) users.now }
+/// Whether two entries are reached by the same users.
+fn is_alike(entry: &Entry, other: &Entry) -> bool
+    ensures { result ≡ is_alike entry.now other.now }
 {
-    let Some(cgroup) = tree.get(subtree, subtree.depth()) else {
-        return users;
-    };
-    let mut left = users;
-    for file in files {
-        left = off_entry(cgroup, left, EntryName::File(*file));
-    }
-    left
+    entry.uid == other.uid && entry.gid == other.gid && entry.mode & 0o022 == other.mode & 0o022
 }
 
-/// Those before the first who reaches the parent's `cgroup.subtree_control` or directory.
-fn off_parent<'a, H: Hierarchy>(tree: &H, users: &'a [User], subtree: &Path) -> &'a [User]
-    requires { is_root subtree.now ≡ false }
-    ensures { result.now ≡ kept_off (H.state tree.now) subtree.now (parent_control subtree.now ∷ parent_dir subtree.now ∷ []) users.now }
+/// Those before the first who reaches an entry.
+fn off_entry<'a>(users: &'a [User], entry: &Entry) -> &'a [User]
+    ensures { result.now ≡ take_while (is_spared (Some entry.now)) users.now }
 {
-    let Some(parent) = tree.get(subtree, subtree.parent_len()) else {
-        return users;
-    };
-    let users = off_entry(parent, users, EntryName::SubtreeControl);
-    off_entry(parent, users, EntryName::Dir)
-}
-
-/// Those before the first who reaches an entry of a cgroup.
-fn off_entry<'a>(cgroup: &Cgroup, users: &'a [User], name: EntryName) -> &'a [User]
-    ensures { result.now ≡ take_while (is_spared (entry_in cgroup.now name)) users.now }
-{
-    let Some(entry) = cgroup.entry(name) else {
-        return users;
-    };
     for (place, user) in users.iter().enumerate() {
-        if reaches(user, &entry) {
+        if reaches(user, entry) {
             return &users[..place];
         }
     }

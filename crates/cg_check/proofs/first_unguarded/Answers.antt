@@ -1,13 +1,34 @@
-use Rattle.std.proofs.Common.{rules}
-use Rattle.cg_check.proofs.FirstUnguarded.{below_found, below_kept}
+use Rattle.cg_guards.specs.GuardedUsers.{is_guarded}
+use Rattle.cg_guards.proofs.KeptOff.{none_spared}
+use Rattle.cg_check.proofs.FirstUnguarded.{below_start, below_end, below_found, below_kept, all_left}
 use Rattle.cg_check.proofs.Pairs.{subtree_at}
 use Rattle.cg_check.proofs.first_unguarded.Goals as goal
 
-pub guarded_users-left-requires : goal.guarded_users-left-requires
-guarded_users-left-requires g c = search (rules, subtree_at)
+pub loop-place-init : goal.loop-place-init
+loop-place-init g c = record { below = below_start (g.H.Hierarchy.state c.args.tree.now) c.args.users.now c.args.subtrees.now; asked = none_spared c.args.users.now }
+
+pub guarded_users-left-requires-clause-subtree : goal.guarded_users-left-requires-clause-subtree
+guarded_users-left-requires-clause-subtree g c =
+    subtree_at (g.H.Hierarchy.state c.args.tree.now) c.args.subtrees.now c.loop-place.place c.index-subtrees-place.result c.loop-place-test.true c.index-subtrees-place.is c.requires.there
 
 pub loop-place-preserved-then-left-guarded : goal.loop-place-preserved-then-left-guarded
-loop-place-preserved-then-left-guarded g c = search below_kept
+loop-place-preserved-then-left-guarded g c = record {
+  below =
+      below_kept (g.H.Hierarchy.state c.args.tree.now) c.args.users.now c.args.subtrees.now c.loop-place.place c.index-subtrees-place.result c.loop-place.guarded.now c.guarded_users-left.result.now c.loop-place.found
+      c.loop-place-test.true c.index-subtrees-place.is c.guarded_users-left.ensures.users c.loop-place.invariant.below c.if-left-guarded.true;
+  asked =
+      all_left (is_guarded (g.H.Hierarchy.state c.args.tree.now) c.index-subtrees-place.result) c.guarded_users-left.new.asked c.loop-place.guarded.now c.guarded_users-left.result.now
+      c.guarded_users-left.ensures.users c.if-left-guarded.true c.guarded_users-left.ensures.asked;
+}
 
 pub loop-place-preserved : goal.loop-place-preserved
-loop-place-preserved g c = search below_found
+loop-place-preserved g c = record {
+  below =
+      below_found (g.H.Hierarchy.state c.args.tree.now) c.args.users.now c.args.subtrees.now c.loop-place.place c.index-subtrees-place.result c.loop-place.guarded.now c.guarded_users-left.result.now c.loop-place.found
+      c.loop-place-test.true c.index-subtrees-place.is c.guarded_users-left.ensures.users c.loop-place.invariant.below c.if-left-guarded.false;
+  asked = c.guarded_users-left.ensures.asked;
+}
+
+pub returns : goal.returns
+returns g c =
+    below_end (g.H.Hierarchy.state c.args.tree.now) c.args.users.now c.args.subtrees.now c.loop-place.place c.loop-place.guarded.now c.loop-place.found c.loop-place.auto.place-end c.loop-place-test.false c.loop-place.invariant.below

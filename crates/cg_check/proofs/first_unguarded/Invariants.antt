@@ -1,5 +1,9 @@
+use Rattle.cg_guards.specs.GuardedUsers.{AreSpared}
 use Rattle.cg_check.proofs.FirstUnguarded.{IsBelow}
 use Rattle.cg_check.proofs.first_unguarded.Given as goal
 
 abbrev pub invariant-loop-place : goal.invariant-loop-place
-invariant-loop-place g l = IsBelow (g.H.Hierarchy.state l.tree) l.fn.users l.subtrees l.place l.guarded l.found
+invariant-loop-place g l = record {
+  below : IsBelow (g.H.Hierarchy.state l.tree) l.fn.users l.subtrees l.place l.guarded l.found;
+  asked : AreSpared l.asked l.guarded;
+}

@@ -1,10 +1,14 @@
 use Rattle.std.proofs.Common.{◌≡◌, drop}
 use Rattle.std.specs.List.{take_while}
+use Rattle.cg_guards.specs.GuardedUsers.{AreSpared}
 use Rattle.cg_check.specs.Listed.{is_guarded_of_all}
 use Rattle.cg_check.proofs.from_first_unguarded.Given as goal
 
--- those left, as far as the guards of the subtrees still to come hold, are those for whom the guards of all hold
+-- those left, as far as the guards of the subtrees still to come hold, are those for whom the guards of all hold; none of them reaches the entry asked last
 abbrev pub invariant-loop-subtree : goal.invariant-loop-subtree
-invariant-loop-subtree g l =
-    take_while (is_guarded_of_all (g.H.Hierarchy.state l.tree) (drop l.subtree-index l.subtrees)) l.left
-    ≡ take_while (is_guarded_of_all (g.H.Hierarchy.state l.tree) l.subtrees) l.users
+invariant-loop-subtree g l = record {
+  left :
+      take_while (is_guarded_of_all (g.H.Hierarchy.state l.tree) (drop l.subtree-index l.subtrees)) l.left
+      ≡ take_while (is_guarded_of_all (g.H.Hierarchy.state l.tree) l.subtrees) l.users;
+  asked : AreSpared l.asked l.left;
+}

@@ -1,14 +1,21 @@
-use Rattle.std.proofs.Common.{◌∙◌}
-use Rattle.cg_guards.specs.Guards.{entry_failures}
-use Rattle.cg_guards.proofs.FirstFailed.{second_fails, third_decides}
+use Rattle.std.proofs.Common.{sym, ◌∙◌, arith}
+use Rattle.cg_guards.proofs.FirstFailed.{none_fails, here_fails, here_holds, none_left}
 use Rattle.cg_guards.proofs.failed.failed_entry.Goals as goal
 
-pub returns-in-Some-failed_file : goal.returns-in-Some-failed_file
-returns-in-Some-failed_file g c =
-    let failures = entry_failures (g.H.Hierarchy.state c.args.tree.now) c.args.user.now c.args.subtree.now in
-    second_fails failures c.args.subtree.now _ c.in_default.ensures c.in-Some-failed_file.ensures
+pub loop-place-preserved-in_default : goal.loop-place-preserved-in_default
+loop-place-preserved-in_default g c =
+    none_fails (g.H.Hierarchy.state c.args.tree.now) c.args.user.now c.args.subtree.now c.loop-place.place c.in_default.ensures.entry ∙ c.loop-place.invariant
+
+pub loop-place-preserved : goal.loop-place-preserved
+loop-place-preserved g c =
+    here_holds (g.H.Hierarchy.state c.args.tree.now) c.args.user.now c.args.subtree.now c.loop-place.place c.in-Some.at c.in-Some.ensures.entry (sym c.reaches.ensures ∙ c.if-reaches.false)
+    ∙ c.loop-place.invariant
+
+pub returns-then-reaches : goal.returns-then-reaches
+returns-then-reaches g c =
+    here_fails (g.H.Hierarchy.state c.args.tree.now) c.args.user.now c.args.subtree.now c.loop-place.place c.in-Some.at c.in-Some.ensures.entry (sym c.reaches.ensures ∙ c.if-reaches.true)
+    ∙ c.loop-place.invariant
 
 pub returns : goal.returns
 returns g c =
-    let failures = entry_failures (g.H.Hierarchy.state c.args.tree.now) c.args.user.now c.args.subtree.now in
-    c.failed_parent.ensures ∙ third_decides failures c.args.subtree.now c.in_default.ensures c.in_default-failed_file.ensures
+    none_left (g.H.Hierarchy.state c.args.tree.now) c.args.user.now c.args.subtree.now c.loop-place.place (omega (arith, c.guarded_count-place-end.ensures, c.loop-place-test.false)) ∙ c.loop-place.invariant

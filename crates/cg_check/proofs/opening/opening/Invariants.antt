@@ -1,0 +1,8 @@
+use Rattle.std.proofs.Common.{◌≡◌, ◌++◌}
+use Rattle.cg_tries.specs.Tries.{opening}
+use Rattle.cg_check.proofs.Escaping.{opening_from}
+use Rattle.cg_check.proofs.opening.opening.Given as goal
+
+-- with those of the entries that are still to come, all
+abbrev pub invariant-loop-place : goal.invariant-loop-place
+invariant-loop-place g l = l.chmods ++ opening_from (g.H.Hierarchy.state l.tree) l.user l.subtree l.place ≡ opening (g.H.Hierarchy.state l.tree) l.user l.subtree

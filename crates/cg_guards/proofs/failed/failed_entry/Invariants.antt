@@ -1,0 +1,12 @@
+use Rattle.std.proofs.Common.{◌≡◌}
+use Rattle.std.specs.List.{flat_map}
+use Rattle.cg_ops.specs.Clauses.{first}
+use Rattle.cg_guards.specs.Guards.{guarded_entries, entry_failures}
+use Rattle.cg_guards.proofs.FirstFailed.{failures_from}
+use Rattle.cg_guards.proofs.failed.failed_entry.Given as goal
+
+-- the first failure of the entries that are still to come is that of all
+abbrev pub invariant-loop-place : goal.invariant-loop-place
+invariant-loop-place g l =
+    first (failures_from (g.H.Hierarchy.state l.tree) l.user l.subtree l.place)
+    ≡ first (flat_map (entry_failures (g.H.Hierarchy.state l.tree) l.user l.subtree) (guarded_entries l.subtree))

@@ -1,0 +1,12 @@
+use Rattle.std.proofs.Common.{◌≡◌}
+use Rattle.cg_guards.specs.Guards.{guarded_entries}
+use Rattle.cg_guards.specs.GuardedUsers.{AreSpared, kept_off}
+use Rattle.cg_guards.proofs.KeptOff.{kept_from}
+use Rattle.cg_guards.proofs.users.off_entries.Given as goal
+
+-- those left, kept off the entries that are still to come, are those kept off all; none of them reaches the one asked last
+abbrev pub invariant-loop-place : goal.invariant-loop-place
+invariant-loop-place g l = record {
+  off : kept_from (g.H.Hierarchy.state l.tree) l.subtree l.place l.left ≡ kept_off (g.H.Hierarchy.state l.tree) l.subtree (guarded_entries l.subtree) l.fn.users;
+  asked : AreSpared l.asked l.left;
+}
