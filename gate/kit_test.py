@@ -20,7 +20,7 @@ class KitTest(unittest.TestCase):
         with open(f"{checkout.played}/tools/rt", "w", encoding="ascii") as tool:
             tool.write(TOOL)
         for words in (["verify"], ["gate/proofs", f"{checkout.room}/kept"], ["gate/edits"], ["gate/tests"],
-                      ["gate/trials"]):
+                      ["gate/trials"], ["gate/from_nothing", "zirofen"]):
             with self.subTest(words[0]):
                 ended = subprocess.run([f"{TOP}/{words[0]}", *words[1:]], cwd=TOP, env=checkout.environment, text=True,
                                        capture_output=True)

@@ -3,8 +3,9 @@
 
   gate/passed.py sums            writes the sums of the crates as they are
   gate/passed.py note FILE       notes these sums: what has them passed
-  gate/passed.py changed         the crates whose edits may answer otherwise than then, a line each: those that changed, and
-                                 those above a crate whose statements did. The status is 1 where nothing was noted
+  gate/passed.py changed         the crates whose edits may answer otherwise than then, a line each: of those that have edits
+                                 those that changed, and those above a crate whose statements did. The status is 1 where
+                                 nothing was noted
 
 A crate's statements are its specs/ and what its code has outside of functions' bodies. That a body is proved depends on the
 statements below it and on nothing else there.
@@ -57,6 +58,10 @@ def changed(noted, sums, uses):
     return [name for name in sums if name in differs or (crates.below(uses, name) - {name}) & restated]
 
 
+def with_edits(folder, names):
+    return [name for name in names if files_of(f"{folder}/crates/{name}", "must-fail")]
+
+
 def main(words):
     if words == ["sums"]:
         print(json.dumps(all_sums(TOP), indent=1))
@@ -68,7 +73,8 @@ def main(words):
     elif not os.path.exists(NOTED):
         return 1
     else:
-        print(*changed(json.loads(text_of(NOTED)), all_sums(TOP), crates.read(TOP)), sep="\n")
+        names = changed(json.loads(text_of(NOTED)), all_sums(TOP), crates.read(TOP))
+        print(*with_edits(TOP, names), sep="\n")
     return 0
 
 

@@ -55,6 +55,10 @@ class PassedTest(unittest.TestCase):
         self.write("low/specs/Lib.antt", "other")
         self.assertEqual(self.changed(), ["low", "middle", "beside", "high"])
 
+    def test_crates_without_edits_have_none_to_try(self):
+        self.write("beside/must-fail/one.edit", "")
+        self.assertEqual(passed.with_edits(self.top, ["low", "beside", "high"]), ["beside"])
+
     def test_a_crate_that_came(self):
         del self.noted["beside"]
         self.assertEqual(self.changed(), ["beside"])

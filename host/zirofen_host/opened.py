@@ -1,6 +1,6 @@
 """Limits that somebody sets at a cgroup that isn't his: seen by the helper on the host, and not proved.
 
-The answers speak of the eight limit files of a tree text at subtrees that are asked of. Everything else by which something
+The answers speak of the limit files of a tree text at subtrees that are asked of. Everything else by which something
 is set is looked at here.
 """
 from collections import namedtuple
@@ -46,7 +46,7 @@ class Openings:
         return found
 
     def is_looked_at(self, path, name, entry):
-        """What is handed over is asked of below the root, and the eight limit files are where the subtree is."""
+        """What is handed over is asked of below the root, and the limit files are where the subtree is."""
         if name in HANDED_OVER:
             return path == "/"
         if name in LIMIT_FILES:

@@ -45,10 +45,10 @@ get-ancestors zero k h = absurd (omega arith)
 get-ancestors (suc len) zero h = let e : suc len - 1 - 0 ≡ len = omega arith in rw e refl
 get-ancestors (suc len) (suc k) h = let e : suc len - 1 - suc k ≡ len - 1 - k = omega arith in rw e (get-ancestors len k (omega arith))
 
-pub guarded_length : (subtree : Names) → length (guarded_entries subtree) ≡ length subtree + 8 + 2
+pub guarded_length : (subtree : Names) → length (guarded_entries subtree) ≡ length subtree + length all_files + 2
 guarded_length subtree =
     length-append (ancestors (length subtree) ++ limit_files (length subtree)) (parent_control subtree ∷ parent_dir subtree ∷ [])
-    ∙ ap (λ n. n + 2) (length-append (ancestors (length subtree)) (limit_files (length subtree)) ∙ ap (λ n. n + 8) (length-ancestors (length subtree)))
+    ∙ ap (λ n. n + 2) (length-append (ancestors (length subtree)) (limit_files (length subtree)) ∙ ap (λ n. n + length all_files) (length-ancestors (length subtree)))
 
 module _ (subtree : Names) (place : ℕ) where
   abbrev above : List Guarded
@@ -57,8 +57,8 @@ module _ (subtree : Names) (place : ℕ) where
   abbrev last_two : List Guarded
   last_two = parent_control subtree ∷ parent_dir subtree ∷ []
 
-  above-length : length above ≡ length subtree + 8
-  above-length = length-append (ancestors (length subtree)) (limit_files (length subtree)) ∙ ap (λ n. n + 8) (length-ancestors (length subtree))
+  above-length : length above ≡ length subtree + length all_files
+  above-length = length-append (ancestors (length subtree)) (limit_files (length subtree)) ∙ ap (λ n. n + length all_files) (length-ancestors (length subtree))
 
   module _ (depth : ℕ) (level : depth ≡ length subtree) where
     pub ancestor_at : place < depth → Some (ancestor (depth - 1 - place)) ≡ slice_get (guarded_entries subtree) place
@@ -70,7 +70,7 @@ module _ (subtree : Names) (place : ℕ) where
         ∙ get_front (ancestors (length subtree)) (limit_files (length subtree)) place (omega (arith, e, level, h))
         ∙ get-ancestors (length subtree) place (omega (arith, level, h)))
 
-    pub file_at : (d : LimitFile) → depth ≤ place → place - depth < 8 → Some (limit_file depth (get_or all_files (place - depth) d)) ≡ slice_get (guarded_entries subtree) place
+    pub file_at : (d : LimitFile) → depth ≤ place → place - depth < length all_files → Some (limit_file depth (get_or all_files (place - depth) d)) ≡ slice_get (guarded_entries subtree) place
     file_at d low high =
         let e = length-ancestors (length subtree) in
         let f = above-length in
@@ -81,11 +81,11 @@ module _ (subtree : Names) (place : ℕ) where
         ∙ slice_get-map (limit_file (length subtree)) all_files (place - length subtree)
         ∙ ap (option_map (limit_file (length subtree))) (slice_get-get_or all_files (place - length subtree) d (omega (arith, level, low, high))))
 
-    pub parent_at : depth ≤ place → 8 ≤ place - depth → slice_get (parent_guards (depth - 1)) (place - depth - 8) ≡ slice_get (guarded_entries subtree) place
+    pub parent_at : depth ≤ place → length all_files ≤ place - depth → slice_get (parent_guards (depth - 1)) (place - depth - length all_files) ≡ slice_get (guarded_entries subtree) place
     parent_at low high =
         let f = above-length in
-        let g : place - length above ≡ place - length subtree - 8 = omega (arith, f) in
-        ap (λ n. slice_get (parent_guards (n - 1)) (place - n - 8)) level
+        let g : place - length above ≡ place - length subtree - length all_files = omega (arith, f) in
+        ap (λ n. slice_get (parent_guards (n - 1)) (place - n - length all_files)) level
         ∙ sym (get_back above last_two place (omega (arith, f, level, low, high)) ∙ ap (slice_get last_two) g)
 
 -- an entry of a well-formed tree has a mode

@@ -68,7 +68,8 @@ fn spot_at(subtree: &Path, place: usize) -> Option<Spot>
         });
     }
     let below = place - depth;
-    if below < LimitFile::ALL.len() {
+    let files = LimitFile::ALL.len();
+    if below < files {
         let file = LimitFile::ALL[below];
         return Some(Spot {
             guard: Guard::LimitFile(file),
@@ -76,7 +77,7 @@ fn spot_at(subtree: &Path, place: usize) -> Option<Spot>
             name: EntryName::File(file),
         });
     }
-    parent_spot(depth - 1, below - LimitFile::ALL.len())
+    parent_spot(depth - 1, below - files)
 }
 
 /// The guards on the entries of the subtree's parent: its `cgroup.subtree_control` and its directory.

@@ -1,4 +1,5 @@
-use Rattle.std.proofs.Common.{◌+◌, sym, ap, ◌∙◌, arith}
+use Rattle.std.proofs.Common.{◌+◌, length, sym, ap, ◌∙◌, arith}
+use Rattle.cg_cgroup.specs.Files.{all_files}
 use Rattle.cg_guards.proofs.TableWalk.{few_names, guarded_length}
 use Rattle.cg_guards.proofs.table.guarded_count.Goals as goal
 
@@ -9,4 +10,4 @@ pub overflow_add-result-2 : goal.overflow_add-result-2
 overflow_add-result-2 c = omega (arith, few_names c.args.subtree.now c.depth.ensures.path, c.depth.ensures.depth)
 
 pub returns : goal.returns
-returns c = ap (λ n. n + 8 + 2) c.depth.ensures.depth ∙ sym (guarded_length c.args.subtree.now)
+returns c = ap (λ n. n + length all_files + 2) c.depth.ensures.depth ∙ sym (guarded_length c.args.subtree.now)

@@ -5,9 +5,9 @@ use Rattle.cg_guards.proofs.table.spot_at.Goals as goal
 pub returns-then-place-depth-clause-entry : goal.returns-then-place-depth-clause-entry
 returns-then-place-depth-clause-entry c = ancestor_at c.args.subtree.now c.args.place c.depth-depth.result c.depth-depth.ensures.depth c.if-place-depth.true
 
-pub returns-then-below-lt8-clause-entry : goal.returns-then-below-lt8-clause-entry
-returns-then-below-lt8-clause-entry c = file_at c.args.subtree.now c.args.place c.depth-depth.result c.depth-depth.ensures.depth _ c.if-place-depth.false c.if-below-lt8.true
+pub returns-then-below-files-clause-entry : goal.returns-then-below-files-clause-entry
+returns-then-below-files-clause-entry c = file_at c.args.subtree.now c.args.place c.depth-depth.result c.depth-depth.ensures.depth _ c.if-place-depth.false c.if-below-files.true
 
 pub returns-clause-entry : goal.returns-clause-entry
 returns-clause-entry c =
-    c.parent_spot.ensures.entry ∙ parent_at c.args.subtree.now c.args.place c.depth-depth.result c.depth-depth.ensures.depth c.if-place-depth.false c.if-below-lt8.false
+    c.parent_spot.ensures.entry ∙ parent_at c.args.subtree.now c.args.place c.depth-depth.result c.depth-depth.ensures.depth c.if-place-depth.false c.if-below-files.false
