@@ -5,3 +5,4 @@ pub mod StateBack
 pub mod IdLaws
 pub mod Depths
 pub mod TextBack
+pub mod ReadCarried

@@ -23,7 +23,7 @@ text_back text st parsed kept carried short = record {
   tree = state_back st kept carried;
 }
 
-fits : (n m : ℕ) → nat_le n m ≡ true → n ≤ m
+pub fits : (n m : ℕ) → nat_le n m ≡ true → n ≤ m
 fits n m is = grind (arith, nat_tests)
 
 passes : (n m : ℕ) → nat_le n m ≡ false → m < n

@@ -31,3 +31,9 @@ pub fn texts_are_of_their_trees()
     ensures { (text : List ℕ) (st : State) → document_of text ≡ Some (tree_document st) → IsKept st → IsCarried st
         → length text ≤ longest_text → tree_of text ≡ Ok st }
 {}
+
+/// What a text says can be carried by a text: no more cgroups and processes than that may have, and no PID was used but those of
+/// its processes.
+pub fn read_trees_are_carried()
+    ensures { (text : List ℕ) (st : State) → tree_of text ≡ Ok st → IsCarried st }
+{}

@@ -32,11 +32,11 @@ short_of : (b : Bool) (read : Result State TreeFault) (st : State) → cond b re
 short_of true read st is = (refl, is)
 short_of false read st is = cc
 
-bind_ok : {A B : Type 0} (read : Result A TreeFault) (next : A → Result B TreeFault) (y : B) → bind read next ≡ Ok y → (x : A) × (read ≡ Ok x) × (next x ≡ Ok y)
+pub bind_ok : {A B : Type 0} (read : Result A TreeFault) (next : A → Result B TreeFault) (y : B) → bind read next ≡ Ok y → (x : A) × (read ≡ Ok x) × (next x ≡ Ok y)
 bind_ok (Ok x) next y is = (x, refl, is)
 bind_ok (Err fault) next y is = cc
 
-state_or_ok : (fault : Option TreeFault) (said st : State) → state_or fault said ≡ Ok st → (fault ≡ None) × (said ≡ st)
+pub state_or_ok : (fault : Option TreeFault) (said st : State) → state_or fault said ≡ Ok st → (fault ≡ None) × (said ≡ st)
 state_or_ok None said st is = (refl, cc)
 state_or_ok (Some fault) said st is = cc
 

@@ -1,0 +1,153 @@
+"""The trees that gate/upgrades writes anew beside those of examples/, and what it asks of each tree and of what was written.
+
+host/ has to be on the path.
+"""
+import collections
+import itertools
+
+from device_rows import ANSWERS, ASKED, FAULTS
+from trial_rows import CHECKS, REPLAYS, lines
+from zirofen_host.profile import CONTROLLERS, CONTROL_FILES, LIMIT_FILES, LONGEST_PATH, MOST_GROUPS, accepts
+from zirofen_host.tree import Row, Tree, tree_text
+from zirofen_host.users import Entry
+
+# a command's words, on the tree that is standard input; where OPS stands in them, the file of these operations
+Asked = collections.namedtuple("Asked", "words operations")
+OPS = "OPS"
+
+NAME_BYTES = "".join(map(chr, range(0x21, 0x7F))).replace("/", "")
+LARGEST_ID, LARGEST_PID, LARGEST_MODE = 2**32 - 1, 4194303, 0o777
+GROUP_WRITES = 0o020
+STRANGER = 4242
+SOME_USERS, SOME_PATHS, SOME_PIDS = 3, 4, 3
+
+
+# ---- trees at the edges of what a text can say
+
+def owned(path, uid, gid=0, mode=0o644, **more):
+    """A cgroup whose directory and control files are of one owner, group and mode."""
+    return Row(path, Entry(uid, gid, mode | 0o111), {name: Entry(uid, gid, mode) for name in CONTROL_FILES}, **more)
+
+
+def tree_of(rows, processes=()):
+    return Tree(CONTROLLERS, {row.path: row for row in rows}, [*processes])
+
+
+def named():
+    """Each allowed byte as a name where it is one, all of them in one name, the longest name and the longest path."""
+    paths = [f"/{name}" for name in (*NAME_BYTES.replace(".", ""), NAME_BYTES, "n" * 255)]
+    chain = ["/" + "/".join(("d" * 255,) * depth) for depth in range(1, 16)]
+    paths += [*chain, chain[-1] + "/" + "e" * (LONGEST_PATH - len(chain[-1]) - 1)]
+    processes = [(pid, 1000, path) for pid, path in enumerate(paths, 1)]
+    return tree_of([Row("/"), *(owned(path, 1000) for path in paths)], processes)
+
+
+def bound(file, bounds):
+    """The first of some values that a file accepts, else its default."""
+    return next((value for value in bounds if accepts(file, value)), LIMIT_FILES[file][1])
+
+
+def limited():
+    """Cgroups with every limit file at the least value, at the largest, at `max` and with what it has by default."""
+    rows = [Row("/", enabled=CONTROLLERS)]
+    for name, bounds in (("least", (0, 1)), ("most", (2**63 - 1, 10000)), ("max", ("max",)), ("default", ())):
+        rows.append(owned(f"/{name}", 1000, values={file: bound(file, bounds) for file in LIMIT_FILES} if bounds else {}))
+        rows.append(owned(f"/{name}/in", 1000))
+    return tree_of(rows, [(1, 1000, "/least/in"), (LARGEST_PID, 1000, "/most")])
+
+
+def grouped():
+    """Owners and groups at their bounds, in all pairs; the group writes."""
+    ids = (0, 1, 2**31, LARGEST_ID)
+    rows = [owned(f"/{uid}-{gid}", uid, gid, 0o664) for uid, gid in itertools.product(ids, ids)]
+    return tree_of([owned("/", 0, LARGEST_ID, 0o664), *rows], [(pid, uid, "/0-1") for pid, uid in enumerate(ids, 1)])
+
+
+def with_modes(allowed):
+    """Every allowed mode, of a directory and of both control files by turns."""
+    modes = [mode for mode in range(LARGEST_MODE + 1) if allowed(mode)]
+    rows = [Row("/")]
+    for at in range(0, len(modes), 3):
+        directory, *files = (modes[at:at + 3] * 3)[:3]
+        rows.append(Row(f"/m{at}", Entry(1000, 0, directory), {name: Entry(1000, 0, it) for name, it in zip(CONTROL_FILES, files)}))
+    return tree_of(rows, [(1, 1000, "/m0"), (2, 1001, "/")])
+
+
+def edge_trees():
+    """Each text with what it is."""
+    one = "format = 1\ncontrollers = []\ncgroup = [{ path = '/' }]\n"
+    yield "a root alone", one
+    yield "a root alone, no processes", one + "process = []\n"
+    yield "a root alone that enables all", tree_text(tree_of([Row("/", enabled=CONTROLLERS)], [(1, 0, "/")]), [])
+    yield "no processes", tree_text(tree_of([Row("/"), owned("/a", 1000), owned("/a/b", 1000)]), [])
+    for name, tree in (("names", named()), ("limits", limited()), ("modes", with_modes(lambda mode: not mode & GROUP_WRITES))):
+        text = tree_text(tree, [])
+        yield f"{name}, format 2", text
+        yield f"{name}, format 1", text.replace("format = 2", "format = 1", 1)
+    yield "groups", tree_text(grouped(), [])
+    yield "all modes", tree_text(with_modes(lambda mode: True), [])
+
+
+# ---- what is asked of a tree
+
+def some(things, most):
+    """At most so many of some things, from the first to the last."""
+    step = max(1, -(-(len(things) - 1) // max(1, most - 1)))
+    return [*dict.fromkeys([*things[::step], *things[-1:]])][:most]
+
+
+def users_of(tree):
+    """Some who own something, the last of them with all groups too, and a stranger, each as uid and gids."""
+    entries = [row.entry(name) for row in tree.rows.values() for name in ("dir", *row.files)]
+    uids = some(sorted({entry.uid for entry in entries} - {0}), SOME_USERS) or [STRANGER - 1]
+    gids = tuple(sorted({entry.gid for entry in entries}))[:MOST_GROUPS]
+    return [*((uid, ()) for uid in uids), (uids[-1], gids), (STRANGER, gids[-1:])]
+
+
+def operations(tree, paths, pids):
+    """Every operation at some cgroups, of some processes."""
+    free = next(pid for pid in range(LARGEST_PID, 0, -1) if pid not in {each[0] for each in tree.processes})
+    said = []
+    for path in paths:
+        inside = f"{path.rstrip('/')}/probe"
+        said += [f"chmod {path} {entry} 700" for entry in ("dir", *CONTROL_FILES)]
+        said += [f"mkdir {inside}", f"mkdir {inside}/in", f"control {path} +memory +pids -cpu", f"rmdir {inside}/in"]
+        said += [f"set {at} {file} {value}" for at in (path, inside) for file in LIMIT_FILES for value in ("max", 7)]
+        said += [f"move {pid} {at}" for pid in pids for at in (inside, path)] + [f"rmdir {inside}"]
+    said += [f"fork {pid} {free}" for pid in pids] + [f"exit {pid}" for pid in (*pids, free)]
+    return "".join(f"{line}\n" for line in said)
+
+
+def asked_of_all(tree):
+    """Every command, of some users about some cgroups and processes of a tree."""
+    paths = some([path for path in tree.rows if path != "/"], SOME_PATHS)
+    pids = some([each[0] for each in tree.processes], SOME_PIDS)
+    users, script = users_of(tree), operations(tree, ["/", *paths], pids)
+    listed = [word for uid, gids in users for word in ("--uid", ":".join([str(uid), ",".join(map(str, gids))]).rstrip(":"))]
+    for uid, gids in users:
+        user = ["--uid", str(uid), *(word for gid in gids for word in ("--gid", str(gid)))]
+        for path in paths:
+            yield Asked(["check", *user, "--subtree", path], "")
+            yield Asked(["advise", *user, "--subtree", path], "")
+        for pid, path in zip(itertools.cycle(pids), ["/", *paths] if pids else ()):
+            yield Asked(["may", *user, "--pid", str(pid), "--to", path], "")
+        yield Asked(["replay", *user, "--ops", OPS], script)
+        for path in some(paths, 2):
+            yield Asked(["replay", *user, "--ops", OPS, "--subtree", path], script)
+    subtrees = [word for path in paths or ["/"] for word in ("--subtree", path)]
+    yield Asked(["audit", *listed, *subtrees], "")
+    yield Asked(["audit", "--all", *listed, *subtrees], "")
+
+
+def asked_of(example, files):
+    """What the other tables of the gate ask of an example, whose files of operations have these names."""
+    rows = [words for tree, words, *_ in (*ANSWERS, *ASKED) if tree == example]
+    rows += [words for words, *_ in FAULTS if example == "delegation" and "{folder}" not in words]
+    for words in rows:
+        yield Asked(words.replace("--tree {tree}", "").format(**files).split(), "")
+    for tree, subtree, *_ in CHECKS:
+        if tree == example:
+            yield Asked(["check", "--uid", "1000", "--subtree", subtree], "")
+    for tree, subtree, text, *_ in REPLAYS:
+        if tree == example:
+            yield Asked(["replay", "--uid", "1000", "--ops", OPS, "--subtree", subtree], lines(text))
