@@ -132,15 +132,17 @@ static int become(const struct user *who)
     return setresuid(who->uid, who->uid, who->uid) < 0 ? errno : 0;
 }
 
-/* The child of a process that was asked for one, or an error number below zero. */
+/* The child of a process that was asked for one, or an error number below zero. It waits for so many turns, and not so long,
+   since a machine on a busy host may stand still for seconds. */
 static int next_birth(pid_t parent)
 {
     struct pollfd waiting = {births[0], POLLIN, 0};
     struct birth birth;
 
-    while (poll(&waiting, 1, 1000) == 1 && read(births[0], &birth, sizeof birth) == sizeof birth)
-        if (parent == 0 || birth.parent == parent)
-            return birth.child;
+    for (int turn = 0; turn < 1000; turn++)
+        while (poll(&waiting, 1, 1) == 1 && read(births[0], &birth, sizeof birth) == sizeof birth)
+            if (parent == 0 || birth.parent == parent)
+                return birth.child;
     return -NO_ANSWER;
 }
 
@@ -241,12 +243,15 @@ static int change_mode(char **words)
     return chmod(place, strtoul(words[3], NULL, 8)) < 0 ? errno : 0;
 }
 
+/* chown PATH ENTRY UID or UID:GID */
 static int change_owner(char **words)
 {
-    char place[LONGEST];
+    char place[LONGEST], *rest;
+    uid_t uid = (uid_t)strtoul(words[3], &rest, 10);
+    gid_t gid = *rest == ':' ? (gid_t)strtoul(rest + 1, NULL, 10) : (gid_t)-1;
 
     place_of(place, words[1], words[2]);
-    return chown(place, (uid_t)strtoul(words[3], NULL, 10), (gid_t)-1) < 0 ? errno : 0;
+    return chown(place, uid, gid) < 0 ? errno : 0;
 }
 
 static int change_name(char **words)
@@ -326,7 +331,7 @@ static int operate(char **words, int count)
     pid_t helper = fork();
 
     if (helper == 0) {
-        alarm(10);
+        alarm(30);
         umask(022);
         wrong = become(&user);
         _exit(wrong ? NO_ANSWER - 1 : do_word(operations, words, count));
@@ -531,8 +536,26 @@ static void name_user(char **words, int count)
         user.gids[at - 2] = (gid_t)strtoul(words[at], NULL, 10);
 }
 
-/* case NUMBER | state | files NAME .. | user UID GID .. | do OPERATION | try OPERATION | a line of building. The state is told
-   after what is done, and after what was tried where it was let through. */
+/* mend OPERATION, which init carries out itself, as root; do OPERATION; try OPERATION. The state is told after what is done,
+   and after what was tried where it was let through. */
+static int carry_out(char **words, int count)
+{
+    int wrong, is_mend = strcmp(words[0], "mend") == 0;
+
+    if (count < 2 || (!is_mend && strcmp(words[0], "do") != 0 && strcmp(words[0], "try") != 0))
+        return 0;
+    wrong = is_mend ? do_word(operations, words + 1, count - 1) : operate(words + 1, count - 1);
+    if (wrong == 0)
+        wrong = follow(words + 1);
+    fprintf(out, "o %d\n", wrong);
+    if (wrong == 0 || strcmp(words[0], "try") != 0)
+        tell_state();
+    else
+        fputs(".\n", out);
+    return 1;
+}
+
+/* case NUMBER | state | files NAME .. | user UID GID .. | an operation | a line of building */
 static void take(char **words, int count)
 {
     int wrong;
@@ -547,16 +570,7 @@ static void take(char **words, int count)
             files[file_count] = strdup(words[file_count + 1]);
     } else if (strcmp(words[0], "user") == 0) {
         name_user(words, count);
-    } else if (strcmp(words[0], "do") == 0 || strcmp(words[0], "try") == 0) {
-        wrong = operate(words + 1, count - 1);
-        if (wrong == 0)
-            wrong = follow(words + 1);
-        fprintf(out, "o %d\n", wrong);
-        if (wrong == 0 || strcmp(words[0], "do") == 0)
-            tell_state();
-        else
-            fputs(".\n", out);
-    } else if ((wrong = do_word(building, words, count)) != 0) {
+    } else if (!carry_out(words, count) && (wrong = do_word(building, words, count)) != 0) {
         fprintf(out, "! %d %s %s\n", wrong, words[0], count > 1 ? words[1] : "");
     }
 }

@@ -1,5 +1,9 @@
 """Tests of what kernel/run stands on; they need no machine, and read what a kernel said before."""
+import contextlib
+import errno
+import functools
 import gzip
+import io
 import json
 import os
 import sys
@@ -9,32 +13,38 @@ import unittest.mock
 
 TOP = os.path.dirname(os.path.dirname(os.path.abspath(__file__)))
 sys.path[:0] = [TOP, os.path.join(TOP, "..", "model")]
-from second import rules
-from trial import classes, comparing, machine, making, script, turned
+from second import commands, rules, texts
+from trial import advice, asking, classes, comparing, machine, making, script, tally, turned
 
 # how many wrong programs have to be found
 WRONG = 10
+KINDS = ("operations", "escapes", "contained", "advice", "wrong advice")
 
 
+@functools.lru_cache(maxsize=None)
 def recorded(kind):
-    """Cases of a kind with what the program said of each, and what a kernel said."""
+    """Of each case of a kind the case, what the program said of it and what a kernel made of it."""
     with gzip.open(os.path.join(TOP, "tests", "recorded.json.gz"), "rt") as text:
-        parts = json.load(text)[kind]
-    cases = [making.Case.of_record(record) for record in parts["cases"]]
+        parts = json.load(text)
     records, ended = script.records_of(parts["said"])
-    return cases, parts["answers"], records, ended
+    cases = [making.Case.of_record(record) for record in parts["cases"]]
+    assert ended and len(records) == len(cases)
+    return [(case, answers, records[number]) for number, (case, answers) in enumerate(zip(cases, parts["answers"]))
+            if case.kind == kind]
+
+
+def second_check(_program, text, user, top):
+    """What the second model says in the program's place."""
+    answer = rules.answer(texts.tree_of(text.encode()), user, top)
+    return commands.answer_lines(answer)[0], answer[1] if answer[0] == "escapes" else []
 
 
 class KernelTest(unittest.TestCase):
-    @classmethod
-    def setUpClass(cls):
-        cls.cases, cls.answers, cls.records, cls.ended = recorded("operations")
-
     def compared(self, turn=None):
-        """Of each case that was recorded its differences, as a wrong program's where there is one."""
-        for number, (case, answers) in enumerate(zip(self.cases, self.answers)):
+        """Of each case of operations that was recorded what it differs by, as a wrong program's where there is one."""
+        for case, answers, record in recorded("operations"):
             said = turned.answers_of(turn, case, answers) if turn else answers
-            yield number, comparing.compare(case, said, self.records[number])
+            yield case, record, comparing.compare(case, said, record)
 
     def test_init_is_compiled_without_a_warning(self):
         with tempfile.TemporaryDirectory() as room:
@@ -46,27 +56,56 @@ class KernelTest(unittest.TestCase):
         self.assertFalse({*classes.RULES, *classes.VALUES} & classes.LEFT_OUT.keys())
 
     def test_recorded_run_is_explained(self):
-        self.assertTrue(self.ended)
-        found = [(number, each) for number, compared in self.compared() for each in compared.differences]
-        self.assertEqual([each for each in found if not each[1].kind], [])
-        self.assertGreaterEqual({each.kind for _, each in found}, {"internal process", "range of values", "name of a file"})
+        found = [each for _, _, compared in self.compared() for each in compared.differences]
+        self.assertEqual([each for each in found if not each.kind], [])
+        self.assertGreaterEqual({each.kind for each in found}, {"internal process", "range of values", "name of a file"})
 
     def test_recorded_escapes_break_as_the_program_says(self):
-        cases, answers, records, ended = recorded("escapes")
-        self.assertTrue(ended)
-        there = [comparing.break_of(case, records[number], case.subtrees[0]) for number, case in enumerate(cases)]
-        self.assertEqual(there, [said[-1] for said in answers])
+        there = [comparing.break_of(case, record, case.subtrees[0]) for case, _, record in recorded("escapes")]
+        self.assertEqual(there, [answers[-1] for _, answers, _ in recorded("escapes")])
         self.assertGreaterEqual({said.split(" ")[2] for said in there}, {"gone", "crossed", "limits"})
+
+    def test_recorded_contained_subtrees_hold(self):
+        for case, _, record in recorded("contained"):
+            self.assertTrue(script.is_whole(case, record))
+            self.assertEqual({comparing.break_of(case, record, top) for top in case.subtrees}, {"kept"})
+
+    def advised(self, kind):
+        """Of each case of advice that was recorded what a kernel made of it."""
+        with unittest.mock.patch.object(asking, "check", second_check):
+            for case, _, record in recorded(kind):
+                yield case, record, comparing.compare_advice(None, case, record)
+
+    def test_recorded_advice_holds(self):
+        words = set()
+        for case, _, found in self.advised("advice"):
+            self.assertEqual(found.faults, [])
+            self.assertEqual(found.refused > 0, bool(case.steps))
+            words |= {line.split(" ")[0] for line in case.mends}
+        self.assertEqual(words, set(asking.CHANGES))
+
+    def test_wrong_advice_is_found_on_the_kernel(self):
+        found = {case.turned for case, _, found in self.advised("wrong advice") if found.verdict.startswith("broken")}
+        self.assertEqual(found, set(turned.ADVICE))
+
+    def test_changes_that_were_not_made_are_found(self):
+        told = set()
+        for case, record, found in self.advised("advice"):
+            self.assertEqual(comparing.changes_differences(case, case.mends, record), [])
+            for name, turn in turned.ADVICE.items():
+                if turn(case.mends) != case.mends:
+                    self.assertTrue(comparing.changes_differences(case, turn(case.mends), record), (name, case.mends))
+                    told.add(name)
+        self.assertEqual(told, set(turned.ADVICE))
 
     def test_wrong_programs_are_found(self):
         found = [name for name, turn in turned.TURNED.items()
-                 if any(not each.kind for _, compared in self.compared(turn) for each in compared.differences)]
+                 if any(not each.kind for _, _, compared in self.compared(turn) for each in compared.differences)]
         self.assertEqual(found, list(turned.TURNED))
         self.assertGreaterEqual(len(found), WRONG)
 
     def test_state_that_differs_is_found(self):
-        number = next(number for number, found in self.compared() if found.steps and not found.differences)
-        case, answers, record = self.cases[number], self.answers[number], self.records[number]
+        case, answers, record = next(each for each in recorded("operations") if not comparing.compare(*each).differences)
         last = record.states[-1]
         row = last.cgroups[()]
         entry = rules.Entry(7, 7, 0o777)
@@ -85,11 +124,59 @@ class KernelTest(unittest.TestCase):
         for each in [("memory.max", 4096, 0), ("pids.max", 5, 6), (rules.DEPTH, 5, rules.MAX), ("memory.max", rules.MAX, 0)]:
             self.assertIsNone(classes.kind_of_value(*each), each)
 
+    def test_removal_of_a_file_is_explained(self):
+        for name, number, kind in [("memory.stat", errno.EACCES, "name of a file"), ("memory.stat", errno.EPERM, None),
+                                   ("a", errno.EACCES, None)]:
+            step, said = ("rmdir", (name,)), f"refused no-such-cgroup /{name}"
+            self.assertEqual(classes.kind_of(classes.Outcome(None, None, step, said, number, None)), kind)
+
     def test_a_case_is_read_again(self):
-        for kind in making.KINDS:
-            case = next(iter(making.random_cases(kind, 1, 1).values()))
-            again = making.Case.of_record(json.loads(json.dumps(case.as_record())))
-            self.assertEqual(script.script_of([case]), script.script_of([again]))
+        for kind in KINDS:
+            for case, _, _ in recorded(kind)[:3]:
+                again = making.Case.of_record(json.loads(json.dumps(case.as_record())))
+                self.assertEqual(case, again)
+                self.assertEqual(script.script_of([case]), script.script_of([again]))
+
+    def test_answers_are_read(self):
+        self.assertEqual(self.asked(asking.check, ["escapes", "move 10 /", "chmod / dir 755"]),
+                         ("escapes", [("move", 10, ()), ("chmod", (), "dir", 0o755)]))
+        self.assertEqual(self.asked(asking.check, ["unsettled parent-dir /"]), ("unsettled parent-dir /", []))
+        self.assertEqual(self.asked(asking.advise, ["contained"]), [])
+        lines = ["fails common-ancestor / cgroup.procs 0:50 664 group", "chmod / cgroup.procs 644"]
+        self.assertEqual(self.asked(asking.advise, lines), lines[1:])
+        with unittest.mock.patch.object(asking, "asked", return_value=["pair 1000:5 /a", "unsettled parent-dir /"]):
+            self.assertEqual(asking.contained("", "", [(1000, (5,))], [("a",), ("b",)]), [("b",)])
+
+    def asked(self, ask, lines):
+        with unittest.mock.patch.object(asking, "asked", return_value=lines):
+            return ask("", "", (1000, (5,)), ("a",))
+
+    def test_too_few_answers_are_a_difference(self):
+        case, answers, record = recorded("operations")[0]
+        found = comparing.compare(case, answers[:len(case.steps) - 1], record)
+        self.assertIsNone(found.differences[0].kind)
+
+    def test_made_trees_fail_each_guard(self):
+        made = [advice.settled(tree) for tree in advice.made_trees()]
+        failed = {(failure[0], rules.class_of(tree.user, state.cgroups[failure[1]].entries[failure[2]]) if failure[2] else "")
+                  for tree, _, state in made for failure in rules.failures(state, tree.user, tree.subtree)}
+        ways = {(guard, way) for guard in ("common-ancestor", "limit-file", "parent-control", "parent-dir")
+                for way in ("owner", "group", "others")}
+        self.assertEqual(failed, ways | {("already-over", "")})
+
+    def test_a_tally_counts_what_fails(self):
+        with tempfile.TemporaryDirectory() as room, unittest.mock.patch.object(asking, "check", second_check):
+            counted = tally.Tally("6", None, room)
+            for kind in ("contained", "advice"):
+                case, _, record = recorded(kind)[0]
+                counted.take(case, "0", record)
+                self.assertEqual(counted.failures, 0)
+            with contextlib.redirect_stdout(io.StringIO()) as said:
+                counted.take(case, "1", script.Record())
+            self.assertIn("FAILED: advice, kept as", said.getvalue())
+            self.assertEqual((counted.failures, counted.counts["advice cases"]), (1, 2))
+            self.assertEqual(len(os.listdir(room)), 1)
+            self.assertIn("- Unexplained: 1.", tally.lines_of(counted))
 
     def test_what_is_missing_is_said(self):
         with unittest.mock.patch("shutil.which", return_value=None), self.assertRaises(machine.Missing):

@@ -66,8 +66,12 @@ def value_kept(file, written, kept):
 
 
 def name_of_file(outcome):
-    """mkdir of a name that a file has there."""
-    return outcome.step[0] == "mkdir" and outcome.number == errno.EEXIST and is_file_name(outcome.step[1][-1])
+    """mkdir of a name that a file has there; and rmdir of one, where who writes the directory is asked first."""
+    if outcome.step[0] == "rmdir":
+        is_it = outcome.said.startswith("refused no-such-cgroup") and outcome.number == errno.EACCES
+    else:
+        is_it = outcome.step[0] == "mkdir" and outcome.number == errno.EEXIST
+    return is_it and is_file_name(outcome.step[1][-1])
 
 
 def is_file_name(name):
@@ -89,7 +93,8 @@ def effect_of_limits(outcome):
     place = outcome.state.live[outcome.step[1]][1] if outcome.step[0] == "fork" and outcome.said == "ok" else outcome.step[1]
     above = [path for path in rules.upwards(place) if path in there.cgroups] if isinstance(place, tuple) else []
     if outcome.step[0] == "fork" and outcome.refuses(errno.EAGAIN):
-        return any(limit_of(there, path, "pids.max") <= sum(rules.inside(at, path) for _, at in there.live.values()) for path in above)
+        places = [place for _, place in there.live.values()]
+        return any(limit_of(there, path, "pids.max") <= sum(rules.inside(at, path) for at in places) for path in above)
     return outcome.refuses(errno.ENOMEM) and any(limit_of(there, path, "memory.max") < SMALL for path in above)
 
 

@@ -1,13 +1,10 @@
 """Holds what the program says of a case against what a kernel made of it: outcome by outcome, and the state after each."""
 import errno
-import os
-import subprocess
-import tempfile
 from dataclasses import dataclass
 
 from second import commands, rules
 from second.rules import text_of
-from trial import classes, script
+from trial import advice, asking, classes, script, turned
 
 # the error numbers by which a kernel refuses what the program does, by the first word of the refusal
 NUMBERS = {
@@ -27,25 +24,19 @@ class Difference:
 
 
 @dataclass
+class Advised:
+    """What a kernel made of a case of advice: what isn't as it should be, the first break of the subtree after the changes or
+    `kept`, and how many steps of the escape were refused."""
+    faults: list
+    verdict: str
+    refused: int
+
+
+@dataclass
 class Compared:
     """How many steps were compared, and what differs; behind a difference of outcomes no step is compared."""
     steps: int
     differences: list
-
-
-def answers_of(program, case):
-    """What the program's replay says of a case's steps, which are one user's: a line for each, and the verdict."""
-    user = case.steps[0][0]
-    with tempfile.TemporaryDirectory() as room:
-        ops, tree = os.path.join(room, "ops"), os.path.join(room, "tree")
-        with open(ops, "w") as out:
-            out.write("".join(commands.spelling(step) + "\n" for _, step in case.steps))
-        with open(tree, "w", newline="") as out:
-            out.write(case.text)
-        groups = [word for gid in user[1] for word in ("--gid", str(gid))]
-        words = [program, "replay", "--tree", tree, "--uid", str(user[0]), *groups, "--subtree", text_of(case.subtrees[0]), "--ops", ops]
-        said = subprocess.run(words, capture_output=True, text=True)
-    return said.stdout.splitlines()
 
 
 def same_outcome(said, number):
@@ -81,6 +72,8 @@ def compare(case, answers, record):
     """The steps that were compared, and the differences: the first of outcomes ends it, and a value's is told once."""
     if not script.is_whole(case, record):
         return Compared(0, [Difference(0, None, f"not built or carried out: {record.faults[:3]}, {len(record.states)} states")])
+    if len(answers) < len(case.steps):
+        return Compared(0, [Difference(0, None, f"{len(answers)} answers to {len(case.steps)} steps")])
     found = state_differences(0, case.state, record.states[0])
     told, model = {each.what for each in found}, case.state
     for number, ((user, step), said, number_said) in enumerate(zip(case.steps, answers, record.numbers), 1):
@@ -97,6 +90,34 @@ def compare(case, answers, record):
     return Compared(len(case.steps), found)
 
 
+def tells_apart(turn, case, answers, record):
+    """Whether a wrong program's answers differ from what a kernel did by what nothing explains."""
+    found = compare(case, turned.answers_of(turn, case, answers), record)
+    return any(not each.kind for each in found.differences)
+
+
 def break_of(case, record, top):
-    """The verdict on a subtree over a kernel's own states."""
-    return rules.verdict(record.states, top)
+    """The verdict on a subtree over a kernel's own states, from the end of the changes on."""
+    return rules.verdict(record.states[len(case.mends):], top)
+
+
+def compare_advice(program, case, record):
+    """Holds a kernel's states against the changes: they are made and no more, the program says contained, and nothing breaks."""
+    if not script.is_whole(case, record):
+        return Advised([f"not built or carried out: {record.faults[:3]}, {len(record.states)} states"], "", 0)
+    (user, _), top, count = (case.steps + case.tries)[0], case.subtrees[0], len(case.mends)
+    faults = [f"{line}: {errno.errorcode.get(number, number)}" for line, number in zip(case.mends, record.numbers) if number]
+    faults += [each.what for each in changes_differences(case, case.mends, record)]
+    said, _ = asking.check(program, advice.text_of_state(record.states[count]), user, top)
+    if said != "contained":
+        faults.append(f"after the changes check says {said}")
+    verdict = break_of(case, record, top)
+    if verdict != "kept":
+        faults.append(f"after the changes {verdict}")
+    return Advised(faults, verdict, sum(map(bool, record.numbers[count:count + len(case.steps)])))
+
+
+def changes_differences(case, mends, record):
+    """What of the state that a kernel has after a case's changes isn't the tree with these changes."""
+    there = record.states[len(case.mends)]
+    return [each for each in state_differences(0, advice.changed(case.state, mends), there) if not each.kind]

@@ -1,8 +1,10 @@
-"""Random cases that a kernel can be told: the trees, users and operations of model/trials, with what Linux has no word for left out."""
+"""Random cases that a kernel can be told: trees, users and operations of model/trials, without what Linux has no word for."""
+import itertools
 import random
 from dataclasses import dataclass, field, replace
 
 from second import rules, texts
+from trial import asking
 from trial.classes import GREATEST
 from trials import cases, spelling, trees
 
@@ -10,32 +12,44 @@ NO_IDENTITY = 4294967295
 SOMEBODY = 4294967294
 SEARCH = 0o111
 STEPS = 16
+TRIES = 100
 # what a user can try without privileges, and the model leaves out
 OTHERS = ("threads", "rename", "born", "xattr", "chown", "write")
 WRITTEN = ("cgroup.type", "cgroup.freeze", "cgroup.kill", "cgroup.threads", "cgroup.pressure", "memory.oom.group", "memory.reclaim",
            "memory.swap.max", "memory.swap.high", "cpu.max", "cpu.weight.nice", "cpu.idle", "cpu.max.burst", "memory.peak",
-           "cgroup.controllers", "cgroup.events", "cgroup.stat", "cpu.pressure", "memory.pressure", "memory.zswap.max", "irq.pressure")
+           "cgroup.controllers", "cgroup.events", "cgroup.stat", "cpu.pressure", "memory.pressure", "memory.zswap.max",
+           "irq.pressure")
 TEXTS = ("0", "1", "max", "threaded", "domain", "10", "+pids", "100000")
 
 
 @dataclass
 class Case:
-    """The text of a tree, steps each with its user, and the subtrees that are looked at. The state is told after each step that is
-    to `do`, and after each to `try` that was let through; it is told at the end anyway."""
+    """The text of a tree and what is carried out on it: changes by root, steps and then tries, both with their users; and the
+    subtrees that are looked at. The state is told before, after each change, each step and each try that was let through, and
+    where there are tries at the end again. A case of a wrong program has its name."""
+    kind: str
     text: str
     steps: list
     subtrees: list
     state: rules.State = field(default=None, repr=False)
-    verb: str = "do"
+    mends: list = field(default_factory=list)
+    tries: list = field(default_factory=list)
+    turned: str = ""
 
     def as_record(self):
-        return {"text": self.text, "verb": self.verb, "subtrees": [rules.text_of(top) for top in self.subtrees], "steps": self.steps}
+        return {"kind": self.kind, "text": self.text, "subtrees": [rules.text_of(top) for top in self.subtrees],
+                "mends": self.mends, "steps": self.steps, "tries": self.tries, "turned": self.turned}
 
     @staticmethod
     def of_record(record):
-        steps = [((uid, tuple(gids)), tupled(step)) for (uid, gids), step in record["steps"]]
-        case = Case(record["text"], steps, [rules.path_of(top) for top in record["subtrees"]], verb=record["verb"])
-        return replace(case, state=texts.tree_of(case.text.encode()))
+        subtrees = [rules.path_of(top) for top in record["subtrees"]]
+        state = texts.tree_of(record["text"].encode())
+        return Case(record["kind"], record["text"], deeds_of(record["steps"]), subtrees, state, record["mends"],
+                    deeds_of(record["tries"]), record["turned"])
+
+
+def deeds_of(listed):
+    return [((uid, tuple(gids)), tupled(step)) for (uid, gids), step in listed]
 
 
 def tupled(value):
@@ -98,63 +112,70 @@ def settled_step(state, step):
     if step[0] == "chmod" and step[2] == rules.DIR:
         return (*step[:3], step[3] | SEARCH)
     if step[0] == "fork":
-        return (*step[:2], max([5000, *state.used]) + 1)
+        return (*step[:2], next(pid for pid in itertools.count(5001) if pid not in state.used))
     if step[0] == "set" and step[2] in ("memory.high", "memory.max") and step[3] != rules.MAX and step[3] < 2 ** 20:
         return (*step[:3], step[3] * 2 ** 24 + 2 ** 24)
     return step
 
 
+def settled(rng, tree):
+    """A tree, settled, with its text and its state, which is None where the text is faulty."""
+    settle(rng, tree)
+    text = spelling.document(rng, {**tree.document(rng), "format": 2}).decode().removeprefix("\ufeff")
+    return tree, text, cases.state_of(text.encode())
+
+
 def random_tree(rng):
     """A random tree with a subtree, settled, with its text and its state."""
     while True:
-        tree = trees.random_tree(rng)
-        settle(rng, tree)
-        text = spelling.document(rng, {**tree.document(rng), "format": 2}).decode().removeprefix("\ufeff")
-        state = cases.state_of(text.encode())
+        tree, text, state = settled(rng, trees.random_tree(rng))
         if state and tree.subtree:
             return tree, text, state
 
 
-def of_operations(rng):
+def of_operations(rng, _program):
     """A case of random operations of one user."""
     tree, text, state = random_tree(rng)
-    return Case(text, [(tree.user, step) for step in steps_of(rng, tree, state, [tree.user])], [tree.subtree], state)
+    return [Case("operations", text, [(tree.user, step) for step in steps_of(rng, tree, state)], [tree.subtree], state)]
 
 
-def steps_of(rng, tree, state, users):
+def steps_of(rng, tree, state):
     steps = []
     for _ in range(STEPS):
-        step = settled_step(state, cases.random_operation(rng, tree, state, users[0]))
-        state = rules.step(state, users[0], step)[0]
+        step = settled_step(state, cases.random_operation(rng, tree, state, tree.user))
+        state = rules.step(state, tree.user, step)[0]
         steps.append(step)
     return steps
 
 
-def of_escape(rng):
-    """A case whose steps are a printed escape, or None."""
+def of_escape(rng, program):
+    """A case whose steps are a printed escape, or none."""
     tree, text, state = random_tree(rng)
-    answer = rules.answer(state, tree.user, tree.subtree)
-    if answer[0] != "escapes" or not answer[1]:
-        return None
-    return Case(text, [(tree.user, step) for step in answer[1]], [tree.subtree], state)
+    _, escape = asking.check(program, text, tree.user, tree.subtree)
+    return [Case("escapes", text, [(tree.user, step) for step in escape], [tree.subtree], state)] if escape else []
 
 
-def of_contained(rng):
-    """A case of operations of every kind by users against all of whom its subtrees are contained, or None."""
+def of_contained(rng, program):
+    """A case of operations of every kind by users against all of whom its subtrees are contained, or none."""
     tree, text, state = random_tree(rng)
     users = list({tree.user, *(group_user(trees.user_of(rng)) for _ in range(rng.choice([0, 0, 1, 2])))})
-    tops = [path for path in state.cgroups if path and not any(rules.failures(state, user, path) for user in users)]
+    tops = asking.contained(program, text, users, [path for path in state.cgroups if path])
     if not tops or not state.live:
-        return None
-    steps, model = [], state
-    for number in range(100):
+        return []
+    return [Case("contained", text, [], tops[:3], state, tries=tries_of(rng, tree, state, users, TRIES))]
+
+
+def tries_of(rng, tree, state, users, count):
+    """Operations of every kind by these users, chosen in the trees that those before them leave in the model."""
+    tries = []
+    for number in range(count):
         user = rng.choice(users)
-        step = other_step(rng, model, user, number) if rng.random() < 0.3 else settled_step(
-            model, cases.random_operation(rng, tree, model, user))
+        step = other_step(rng, state, user, number) if rng.random() < 0.3 else settled_step(
+            state, cases.random_operation(rng, tree, state, user))
         if step[0] in rules.BARS:
-            model = rules.step(model, user, step)[0]
-        steps.append((user, step))
-    return Case(text, steps, tops[:3], state, "try")
+            state = rules.step(state, user, step)[0]
+        tries.append((user, step))
+    return tries
 
 
 def other_step(rng, state, user, number):
@@ -166,15 +187,13 @@ def other_step(rng, state, user, number):
             "write": ("write", path, rng.choice(WRITTEN), rng.choice(TEXTS))}[kind]
 
 
-KINDS = {"operations": of_operations, "escapes": of_escape, "contained": of_contained}
+MAKERS = {"operations": of_operations, "escapes": of_escape, "contained": of_contained}
 
 
-def random_cases(kind, seed, count):
-    """So many cases of a kind, with the seed's numbers that make them."""
-    found, number = {}, 0
+def random_cases(maker, name, count, program):
+    """The first so many cases that a maker gives of a name."""
+    found, number = [], 0
     while len(found) < count:
-        case = KINDS[kind](random.Random(f"kernel {kind} {seed} {number}"))
-        if case:
-            found[number] = case
+        found += maker(random.Random(f"kernel {name} {number}"), program)
         number += 1
     return found

@@ -23,10 +23,19 @@ def spelled(step):
 
 
 def lines_of(number, case):
-    """A case's lines: the tree, built by root from the top down, its processes, and then owners, modes and values."""
+    """A case's lines: the tree, what root changes of it, what users do and what they try."""
+    lines = [f"case {number}", *building_lines(case), "state", *(f"mend {line}" for line in case.mends)]
+    for verb, deeds in (("do", case.steps), ("try", case.tries)):
+        for user, step in deeds:
+            lines += ["user " + " ".join(map(str, [user[0], *user[1]])), f"{verb} {spelled(step)}"]
+    return [*lines, "state"] if case.tries else lines
+
+
+def building_lines(case):
+    """A tree, built by root from the top down, its processes, and then owners, modes and values."""
     state = case.state
     rows = sorted(state.cgroups.items(), key=lambda row: len(row[0]))
-    lines = [f"case {number}"] + [f"mkdir {text_of(path)}" for path, _ in rows if path]
+    lines = [f"mkdir {text_of(path)}" for path, _ in rows if path]
     for path, cgroup in rows:
         if cgroup.enabled:
             lines.append(f"control {text_of(path)} " + " ".join(f"+{name}" for name in sorted(cgroup.enabled)))
@@ -35,19 +44,17 @@ def lines_of(number, case):
         lines += [f"set {text_of(path)} {file} {value}" for file, value in cgroup.values.items()
                   if value != rules.default_of(file)]
         lines += [f"own {text_of(path)} {name} {entry.uid} {entry.gid} {entry.mode:o}" for name, entry in cgroup.entries.items()]
-        if case.verb == "try":
+        if case.tries:
             # a delegation that hands over the one hands over the other; the model has no cgroup.threads
             procs = cgroup.entries[rules.PROCS]
             lines.append(f"own {text_of(path)} cgroup.threads {procs.uid} {procs.gid} {procs.mode:o}")
-    lines.append("state")
-    for user, step in case.steps:
-        lines += ["user " + " ".join(map(str, [user[0], *user[1]])), f"{case.verb} {spelled(step)}"]
-    return [*lines, "state"] if case.verb == "try" else lines
+    return lines
 
 
 def is_whole(case, record):
     """Whether a case was built, and carried out to its end."""
-    return not record.faults and len(record.states) == len(case.steps) + (2 if case.verb == "try" else 1)
+    told = 1 + len(case.mends) + len(case.steps) + len(case.tries) + bool(case.tries)
+    return not record.faults and len(record.states) == told
 
 
 def script_of(cases):

@@ -1,4 +1,8 @@
-"""Wrong programs: each turns one clause of what the program says of a case. Comparing has to find every one of them."""
+"""Wrong programs: each turns one clause of what the program says of a case. Comparing has to find every one of them.
+
+Those of `TURNED` say other outcomes of the operations, and are held against what a kernel made of them. The changes that those of
+`ADVICE` advise are carried out on a kernel in place of the program's.
+"""
 from second import rules
 
 
@@ -9,8 +13,9 @@ def lets(word):
 
 def source_alone(state, _user, step, said):
     """Asks nothing of the common ancestor of a move."""
-    bars_it = step[0] == "move" and said.startswith("refused no-access") and said.split(" ")[1:3] != ["no-access", rules.text_of(step[2])]
-    return "ok" if bars_it else said
+    if step[0] != "move" or not said.startswith("refused no-access") or said.split(" ")[2] == rules.text_of(step[2]):
+        return said
+    return "ok"
 
 
 def owner_asked(state, user, step, said):
@@ -58,3 +63,19 @@ def answers_of(turn, case, answers):
         turned.append(turn(state, user, step, said))
         state = rules.step(state, user, step)[0]
     return turned
+
+
+def rewritten(word, value_of):
+    """A program that advises another value in the lines of a word."""
+    def turn(lines):
+        split = [line.rpartition(" ") for line in lines]
+        return [f"{head} {value_of(value)}" if head.split(" ")[0] == word else f"{head} {value}" for head, _, value in split]
+    return turn
+
+
+ADVICE = {
+    "leaves a change out": lambda lines: lines[1:],
+    "gives an entry to the wrong owner": rewritten("chown", lambda value: "1000:" + value.partition(":")[2]),
+    "leaves the bits by which the user writes": rewritten("chmod", lambda value: f"{int(value, 8) | 0o022:03o}"),
+    "sets a limit below what is there": rewritten("set", lambda value: str(int(value) - 1)),
+}

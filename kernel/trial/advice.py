@@ -1,0 +1,114 @@
+"""Pairs of a user and a subtree that isn't contained, and cases in which what the program advises is carried out."""
+import random
+from dataclasses import replace
+
+from second import commands, rules
+from second.rules import text_of
+from trial import asking, making, turned
+from trials import spelling, trees
+
+# so many operations are tried after the changes and the escape
+TRIES = 24
+# so many cases of each wrong program
+WRONG_CASES = 6
+USER = (1000, (5,))
+ABOVE, TOP, BESIDE, BELOW = ("above",), ("above", "top"), ("above", "beside"), ("above", "top", "a")
+# how the user comes to an entry: as its owner, with and without the bit, by its group, as one of all, and by two of these
+WAYS = ({"uid": 1000}, {"uid": 1000, "mode": 0o444}, {"gid": 5, "mode": 0o664}, {"mode": 0o646},
+        {"uid": 1000, "gid": 5, "mode": 0o664})
+
+
+def changed(state, lines):
+    """A tree with the changes that lines say."""
+    for line in lines:
+        word, path, name, value = line.split(" ")
+        state = CHANGES[word](state, rules.path_of(path), name, value)
+    return state
+
+
+def with_owner(state, path, name, value):
+    uid, gid = map(int, value.split(":"))
+    row = state.cgroups[path]
+    entries = {**row.entries, name: replace(row.entries[name], uid=uid, gid=gid)}
+    return rules.with_cgroup(state, path, replace(row, entries=entries))
+
+
+CHANGES = {"chown": with_owner,
+           "chmod": lambda state, path, name, value: rules.after_chmod(state, None, path, name, int(value, 8)),
+           "set": lambda state, path, name, value: rules.after_set(state, None, path, name, int(value))}
+
+
+def text_of_state(state):
+    """The text of a tree that a kernel has."""
+    call = []
+    commands.upgrade(None, state, None, None, call)
+    return spelling.document(random.Random(0), call[0]).decode().removeprefix("\ufeff")
+
+
+def cases_of(rng, program, tree, text, state):
+    """The escape of a pair that isn't contained, where it has one, and a case in which what is advised is carried out before it."""
+    user, top = tree.user, tree.subtree
+    mends = asking.advise(program, text, user, top)
+    if not mends:
+        return []
+    steps = [(user, step) for step in asking.check(program, text, user, top)[1]]
+    after = changed(state, mends)
+    for _, step in steps:
+        after = rules.step(after, user, step)[0]
+    case = making.Case("advice", text, steps, [top], state, mends, making.tries_of(rng, tree, after, [user], TRIES))
+    return [making.Case("escapes", text, steps, [top], state), case] if steps else [case]
+
+
+def random_cases(rng, program):
+    return cases_of(rng, program, *making.random_tree(rng))
+
+
+def bare_tree():
+    """A delegated subtree with a process, and a cgroup beside it that is the user's, too; no guard of it fails."""
+    rows = {path: {"path": text_of(path)} for path in ((), ABOVE, TOP, BELOW, BESIDE)}
+    for path in ((), ABOVE):
+        rows[path]["enabled"] = list(rules.CONTROLLERS)
+    places = [{"pid": pid, "uid": USER[0], "at": text_of(path)} for pid, path in ((10, TOP), (11, BESIDE))]
+    tree = trees.Tree(2, list(rules.CONTROLLERS), rows, places, USER, TOP)
+    for path in (TOP, BELOW, BESIDE):
+        for name in rules.STANDING:
+            tree.entry(path, name)["uid"] = USER[0]
+    return tree
+
+
+def made_trees():
+    """Of each guarded entry alone, and of all together, a tree for each way to reach it; and the two counts."""
+    guarded = [(path, name) for _, path, name in rules.guarded(settled(bare_tree())[2], TOP)]
+    for way in WAYS:
+        for opened in [[each] for each in guarded] + [guarded]:
+            tree = bare_tree()
+            for each in opened:
+                tree.entry(*each).update(way)
+            if opened == [(ABOVE, rules.DIR)]:
+                # so that it can be removed
+                del tree.rows[BELOW], tree.processes[0]
+            yield tree
+    for file in (rules.DESCENDANTS, rules.DEPTH):
+        tree = bare_tree()
+        tree.entry(TOP, file)["value"] = 0
+        yield tree
+
+
+def settled(tree):
+    return making.settled(random.Random("made"), tree)
+
+
+def made_cases(program):
+    return [case for number, tree in enumerate(made_trees())
+            for case in cases_of(random.Random(f"made {number}"), program, *settled(tree))]
+
+
+def wrong_cases(made):
+    """Of each wrong program some of the made cases, with the changes that it would advise."""
+    found = []
+    right = [case for case in made if case.kind == "advice" and (case.steps or rules.over(case.state, TOP))]
+    for name, turn in turned.ADVICE.items():
+        able = [(case, turn(case.mends)) for case in right if turn(case.mends) != case.mends]
+        found += [replace(case, kind="wrong advice", turned=name, mends=mends, tries=case.tries[:4])
+                  for case, mends in able[::max(1, len(able) // WRONG_CASES)][:WRONG_CASES]]
+    return found

@@ -1,0 +1,122 @@
+"""What a run of a kernel came to: each case is taken by its kind, and what isn't as it should be is kept."""
+import collections
+import json
+import os
+
+from trial import asking, comparing, script, turned
+
+WRONG = [*turned.TURNED, *turned.ADVICE]
+
+
+class Tally:
+    def __init__(self, kernel, program, folder):
+        self.kernel, self.program, self.folder = kernel, program, folder
+        self.counts, self.kinds, self.breaks = collections.Counter(), collections.Counter(), collections.Counter()
+        self.failures, self.told, self.seconds = 0, {}, 0
+        self.takers = {"operations": self.operations, "escapes": self.escapes, "contained": self.contained, "advice": self.advice,
+                       "wrong advice": self.wrong_advice}
+
+    def take(self, case, name, record):
+        self.counts[f"{case.kind} cases"] += 1
+        self.takers[case.kind](case, name, record)
+
+    def fail(self, case, name, what):
+        os.makedirs(self.folder, exist_ok=True)
+        path = os.path.join(self.folder, f"{case.kind.replace(' ', '-')}-{self.kernel}-{name}.json")
+        with open(path, "w") as out:
+            json.dump(case.as_record(), out, indent=1)
+        self.failures += 1
+        print(f"kernel: FAILED: {case.kind}, kept as {path}: {what[:2000]}")
+
+    def cut(self, name, whole, count):
+        """A boot that didn't come to its end is a failure; the cases before are taken."""
+        self.failures += 1
+        print(f"kernel: FAILED: {name}: the boot didn't come to its end; {whole} of {count} cases are taken")
+
+    def missed(self):
+        return [name for name in WRONG if name not in self.told]
+
+    def compared(self, case, name, answers, record):
+        found = comparing.compare(case, answers, record)
+        self.counts[f"{case.kind} steps"] += found.steps
+        self.kinds.update(each.kind for each in found.differences if each.kind)
+        unexplained = [each for each in found.differences if not each.kind]
+        if unexplained:
+            self.fail(case, name, f"step {unexplained[0].step}: {unexplained[0].what}")
+        return found
+
+    def operations(self, case, name, record):
+        answers = asking.replay(self.program, case)
+        found = self.compared(case, name, answers, record)
+        if all(each.kind for each in found.differences):
+            for wrong, turn in turned.TURNED.items():
+                if wrong not in self.told and comparing.tells_apart(turn, case, answers, record):
+                    self.told[wrong] = self.counts["operations cases"]
+
+    def escapes(self, case, name, record):
+        answers = asking.replay(self.program, case)
+        found = self.compared(case, name, answers, record)
+        if not script.is_whole(case, record):
+            return
+        there = comparing.break_of(case, record, case.subtrees[0])
+        self.breaks[" ".join(there.split(" ")[::2])] += 1
+        self.counts["escapes as said"] += there == answers[-1]
+        # a value that the kernel keeps as `max` isn't changed by a write of `max`
+        if answers[-1] == "kept" or there != answers[-1] and not found.differences:
+            self.fail(case, name, f"the program says {answers[-1]}, and there it is {there}")
+
+    def contained(self, case, name, record):
+        if not script.is_whole(case, record):
+            self.fail(case, name, f"not built or carried out: {record.faults[:3]}, {len(record.states)} states")
+            return
+        self.counts["contained steps"] += len(case.tries)
+        self.counts["contained steps let through"] += record.numbers.count(0)
+        self.counts["contained pairs"] += len(case.subtrees) * len({user for user, _ in case.tries})
+        for top in case.subtrees:
+            there = comparing.break_of(case, record, top)
+            if there != "kept":
+                self.fail(case, name, f"{top}: {there}")
+
+    def advice(self, case, name, record):
+        found = comparing.compare_advice(self.program, case, record)
+        if found.faults:
+            self.fail(case, name, found.faults[0])
+            return
+        self.counts["advice changes"] += len(case.mends)
+        self.counts["advice escapes"] += bool(case.steps)
+        self.counts["advice escapes refused"] += found.refused > 0
+        self.counts["advice escape steps"] += len(case.steps)
+        self.counts["advice escape steps refused"] += found.refused
+        self.counts["advice steps"] += len(case.tries)
+        self.counts["advice steps let through"] += record.numbers[len(case.mends) + len(case.steps):].count(0)
+
+    def wrong_advice(self, case, name, record):
+        """It has to break on the kernel itself, whatever the program says of it."""
+        found = comparing.compare_advice(self.program, case, record)
+        if found.verdict not in ("", "kept"):
+            self.told.setdefault(case.turned, self.counts["wrong advice cases"])
+
+
+def listed(counter):
+    return ", ".join(f"{name} {number}" for name, number in sorted(counter.items())) or "none"
+
+
+def lines_of(tally):
+    """A kernel's part of the report."""
+    of, missed = tally.counts, tally.missed()
+    return [
+        f"## {tally.kernel}", "",
+        f"- Operations: {of['operations cases']} cases, {of['operations steps']} operations compared with their states.",
+        f"- Escapes: {of['escapes cases']} lists of {of['escapes steps']} operations, {of['escapes as said']} of which break at "
+        f"the step and by the clause that the program says. There: {listed(tally.breaks)}.",
+        f"- Contained: {of['contained cases']} cases, {of['contained pairs']} pairs of a user and a subtree, "
+        f"{of['contained steps']} steps, of which the kernel let {of['contained steps let through']} through.",
+        f"- Advice: {of['advice cases']} pairs advised, {of['advice changes']} changes carried out. Of {of['advice escapes']} "
+        f"escapes {of['advice escapes refused']} were refused afterwards, of their {of['advice escape steps']} operations "
+        f"{of['advice escape steps refused']}. {of['advice steps']} further steps, of which the kernel let "
+        f"{of['advice steps let through']} through.",
+        f"- Differences by kind: {listed(tally.kinds)}.",
+        f"- Unexplained: {tally.failures}.",
+        f"- Wrong programs: {len(tally.told)} of {len(WRONG)} found" + (f"; not found: {', '.join(missed)}" if missed else "")
+        + ". By the case of its kind: " + ", ".join(f"{name} {number}" for name, number in tally.told.items()) + ".",
+        f"- Time: {tally.seconds:.0f} s.", ""]
