@@ -1,19 +1,23 @@
 -- How deep the tables of a tree's document nest.
 use Rattle.std.proofs.Common.{◌≡◌, ℕ, ◌≤◌, List, [], ◌∷◌, map as map_list, Option, Some, None, subst, arith}
+use Rattle.std.specs.Prelude.{fold}
 use Rattle.std.specs.FinMap as finite
-use Rattle.toml.specs.Data.{Data, string, array, table, depth, items_depth, members_depth}
+use Rattle.toml.specs.Data.{Data, string, array, table, depth, items_depth, Members, members_depth}
 use Rattle.toml.specs.View.{items_of}
 use Rattle.cg_cgroup.specs.Paths.{Names}
 use Rattle.cg_cgroup.specs.Texts as texts
+use Rattle.cg_cgroup.specs.Files.{all_files, file_name}
+use Rattle.cg_cgroup.specs.Cgroups.{file_of}
 use Rattle.cg_cgroup.specs.declared.user.Entry.{Entry}
 use Rattle.cg_cgroup.specs.declared.files.Limit.{Limit}
 use Rattle.cg_cgroup.specs.declared.files.Limit.TheVariants.{Max, At}
+use Rattle.cg_cgroup.specs.declared.files.LimitFile.{LimitFile}
 use Rattle.cg_cgroup.specs.declared.cgroup.LimitEntry.{LimitEntry}
 use Rattle.cg_cgroup.specs.declared.cgroup.Cgroup.{Cgroup}
 use Rattle.cg_cgroup.specs.declared.process.Process.{Process}
 use Rattle.cg_tree.specs.States.{State}
 use Rattle.cg_print.specs.Keys.{with_key}
-use Rattle.cg_print.specs.Documents.{texts_array, names_in, entry_table, value_written, limit_table, table_of_file, files_table, cgroup_table, process_table, tree_document}
+use Rattle.cg_print.specs.Documents.{texts_array, names_in, entry_table, value_written, limit_table, table_of_file, with_file, files_table, cgroup_table, process_table, tree_document}
 use Rattle.cg_print.proofs.KeyLaws.{depth-with_key, depth-with_optional}
 
 entry_depth : (entry : Entry) → members_depth (entry_table entry) ≤ 0
@@ -35,16 +39,17 @@ file_depth (Some held) other is =
     let low : depth (table (limit_table held)) ≤ 1 = omega (arith, limit_depth held) in
     subst (λ (d : Data). depth d ≤ 1) same low
 
+with_files_depth : (row : Cgroup) (files : List LimitFile) (keys : Members) → members_depth keys ≤ 1 → members_depth (fold (with_file row) keys files) ≤ 1
+with_files_depth row [] keys low = low
+with_files_depth row (file ∷ files) keys low =
+    with_files_depth row files (with_file row keys file) (depth-with_optional 1 (file_name file) _ keys (file_depth (file_of row file)) low)
+
 files_depth : (row : Cgroup) → members_depth (files_table row) ≤ 1
 unfolding files_table
 files_depth row =
     let procs : depth (table (entry_table row.procs)) ≤ 1 = omega (arith, entry_depth row.procs) in
     let control : depth (table (entry_table row.subtree_control)) ≤ 1 = omega (arith, entry_depth row.subtree_control) in
-    depth-with_optional 1 texts.pids_max _ _ (file_depth row.pids_max) (depth-with_optional 1 texts.memory_max _ _ (file_depth row.memory_max)
-    (depth-with_optional 1 texts.memory_high _ _ (file_depth row.memory_high) (depth-with_optional 1 texts.memory_low _ _ (file_depth row.memory_low)
-    (depth-with_optional 1 texts.memory_min _ _ (file_depth row.memory_min) (depth-with_optional 1 texts.cpu_weight _ _ (file_depth row.cpu_weight)
-    (depth-with_optional 1 texts.cgroup_max_depth _ _ (file_depth (Some row.max_depth)) (depth-with_optional 1 texts.cgroup_max_descendants _ _ (file_depth (Some row.max_descendants))
-    (depth-with_key 1 texts.cgroup_subtree_control _ _ control (depth-with_key 1 texts.cgroup_procs _ _ procs (omega arith))))))))))
+    with_files_depth row all_files _ (depth-with_key 1 texts.cgroup_subtree_control _ _ control (depth-with_key 1 texts.cgroup_procs _ _ procs (omega arith)))
 
 texts_depth : (names : List (List ℕ)) → items_depth (items_of (map_list string names)) ≤ 0
 texts_depth [] = omega arith

@@ -3,29 +3,18 @@ use Rattle.std.proofs.Common.{subst}
 use Rattle.std.specs.List.{AllByRecursion}
 use Rattle.cg_cgroup.specs.Files.{all_files}
 use Rattle.cg_cgroup.specs.Cgroups.{file_of}
-use Rattle.cg_cgroup.specs.declared.files.LimitFile.{LimitFile}
-use Rattle.cg_cgroup.specs.declared.files.LimitFile.TheVariants.{MaxDescendants, MaxDepth, CpuWeight, MemoryMin, MemoryLow, MemoryHigh, MemoryMax, PidsMax}
 use Rattle.cg_cgroup.specs.declared.files.EntryName.TheVariants.{Dir, Procs, SubtreeControl, File}
 use Rattle.cg_cgroup.specs.declared.cgroup.LimitEntry.{LimitEntry}
 use Rattle.cg_cgroup.specs.declared.cgroup.Cgroup.{Cgroup}
+use Rattle.cg_cgroup.proofs.AllFiles.{each_file}
 use Rattle.cg_cgroup.proofs.Options.{same_some, mapped_from}
 use Rattle.cg_print.specs.Carried.{HasIds, FileHasIds, HasIdsOnly}
 
 module _ (row : Cgroup) (files : AllByRecursion (FileHasIds row) all_files) where
-  each_file : (file : LimitFile) → FileHasIds row file
-  each_file MaxDescendants = files.0
-  each_file MaxDepth = files.1.0
-  each_file CpuWeight = files.1.1.0
-  each_file MemoryMin = files.1.1.1.0
-  each_file MemoryLow = files.1.1.1.1.0
-  each_file MemoryHigh = files.1.1.1.1.1.0
-  each_file MemoryMax = files.1.1.1.1.1.1.0
-  each_file PidsMax = files.1.1.1.1.1.1.1.0
-
   pub ids_only : HasIds row.dir → HasIds row.procs → HasIds row.subtree_control → HasIdsOnly row
   ids_only dir procs control Dir entry is = subst HasIds (same_some row.dir entry is) dir
   ids_only dir procs control Procs entry is = subst HasIds (same_some row.procs entry is) procs
   ids_only dir procs control SubtreeControl entry is = subst HasIds (same_some row.subtree_control entry is) control
   ids_only dir procs control (File file) entry is =
       let held = mapped_from (λ (f : LimitEntry). f.entry) (file_of row file) entry is in
-      subst HasIds held.2 (each_file file held.0 held.1)
+      subst HasIds held.2 (each_file (FileHasIds row) files file held.0 held.1)

@@ -1,7 +1,7 @@
 -- The document of a tree, read again: the records that its tables are.
 use Rattle.std.proofs.Common.{◌≡◌, ℕ, ◌+◌, pos, Bool, true, nat_le, le-leb, List, [], ◌∷◌, length, map as map_list, Option, Some, None, option_map, option_and_then, Ok, Err, refl, ap, ◌∙◌, arith}
-use Rattle.std.specs.Prelude.{codes, if◌then◌else◌}
-use Rattle.std.specs.List.{AllByRecursion}
+use Rattle.std.specs.Prelude.{codes, fold, if◌then◌else◌}
+use Rattle.std.specs.List.{list_all}
 use Rattle.std.specs.FinMap as finite
 use Rattle.std.proofs.lemmas.Bool.{and_from}
 use Rattle.toml.specs.Data.{Data, table, Members, get_member}
@@ -9,12 +9,16 @@ use Rattle.toml.specs.View.{items_of}
 use Rattle.cg_cgroup.specs.Options.{◌>>=◌}
 use Rattle.cg_cgroup.specs.Paths.{Names, path_text}
 use Rattle.cg_cgroup.specs.Texts as texts
+use Rattle.cg_cgroup.specs.Files.{all_files, file_name}
+use Rattle.cg_cgroup.specs.Cgroups.{file_of}
 use Rattle.cg_cgroup.specs.declared.user.Entry.{Entry}
 use Rattle.cg_cgroup.specs.declared.files.Limit.{Limit}
 use Rattle.cg_cgroup.specs.declared.files.Limit.TheVariants.{Max, At}
+use Rattle.cg_cgroup.specs.declared.files.LimitFile.{LimitFile}
 use Rattle.cg_cgroup.specs.declared.cgroup.LimitEntry.{LimitEntry}
 use Rattle.cg_cgroup.specs.declared.cgroup.Cgroup.{Cgroup}
 use Rattle.cg_cgroup.specs.declared.process.Process.{Process}
+use Rattle.cg_cgroup.proofs.AllFiles.{each_passes}
 use Rattle.cg_tree.specs.States.{State}
 use Rattle.cg_text.specs.Records.{Text, CgroupRow, ProcessRow, TreeRecords, no_entry}
 use Rattle.cg_text.specs.Faults.{or_fault, bind}
@@ -29,8 +33,8 @@ use Rattle.cg_text.specs.declared.tree.records.ValueRecord.{ValueRecord}
 use Rattle.cg_text.specs.declared.tree.records.ValueRecord.TheVariants.{Number, Max as MaxText}
 use Rattle.cg_text.specs.declared.tree.records.FileRecord.{FileRecord}
 use Rattle.cg_text.specs.declared.tree.records.FilesRecord.{FilesRecord}
-use Rattle.cg_print.specs.Keys.{with_key, with_optional}
-use Rattle.cg_print.specs.Documents.{names_in, texts_array, entry_table, value_written, limit_table, table_of_file, files_table, cgroup_table, process_table, cgroups_written, processes_written, tree_document}
+use Rattle.cg_print.specs.Keys.{with_key}
+use Rattle.cg_print.specs.Documents.{names_in, texts_array, entry_table, value_written, limit_table, table_of_file, with_file, files_table, cgroup_table, process_table, cgroups_written, processes_written, tree_document}
 use Rattle.cg_print.specs.Carried.{IsCarried}
 use Rattle.cg_print.proofs.KeyLaws.{AsksEach, only-with_key, only-with_optional, or_none, look, get-with_key, get-with_optional}
 
@@ -94,47 +98,49 @@ file_back (Some held) = ap (option_map Some) (limit_back held)
 
 -- ---- the files of a cgroup
 
-abbrev file_names : List Text
-file_names =
-    texts.pids_max ∷ texts.memory_max ∷ texts.memory_high ∷ texts.memory_low ∷ texts.memory_min ∷ texts.cpu_weight ∷ texts.cgroup_max_depth ∷ texts.cgroup_max_descendants
-    ∷ texts.cgroup_subtree_control ∷ texts.cgroup_procs ∷ []
-
-step : (q key : Text) (found : Option Data) (keys : Members) (rest : Option Data) → get_member q keys ≡ rest → get_member q (with_optional key found keys) ≡ look q key found rest
-step q key found keys rest is = get-with_optional q key found keys ∙ ap (look q key found) is
-
 module _ (row : Cgroup) where
+  -- what stands at a key, once a limit file is written
+  abbrev looked : Text → Option Data → LimitFile → Option Data
+  looked q rest file = look q (file_name file) (table_of_file (file_of row file)) rest
+
+  with_files : (q : Text) (files : List LimitFile) (keys : Members) → get_member q (fold (with_file row) keys files) ≡ fold (looked q) (get_member q keys) files
+  with_files q [] keys = refl
+  with_files q (file ∷ files) keys =
+      with_files q files (with_file row keys file) ∙ ap (λ rest. fold (looked q) rest files) (get-with_optional q (file_name file) (table_of_file (file_of row file)) keys)
+
   -- what stands at a key of the files
   at_key : (q : Text) → get_member q (files_table row)
-      ≡ look q texts.pids_max (table_of_file row.pids_max)
-      (look q texts.memory_max (table_of_file row.memory_max)
-      (look q texts.memory_high (table_of_file row.memory_high)
-      (look q texts.memory_low (table_of_file row.memory_low)
-      (look q texts.memory_min (table_of_file row.memory_min)
-      (look q texts.cpu_weight (table_of_file row.cpu_weight)
-      (look q texts.cgroup_max_depth (Some (table (limit_table row.max_depth)))
-      (look q texts.cgroup_max_descendants (Some (table (limit_table row.max_descendants)))
-      (look q texts.cgroup_subtree_control (Some (table (entry_table row.subtree_control)))
-      (look q texts.cgroup_procs (Some (table (entry_table row.procs))) None)))))))))
+      ≡ fold (looked q)
+      (look q texts.cgroup_subtree_control (Some (table (entry_table row.subtree_control))) (look q texts.cgroup_procs (Some (table (entry_table row.procs))) None)) all_files
   unfolding files_table
   at_key q =
-      step q texts.pids_max _ _ _ (step q texts.memory_max _ _ _ (step q texts.memory_high _ _ _ (step q texts.memory_low _ _ _ (step q texts.memory_min _ _ _ (step q texts.cpu_weight _ _ _
-      (step q texts.cgroup_max_depth _ _ _ (step q texts.cgroup_max_descendants _ _ _
-      (get-with_key q texts.cgroup_subtree_control _ _ ∙ ap (look q texts.cgroup_subtree_control (Some (table (entry_table row.subtree_control)))) (get-with_key q texts.cgroup_procs _ _)))))))))
+      with_files q all_files _
+      ∙ ap (λ rest. fold (looked q) rest all_files)
+      (get-with_key q texts.cgroup_subtree_control _ _ ∙ ap (look q texts.cgroup_subtree_control (Some (table (entry_table row.subtree_control)))) (get-with_key q texts.cgroup_procs _ _))
 
-  -- the keys of the files pass a test that each of their names passes
-  only_files : (test : Text → Bool) (only : Members → Bool) → AsksEach test only → AllByRecursion (λ name. test name ≡ true) file_names → only (files_table row) ≡ true
-  unfolding files_table
-  only_files test only asks is =
-      only-with_optional test only asks texts.pids_max _ _ is.0 (only-with_optional test only asks texts.memory_max _ _ is.1.0
-      (only-with_optional test only asks texts.memory_high _ _ is.1.1.0 (only-with_optional test only asks texts.memory_low _ _ is.1.1.1.0
-      (only-with_optional test only asks texts.memory_min _ _ is.1.1.1.1.0 (only-with_optional test only asks texts.cpu_weight _ _ is.1.1.1.1.1.0
-      (only-with_optional test only asks texts.cgroup_max_depth _ _ is.1.1.1.1.1.1.0 (only-with_optional test only asks texts.cgroup_max_descendants _ _ is.1.1.1.1.1.1.1.0
-      (only-with_key test only asks texts.cgroup_subtree_control _ _ is.1.1.1.1.1.1.1.1.0 (only-with_key test only asks texts.cgroup_procs _ _ is.1.1.1.1.1.1.1.1.1.0 asks.none)))))))))
+  -- a test that the name of each file passes
+  record PassesNames (test : Text → Bool) : Type 0 where
+    procs : test texts.cgroup_procs ≡ true
+    control : test texts.cgroup_subtree_control ≡ true
+    files : list_all (λ file. test (file_name file)) all_files ≡ true
+
+  module _ (test : Text → Bool) (only : Members → Bool) (asks : AsksEach test only) (passes : PassesNames test) where
+    only_with_files : (files : List LimitFile) (keys : Members) → only keys ≡ true → only (fold (with_file row) keys files) ≡ true
+    only_with_files [] keys all = all
+    only_with_files (file ∷ files) keys all =
+        let here : test (file_name file) ≡ true = each_passes (λ name. test (file_name name)) passes.files file in
+        only_with_files files (with_file row keys file) (only-with_optional test only asks (file_name file) _ keys here all)
+
+    only_files : only (files_table row) ≡ true
+    unfolding files_table
+    only_files =
+        only_with_files all_files _
+        (only-with_key test only asks texts.cgroup_subtree_control _ _ passes.control (only-with_key test only asks texts.cgroup_procs _ _ passes.procs asks.none))
 
   -- no other key stands there, whatever test the reader makes of that
   opened : (test : Text → Bool) (only : Members → Bool) → ((keys : Members) → doc.files_of Two (table keys) ≡ (if only keys then files_keys Two keys else None))
-      → AsksEach test only → AllByRecursion (λ name. test name ≡ true) file_names → doc.files_of Two (table (files_table row)) ≡ files_keys Two (files_table row)
-  opened test only read asks is = read (files_table row) ∙ ap (λ b. if b then files_keys Two (files_table row) else None) (only_files test only asks is)
+      → AsksEach test only → PassesNames test → doc.files_of Two (table (files_table row)) ≡ files_keys Two (files_table row)
+  opened test only read asks passes = read (files_table row) ∙ ap (λ b. if b then files_keys Two (files_table row) else None) (only_files test only asks passes)
 
   abbrev joined_files : (procs subtree_control : Option EntryRecord) (max_descendants max_depth cpu_weight memory_min memory_low memory_high memory_max pids_max : Option (Option FileRecord)) → Option FilesRecord
   joined_files procs subtree_control max_descendants max_depth cpu_weight memory_min memory_low memory_high memory_max pids_max = do
@@ -181,7 +187,7 @@ module _ (row : Cgroup) where
 
   files_back : doc.files_of Two (table (files_table row)) ≡ Some (files_record row)
   files_back =
-      opened _ _ (λ keys. refl) (record { none = refl; one = λ key held keys. refl }) (refl, (refl, (refl, (refl, (refl, (refl, (refl, (refl, (refl, (refl, tt)))))))))) ∙ files_keys_back
+      opened _ _ (λ keys. refl) (record { none = refl; one = λ key held keys. refl }) (record { procs = refl; control = refl; files = refl }) ∙ files_keys_back
 
 -- ---- rows
 

@@ -141,13 +141,7 @@ module _ (path : Names) (row : Cgroup) (above : ControllerSet) (at : IsNamedRow 
 
   file_in_again : (file : LimitFile) → file_in (files_record row) file ≡ option_map file_record (file_of row file)
   file_in_again MaxDescendants = refl
-  file_in_again MaxDepth = refl
-  file_in_again CpuWeight = refl
-  file_in_again MemoryMin = refl
-  file_in_again MemoryLow = refl
-  file_in_again MemoryHigh = refl
-  file_in_again MemoryMax = refl
-  file_in_again PidsMax = refl
+  file_in_again file = refl
 
   file_passes : (file : LimitFile) (found : Option LimitEntry) → file_of row file ≡ found → passes_file Two (option_map file_record found) ≡ true
   file_passes file None is = refl
