@@ -254,6 +254,52 @@ class BuildTest(WrapperTest):
         self.assertEqual(self.checkout.build("--other").returncode, 2)
 
 
+class EndedTest(WrapperTest):
+    """How the program ends."""
+
+    def release(self, script):
+        self.checkout.release(PROGRAM.replace("exit 2", script))
+
+    def test_a_status_of_its_own_is_passed_on(self):
+        for status in range(4):
+            self.release(f"exit {status}")
+            ended = self.checkout.call("may")
+            self.assertEqual((ended.returncode, ended.stderr), (status, ""))
+
+    def test_whatever_else_is_no_answer(self):
+        for script, told in (("kill -SEGV $$", "ended by the signal SEGV"), ("kill -KILL $$", "ended by the signal KILL"),
+                             ("kill -ABRT $$", "ended by the signal ABRT"), ("exit 4", "ended with status 4"),
+                             ("exit 127", "ended with status 127")):
+            with self.subTest(script):
+                self.release(script)
+                ended = self.checkout.call("may")
+                self.assertEqual((ended.returncode, ended.stderr.count("\n")), (70, 1), ended.stderr)
+                self.assertIn(told, ended.stderr)
+                self.assertIn("no answer", ended.stderr)
+
+    def test_a_signal_ends_both(self):
+        child = f"{self.checkout.played}/child"
+        self.release(f"echo $$ >'{child}'; exec sleep 60")
+        for number in ENDING[:4]:
+            with self.subTest(number):
+                started = subprocess.Popen([f"{self.checkout.top}/zirofen", "may"], stdin=subprocess.DEVNULL, text=True,
+                                           stdout=subprocess.PIPE, stderr=subprocess.PIPE, cwd="/", preexec_fn=take_signals)
+                self.wait_for(lambda: os.path.exists(child) and read(child).endswith("\n"))
+                sleeper = int(read(child))
+                os.remove(child)
+                started.send_signal(number)
+                _, told = started.communicate(timeout=20)
+                self.assertEqual((started.returncode, told), (-number, ""))
+                self.wait_for(lambda: state(sleeper) in ("", "Z"))
+
+    def test_standard_input_is_the_programs(self):
+        self.assert_ran(self.checkout.call("may"))
+        self.checkout.release(PROGRAM)
+        closed = subprocess.run(["sh", "-c", 'exec "$0" may <&-', f"{self.checkout.top}/zirofen"], capture_output=True, text=True)
+        self.assertEqual(closed.returncode, 2)
+        self.assertIn("Bad file descriptor", closed.stderr)
+
+
 class SignalTest(WrapperTest):
     def setUp(self):
         super().setUp()

@@ -131,6 +131,11 @@ class InstalledTest(unittest.TestCase):
     def test_without_the_program_there_is_no_version(self):
         ended = self.host("--version")
         self.assertEqual((ended.stdout, ended.returncode, len(ended.stderr.splitlines())), ("", 3, 1))
+        with open(f"{self.room}/none", "w", encoding="ascii") as script:
+            script.write("#!/bin/sh\nkill -SEGV $$\n")
+        os.chmod(script.name, 0o755)
+        ended = self.host("--version")
+        self.assertEqual((ended.stdout, ended.returncode, len(ended.stderr.splitlines())), ("", 3, 1))
 
 
 if __name__ == "__main__":

@@ -4,6 +4,7 @@
 which tells the first pair that isn't contained, again and again from behind the pair that was told.
 """
 import os
+import signal
 import subprocess
 from collections import namedtuple
 from concurrent.futures import ThreadPoolExecutor
@@ -217,8 +218,18 @@ class Program:
 
 
 def told_by(ended):
-    """The lines of a fault; the first is the fault."""
+    """The lines of a fault; the first is the fault. Where a signal ended the program, whatever it wrote is none."""
+    if ended.returncode < 0:
+        return [f"the program was ended by the signal {signal_name(-ended.returncode)}, which is no answer: "
+                "maybe it has too little stack or memory (ulimit -s, -v)"]
     return [line for line in ended.stderr.split("\n") if line] or [f"ended with status {ended.returncode}"]
+
+
+def signal_name(number):
+    try:
+        return signal.Signals(number).name
+    except ValueError:
+        return str(number)
 
 
 def blocks_of(items, words, room):
