@@ -267,13 +267,14 @@ class EndedTest(WrapperTest):
             self.assertEqual((ended.returncode, ended.stderr), (status, ""))
 
     def test_whatever_else_is_no_answer(self):
-        for script, told in (("kill -SEGV $$", "ended by the signal SEGV"), ("kill -KILL $$", "ended by the signal KILL"),
-                             ("kill -ABRT $$", "ended by the signal ABRT"), ("exit 4", "ended with status 4"),
-                             ("exit 127", "ended with status 127")):
+        for script, status, told in (("kill -SEGV $$", 3, "ended by the signal SEGV"),
+                                     ("kill -KILL $$", 3, "ended by the signal KILL"),
+                                     ("kill -ABRT $$", 3, "ended by the signal ABRT"),
+                                     ("exit 4", 70, "ended with status 4"), ("exit 127", 70, "ended with status 127")):
             with self.subTest(script):
                 self.release(script)
                 ended = self.checkout.call("may")
-                self.assertEqual((ended.returncode, ended.stderr.count("\n")), (70, 1), ended.stderr)
+                self.assertEqual((ended.returncode, ended.stderr.count("\n")), (status, 1), ended.stderr)
                 self.assertIn(told, ended.stderr)
                 self.assertIn("no answer", ended.stderr)
 
