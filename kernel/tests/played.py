@@ -6,6 +6,12 @@ from second import commands, rules, texts
 from second.rules import text_of
 from trial import advice, comparing
 
+BARE = b"""format = 2
+controllers = ["cpu", "memory", "pids"]
+[[cgroup]]
+path = "/"
+"""
+
 
 def report_of(_program, text, command, *words):
     """What the program would say of a tree."""
@@ -32,7 +38,7 @@ class Kernel:
 
     def start(self, line, _rest):
         self.said.append(line)
-        self.told, self.state = set(), texts.tree_of(b'format = 2\ncontrollers = ["cpu", "memory", "pids"]\n[[cgroup]]\npath = "/"\n')
+        self.told, self.state = set(), texts.tree_of(BARE)
 
     def build(self, line, _rest):
         self.state = rules.next_state(self.state, (0, (0,)), commands.operation_of(line.encode()))
