@@ -84,8 +84,7 @@ small_state : (records : TreeRecords) → HasFewRows records → IsSmall (state_
 unfolding IsSmall state_of
 small_state records few =
     let rows : List NamedRow = named_rows records in
-    let write : NamedRow → Names × Cgroup = λ row. (row.path, fitted (cgroup_at rows) row) in
-    (
+    let write : NamedRow → Names × Cgroup = λ row. (row.path, fitted (cgroup_at rows) row) in (
       omega (arith, entries_at_most path_cmp_total write rows, length-map records.cgroups (named records.format), few.cgroups),
       omega (arith, entries_at_most nat_cmp_total live_process records.processes, few.processes),
     )
