@@ -20,7 +20,7 @@ from zirofen_host.texts import Programs
 OLDEST = (3, 9)
 # modules that it has
 MODULES = set("argparse atexit base64 bisect collections concurrent dataclasses datetime errno functools grp hashlib html itertools json os "
-              "pwd re shlex shutil stat string subprocess sys tempfile textwrap time unicodedata".split())
+              "pwd re shlex shutil signal stat string subprocess sys tempfile textwrap time unicodedata".split())
 # what reads a text takes one of these
 READERS = {"tomllib", "tomli"}
 # what came later, by its name
