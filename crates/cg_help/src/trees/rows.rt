@@ -1,6 +1,6 @@
 //! Rows that don't go together.
 use crate::shown::quoted;
-use crate::trees::table::{label, row, rows, shown_value, text_at, texts_at};
+use crate::trees::table::{label, row, row_of, shown_value, text_at, texts_at};
 use cg_text::tree::Place;
 use std::alloc::{AllocError, Global};
 use toml::{Table, Value};
@@ -116,25 +116,6 @@ fn available_at<'a>(top: &'a Table, path: &str) -> &'a [Value] {
     match row_of(top, parent_of(path)) {
         Some(parent) => texts_at(parent, "enabled"),
         None => &[],
-    }
-}
-
-/// The row that has a path.
-fn row_of<'a>(top: &'a Table, path: &str) -> Option<&'a Table> {
-    for value in rows(top, "cgroup") {
-        if let Some(row) = value.as_table() {
-            if has_path(row, path) {
-                return Some(row);
-            }
-        }
-    }
-    None
-}
-
-fn has_path(row: &Table, path: &str) -> bool {
-    match row.get("path") {
-        Some(value) => value.as_str() == Some(path),
-        None => false,
     }
 }
 
