@@ -1,6 +1,7 @@
 //! Rows that don't go together.
 use crate::shown::quoted;
 use crate::trees::table::{label, row, rows, shown_value, text_at, texts_at};
+use cg_cgroup::files::LimitFile;
 use cg_text::tree::Place;
 use std::alloc::{AllocError, Global};
 use toml::{Table, Value};
@@ -206,12 +207,8 @@ fn first_standing_nowhere<'a>(
 
 /// The controller that brings a limit file.
 fn controller_of(file: &str) -> Option<&'static str> {
-    match file {
-        "cpu.weight" => Some("cpu"),
-        "memory.min" | "memory.low" | "memory.high" | "memory.max" => Some("memory"),
-        "pids.max" => Some("pids"),
-        _ => None,
-    }
+    let controller = LimitFile::from_name(file)?.controller()?;
+    Some(controller.name())
 }
 
 /// What is wrong with the place of a process.
