@@ -1,5 +1,5 @@
 -- Pairs written one after another, and what the report on them is where it ends early.
-use Rattle.std.proofs.Common.{◌≡◌, ◌≢◌, ℕ, suc, ◌+◌, ◌<◌, ◌||◌, Bool, true, false, cond, nat_eq, List, [], ◌∷◌, ◌++◌, length, get_or, take, drop, drop-cons, add-one, Option, Some, None, Result, Ok, Err, IfOk, refl, sym, ap, ◌∙◌, subst, append_assoc, append-nil, length-append, arith}
+use Rattle.std.proofs.Common.{◌≡◌, ◌≢◌, ℕ, ◌+◌, ◌<◌, ◌||◌, Bool, true, false, cond, List, [], ◌∷◌, ◌++◌, length, get_or, drop, drop-cons, add-one, Option, Some, None, Result, Ok, Err, IfOk, refl, sym, ap, ◌∙◌, subst, append_assoc, append-nil, length-append, arith}
 use Rattle.std.specs.List.{list_any, flat_map}
 use Rattle.std.specs.Io.KnownBytes.{Appends}
 use Rattle.std.proofs.KnownBytes.{Appends-nil, Appends-trans}
@@ -27,7 +27,7 @@ use Rattle.cg_cli.specs.Containment.{in_call, answer_status}
 use Rattle.cg_cli.specs.Once.{once, same_user}
 use Rattle.cg_cli.specs.Reports.{takes_memory}
 use Rattle.cg_cli.specs.Written.{AppendsPart}
-use Rattle.cg_cli.specs.AllPairs.{is_escape, pairs_status, worse, listing_text, LeavesWhole, WritesPairs, read_then, pairs_found, all_report, ReportsPairs, UnlistedAreContained}
+use Rattle.cg_cli.specs.AllPairs.{is_escape, pairs_status, worse, listing_text, WritesPairs, read_then, pairs_found, all_report, ReportsPairs, UnlistedAreContained}
 use Rattle.cg_cli.specs.declared.fault.CliFault.{CliFault}
 use Rattle.cg_cli.specs.declared.fault.CliFault.TheVariants.{BadPath, Write, NoMemory}
 use Rattle.cg_cli.proofs.AuditReports.{lifted_takes, paths_fault}

@@ -1,6 +1,7 @@
--- What an audit over bytes says where a user, a path or the tree's text has a fault.
-use Rattle.std.proofs.Common.{◌≡◌, ◌≢◌, ℕ, Bool, true, false, cond, nat_eq, List, [], ◌∷◌, Option, Some, None, Result, Ok, Err, refl, ap, sym, ◌∙◌}
-use Rattle.cg_cgroup.specs.Paths.{Names, path_at}
+-- What an audit over bytes says: of a fault of a user, a path, the tree's text or a subtree, and of an answer.
+use Rattle.std.proofs.Common.{◌≡◌, ◌≢◌, ℕ, Bool, true, false, cond, nat_eq, List, [], ◌∷◌, Option, Some, None, Result, Ok, Err, refl, ap, sym, subst, ◌∙◌}
+use Rattle.std.specs.Io.KnownBytes.{Appends}
+use Rattle.cg_cgroup.specs.Paths.{Names, path_at, same_path}
 use Rattle.cg_cgroup.specs.Users.{user_of}
 use Rattle.cg_cgroup.specs.Identity.{Identity}
 use Rattle.cg_tree.specs.States.{State}
@@ -10,14 +11,18 @@ use Rattle.cg_text.specs.declared.tree.fault.TreeFault.TheVariants.{NoMemory as 
 use Rattle.cg_runs.specs.declared.fault.CheckFault.{CheckFault}
 use Rattle.cg_runs.specs.declared.fault.CheckFault.TheVariants.{RootSubtree, NoSuchSubtree, NoMemory as CheckNoMemory}
 use Rattle.cg_check.specs.Checks.{all_checked}
+use Rattle.cg_check.specs.Several.{AreContained}
 use Rattle.cg_check.specs.declared.answer.AllAnswer.{AllAnswer}
-use Rattle.cg_cli.specs.Faults.{lifted}
+use Rattle.cg_cli.specs.Faults.{lifted, lifted_check}
 use Rattle.cg_cli.specs.Arguments.{or_fault, user_read, path_read}
 use Rattle.cg_cli.specs.Reports.{Report, Reports, report_on, takes_memory}
 use Rattle.cg_cli.specs.Containment.{in_call}
 use Rattle.cg_cli.specs.Audits.{read_before, each_read, users_read, paths_read, audit_answer_report, pairs_report, audit_report}
+use Rattle.cg_cli.specs.Once.{once, same_user}
+use Rattle.cg_cli.specs.Written.{AppendsPart}
 use Rattle.cg_cli.specs.declared.fault.CliFault.{CliFault}
 use Rattle.cg_cli.specs.declared.fault.CliFault.TheVariants.{Uid, Gids, BadPath, Write, NoMemory}
+use Rattle.cg_cli.proofs.AuditOnce.{said_once, contained_once, some_once, same_user-is}
 use Rattle.cg_cli.proofs.CheckReports.{keeps}
 
 -- a fault before anything is written
@@ -101,3 +106,49 @@ module _ (text : List ℕ) (given : List (ℕ × List ℕ)) (texts : List (List 
           (ap (λ (r : Report). takes_memory r.ending) by_tree ∙ tree_takes users subtrees (tree_of text), keeps known)
       tree_fault_reports fault stated =
           (ap (λ (r : Report). r.ending) by_tree ∙ ap (λ t. (report_by (Ok users) (Ok subtrees) t).ending) (stated (λ same. cc)), keeps known)
+
+      -- ---- of those who are named, each once
+
+      module _ (kept_users : List Identity) (kept_subtrees : List Names) (users_once : kept_users ≡ once same_user users) (subtrees_once : kept_subtrees ≡ once same_path subtrees) (st : State) (of_text : tree_of text ≡ Ok st) where
+        of_kept : audit_report text given texts ≡ pairs_report st kept_users kept_subtrees
+        of_kept =
+            by_tree ∙ ap (report_by (Ok users) (Ok subtrees)) of_text
+            ∙ sym ((λ i. pairs_report st (users_once i) (subtrees_once i)) ∙ said_once st users subtrees)
+
+        pub subtree_fault_reports : (fault : CheckFault) → (fault ≢ CheckNoMemory → all_checked st kept_users kept_subtrees ≡ Err fault) → Reports (audit_report text given texts) known known (Err (lifted_check fault))
+        subtree_fault_reports fault stated = subst (λ (r : Report). Reports r known known (Err (lifted_check fault))) (sym of_kept) (by_fault fault stated)
+          where
+            ending_of : (found : CheckFault) → all_checked st kept_users kept_subtrees ≡ Err found → (pairs_report st kept_users kept_subtrees).ending ≡ Err (lifted_check found)
+            ending_of found = ap (λ (answer : Result AllAnswer CheckFault). (report_on (in_call answer) (audit_answer_report kept_users kept_subtrees)).ending)
+
+            by_fault : (found : CheckFault) → (found ≢ CheckNoMemory → all_checked st kept_users kept_subtrees ≡ Err found) → Reports (pairs_report st kept_users kept_subtrees) known known (Err (lifted_check found))
+            by_fault RootSubtree is = (ending_of RootSubtree (is (λ same. cc)), keeps known)
+            by_fault NoSuchSubtree is = (ending_of NoSuchSubtree (is (λ same. cc)), keeps known)
+            by_fault CheckNoMemory is = (answers_take kept_users kept_subtrees (all_checked st kept_users kept_subtrees), keeps known)
+
+        module _ (new : Option (List ℕ)) (said : List ℕ) (status : ℕ) (is : pairs_report st kept_users kept_subtrees ≡ record { text = said; ending = Ok status }) where
+          pub answer_reports : Appends known new said → Reports (audit_report text given texts) known new (Ok status)
+          answer_reports written = subst (λ (r : Report). Reports r known new (Ok status)) (sym (of_kept ∙ is)) (refl, written)
+
+          pub failed_write_reports : AppendsPart known new said → Reports (audit_report text given texts) known new (Err Write)
+          failed_write_reports part = subst (λ (r : Report). Reports r known new (Err Write)) (sym (of_kept ∙ is)) part
+
+        pub contained_means : (kept_users ≢ [] → AreContained st kept_users kept_subtrees)
+            → (start : State) (who : List Identity) (paths : List Names) → tree_of text ≡ Ok start → users_read given ≡ Ok who → paths_read texts ≡ Ok paths → who ≢ [] → AreContained start who paths
+        contained_means law start who paths is_start is_who are_paths some =
+            subst (λ (s : State). AreContained s who paths) (same_start (sym of_text ∙ is_start))
+            (subst (λ l. AreContained st l paths) whose
+            (subst (λ l. AreContained st users l) (same_Ok (sym of_paths ∙ are_paths))
+            (contained_once users subtrees st
+            (subst (λ l. AreContained st l (once same_path subtrees)) users_once
+            (subst (λ l. AreContained st kept_users l) subtrees_once
+            (law (λ none. some_once same_user same_user-is users (λ empty. some (sym whose ∙ empty)) (sym users_once ∙ none))))))))
+          where
+            same_start : {s : State} → let r : Result State TreeFault = Ok st in let t : Result State TreeFault = Ok s in r ≡ t → st ≡ s
+            same_start same = cc
+
+            same_Ok : {A : Type 0} {x y : A} → let r : Result A CliFault = Ok x in let t : Result A CliFault = Ok y in r ≡ t → x ≡ y
+            same_Ok same = cc
+
+            whose : users ≡ who
+            whose = same_Ok (sym of_users ∙ is_who)

@@ -17,7 +17,7 @@ use Rattle.cg_check.specs.declared.answer.AllAnswer.TheVariants.{Contained}
 use Rattle.cg_check.proofs.Lists.{all-append}
 use Rattle.cg_cli.specs.Audits.{audit_status}
 
-abbrev IsNamed : AllAnswer → Type 0
+abbrev pub IsNamed : AllAnswer → Type 0
 IsNamed found = audit_status found ≢ 0
 
 one_named : (user subtree : ℕ) (found : Answer) → AllByRecursion IsNamed (pair_unless_contained user subtree found)
@@ -31,7 +31,7 @@ of_user_named st place user from (subtree ∷ subtrees) =
     all-append IsNamed (pair_unless_contained place from (answer st user subtree)) (pairs_of st place user (suc from) subtrees)
     (one_named place from (answer st user subtree)) (of_user_named st place user (suc from) subtrees)
 
-named : (st : State) (from : ℕ) (users : List Identity) (subtrees : List Names) → AllByRecursion IsNamed (pairs_from st from users subtrees)
+pub named : (st : State) (from : ℕ) (users : List Identity) (subtrees : List Names) → AllByRecursion IsNamed (pairs_from st from users subtrees)
 named st from [] subtrees = tt
 named st from (user ∷ users) subtrees =
     all-append IsNamed (pairs_of st from user 0 subtrees) (pairs_from st (suc from) users subtrees)

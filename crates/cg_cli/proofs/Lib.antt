@@ -7,8 +7,9 @@ mod CheckReports
 mod AdviseReports
 mod AdvisedTrees
 mod EachRead
-mod AuditReports
 mod AuditStatus
+mod AuditOnce
+mod AuditReports
 mod Once
 mod AllPairs
 mod Closings

@@ -1,5 +1,5 @@
 //! Whether several subtrees are contained against several users.
-ghost use Rattle.std.specs.Prelude.{◌≡◌, ◌≢◌, ℕ, List, [], map, Ok, Err, IfOk, IfErr, MatchResult};
+ghost use Rattle.std.specs.Prelude.{◌≡◌, ◌≢◌, List, [], map, Ok, Err, IfOk, MatchResult};
 ghost use Rattle.cg_cgroup.specs.Identity.{Identity};
 ghost use Rattle.cg_cgroup.specs.Paths.{Names};
 ghost use Rattle.cg_tree.specs.States.{State};
@@ -8,11 +8,11 @@ ghost use Rattle.cg_check.specs.Checks.{all_checked};
 ghost use Rattle.cg_check.specs.Several.{AreContained};
 ghost use Rattle.cg_cli.specs.Audits.{users_read, paths_read, audit_status, pairs_report, audit_report};
 ghost use Rattle.cg_cli.specs.Reports.{Reports};
-ghost use Rattle.cg_cli.specs.declared.fault.CliFault.{CliFault};
 
-use crate::arguments::{UserIds, read_path, read_user};
+use crate::arguments::UserIds;
 use crate::check::status;
 use crate::fault::CliFault;
+use crate::named::{paths_once, users_once};
 use crate::write::write_whole;
 use cg_cgroup::memory::NoMemory;
 use cg_cgroup::path::Path;
@@ -27,7 +27,8 @@ use std::alloc::Global;
 use std::io::Write;
 
 /// Writes whether every subtree is contained against every user: `contained` with status 0, or the line of the first pair
-/// that isn't, by user and then subtree, and what `check_bytes` writes of it, with its status.
+/// that isn't, by user and then subtree, and what `check_bytes` writes of it, with its status. A user or a subtree that is
+/// named again is asked once.
 ///
 /// # Errors
 /// The first that holds of `Uid` and `Gids` for each user in turn, `BadPath`, `Tree` and `Subtree`, and then nothing is
@@ -46,52 +47,12 @@ pub fn audit_bytes<W: Write>(
         → tree_of tree.now ≡ Ok st → users_read (map (λ user. (user.uid, user.gids.now)) users.now) ≡ Ok who
         → paths_read (map (λ subtree. subtree.now) subtrees.now) ≡ Ok paths → who ≢ [] → AreContained st who paths }
 {
-    let users = read_users(alloc, users)?;
-    let subtrees = read_paths(alloc, subtrees)?;
+    let users = users_once(alloc, users)?;
+    let subtrees = paths_once(alloc, subtrees)?;
     let tree = read_tree(alloc, tree)?;
     let (text, status) = audited(alloc, &tree, users.as_slice(), subtrees.as_slice())?;
     write_whole(out, text.as_slice())?;
     Ok(status)
-}
-
-/// The users, or the first fault of one, which takes no memory to find.
-fn read_users(alloc: Global, users: &[UserIds<'_>]) -> Result<Vec<User>, CliFault>
-    ensures read { MatchResult result
-        (λ read. users_read (map (λ user. (user.uid, user.gids.now)) users.now) ≡ Ok read.items)
-        (λ fault. fault ≢ CliFault.NoMemory → users_read (map (λ user. (user.uid, user.gids.now)) users.now) ≡ Err fault) }
-    ensures faults { (fault : CliFault)
-        → users_read (map (λ user. (user.uid, user.gids.now)) users.now) ≡ Err fault → result ≡ Err fault }
-{
-    test_users(users)?;
-    let mut read = Vec::new(alloc);
-    for user in users {
-        read.push(read_user(*user)?)?;
-    }
-    Ok(read)
-}
-
-/// Whether every user can be one.
-pub(crate) fn test_users(users: &[UserIds<'_>]) -> Result<(), CliFault>
-    ensures faults { (fault : CliFault)
-        → users_read (map (λ user. (user.uid, user.gids.now)) users.now) ≡ Err fault → result ≡ Err fault }
-    ensures fault { IfErr result (λ fault. users_read (map (λ user. (user.uid, user.gids.now)) users.now) ≡ Err fault) }
-{
-    for user in users {
-        read_user(*user)?;
-    }
-    Ok(())
-}
-
-fn read_paths(alloc: Global, texts: &[&str]) -> Result<Vec<Path>, CliFault>
-    ensures { MatchResult result
-        (λ read. paths_read (map (λ text. text.now) texts.now) ≡ Ok read.items)
-        (λ fault. fault ≢ CliFault.NoMemory → paths_read (map (λ text. text.now) texts.now) ≡ Err fault) }
-{
-    let mut read = Vec::new(alloc);
-    for text in texts {
-        read.push(read_path(alloc, text)?)?;
-    }
-    Ok(read)
 }
 
 /// What is said of users and subtrees, and the status.

@@ -1,5 +1,5 @@
 //! All pairs of some users and some subtrees that aren't contained.
-ghost use Rattle.std.specs.Prelude.{◌≡◌, ◌≢◌, List, [], map, Ok, Err, None, IfOk, MatchResult};
+ghost use Rattle.std.specs.Prelude.{◌≡◌, List, map, Ok, None, IfOk};
 ghost use Rattle.std.specs.List.{flat_map};
 ghost use Rattle.cg_cgroup.specs.Identity.{Identity};
 ghost use Rattle.cg_cgroup.specs.Paths.{Names, same_path};
@@ -10,14 +10,13 @@ ghost use Rattle.cg_check.specs.Answers.{answer};
 ghost use Rattle.cg_check.specs.Checks.{subtree_faults};
 ghost use Rattle.cg_check.specs.Listed.{listed_unless_contained, listed_of, listed};
 ghost use Rattle.cg_cli.specs.Audits.{users_read, paths_read};
-ghost use Rattle.cg_cli.specs.Once.{once, same_user, IsReadOnce};
-ghost use Rattle.cg_cli.specs.declared.fault.CliFault.{CliFault};
+ghost use Rattle.cg_cli.specs.Once.{once, same_user};
 ghost use Rattle.cg_cli.specs.AllPairs.{worse, WritesPairs, pairs_found, all_report, ReportsPairs, UnlistedAreContained};
 
-use crate::arguments::{UserIds, read_path, read_user};
-use crate::audit::test_users;
+use crate::arguments::UserIds;
 use crate::check::status;
 use crate::fault::CliFault;
+use crate::named::{paths_once, users_once};
 use crate::write::write_whole;
 use cg_cgroup::path::Path;
 use cg_cgroup::user::User;
@@ -27,7 +26,6 @@ use cg_report::pair::pair_text;
 use cg_text::tree::read_tree;
 use cg_tree::hierarchy::Hierarchy;
 use std::alloc::Global;
-use std::collections::BTreeSet;
 use std::io::Write;
 
 /// Writes every pair of a user and a subtree that isn't contained, by user and then subtree, as soon as it is found: the
@@ -56,45 +54,6 @@ pub fn audit_all_bytes<W: Write>(
     let subtrees = paths_once(alloc, subtrees)?;
     let tree = read_tree(alloc, tree)?;
     write_listing(alloc, &tree, users.as_slice(), subtrees.as_slice(), out)
-}
-
-/// The users, each where he is named first, or the first fault of one, which takes no memory to find.
-fn users_once(alloc: Global, users: &[UserIds<'_>]) -> Result<Vec<User>, CliFault>
-    ensures read { MatchResult result
-        (λ read. IsReadOnce same_user (users_read (map (λ user. (user.uid, user.gids.now)) users.now)) read.items)
-        (λ fault. fault ≢ CliFault.NoMemory → users_read (map (λ user. (user.uid, user.gids.now)) users.now) ≡ Err fault) }
-    ensures faults { (fault : CliFault)
-        → users_read (map (λ user. (user.uid, user.gids.now)) users.now) ≡ Err fault → result ≡ Err fault }
-{
-    test_users(users)?;
-    let mut seen = BTreeSet::new(alloc);
-    let mut read = Vec::new(alloc);
-    for user in users {
-        let one = read_user(*user)?;
-        let is_new = seen.insert((user.uid, user.gids))?;
-        if is_new {
-            read.push(one)?;
-        }
-    }
-    Ok(read)
-}
-
-/// The paths, each where it is named first.
-fn paths_once(alloc: Global, texts: &[&str]) -> Result<Vec<Path>, CliFault>
-    ensures { MatchResult result
-        (λ read. IsReadOnce same_path (paths_read (map (λ text. text.now) texts.now)) read.items)
-        (λ fault. fault ≢ CliFault.NoMemory → paths_read (map (λ text. text.now) texts.now) ≡ Err fault) }
-{
-    let mut seen = BTreeSet::new(alloc);
-    let mut read = Vec::new(alloc);
-    for text in texts {
-        let path = read_path(alloc, text)?;
-        let is_new = seen.insert(path.try_clone(alloc)?)?;
-        if is_new {
-            read.push(path)?;
-        }
-    }
-    Ok(read)
 }
 
 /// Writes all pairs that aren't contained, or that there is none.

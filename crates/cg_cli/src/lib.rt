@@ -10,6 +10,7 @@ pub mod fault;
 pub mod input;
 pub mod laws;
 pub mod may;
+mod named;
 pub mod replay;
 pub mod upgrade;
 pub mod write;

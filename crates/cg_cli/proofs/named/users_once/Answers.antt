@@ -3,8 +3,8 @@ use Rattle.std.proofs.lemmas.Result.{err_from_is_err_and}
 use Rattle.cg_cli.specs.Arguments.{user_read}
 use Rattle.cg_cli.proofs.EachRead.{read_more, read_stops}
 use Rattle.cg_cli.proofs.Once.{user_first, user_again}
-use Rattle.cg_cli.proofs.audit_all.users_once.Goals as goal
-use Rattle.cg_cli.proofs.audit_all.users_once.Goals.{then-is_new+in_ok-push, else-is_new}
+use Rattle.cg_cli.proofs.named.users_once.Goals as goal
+use Rattle.cg_cli.proofs.named.users_once.Goals.{then-is_new+in_ok-push, else-is_new}
 
 pub returns-in_err-one-clause-read : goal.returns-in_err-one-clause-read
 returns-in_err-one-clause-read c =

@@ -3,8 +3,8 @@ use Rattle.std.proofs.lemmas.Result.{err_from_is_err_and}
 use Rattle.cg_cli.specs.Arguments.{path_read}
 use Rattle.cg_cli.proofs.EachRead.{read_more, read_stops}
 use Rattle.cg_cli.proofs.Once.{path_first, path_again}
-use Rattle.cg_cli.proofs.audit_all.paths_once.Goals as goal
-use Rattle.cg_cli.proofs.audit_all.paths_once.Goals.{then-is_new+in_ok-push, else-is_new}
+use Rattle.cg_cli.proofs.named.paths_once.Goals as goal
+use Rattle.cg_cli.proofs.named.paths_once.Goals.{then-is_new+in_ok-push, else-is_new}
 
 pub returns-in_err-path : goal.returns-in_err-path
 returns-in_err-path c =

@@ -3,7 +3,7 @@ use Rattle.std.proofs.lemmas.Result.{err_from_is_err_and}
 use Rattle.cg_cli.specs.Arguments.{user_read}
 use Rattle.cg_cli.specs.Audits.{users_read}
 use Rattle.cg_cli.proofs.EachRead.{read_more, read_stops}
-use Rattle.cg_cli.proofs.audit.test_users.Goals as goal
+use Rattle.cg_cli.proofs.named.test_users.Goals as goal
 
 pub loop-user-preserved : goal.loop-user-preserved
 loop-user-preserved c = (

@@ -1,0 +1,64 @@
+//! Users and subtrees as they are named, each of them once.
+ghost use Rattle.std.specs.Prelude.{◌≡◌, ◌≢◌, map, Err, IfErr, MatchResult};
+ghost use Rattle.cg_cgroup.specs.Paths.{same_path};
+ghost use Rattle.cg_cli.specs.Audits.{users_read, paths_read};
+ghost use Rattle.cg_cli.specs.Once.{same_user, IsReadOnce};
+ghost use Rattle.cg_cli.specs.declared.fault.CliFault.{CliFault};
+
+use crate::arguments::{UserIds, read_path, read_user};
+use crate::fault::CliFault;
+use cg_cgroup::path::Path;
+use cg_cgroup::user::User;
+use std::alloc::Global;
+use std::collections::BTreeSet;
+
+/// The users, each where he is named first, or the first fault of one, which takes no memory to find.
+pub(crate) fn users_once(alloc: Global, users: &[UserIds<'_>]) -> Result<Vec<User>, CliFault>
+    ensures read { MatchResult result
+        (λ read. IsReadOnce same_user (users_read (map (λ user. (user.uid, user.gids.now)) users.now)) read.items)
+        (λ fault. fault ≢ CliFault.NoMemory → users_read (map (λ user. (user.uid, user.gids.now)) users.now) ≡ Err fault) }
+    ensures faults { (fault : CliFault)
+        → users_read (map (λ user. (user.uid, user.gids.now)) users.now) ≡ Err fault → result ≡ Err fault }
+{
+    test_users(users)?;
+    let mut seen = BTreeSet::new(alloc);
+    let mut read = Vec::new(alloc);
+    for user in users {
+        let one = read_user(*user)?;
+        let is_new = seen.insert((user.uid, user.gids))?;
+        if is_new {
+            read.push(one)?;
+        }
+    }
+    Ok(read)
+}
+
+/// Whether every user can be one.
+fn test_users(users: &[UserIds<'_>]) -> Result<(), CliFault>
+    ensures faults { (fault : CliFault)
+        → users_read (map (λ user. (user.uid, user.gids.now)) users.now) ≡ Err fault → result ≡ Err fault }
+    ensures fault { IfErr result (λ fault. users_read (map (λ user. (user.uid, user.gids.now)) users.now) ≡ Err fault) }
+{
+    for user in users {
+        read_user(*user)?;
+    }
+    Ok(())
+}
+
+/// The paths, each where it is named first.
+pub(crate) fn paths_once(alloc: Global, texts: &[&str]) -> Result<Vec<Path>, CliFault>
+    ensures { MatchResult result
+        (λ read. IsReadOnce same_path (paths_read (map (λ text. text.now) texts.now)) read.items)
+        (λ fault. fault ≢ CliFault.NoMemory → paths_read (map (λ text. text.now) texts.now) ≡ Err fault) }
+{
+    let mut seen = BTreeSet::new(alloc);
+    let mut read = Vec::new(alloc);
+    for text in texts {
+        let path = read_path(alloc, text)?;
+        let is_new = seen.insert(path.try_clone(alloc)?)?;
+        if is_new {
+            read.push(path)?;
+        }
+    }
+    Ok(read)
+}
