@@ -32,6 +32,7 @@ ANSWERS = (
     ("host-service-chown", "replay --uid 890 --gid 890 --ops {chown}", 0, "ok|ok"),
     ("delegation", "replay --uid 1000 --subtree /c0 --ops {none}", 0, "kept"),
     ("delegation", "replay --uid 1000 --ops {none}", 0, ""),
+    ("delegation", "replay --tree {tree} --uid 1000 --subtree /c0 --ops -", 0, "kept"),
     ("empty-parent-directory", "replay --uid 1000 --subtree /c0 --ops {gone}", 1, "ok|ok|broken 1 gone"),
     ("delegation-over-limit", "replay --uid 1000 --subtree /c0 --ops {none}", 1, "broken 0 descendants"),
 )
@@ -54,6 +55,8 @@ FAULTS = (
     ("replay --uid 1000 --ops {folder}/missing", "read", ""),
     ("replay --uid 1000 --subtree /c0 --ops {cut}", "line 2 cut", "ok"),
     ("replay --uid 1000 --ops {bad}", "line 2 bad-word", "ok"),
+    ("replay --tree - --uid 1000 --ops {bad}", "line 2 bad-word", "ok"),
+    ("replay --uid 1000 --ops -", "usage", ""),
     ("replay --uid 1000 --ops {long}", "line 2 too-long", "ok"),
     ("replay --uid 1000 --ops {many}", "too-many-steps", "|".join(65536 * ["refused no-such-process 99"])),
 )

@@ -165,7 +165,11 @@ def respond(words, stdin, files):
 
 def report(words, stdin, files, lines):
     call = Call(words)
-    tree = stdin if call.one("--tree") is None else files.get(call.one("--tree"))
+    files = {**files, "-": stdin}
+    named = "-" if call.one("--tree") is None else call.one("--tree")
+    if named == call.one("--ops") == "-":
+        raise Fault("usage")
+    tree = files.get(named)
     if not isinstance(tree, bytes) or call.command == "replay" and files.get(call.one("--ops")) is None:
         raise Fault("read")
     test_arguments(call)

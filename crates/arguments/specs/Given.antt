@@ -1,5 +1,6 @@
 -- What a parse found, as the fields of requests. Own.
-use Rattle.std.specs.Prelude.{◌≡◌, ℕ, Bool, true, false, List, [], map, codes, Option, Some, None, option_and_then}
+use Rattle.std.specs.Prelude.{◌≡◌, ℕ, Bool, true, false, List, [], map, codes, cond, nat_eq, Option, Some, None, option_and_then}
+use Rattle.std.specs.Cmp.Lexicographic.{pointwise}
 use Rattle.std.specs.Option.{option_map, option_map_or}
 use Rattle.std.specs.Str.Parse.{without_leading_plus}
 use Rattle.clap.specs.Matches.{matched_of, first_value, one_text, raw_values, typed_values, subcommand_name_of}
@@ -11,6 +12,8 @@ use Rattle.arguments.specs.declared.named_user.NamedUser.{NamedUser}
 use Rattle.arguments.specs.declared.request.May.{May}
 use Rattle.arguments.specs.declared.request.Check.{Check}
 use Rattle.arguments.specs.declared.request.Audit.{Audit}
+use Rattle.arguments.specs.declared.request.Sources.{Sources}
+use Rattle.arguments.specs.declared.request.Sources.TheVariants.{Files, TreeGiven, OpsGiven}
 use Rattle.arguments.specs.declared.request.Replay.{Replay}
 use Rattle.arguments.specs.declared.request.Upgrade.{Upgrade}
 use Rattle.arguments.specs.declared.request.Request.{Request}
@@ -23,6 +26,29 @@ number_read word = id_at (without_leading_plus word)
 -- what an option has to say each time that it is given
 abbrev pub words_at : Found → List ℕ → List (List ℕ)
 words_at found name = option_map_or raw_values (matched_of found name) []
+
+-- a file by its name; `-` is standard input, and no file
+abbrev pub file_named : List ℕ → Option (List ℕ)
+file_named word = cond (pointwise nat_eq word (codes "-")) None (Some word)
+
+-- the file that an option names; none where it is left out
+abbrev pub file_at : Found → List ℕ → Option (List ℕ)
+file_at found name = option_and_then file_named (first_value found name)
+
+-- both the tree and the operations are to come from standard input
+abbrev pub NamesNoFile : Found → Type 0
+NamesNoFile found = (file_at found (codes "tree") ≡ None) × (file_at found (codes "ops") ≡ None)
+
+-- the file of the tree, and that of the operations; where there is none it is standard input
+abbrev pub tree_file : Sources → Option (List ℕ)
+tree_file (Files tree ops) = Some tree.now
+tree_file (TreeGiven ops) = None
+tree_file (OpsGiven tree) = Some tree.now
+
+abbrev pub ops_file : Sources → Option (List ℕ)
+ops_file (Files tree ops) = Some ops.now
+ops_file (TreeGiven ops) = Some ops.now
+ops_file (OpsGiven tree) = None
 
 abbrev pub number_at : Found → List ℕ → Option ℕ
 number_at found name = option_and_then number_read (one_text found name)
@@ -49,30 +75,30 @@ IsFlag said flag = (said ≡ Some (codes "true") → flag ≡ true) × (said ≡
 -- What the request of a command holds of what was found.
 
 pub record IsMay (found : Found) (may : May) : Type 0 where
-  pub tree : option_map (λ file. file.now) may.tree ≡ first_value found (codes "tree")
+  pub tree : option_map (λ file. file.now) may.tree ≡ file_at found (codes "tree")
   pub user : user_given found ≡ Some (ids_of may.user)
   pub pid : number_at found (codes "pid") ≡ Some may.pid
   pub to : first_value found (codes "to") ≡ Some may.to.now
 
 pub record IsCheck (found : Found) (check : Check) : Type 0 where
-  pub tree : option_map (λ file. file.now) check.tree ≡ first_value found (codes "tree")
+  pub tree : option_map (λ file. file.now) check.tree ≡ file_at found (codes "tree")
   pub user : user_given found ≡ Some (ids_of check.user)
   pub subtree : first_value found (codes "subtree") ≡ Some check.subtree.now
 
 pub record IsAudit (found : Found) (audit : Audit) : Type 0 where
-  pub tree : option_map (λ file. file.now) audit.tree ≡ first_value found (codes "tree")
+  pub tree : option_map (λ file. file.now) audit.tree ≡ file_at found (codes "tree")
   pub users : users_given found ≡ Some (map ids_of audit.users.items)
   pub subtrees : words_at found (codes "subtree") ≡ map (λ subtree. subtree.now) audit.subtrees.items
   pub all : IsFlag (one_text found (codes "all")) audit.all
 
 pub record IsReplay (found : Found) (replay : Replay) : Type 0 where
-  pub tree : option_map (λ file. file.now) replay.tree ≡ first_value found (codes "tree")
+  pub tree : tree_file replay.sources ≡ file_at found (codes "tree")
+  pub ops : ops_file replay.sources ≡ file_at found (codes "ops")
   pub user : user_given found ≡ Some (ids_of replay.user)
-  pub ops : first_value found (codes "ops") ≡ Some replay.ops.now
   pub subtree : option_map (λ path. path.now) replay.subtree ≡ first_value found (codes "subtree")
 
 pub record IsUpgrade (found : Found) (upgrade : Upgrade) : Type 0 where
-  pub tree : option_map (λ file. file.now) upgrade.tree ≡ first_value found (codes "tree")
+  pub tree : option_map (λ file. file.now) upgrade.tree ≡ file_at found (codes "tree")
 
 abbrev pub command_of : Request → Option (List ℕ)
 command_of (request.Help text) = None

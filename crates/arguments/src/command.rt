@@ -201,16 +201,17 @@ fn replay_command<'a>(alloc: Global) -> Result<Command<'a>, AllocError> {
                 .long("ops")
                 .value_name("FILE")
                 .required(true)
-                .help("The operations, one a line"),
+                .help(
+                    "The operations, one a line; - is standard input, and then the tree's text is a file",
+                ),
         )?
         .arg(subtree_argument(alloc).help("The top of a subtree, on which a verdict is wanted"))
 }
 
 fn tree_argument<'a>(alloc: Global) -> Arg<'a> {
-    Arg::new(alloc, "tree")
-        .long("tree")
-        .value_name("FILE")
-        .help("The tree's text; standard input where this is left out")
+    Arg::new(alloc, "tree").long("tree").value_name("FILE").help(
+        "The tree's text; standard input where this is left out or is -",
+    )
 }
 
 fn subtree_argument<'a>(alloc: Global) -> Arg<'a> {

@@ -1,8 +1,9 @@
 //! What the command line asks for.
 ghost use Rattle.std.specs.Prelude.{◌≡◌, ◌≢◌, ◌⊎◌, Some, None, IfOk, IfErr, MatchResult, codes, map, ok_or};
+ghost use Rattle.std.specs.Option.{option_map};
 ghost use Rattle.clap.specs.Matches.{found_of, first_value, values_left};
 ghost use Rattle.arguments.specs.UserWords.{all_read, user_at};
-ghost use Rattle.arguments.specs.Given.{number_read, words_at, number_at, numbers_at, user_given, users_given, ids_of, IsMay, IsCheck, IsAudit, IsReplay, IsUpgrade, IsOf};
+ghost use Rattle.arguments.specs.Given.{number_read, words_at, file_named, file_at, NamesNoFile, number_at, numbers_at, user_given, users_given, ids_of, IsMay, IsCheck, IsAudit, tree_file, ops_file, IsReplay, IsUpgrade, IsOf};
 
 use crate::command::command;
 use crate::fault::ArgumentsFault;
@@ -70,7 +71,7 @@ impl<'a> May<'a> {
             ⊎ (first_value (found_of matches.now) (codes "to") ≡ None)) }
     {
         Ok(May {
-            tree: matches.get_str("tree"),
+            tree: file_of(matches, "tree"),
             user: user_of(alloc, matches)?,
             pid: number(matches, "pid")?,
             to: matches.get_str("to").ok_or(ArgumentsFault::Usage)?,
@@ -94,7 +95,7 @@ impl<'a> Check<'a> {
             ⊎ (first_value (found_of matches.now) (codes "subtree") ≡ None)) }
     {
         Ok(Check {
-            tree: matches.get_str("tree"),
+            tree: file_of(matches, "tree"),
             user: user_of(alloc, matches)?,
             subtree: matches.get_str("subtree").ok_or(ArgumentsFault::Usage)?,
         })
@@ -120,7 +121,7 @@ impl<'a> Audit<'a> {
             ⊎ (first_value (found_of matches.now) (codes "subtree") ≡ None)) }
     {
         Ok(Audit {
-            tree: matches.get_str("tree"),
+            tree: file_of(matches, "tree"),
             users: users_of(alloc, given(matches, "uid")?)?,
             subtrees: given(matches, "subtree")?.to_vec(alloc)?,
             all: matches.get_flag("all"),
@@ -140,7 +141,56 @@ impl<'a> Upgrade<'a> {
         ensures { IsUpgrade (found_of matches.now) result }
     {
         Upgrade {
-            tree: matches.get_str("tree"),
+            tree: file_of(matches, "tree"),
+        }
+    }
+}
+
+/// Where a replay's tree and its operations are read from: standard input is one of the two at most.
+#[derive(Clone, Copy, Debug, PartialEq, Eq)]
+pub enum Sources<'a> {
+    /// A file of the tree, and one of the operations.
+    Files(&'a str, &'a str),
+    /// The tree from standard input, and a file of the operations.
+    TreeGiven(&'a str),
+    /// A file of the tree, and the operations from standard input.
+    OpsGiven(&'a str),
+}
+
+impl<'a> Sources<'a> {
+    /// The files that the options name.
+    fn from_matches(matches: &ArgMatches<'a>) -> Result<Sources<'a>, ArgumentsFault>
+        ensures tree { IfOk result (λ sources. tree_file sources ≡ file_at (found_of matches.now) (codes "tree")) }
+        ensures ops { IfOk result (λ sources. ops_file sources ≡ file_at (found_of matches.now) (codes "ops")) }
+        ensures fault { IfErr result (λ fault. (first_value (found_of matches.now) (codes "ops") ≡ None)
+            ⊎ NamesNoFile (found_of matches.now)) }
+    {
+        let ops = matches.get_str("ops").ok_or(ArgumentsFault::Usage)?;
+        match (file_of(matches, "tree"), file_named(ops)) {
+            (Some(tree), Some(ops)) => Ok(Sources::Files(tree, ops)),
+            (None, Some(ops)) => Ok(Sources::TreeGiven(ops)),
+            (Some(tree), None) => Ok(Sources::OpsGiven(tree)),
+            (None, None) => Err(ArgumentsFault::Usage),
+        }
+    }
+
+    /// The file of the tree, where it isn't standard input.
+    pub fn tree(self) -> Option<&'a str>
+        ensures { option_map (λ file. file.now) result ≡ tree_file self.entry }
+    {
+        match self {
+            Sources::Files(tree, _) | Sources::OpsGiven(tree) => Some(tree),
+            Sources::TreeGiven(_) => None,
+        }
+    }
+
+    /// The file of the operations, where it isn't standard input.
+    pub fn ops(self) -> Option<&'a str>
+        ensures { option_map (λ file. file.now) result ≡ ops_file self.entry }
+    {
+        match self {
+            Sources::Files(_, ops) | Sources::TreeGiven(ops) => Some(ops),
+            Sources::OpsGiven(_) => None,
         }
     }
 }
@@ -148,9 +198,8 @@ impl<'a> Upgrade<'a> {
 /// Operations that a user makes one after another.
 #[derive(Drop)]
 pub struct Replay<'a> {
-    pub tree: Option<&'a str>,
+    pub sources: Sources<'a>,
     pub user: NamedUser,
-    pub ops: &'a str,
     pub subtree: Option<&'a str>,
 }
 
@@ -159,15 +208,29 @@ impl<'a> Replay<'a> {
     fn from_matches(alloc: Global, matches: &ArgMatches<'a>) -> Result<Replay<'a>, ArgumentsFault>
         ensures given { IfOk result (IsReplay (found_of matches.now)) }
         ensures fault { IfErr result (λ fault. fault ≢ ArgumentsFault.NoMemory → (user_given (found_of matches.now) ≡ None)
-            ⊎ (first_value (found_of matches.now) (codes "ops") ≡ None)) }
+            ⊎ (first_value (found_of matches.now) (codes "ops") ≡ None)
+            ⊎ NamesNoFile (found_of matches.now)) }
     {
         Ok(Replay {
-            tree: matches.get_str("tree"),
+            sources: Sources::from_matches(matches)?,
             user: user_of(alloc, matches)?,
-            ops: matches.get_str("ops").ok_or(ArgumentsFault::Usage)?,
             subtree: matches.get_str("subtree"),
         })
     }
+}
+
+/// The file that an option names. There is none where the option is left out, or says `-`, which is standard input.
+fn file_of<'a>(matches: &ArgMatches<'a>, option: &str) -> Option<&'a str>
+    ensures { option_map (λ file. file.now) result ≡ file_at (found_of matches.now) option.now }
+{
+    file_named(matches.get_str(option)?)
+}
+
+/// The file that a word names.
+fn file_named(word: &str) -> Option<&str>
+    ensures { option_map (λ file. file.now) result ≡ file_named word.now }
+{
+    if word == "-" { None } else { Some(word) }
 }
 
 /// The one user of a command.

@@ -1,14 +1,28 @@
-//! What clap says of words that are no request.
+//! What is wrong with words that are no request.
 use crate::command::command;
-use clap::Error;
+use clap::{ArgMatches, Error};
 use std::alloc::{AllocError, Global};
 
-/// What is wrong with the words of a command line, in clap's words: which word it is, the nearest command or option, and the usage.
-/// Nothing where clap takes them.
+const USERS: &str = "a user of audit is UID or UID:GID,GID.. in decimal digits, with no spaces";
+
+const ONE_INPUT: &str =
+    "standard input is read once, and both the tree and the operations are to come from it:
+name a file for one of them; a file of the name - is ./-";
+
+/// What is wrong with the words of a command line that is no request, mostly in clap's words: which word it is, the nearest
+/// command or option, and the usage. Nothing where help is asked for.
 pub fn usage_text<'a>(alloc: Global, words: &'a [String]) -> Result<Option<String>, AllocError> {
     match command(alloc)?.try_get_matches_from(words) {
-        Ok(_matches) => Ok(None),
+        Ok(matches) => Ok(Some(String::from_str(alloc, beside_clap(&matches))?)),
         Err(error) => error_text(alloc, error),
+    }
+}
+
+/// What is wrong with words that clap takes.
+fn beside_clap(matches: &ArgMatches<'_>) -> &'static str {
+    match matches.subcommand_name() {
+        Some("replay") => ONE_INPUT,
+        _ => USERS,
     }
 }
 

@@ -1,6 +1,8 @@
 -- What stands below the line of a fault: lines, each of which begins with two spaces. Own.
-use Rattle.std.specs.Prelude.{ℕ, ◌+◌, ◌/◌, ◌%◌, List, [], ◌∷◌, ◌++◌, cond, nat_eq, nat_lt, nat_le, ◌&&◌, ◌≡◌, ◌⊎◌}
+use Rattle.std.specs.Prelude.{ℕ, ◌+◌, ◌/◌, ◌%◌, Bool, true, false, List, [], ◌∷◌, ◌++◌, cond, nat_eq, nat_lt, nat_le, ◌&&◌, ◌≡◌, ◌⊎◌}
 use Rattle.std.specs.List.{flat_map}
+use Rattle.cg_cli.specs.declared.fault.CliFault.{CliFault}
+use Rattle.cg_cli.specs.declared.fault.CliFault.TheVariants.{Write, NoMemory}
 
 abbrev pub digit : ℕ → ℕ
 digit number = cond (nat_lt number 10) (48 + number) (87 + number)
@@ -20,3 +22,9 @@ indented text = (32 ∷ 32 ∷ []) ++ flat_map shown_within text ++ 10 ∷ []
 -- nothing, or lines of which each begins with two spaces
 abbrev pub IsHelp : List ℕ → Type 0
 IsHelp help = (help ≡ []) ⊎ ((text : List ℕ) × (help ≡ indented text))
+
+-- Below which faults help may stand: a write that failed and memory that was refused tell nothing of what was asked.
+abbrev pub has_help : CliFault → Bool
+has_help Write = false
+has_help NoMemory = false
+has_help fault = true

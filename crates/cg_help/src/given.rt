@@ -9,16 +9,16 @@ pub(crate) fn tree_of<'a>(request: &Request<'a>) -> Option<&'a str> {
         Request::Check(request) => request.tree,
         Request::Audit(request) => request.tree,
         Request::Advise(request) => request.tree,
-        Request::Replay(request) => request.tree,
+        Request::Replay(request) => request.sources.tree(),
         Request::Upgrade(request) => request.tree,
         _ => None,
     }
 }
 
-/// The file of the operations.
+/// The file of the operations, where one is named.
 pub(crate) fn operations_of<'a>(request: &Request<'a>) -> Option<&'a str> {
     match request {
-        Request::Replay(request) => Some(request.ops),
+        Request::Replay(request) => request.sources.ops(),
         _ => None,
     }
 }

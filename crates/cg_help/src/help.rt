@@ -1,12 +1,13 @@
 //! The help below the line of a fault.
-ghost use Rattle.std.specs.Prelude.{IfOk};
-ghost use Rattle.cg_help.specs.Help.{IsHelp};
+ghost use Rattle.std.specs.Prelude.{◌≡◌, [], true, false, IfOk};
+ghost use Rattle.std.specs.Option.{option_map_or};
+ghost use Rattle.cg_help.specs.Help.{IsHelp, has_help};
 
 use crate::files::{read_again, why_unread};
 use crate::given::{operations_of, paths_of, tree_of};
 use crate::paths::{why_missing, why_no_path};
 use crate::shown::{indented, quoted};
-use crate::trees::tree_said;
+use crate::trees::{first_missing, tree_said};
 use arguments::request::Request;
 use arguments::usage::usage_text;
 use cg_cgroup::memory::NoMemory;
@@ -16,29 +17,46 @@ use std::alloc::{AllocError, Global};
 use std::rt::{Env, Files};
 use std::{env, io};
 
-/// What is told of the words of `audit` that clap has nothing against.
-const USERS: &str = "a user of audit is UID or UID:GID,GID.. in decimal digits, with no spaces";
+/// What was seen of standard input and of the operations.
+#[derive(Clone, Copy, Debug)]
+pub struct Seen<'a> {
+    /// What standard input gave, where all of it was kept.
+    pub input: Option<&'a [u8]>,
+    /// The operation line at which a replay ended, as far as it was read.
+    pub line: Option<&'a [u8]>,
+}
 
 /// The help below the line of a fault, or nothing; a command line that is none of the program's has no fault of a call.
 ///
-/// The words and the files are looked at once more; `input` is what standard input gave, where all of it was kept.
+/// The words and the files are looked at once more.
 pub fn help_text<R: AllocGlobal + Env + Files>(
     rt: &R,
     fault: Option<&CliFault>,
-    input: Option<&[u8]>,
+    seen: Seen<'_>,
 ) -> Result<Vec<u8>, NoMemory>
-    ensures { IfOk result (λ help. IsHelp help.items) }
+    ensures form { IfOk result (λ help. IsHelp help.items) }
+    ensures silent { option_map_or (λ fault. has_help fault.now) fault.entry true ≡ false → IfOk result (λ help. help.items ≡ []) }
 {
-    match said(rt, fault, input)? {
+    if !has_help(fault) {
+        return Ok(Vec::new(rt.alloc()));
+    }
+    match said(rt, fault, seen)? {
         None => Ok(Vec::new(rt.alloc())),
         Some(text) => Ok(indented(rt.alloc(), text.as_str().trim_end())?),
     }
 }
 
+/// Whether there is anything to be looked at once more: not where a write failed, or memory was refused.
+fn has_help(fault: Option<&CliFault>) -> bool
+    ensures { result ≡ option_map_or (λ fault. has_help fault.now) fault.entry true }
+{
+    !matches!(fault, Some(CliFault::Write | CliFault::NoMemory))
+}
+
 fn said<R: AllocGlobal + Env + Files>(
     rt: &R,
     fault: Option<&CliFault>,
-    input: Option<&[u8]>,
+    seen: Seen<'_>,
 ) -> Result<Option<String>, NoMemory> {
     let alloc = rt.alloc();
     let words: Vec<String> = match env::args(rt) {
@@ -50,7 +68,7 @@ fn said<R: AllocGlobal + Env + Files>(
         return usage_said(alloc, words.as_slice());
     };
     match Request::from_words(alloc, words.as_slice()) {
-        Ok(request) => fault_said(rt, fault, &request, input),
+        Ok(request) => fault_said(rt, fault, &request, seen),
         Err(_) => Ok(None),
     }
 }
@@ -59,13 +77,10 @@ fn plainly(alloc: Global, words: &str) -> Result<Option<String>, NoMemory> {
     Ok(Some(String::from_str(alloc, words)?))
 }
 
-/// What clap says of the words, which it is given as they are quoted.
+/// What is wrong with the words, which clap is given as they are quoted.
 fn usage_said(alloc: Global, words: &[String]) -> Result<Option<String>, NoMemory> {
     let quotes = all_quoted(alloc, words)?;
-    match usage_text(alloc, quotes.as_slice())? {
-        Some(text) => Ok(Some(text)),
-        None => plainly(alloc, USERS),
-    }
+    Ok(usage_text(alloc, quotes.as_slice())?)
 }
 
 fn all_quoted(alloc: Global, words: &[String]) -> Result<Vec<String>, NoMemory> {
@@ -80,7 +95,7 @@ fn fault_said<R: AllocGlobal + Files>(
     rt: &R,
     fault: &CliFault,
     request: &Request<'_>,
-    input: Option<&[u8]>,
+    seen: Seen<'_>,
 ) -> Result<Option<String>, NoMemory> {
     let alloc = rt.alloc();
     match fault {
@@ -100,13 +115,13 @@ fn fault_said<R: AllocGlobal + Files>(
                 "the root is handed to nobody: name a cgroup below it",
             )
         }
-        CliFault::Subtree(_) => missing_path(alloc, request),
-        CliFault::Tree(fault) => match tree_bytes(rt, request, input)? {
+        CliFault::Subtree(_) => missing_path(rt, request, seen),
+        CliFault::Tree(fault) => match tree_bytes(rt, request, seen)? {
             Some(bytes) => Ok(tree_said(alloc, *fault, bytes.as_slice())?),
             None => Ok(None),
         },
         CliFault::Read => unread(rt, request),
-        CliFault::Line { number, fault: _ } => line_said(rt, request, *number),
+        CliFault::Line { .. } => line_said(alloc, seen),
         CliFault::TooManySteps => plainly(alloc, "a replay takes at most 65536 operations"),
         _ => Ok(None),
     }
@@ -121,15 +136,26 @@ fn first_bad_path(alloc: Global, request: &Request<'_>) -> Result<Option<String>
     Ok(None)
 }
 
-/// Which path may be missing: the only one, or the first that begins with the mount.
-fn missing_path(alloc: Global, request: &Request<'_>) -> Result<Option<String>, NoMemory> {
+/// Which path is missing: the only one, or of several the first that no row has.
+fn missing_path<R: AllocGlobal + Files>(
+    rt: &R,
+    request: &Request<'_>,
+    seen: Seen<'_>,
+) -> Result<Option<String>, NoMemory> {
+    let alloc = rt.alloc();
     let paths = paths_of(alloc, request)?;
-    match paths.as_slice() {
-        [path] => Ok(Some(why_missing(alloc, path)?)),
-        _ => plainly(
+    if let [path] = paths.as_slice() {
+        return Ok(Some(why_missing(alloc, path)?));
+    }
+    let Some(tree) = tree_bytes(rt, request, seen)? else {
+        return plainly(
             alloc,
             "a path of --subtree has to be that of a row of the tree",
-        ),
+        );
+    };
+    match first_missing(alloc, tree.as_slice(), paths.as_slice()) {
+        Some(path) => Ok(Some(why_missing(alloc, path)?)),
+        None => Ok(None),
     }
 }
 
@@ -137,11 +163,11 @@ fn missing_path(alloc: Global, request: &Request<'_>) -> Result<Option<String>, 
 fn tree_bytes<R: AllocGlobal + Files>(
     rt: &R,
     request: &Request<'_>,
-    input: Option<&[u8]>,
+    seen: Seen<'_>,
 ) -> Result<Option<Vec<u8>>, AllocError> {
     match tree_of(request) {
         Some(name) => Ok(read_again(rt, name)),
-        None => match input {
+        None => match seen.input {
             Some(bytes) => Ok(Some(Vec::from_slice(rt.alloc(), bytes)?)),
             None => Ok(None),
         },
@@ -164,33 +190,15 @@ fn unread<R: AllocGlobal + Files>(
     }
 }
 
-/// The operation line of that number.
-fn line_said<R: AllocGlobal + Files>(
-    rt: &R,
-    request: &Request<'_>,
-    number: u32,
-) -> Result<Option<String>, NoMemory> {
-    let Some(name) = operations_of(request) else {
+/// The operation line at which the replay ended.
+fn line_said(alloc: Global, seen: Seen<'_>) -> Result<Option<String>, NoMemory> {
+    let Some(line) = seen.line else {
         return Ok(None);
     };
-    let Some(bytes) = read_again(rt, name) else {
-        return Ok(None);
-    };
-    match std::str::from_utf8(bytes.as_slice()) {
-        Ok(text) => one_line(rt.alloc(), text, number),
-        Err(_) => plainly(rt.alloc(), "the operations aren't UTF-8"),
+    match std::str::from_utf8(line) {
+        Ok(line) => line_and_form(alloc, line),
+        Err(_) => plainly(alloc, "the line isn't UTF-8"),
     }
-}
-
-fn one_line(alloc: Global, text: &str, number: u32) -> Result<Option<String>, NoMemory> {
-    let mut left = number;
-    for line in text.split('\n') {
-        if left <= 1 {
-            return line_and_form(alloc, line);
-        }
-        left -= 1;
-    }
-    Ok(None)
 }
 
 fn line_and_form(alloc: Global, line: &str) -> Result<Option<String>, NoMemory> {

@@ -6,7 +6,10 @@ ghost use Rattle.std.specs.Io.KnownBytes.{ReadConsumes};
 use std::io;
 use std::io::Read;
 
-/// A reader whose bytes are kept for a second look, as far as there is memory for them.
+/// The greatest text that is looked at once more.
+pub const MOST_BYTES: usize = 4_194_304;
+
+/// A reader whose bytes are kept for a second look, as far as there is memory for them and they aren't too many.
 #[derive(Drop)]
 pub struct Kept<R> {
     pub inner: R,
@@ -26,9 +29,13 @@ impl<R: Read> Read for Kept<R> {
     {
         let count = self.inner.read(buf)?;
         if self.is_whole {
-            match self.bytes.extend_from_slice(&buf[..count]) {
-                Ok(()) => {}
-                Err(_) => self.is_whole = false,
+            if MOST_BYTES.saturating_sub(self.bytes.len()) < count {
+                self.is_whole = false;
+            } else {
+                match self.bytes.extend_from_slice(&buf[..count]) {
+                    Ok(()) => {}
+                    Err(_) => self.is_whole = false,
+                }
             }
         }
         Ok(count)

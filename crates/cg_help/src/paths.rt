@@ -1,5 +1,6 @@
 //! Why a text is no path.
 use crate::shown::quoted;
+use cg_cgroup::files::LimitFile;
 use std::alloc::{AllocError, Global};
 
 /// The greatest number of bytes of a path, and of a name.
@@ -67,21 +68,11 @@ fn why_not_named(name: &str) -> &'static str {
 }
 
 fn is_reserved(name: &str) -> bool {
-    matches!(
+    let is_standing = matches!(
         name,
-        "." | ".."
-            | "cgroup.controllers"
-            | "cgroup.procs"
-            | "cgroup.subtree_control"
-            | "cgroup.max.descendants"
-            | "cgroup.max.depth"
-            | "cpu.weight"
-            | "memory.min"
-            | "memory.low"
-            | "memory.high"
-            | "memory.max"
-            | "pids.max"
-    )
+        "." | ".." | "cgroup.controllers" | "cgroup.procs" | "cgroup.subtree_control"
+    );
+    is_standing || LimitFile::from_name(name).is_some()
 }
 
 /// What may be wrong with a path that no row of the tree has.

@@ -4,17 +4,15 @@ mod rows;
 mod shape;
 mod table;
 
+use crate::kept::MOST_BYTES;
 use crate::paths::why_no_path;
 use cg_text::tree::{Place, TreeFault};
 use entries::{entry_said, value_said};
 use rows::{controller_said, double_said, enabled_said, file_said, parent_said, place_said};
 use shape::shape_said;
 use std::alloc::{AllocError, Global};
-use table::{label, row, text_at};
+use table::{label, row, row_of, text_at};
 use toml::Table;
-
-/// The greatest text that is looked at once more.
-const MOST_BYTES: usize = 4_194_304;
 
 /// What is wrong with the text of a tree, which has this fault.
 pub(crate) fn tree_said(
@@ -30,6 +28,20 @@ pub(crate) fn tree_said(
         Err(error) if error.is_memory() => Ok(None),
         Err(error) => Ok(Some(format!(in alloc; "{error}")?)),
     }
+}
+
+/// The first of these paths that no row of a tree's text has.
+pub(crate) fn first_missing<'a>(alloc: Global, bytes: &[u8], paths: &[&'a str]) -> Option<&'a str> {
+    if MOST_BYTES < bytes.len() {
+        return None;
+    }
+    let top = toml::table_from_slice(alloc, bytes).ok()?;
+    for path in paths {
+        if row_of(&top, path).is_none() {
+            return Some(*path);
+        }
+    }
+    None
 }
 
 fn fault_said(alloc: Global, fault: TreeFault, top: &Table) -> Result<Option<String>, AllocError> {

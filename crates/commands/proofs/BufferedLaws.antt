@@ -5,7 +5,7 @@ use Rattle.std.specs.Io.KnownBytes.{Appends, Keeps}
 use Rattle.arguments.specs.declared.request.Audit.{Audit}
 use Rattle.arguments.specs.declared.request.Request.{Request}
 use Rattle.arguments.specs.declared.request.Request.TheVariants as request
-use Rattle.arguments.specs.Given.{ids_of}
+use Rattle.arguments.specs.Given.{ids_of, tree_file}
 use Rattle.cg_check.specs.Listed.{Listed}
 use Rattle.cg_cli.specs.AllPairs.{all_report, ReportsPairs}
 use Rattle.cg_cli.specs.Audits.{audit_report}
@@ -17,7 +17,7 @@ use Rattle.cg_cli.specs.Reports.{Said, Report, Reports}
 use Rattle.cg_cli.specs.Courses.{Course}
 use Rattle.cg_cli.specs.declared.fault.CliFault.{CliFault}
 use Rattle.cg_cli.specs.declared.fault.CliFault.TheVariants.{Read, Write, NoMemory}
-use Rattle.commands.specs.Requests.{IsUnread, AuditSays, OnTree, ReplaysOnTree, CarriesOut}
+use Rattle.commands.specs.Requests.{IsUnread, AuditSays, OnTree, replay_said, ReplaysOver, CarriesOut}
 
 Appends-Keeps : (old mid new : Option (List ℕ)) (bs : List ℕ) → Appends old mid bs → Keeps mid new → Appends old new bs
 Appends-Keeps None mid new bs a k = tt
@@ -80,9 +80,9 @@ ReplaysFrom-Keeps : (lines : Reporting) (before left old mid new : Option (List 
 ReplaysFrom-Keeps lines before left old mid new (Err Read) h k = (h.0, h.1, Appends-Keeps old mid new _ h.2 k, h.3)
 ReplaysFrom-Keeps lines before left old mid new ended h k = (h.0, h.1, Replays-Keeps lines h.0 old mid new ended h.2 k)
 
-ReplaysOnTree-Keeps : {A : Type 0} (file : Option A) (given : Option (List ℕ)) (said : List ℕ → Reporting) (old mid new : Option (List ℕ)) (result : Result ℕ CliFault) → ReplaysOnTree file given said old mid result → Keeps mid new → ReplaysOnTree file given said old new result
-ReplaysOnTree-Keeps file given said old mid new result (inl h) k = inl (h.0, h.1, h.2, h.3, ReplaysFrom-Keeps (said h.0) h.2 h.3 old mid new result h.4 k)
-ReplaysOnTree-Keeps file given said old mid new result (inr h) k = inr (IsUnread-Keeps old mid new result h k)
+ReplaysOver-Keeps : (before : Option (List ℕ)) (said : Reporting) (old mid new : Option (List ℕ)) (result : Result ℕ CliFault) → ReplaysOver before said old mid result → Keeps mid new → ReplaysOver before said old new result
+ReplaysOver-Keeps before said old mid new result (inl h) k = inl (h.0, ReplaysFrom-Keeps said before h.0 old mid new result h.1 k)
+ReplaysOver-Keeps before said old mid new result (inr h) k = inr (IsUnread-Keeps old mid new result h k)
 
 pub CarriesOut-Keeps : (asked : Request) (given old mid new : Option (List ℕ)) (result : Result ℕ CliFault) → CarriesOut asked given old mid result → Keeps mid new → CarriesOut asked given old new result
 CarriesOut-Keeps (request.Help text) given old mid new result h k = Reports-Keeps _ old mid new result h k
@@ -90,5 +90,7 @@ CarriesOut-Keeps (request.May may) given old mid new result h k = OnTree-Keeps m
 CarriesOut-Keeps (request.Check check) given old mid new result h k = OnTree-Keeps check.tree given _ _ old mid new result (λ tree said. Reports-Keeps _ old mid new result said k) h k
 CarriesOut-Keeps (request.Audit audit) given old mid new result h k = OnTree-Keeps audit.tree given _ _ old mid new result (λ tree said. AuditSays-Keeps audit old mid new result tree said k) h k
 CarriesOut-Keeps (request.Advise advise) given old mid new result h k = OnTree-Keeps advise.tree given _ _ old mid new result (λ tree said. Reports-Keeps _ old mid new result said k) h k
-CarriesOut-Keeps (request.Replay replay) given old mid new result h k = ReplaysOnTree-Keeps replay.tree given _ old mid new result h k
+CarriesOut-Keeps (request.Replay replay) given old mid new result h k =
+    OnTree-Keeps (tree_file replay.sources) given _ _ old mid new result
+    (λ tree said. (said.0, said.1, ReplaysOver-Keeps said.0 (replay_said replay tree) old mid new result said.2 k)) h k
 CarriesOut-Keeps (request.Upgrade upgrade) given old mid new result h k = OnTree-Keeps upgrade.tree given _ _ old mid new result (λ tree said. Upgrades-Keeps tree old mid new result said k) h k

@@ -2,11 +2,12 @@
 use Rattle.std.specs.Prelude.{◌≡◌, ◌⊎◌, ℕ, List, map, take, string_bytes, Option, Some, None, Result, Ok, Err, IfSome, MatchBool}
 use Rattle.std.specs.Option.{option_map}
 use Rattle.std.specs.Io.KnownBytes.{Keeps}
-use Rattle.arguments.specs.Given.{ids_of}
+use Rattle.arguments.specs.Given.{ids_of, tree_file, ops_file}
 use Rattle.arguments.specs.declared.request.May.{May}
 use Rattle.arguments.specs.declared.request.Check.{Check}
 use Rattle.arguments.specs.declared.request.Audit.{Audit}
 use Rattle.arguments.specs.declared.request.Replay.{Replay}
+use Rattle.arguments.specs.declared.request.Sources.{Sources}
 use Rattle.arguments.specs.declared.request.Upgrade.{Upgrade}
 use Rattle.arguments.specs.declared.request.Request.{Request}
 use Rattle.arguments.specs.declared.request.Request.TheVariants as request
@@ -67,12 +68,21 @@ OnTree file given answers old new result = ((tree : List ℕ) × IsTree file giv
 abbrev pub ReportsOnTree : {A : Type 0} → Option A → Option (List ℕ) → (List ℕ → Report) → Option (List ℕ) → Option (List ℕ) → Result ℕ CliFault → Type 0
 ReportsOnTree file given said old new result = OnTree file given (λ tree. Reports (said tree) old new result) old new result
 
--- The report of operations on some text of a tree, over some bytes of a file, of which some may be left.
-abbrev pub ReplaysOnTree : {A : Type 0} → Option A → Option (List ℕ) → (List ℕ → Reporting) → Option (List ℕ) → Option (List ℕ) → Result ℕ CliFault → Type 0
-ReplaysOnTree file given said old new result =
-    ((tree : List ℕ) × IsTree file given tree × (before : Option (List ℕ)) × (left : Option (List ℕ))
-    × ReplaysFrom closed (said tree) before left old new result)
-    ⊎ IsUnread old new result
+-- The report of operations over what a reader had to give, of which some may be left.
+abbrev pub ReplaysOver : Option (List ℕ) → Reporting → Option (List ℕ) → Option (List ℕ) → Result ℕ CliFault → Type 0
+ReplaysOver before said old new result = ((left : Option (List ℕ)) × ReplaysFrom closed said before left old new result) ⊎ IsUnread old new result
+
+-- What the operations' reader has to give. Where no file is named, it is the input.
+abbrev pub IsOps : {A : Type 0} → Option A → Option (List ℕ) → Option (List ℕ) → Type 0
+IsOps None given before = before ≡ given
+IsOps (Some file) given before = Unit {0}
+
+-- The report of operations on some text of a tree.
+abbrev pub ReplaysOnTree : Sources → Option (List ℕ) → (List ℕ → Reporting) → Option (List ℕ) → Option (List ℕ) → Result ℕ CliFault → Type 0
+ReplaysOnTree sources given said old new result =
+    OnTree (tree_file sources) given
+    (λ tree. (before : Option (List ℕ)) × IsOps (ops_file sources) given before × ReplaysOver before (said tree) old new result)
+    old new result
 
 -- A request, with what standard input gives. Help is a text of its own.
 abbrev pub CarriesOut : Request → Option (List ℕ) → Option (List ℕ) → Option (List ℕ) → Result ℕ CliFault → Type 0
@@ -83,7 +93,7 @@ CarriesOut (request.Audit audit) given old new result = OnTree audit.tree given 
 CarriesOut (request.Advise advise) given old new result = ReportsOnTree advise.tree given (advise_said advise) old new result
 CarriesOut (request.Upgrade upgrade) given old new result =
     OnTree upgrade.tree given (λ tree. Upgrades tree old new result) old new result
-CarriesOut (request.Replay replay) given old new result = ReplaysOnTree replay.tree given (replay_said replay) old new result
+CarriesOut (request.Replay replay) given old new result = ReplaysOnTree replay.sources given (replay_said replay) old new result
 
 -- How a call ended whose report is held in a buffer: its own fault comes before that of the last write.
 abbrev pub IsFlushed : Result ℕ CliFault → Result ℕ CliFault → Type 0

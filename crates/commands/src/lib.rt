@@ -3,4 +3,5 @@
 
 pub mod again;
 pub mod fault;
+mod line;
 pub mod run;

@@ -1,20 +1,19 @@
 //! A request is carried out: its tree, its files, and the call that answers.
-ghost use Rattle.std.specs.Prelude.{◌≡◌, ◌⊎◌, [], map, Ok, Err, IfOk, IfErr, MatchBool};
+ghost use Rattle.std.specs.Prelude.{◌≡◌, ◌⊎◌, ℕ, List, [], map, Option, Ok, Err, IfOk, IfErr, MatchBool};
 ghost use Rattle.std.specs.Io.Buffered.{writer_buffer, writer_contents};
 ghost use Rattle.std.specs.Io.KnownBytes.{Keeps};
 ghost use Rattle.cg_cli.specs.AllPairs.{all_report, ReportsPairs};
 ghost use Rattle.cg_cli.specs.Audits.{audit_report};
-ghost use Rattle.cg_cli.specs.Replays.{closed};
-ghost use Rattle.cg_cli.specs.Replaying.{ReplaysFrom};
 ghost use Rattle.cg_cli.specs.Reports.{Reports};
 ghost use Rattle.cg_cli.specs.Upgrades.{Upgrades};
 ghost use Rattle.arguments.specs.Given.{ids_of};
-ghost use Rattle.commands.specs.Requests.{IsTree, may_said, check_said, advise_said, AuditSays, OnTree, replay_said, ReportsOnTree, IsFlushed, ReplaysOnTree, CarriesOut, CarriesOutBuffered};
+ghost use Rattle.commands.specs.Requests.{IsTree, may_said, check_said, advise_said, AuditSays, OnTree, replay_said, ReportsOnTree, IsFlushed, ReplaysOver, ReplaysOnTree, CarriesOut, CarriesOutBuffered};
 
 use crate::again::Again;
 use crate::fault::Fault;
+use crate::line::{LineKept, line_of};
 use arguments::named_user::NamedUser;
-use arguments::request::{Audit, Check, May, Replay, Request, Upgrade};
+use arguments::request::{Audit, Check, May, Replay, Request, Sources, Upgrade};
 use cg_cli::advise::advise_bytes;
 use cg_cli::arguments::UserIds;
 use cg_cli::audit::audit_bytes;
@@ -29,21 +28,23 @@ use cg_cli::write::write_whole;
 use std::alloc::Global;
 use std::env;
 use std::fs::File;
-use std::io::{BufRead, BufReader, BufWriter, Read, Write};
+use std::io::{BufReader, BufWriter, Read, Write};
 use std::rt::{Env, Files};
 
 /// Carries out what the program's arguments ask for, and gives its status.
 ///
-/// The tree is read from `input` where no file is named, and the report goes to `out`, through a buffer.
+/// What no file is named for is read from `input`, and the report goes to `out`, through a buffer. Where an operation line ends
+/// it, `line` is that line, as far as it was read and kept.
 pub fn run<R: AllocGlobal + Env + Files, I: Read + Drop, W: Write + Drop>(
     rt: &R,
     input: I,
+    line: &mut Option<Vec<u8>>,
     out: W,
 ) -> Result<u8, Fault> {
     let Ok(mut report) = BufWriter::new(rt.alloc(), Again { inner: out }) else {
         return Err(Fault::Cli(CliFault::NoMemory));
     };
-    let ended = answered(rt, input, &mut report);
+    let ended = answered(rt, input, line, &mut report);
     // what a write left that failed isn't written again
     let _ = report.into_parts();
     ended
@@ -52,12 +53,13 @@ pub fn run<R: AllocGlobal + Env + Files, I: Read + Drop, W: Write + Drop>(
 fn answered<R: AllocGlobal + Env + Files, I: Read + Drop, W: Write + Drop>(
     rt: &R,
     input: I,
+    line: &mut Option<Vec<u8>>,
     report: &mut BufWriter<W>,
 ) -> Result<u8, Fault> {
     let alloc = rt.alloc();
     let words: Vec<String> = env::args(rt).map_err(Fault::of_words)?.collect(alloc)?;
     let request = Request::from_words(alloc, words.as_slice())?;
-    Ok(reported(rt, &request, input, report)?)
+    Ok(reported(rt, &request, input, line, report)?)
 }
 
 /// Carries a request out whose report is held in a buffer.
@@ -65,13 +67,14 @@ fn reported<R: AllocGlobal + Files, I: Read + Drop, W: Write + Drop>(
     rt: &R,
     request: &Request<'_>,
     input: I,
+    line: &mut Option<Vec<u8>>,
     report: &mut BufWriter<W>,
 ) -> Result<u8, CliFault>
     ensures carried { CarriesOutBuffered request.now (I.remaining input)
         (writer_contents W.contents report.old) (writer_contents W.contents report.new) result }
     ensures whole { IfOk result (λ status. writer_buffer report.new ≡ []) }
 {
-    let ended = carried_out(rt, request, input, report);
+    let ended = carried_out(rt, request, input, line, report);
     flushed(ended, report)
 }
 
@@ -79,6 +82,7 @@ fn carried_out<R: AllocGlobal + Files, I: Read + Drop, W: Write>(
     rt: &R,
     request: &Request<'_>,
     input: I,
+    line: &mut Option<Vec<u8>>,
     out: &mut W,
 ) -> Result<u8, CliFault>
     ensures { CarriesOut request.now (I.remaining input) (W.contents out.old) (W.contents out.new) result }
@@ -89,7 +93,7 @@ fn carried_out<R: AllocGlobal + Files, I: Read + Drop, W: Write>(
         Request::Check(request) => check(rt, request, input, out),
         Request::Audit(request) => audit(rt, request, input, out),
         Request::Advise(request) => advise(rt, request, input, out),
-        Request::Replay(request) => replay(rt, request, input, out),
+        Request::Replay(request) => replay(rt, request, input, line, out),
         Request::Upgrade(request) => upgrade(rt, request, input, out),
     }
 }
@@ -204,33 +208,72 @@ fn replay<R: AllocGlobal + Files, I: Read + Drop, W: Write>(
     rt: &R,
     request: &Replay<'_>,
     input: I,
+    line: &mut Option<Vec<u8>>,
     out: &mut W,
 ) -> Result<u8, CliFault>
-    ensures { ReplaysOnTree request.now.tree (I.remaining input) (replay_said request.now)
+    ensures { ReplaysOnTree request.now.sources (I.remaining input) (replay_said request.now)
         (W.contents out.old) (W.contents out.new) result }
 {
-    let alloc = rt.alloc();
-    let tree = tree_text(rt, request.tree, input)?;
-    let inner = opened(rt, request.ops)?;
-    let Ok(mut ops) = BufReader::new(alloc, Again { inner }) else {
-        return Err(CliFault::NoMemory);
-    };
-    replayed(alloc, tree.as_slice(), request, &mut ops, out)
+    match request.sources {
+        Sources::Files(tree, ops) => {
+            let tree = file_text(rt, tree)?;
+            replay_file(rt, tree.as_slice(), request, ops, line, out)
+        }
+        Sources::TreeGiven(ops) => {
+            let tree = read_input(rt.alloc(), input)?;
+            replay_file(rt, tree.as_slice(), request, ops, line, out)
+        }
+        Sources::OpsGiven(tree) => {
+            let tree = file_text(rt, tree)?;
+            replayed(rt.alloc(), tree.as_slice(), request, input, line, out)
+        }
+    }
 }
 
-/// Replays what a reader gives.
-fn replayed<R: BufRead, W: Write>(
+/// Replays the operations of a file.
+fn replay_file<R: AllocGlobal + Files, W: Write>(
+    rt: &R,
+    tree: &[u8],
+    request: &Replay<'_>,
+    file: &str,
+    line: &mut Option<Vec<u8>>,
+    out: &mut W,
+) -> Result<u8, CliFault>
+    ensures { (before : Option (List ℕ)) × ReplaysOver before (replay_said request.now tree.now)
+        (W.contents out.old) (W.contents out.new) result }
+{
+    let ops = opened(rt, file)?;
+    replayed(rt.alloc(), tree, request, ops, line, out)
+}
+
+/// Replays what a reader gives, behind a buffer.
+fn replayed<O: Read + Drop, W: Write>(
     alloc: Global,
     tree: &[u8],
     request: &Replay<'_>,
-    ops: &mut R,
+    ops: O,
+    line: &mut Option<Vec<u8>>,
     out: &mut W,
 ) -> Result<u8, CliFault>
-    ensures { ReplaysFrom closed
-        (replay_said request.now tree.now)
-        (R.remaining ops.old) (R.remaining ops.new) (W.contents out.old) (W.contents out.new) result }
+    ensures { ReplaysOver (O.remaining ops) (replay_said request.now tree.now)
+        (W.contents out.old) (W.contents out.new) result }
 {
-    replay_from(alloc, tree, ids(&request.user), request.subtree, ops, out)
+    let inner = LineKept {
+        inner: Again { inner: ops },
+        bytes: Vec::new(alloc),
+        is_whole: true,
+    };
+    let Ok(mut ops) = BufReader::new(alloc, inner) else {
+        return Err(CliFault::NoMemory);
+    };
+    let replayer = ids(&request.user);
+    let ended = replay_from(alloc, tree, replayer, request.subtree, &mut ops, out);
+    if let Err(CliFault::Line { .. }) = ended {
+        if let Ok(kept) = line_of(alloc, &ops) {
+            *line = kept;
+        }
+    }
+    ended
 }
 
 /// How a call ended whose report is held in a buffer: its own fault comes before the flush's. Where a write has failed
@@ -290,8 +333,14 @@ fn tree_text<R: AllocGlobal + Files, I: Read + Drop>(
 {
     match file {
         None => read_input(rt.alloc(), input),
-        Some(name) => read_input(rt.alloc(), opened(rt, name)?),
+        Some(name) => file_text(rt, name),
     }
+}
+
+fn file_text<R: AllocGlobal + Files>(rt: &R, name: &str) -> Result<Vec<u8>, CliFault>
+    ensures { IfErr result (λ fault. (fault ≡ CliFault.Read) ⊎ (fault ≡ CliFault.NoMemory)) }
+{
+    read_input(rt.alloc(), opened(rt, name)?)
 }
 
 fn opened<R: Files>(rt: &R, name: &str) -> Result<R::File, CliFault>

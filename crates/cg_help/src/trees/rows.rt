@@ -1,6 +1,7 @@
 //! Rows that don't go together.
 use crate::shown::quoted;
-use crate::trees::table::{label, row, rows, shown_value, text_at, texts_at};
+use crate::trees::table::{label, row, row_of, shown_value, text_at, texts_at};
+use cg_cgroup::files::LimitFile;
 use cg_text::tree::Place;
 use std::alloc::{AllocError, Global};
 use toml::{Table, Value};
@@ -119,25 +120,6 @@ fn available_at<'a>(top: &'a Table, path: &str) -> &'a [Value] {
     }
 }
 
-/// The row that has a path.
-fn row_of<'a>(top: &'a Table, path: &str) -> Option<&'a Table> {
-    for value in rows(top, "cgroup") {
-        if let Some(row) = value.as_table() {
-            if has_path(row, path) {
-                return Some(row);
-            }
-        }
-    }
-    None
-}
-
-fn has_path(row: &Table, path: &str) -> bool {
-    match row.get("path") {
-        Some(value) => value.as_str() == Some(path),
-        None => false,
-    }
-}
-
 /// The first text that isn't among others.
 fn first_beside<'a>(texts: &'a [Value], others: &[Value]) -> Option<&'a str> {
     for value in texts {
@@ -206,12 +188,8 @@ fn first_standing_nowhere<'a>(
 
 /// The controller that brings a limit file.
 fn controller_of(file: &str) -> Option<&'static str> {
-    match file {
-        "cpu.weight" => Some("cpu"),
-        "memory.min" | "memory.low" | "memory.high" | "memory.max" => Some("memory"),
-        "pids.max" => Some("pids"),
-        _ => None,
-    }
+    let controller = LimitFile::from_name(file)?.controller()?;
+    Some(controller.name())
 }
 
 /// What is wrong with the place of a process.

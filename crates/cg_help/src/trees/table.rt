@@ -30,6 +30,25 @@ fn numbered<'a>(rows: &'a [Value], number: u32) -> Option<&'a Table> {
     rows.get(index)?.as_table()
 }
 
+/// The row that has a path.
+pub(super) fn row_of<'a>(top: &'a Table, path: &str) -> Option<&'a Table> {
+    for value in rows(top, "cgroup") {
+        if let Some(row) = value.as_table() {
+            if has_path(row, path) {
+                return Some(row);
+            }
+        }
+    }
+    None
+}
+
+fn has_path(row: &Table, path: &str) -> bool {
+    match row.get("path") {
+        Some(value) => value.as_str() == Some(path),
+        None => false,
+    }
+}
+
 /// The text at a key of a row.
 pub(super) fn text_at<'a>(top: &'a Table, place: Place, key: &str) -> Option<&'a str> {
     row(top, place)?.get(key)?.as_str()

@@ -1,0 +1,13 @@
+use Rattle.std.proofs.Common.{inr, refl}
+use Rattle.std.specs.Prelude.{None}
+use Rattle.std.proofs.lemmas.Result.{err_from_is_err_and}
+use Rattle.commands.proofs.RequestLaws.{unread}
+use Rattle.commands.proofs.run.replay_file.Goals as goal
+
+pub returns-in_err-ops : goal.returns-in_err-ops
+returns-in_err-ops g c =
+    let met = err_from_is_err_and c.from_residual.result c.from_residual.ensures.1 in
+    (None, inr (unread (g.W.Write.contents c.args.out.now) c.in_err-ops.field-0.0 c.from_residual.result (rw (met.1, met.2) refl) c.in_err-ops.ensures))
+
+pub returns : goal.returns
+returns g c = (_, c.replayed.ensures)
