@@ -14,3 +14,4 @@ mod AllPairs
 mod Closings
 mod ReplayCalls
 mod EscapeReplays
+mod UpgradeReports
