@@ -15,3 +15,4 @@ mod AllPairs
 mod Closings
 mod ReplayCalls
 mod EscapeReplays
+mod UpgradeReports

@@ -1,8 +1,9 @@
 -- The report on writing a tree text anew. Own.
-use Rattle.std.specs.Prelude.{◌≡◌, ◌≢◌, ℕ, List, Option, Some, Result, Ok, Err}
+use Rattle.std.specs.Prelude.{◌≡◌, ◌≢◌, ℕ, ◌≤◌, List, length, Option, Some, Result, Ok, Err}
 use Rattle.cg_tree.specs.States.{State}
-use Rattle.cg_text.specs.TreeTexts.{document_of, tree_of}
-use Rattle.cg_print.specs.Documents.{tree_document}
+use Rattle.cg_text.specs.TreeTexts.{longest_text, document_of, tree_of}
+use Rattle.cg_text.specs.HasState.{HasState}
+use Rattle.cg_print.specs.Documents.{tree_document, IsSpelled}
 use Rattle.cg_cli.specs.May.{tree_read}
 use Rattle.cg_cli.specs.Reports.{Report, Reports, report_on}
 use Rattle.cg_cli.specs.declared.fault.CliFault.{CliFault}
@@ -12,8 +13,14 @@ use Rattle.cg_cli.specs.declared.fault.CliFault.TheVariants.{NoMemory}
 abbrev pub upgrade_report : List ℕ → List ℕ → Report
 upgrade_report tree text = report_on (tree_read tree) (λ st. record { text = text; ending = Ok 0 })
 
--- Some text of the document of the tree's state, in the spelling of `toml`, is the report. Want of memory may come before there is one.
+-- The text is that of the state's document, as `toml` spells it. Unless it is too long for a tree text it has the state.
+pub record IsTextOf (st : State) (text : List ℕ) : Type 0 where
+  pub document : document_of text ≡ Some (tree_document st)
+  pub spelled : IsSpelled st text
+  pub state : length text ≤ longest_text → HasState text st
+
+-- The text of the state that came is the report. Want of memory may come before there is one.
 pub record Upgrades (tree : List ℕ) (old new : Option (List ℕ)) (result : Result ℕ CliFault) : Type 0 where
   pub text : List ℕ
-  pub document : (st : State) → tree_of tree ≡ Ok st → result ≢ Err NoMemory → document_of text ≡ Some (tree_document st)
+  pub written : (st : State) → tree_of tree ≡ Ok st → result ≢ Err NoMemory → IsTextOf st text
   pub reports : Reports (upgrade_report tree text) old new result

@@ -6,3 +6,4 @@ pub mod IdLaws
 pub mod Depths
 pub mod TextBack
 pub mod ReadCarried
+mod Spelling

@@ -8,8 +8,8 @@ use Rattle.cg_text.specs.declared.tree.fault.TreeFault.{TreeFault}
 use Rattle.cg_text.specs.declared.tree.fault.TreeFault.TheVariants.{TooLong, NoMemory}
 use Rattle.cg_text.proofs.TextLaws.{state_is_read}
 use Rattle.cg_text.specs.HasState.{HasState}
-use Rattle.cg_print.specs.Documents.{tree_document}
-use Rattle.cg_print.specs.Carried.{IsKept, IsCarried}
+use Rattle.cg_print.specs.Documents.{tree_document, IsSpelled}
+use Rattle.cg_print.specs.Carried.{IsKept, IsCarried, IsTooLong}
 use Rattle.cg_print.proofs.ReadBack.{tree_records, records_back}
 use Rattle.cg_print.proofs.StateBack.{state_back}
 
@@ -31,16 +31,16 @@ passes n m is = grind (arith, nat_tests)
 
 -- what a reader may answer of a text that has a state, unless it is too long
 abbrev IsAnswer : State → Result State TreeFault → Type 0
-IsAnswer st result = MatchResult result (λ rows. rows ≡ st) (λ fault. fault ≢ NoMemory → fault ≡ TooLong)
+IsAnswer st result = MatchResult result (λ rows. rows ≡ st) (λ fault. fault ≢ NoMemory → (fault ≡ TooLong) × IsTooLong st)
 
 by_read : (st : State) (result : Result State TreeFault) → Reads (λ rows. rows) result (Ok st) → IsAnswer st result
 by_read st (Ok rows) reads = let same : st ≡ rows = cc in sym same
 by_read st (Err fault) reads = λ other. let never : Ok st ≡ Err fault = reads other in absurd (cc)
 
-pub read_again : (bytes : List ℕ) (st : State) (result : Result State TreeFault) → (length bytes ≤ longest_text → HasState bytes st) → (longest_text < length bytes → result ≡ Err TooLong)
+pub read_again : (bytes : List ℕ) (st : State) (result : Result State TreeFault) → IsSpelled st bytes → (length bytes ≤ longest_text → HasState bytes st) → (longest_text < length bytes → result ≡ Err TooLong)
     → Reads (λ rows. rows) result (tree_of bytes) → IsAnswer st result
-read_again bytes st result state too_long reads =
+read_again bytes st result spelled state too_long reads =
     elim (nat_le (length bytes) longest_text) as (λ b. nat_le (length bytes) longest_text ≡ b → IsAnswer st result) [
       | true ↦ λ is. by_read st result (subst (Reads (λ rows. rows) result) (state_is_read bytes st (state (fits (length bytes) longest_text is))) reads)
-      | false ↦ λ is. subst (IsAnswer st) (sym (too_long (passes (length bytes) longest_text is))) (λ _. refl)
+      | false ↦ λ is. subst (IsAnswer st) (sym (too_long (passes (length bytes) longest_text is))) (λ _. (refl, (bytes, spelled, passes (length bytes) longest_text is)))
     ] refl

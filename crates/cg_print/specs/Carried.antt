@@ -1,5 +1,5 @@
 -- What a tree text can carry. Own.
-use Rattle.std.specs.Prelude.{◌≡◌, ℕ, ◌≤◌, true, List, length, Some, is_some}
+use Rattle.std.specs.Prelude.{◌≡◌, ℕ, ◌≤◌, ◌<◌, true, List, length, Some, is_some}
 use Rattle.std.specs.List.{AllByRecursion}
 use Rattle.std.specs.FinMap as map
 use Rattle.cg_cgroup.specs.Paths.{Names, IsPath}
@@ -14,6 +14,8 @@ use Rattle.cg_cgroup.specs.declared.process.Process.{Process}
 use Rattle.cg_tree.specs.States.{State, process_at, is_used}
 use Rattle.cg_tree.specs.WellFormed.{IsWellFormed}
 use Rattle.cg_text.specs.Document.{most_rows}
+use Rattle.cg_text.specs.TreeTexts.{longest_text}
+use Rattle.cg_print.specs.Documents.{IsSpelled}
 
 -- a uid or a gid
 abbrev pub IsId : ℕ → Type 0
@@ -56,3 +58,7 @@ pub record IsCarried (st : State) : Type 0 where
   pub cgroups : length (map.entries st.rows) ≤ most_rows
   pub processes : length (map.entries st.live) ≤ most_rows
   pub used : (pid : ℕ) → is_used st pid ≡ is_some (process_at st pid)
+
+-- the tree's text is longer than a tree text may be
+abbrev pub IsTooLong : State → Type 0
+IsTooLong st = (text : List ℕ) × IsSpelled st text × (longest_text < length text)

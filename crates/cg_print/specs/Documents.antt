@@ -1,9 +1,10 @@
 -- The document that is written of a tree: format 2, with every key. Own.
-use Rattle.std.specs.Prelude.{ℕ, pos, List, map as map_list, fold, codes, Option}
+use Rattle.std.specs.Prelude.{ℕ, pos, false, List, map as map_list, fold, codes, Option}
 use Rattle.std.specs.Option.{option_map}
 use Rattle.std.specs.List.{filter}
 use Rattle.std.specs.FinMap as map
 use Rattle.toml.specs.Data.{Data, string, integer, array, table, Members, no_members}
+use Rattle.toml.specs.Text.{IsDocumentText}
 use Rattle.toml.specs.View.{items_of}
 use Rattle.cg_cgroup.specs.Paths.{Names, path_text}
 use Rattle.cg_cgroup.specs.Texts as texts
@@ -86,3 +87,7 @@ tree_document st =
     (with_key (codes "cgroup") (array (items_of (cgroups_written st)))
     (with_key (codes "controllers") (texts_array (names_in st.controllers))
     (with_key (codes "format") (number 2) no_members)))
+
+-- the text of a tree's document, as `toml` spells it
+abbrev pub IsSpelled : State → List ℕ → Type 0
+IsSpelled st text = IsDocumentText false (tree_document st) text

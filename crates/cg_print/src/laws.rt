@@ -3,8 +3,8 @@ ghost use Rattle.std.specs.Prelude.{◌≡◌, ◌≢◌, ◌≤◌, ℕ, List, 
 ghost use Rattle.cg_tree.specs.States.{State};
 ghost use Rattle.cg_text.specs.TreeTexts.{longest_text, document_of, tree_of};
 ghost use Rattle.cg_text.specs.declared.tree.fault.TreeFault.TheVariants.{NoMemory as MemoryFault, TooLong};
-ghost use Rattle.cg_print.specs.Carried.{IsKept, IsCarried};
-ghost use Rattle.cg_print.specs.Documents.{tree_document};
+ghost use Rattle.cg_print.specs.Carried.{IsKept, IsCarried, IsTooLong};
+ghost use Rattle.cg_print.specs.Documents.{tree_document, IsSpelled};
 
 use crate::tree::tree_text;
 use cg_cgroup::memory::NoMemory;
@@ -14,17 +14,22 @@ use cg_tree::hierarchy::Hierarchy;
 use std::alloc::Global;
 
 /// The tree that `read_tree` reads of what `tree_text` writes of a tree. Where a text can carry the tree it is an equal one,
-/// unless the text is too long or memory is wanted.
+/// unless that text is too long or memory is wanted.
 pub fn written_is_read<H: Hierarchy>(alloc: Global, tree: &H) -> Result<Rows, TreeFault>
     ensures again { IsCarried (H.state tree.now) → MatchResult result
         (λ rows. rows ≡ H.state tree.now)
-        (λ fault. fault ≢ MemoryFault → fault ≡ TooLong) }
+        (λ fault. fault ≢ MemoryFault → (fault ≡ TooLong) × IsTooLong (H.state tree.now)) }
 {
     match tree_text(alloc, tree) {
         Ok(text) => read_tree(alloc, text.as_slice()),
         Err(NoMemory) => Err(TreeFault::NoMemory),
     }
 }
+
+/// A tree has one text, so what is written of it is always the same bytes.
+pub fn texts_are_one()
+    ensures { (st : State) (text other : List ℕ) → IsSpelled st text → IsSpelled st other → text ≡ other }
+{}
 
 /// A text of the document of a tree that is kept has that tree's state, where a text can carry it and isn't too long.
 pub fn texts_are_of_their_trees()

@@ -4,7 +4,7 @@ ghost use Rattle.toml.specs.View.{table_view};
 ghost use Rattle.cg_text.specs.TreeTexts.{longest_text, document_of};
 ghost use Rattle.cg_text.specs.HasState.{HasState};
 ghost use Rattle.cg_print.specs.Carried.{IsKept, IsCarried};
-ghost use Rattle.cg_print.specs.Documents.{tree_document};
+ghost use Rattle.cg_print.specs.Documents.{tree_document, IsSpelled};
 
 use crate::cgroups::cgroups_array;
 use crate::keys::{names_array, put};
@@ -40,6 +40,7 @@ fn document_of<H: Hierarchy>(alloc: Global, tree: &H) -> Result<Table, NoMemory>
 /// at most 4096 cgroups and 4096 processes, and no PID was used but those of the live processes.
 pub fn tree_text<H: Hierarchy>(alloc: Global, tree: &H) -> Result<Vec<u8>, NoMemory>
     ensures document { IfOk result (λ text. document_of text.items ≡ Some (tree_document (H.state tree.now))) }
+    ensures spelled { IfOk result (λ text. IsSpelled (H.state tree.now) text.items) }
     ensures state { IfOk result (λ text. IsCarried (H.state tree.now) → length text.items ≤ longest_text
         → HasState text.items (H.state tree.now)) }
 {

@@ -68,7 +68,7 @@ AuditSays-Keeps audit old mid new result tree said k =
     (audit_report tree (map ids_of audit.users.items) (map (λ subtree. subtree.now) audit.subtrees.items)) old mid new result said k
 
 Upgrades-Keeps : (tree : List ℕ) (old mid new : Option (List ℕ)) (result : Result ℕ CliFault) → Upgrades tree old mid result → Keeps mid new → Upgrades tree old new result
-Upgrades-Keeps tree old mid new result h k = record { text = h.text; document = h.document; reports = Reports-Keeps _ old mid new result h.reports k }
+Upgrades-Keeps tree old mid new result h k = record { text = h.text; written = h.written; reports = Reports-Keeps _ old mid new result h.reports k }
 
 Replays-Keeps : (lines : Reporting) (ops : List ℕ) (old mid new : Option (List ℕ)) (result : Result ℕ CliFault) → Replays closed lines ops old mid result → Keeps mid new → Replays closed lines ops old new result
 Replays-Keeps lines ops old mid new (Err Write) h k = AppendsPart-Keeps old mid new _ h k
