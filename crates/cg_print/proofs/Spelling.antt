@@ -135,10 +135,12 @@ mutual
   plain_elements (item (boolean b) ds) key plain = plain_elements ds key plain.1
   plain_elements (item (datetime dt) ds) key plain = plain_elements ds key plain.1
   plain_elements (item (array others) ds) key plain = plain_elements ds key plain.1
-  plain_elements (item (table ms) ds) key plain =
-      (tt, plain_both (pairs ms ++ sections (key.0 ++ key.1 ∷ []) ms) (elements key ds)
-      (plain_both (pairs ms) (sections (key.0 ++ key.1 ∷ []) ms) (plain_pairs ms plain.0) (plain_sections ms (key.0 ++ key.1 ∷ []) plain.0))
-      (plain_elements ds key plain.1))
+  plain_elements (item (table ms) ds) key plain = (
+    tt,
+    plain_both (pairs ms ++ sections (key.0 ++ key.1 ∷ []) ms) (elements key ds)
+        (plain_both (pairs ms) (sections (key.0 ++ key.1 ∷ []) ms) (plain_pairs ms plain.0) (plain_sections ms (key.0 ++ key.1 ∷ []) plain.0))
+        (plain_elements ds key plain.1),
+  )
 
 -- ---- the document of a tree
 
