@@ -176,7 +176,7 @@ said_once st users subtrees =
 
 -- ---- what it means that all is contained
 
-same_Ok : {A : Type 0} (x y : A) → let r : Result A CliFault = Ok x in let s : Result A CliFault = Ok y in r ≡ s → x ≡ y
+pub same_Ok : {A : Type 0} (x y : A) → let r : Result A CliFault = Ok x in let s : Result A CliFault = Ok y in r ≡ s → x ≡ y
 same_Ok x y same = cc
 
 module _ (users : List Identity) (subtrees : List Names) where

@@ -1,5 +1,6 @@
 use Rattle.std.proofs.Common.{◌≡◌, map, ◌∙◌}
 use Rattle.std.proofs.lemmas.Result.{err_from_is_err_and}
+use Rattle.cg_cli.proofs.AuditOnce.{same_Ok}
 use Rattle.cg_cli.proofs.AuditReports.{users_fault_reports, paths_fault_reports, tree_fault_reports, subtree_fault_reports, answer_reports, failed_write_reports, contained_means}
 use Rattle.cg_cli.proofs.audit.audit_bytes.Goals as goal
 
@@ -51,8 +52,7 @@ returns-clause-report g c =
 
 pub returns-clause-contained : goal.returns-clause-contained
 returns-clause-contained g c none =
-    let zero_status : c.in_ok-text.status ≡ 0 = cc in
     contained_means c.args.tree.now (map (λ user. (user.uid, user.gids.now)) c.args.users.now) (map (λ subtree. subtree.now) c.args.subtrees.now) (g.W.Write.contents c.args.out.now)
     c.in_ok-users.ensures.read.0 c.in_ok-users.ensures.read.1 c.in_ok-subtrees.ensures.0 c.in_ok-subtrees.ensures.1 c.as_slice.result.now c.as_slice-2.result.now
     (c.as_slice.ensures.value ∙ c.in_ok-users.ensures.read.2) (c.as_slice-2.ensures.value ∙ c.in_ok-subtrees.ensures.2) c.in_ok-tree.tree c.in_ok-tree.ensures.read
-    (c.in_ok-text.ensures.contained zero_status)
+    (c.in_ok-text.ensures.contained (same_Ok c.in_ok-text.status 0 none))
