@@ -1,6 +1,6 @@
 -- What the code for the first escape stands on: the list of the opening, part by part; the first escape by what is found
 -- in the opened tree; and what an answer says.
-use Rattle.std.proofs.Common.{◌≡◌, ℕ, ◌≤◌, ◌+◌, ◌-◌, Bool, true, false, not, ◌&&◌, List, [], ◌∷◌, ◌++◌, find, length, refl, sym, ap, ◌∙◌, subst, Option, Some, None, option_map, true≢false, append_assoc, arith, cond, ◌==◌, take, drop, option_and_then}
+use Rattle.std.proofs.Common.{◌≡◌, ℕ, ◌≤◌, ◌+◌, Bool, true, false, not, ◌&&◌, List, [], ◌∷◌, ◌++◌, find, length, refl, sym, ap, ◌∙◌, subst, Option, Some, None, option_map, true≢false, append_assoc, arith, cond, ◌==◌, take, drop, option_and_then}
 use Rattle.std.proofs.lemmas.Bool.Decides.{nat_tests}
 use Rattle.std.proofs.lemmas.Bool.{and_parts, false_from_ne_true}
 use Rattle.std.proofs.lemmas.List.{append-nil}
@@ -12,7 +12,7 @@ use Rattle.cg_cgroup.specs.Numbers.{mode_of}
 use Rattle.cg_cgroup.specs.Users.{owns, writes, opened}
 use Rattle.cg_cgroup.specs.declared.user.Entry.{Entry}
 use Rattle.cg_cgroup.proofs.UserLaws.{opened-le}
-use Rattle.cg_tree.specs.States.{State, row_at}
+use Rattle.cg_tree.specs.States.{State}
 use Rattle.cg_tree.specs.WellFormed.{IsWellFormed}
 use Rattle.cg_ops.specs.Steps.{after_all}
 use Rattle.cg_ops.specs.declared.operation.Op.{Op}
@@ -31,7 +31,7 @@ use Rattle.cg_runs.proofs.BrokenLaws.{whole-broken, broken-whole}
 use Rattle.cg_tries.specs.Tries.{opening_of, opening, with_opening, plain_tries}
 use Rattle.cg_tries.specs.Escapes.{breaks, first_escape, IsUnbroken}
 use Rattle.cg_tries.proofs.Seen.{is_empty, empty_is, breaks-run}
-use Rattle.cg_check.specs.Opened.{is_free, chmod_at}
+use Rattle.cg_check.specs.Opened.{is_free, opening_chmod}
 use Rattle.cg_check.proofs.Openings.{opened_state, unless_free, unbroken-opened, subtree-opened, first_escape-is}
 
 -- ---- the opening
@@ -44,12 +44,12 @@ pub opened-mode : (mode : ℕ) → mode ≤ 511 → mode_of (opened mode) ≡ No
 opened-mode mode small is = mode_there (opened mode) (opened-le mode small) is
 
 module _ (st : State) (user : Identity) (subtree : Names) where
-  of_standing : (guarded : Guarded) → opening_of st user subtree guarded ≡ of_guarded st subtree (chmod_at user subtree) guarded
+  of_standing : (guarded : Guarded) → opening_of st user subtree guarded ≡ of_guarded st subtree (opening_chmod user subtree) guarded
   of_standing guarded = by_entry (guarded_entry st subtree guarded)
     where
       by_entry : (there : Option Entry)
           → present there (λ entry. cond (owns user entry && not (writes user entry)) (Chmod (take guarded.len subtree) guarded.name (opened entry.mode) ∷ []) [])
-          ≡ present (option_map (found guarded) there) (chmod_at user subtree)
+          ≡ present (option_map (found guarded) there) (opening_chmod user subtree)
       by_entry None = refl
       by_entry (Some entry) = refl
 
@@ -58,11 +58,11 @@ module _ (st : State) (user : Identity) (subtree : Names) where
   opening_from place = flat_map (opening_of st user subtree) (drop place (guarded_entries subtree))
 
   module _ (place : ℕ) (here : Option GuardedEntry) (is : here ≡ option_and_then (standing st subtree) (slice_get (guarded_entries subtree) place)) where
-    opening_turn : opening_from place ≡ present here (chmod_at user subtree) ++ opening_from (place + 1)
+    opening_turn : opening_from place ≡ present here (opening_chmod user subtree) ++ opening_from (place + 1)
     opening_turn =
         ap (λ each. flat_map each (drop place (guarded_entries subtree))) (λ i guarded. of_standing guarded i)
-        ∙ walk_turn st subtree (chmod_at user subtree) (guarded_entries subtree) place here is
-        ∙ ap (λ each. present here (chmod_at user subtree) ++ flat_map each (drop (place + 1) (guarded_entries subtree))) (λ i guarded. sym (of_standing guarded) i)
+        ∙ walk_turn st subtree (opening_chmod user subtree) (guarded_entries subtree) place here is
+        ∙ ap (λ each. present here (opening_chmod user subtree) ++ flat_map each (drop (place + 1) (guarded_entries subtree))) (λ i guarded. sym (of_standing guarded) i)
 
   pub opening_begins : (chmods : List Op) → chmods ≡ [] → chmods ++ opening_from 0 ≡ opening st user subtree
   opening_begins chmods none = ap (λ ops. ops ++ opening st user subtree) none
@@ -71,9 +71,9 @@ module _ (st : State) (user : Identity) (subtree : Names) where
   opening_passes place chmods is = ap (λ rest. chmods ++ rest) (sym (opening_turn place None is))
 
   pub opening_grows : (place : ℕ) (at : GuardedEntry) (chmods more : List Op) → Some at ≡ option_and_then (standing st subtree) (slice_get (guarded_entries subtree) place)
-      → more ≡ chmods ++ chmod_at user subtree at → more ++ opening_from (place + 1) ≡ chmods ++ opening_from place
+      → more ≡ chmods ++ opening_chmod user subtree at → more ++ opening_from (place + 1) ≡ chmods ++ opening_from place
   opening_grows place at chmods more is added =
-      ap (λ ops. ops ++ opening_from (place + 1)) added ∙ append_assoc chmods (chmod_at user subtree at) (opening_from (place + 1))
+      ap (λ ops. ops ++ opening_from (place + 1)) added ∙ append_assoc chmods (opening_chmod user subtree at) (opening_from (place + 1))
       ∙ ap (λ rest. chmods ++ rest) (sym (opening_turn place (Some at) is))
 
   pub opening_ends : (place : ℕ) (chmods : List Op) → length (guarded_entries subtree) ≤ place → chmods ++ opening_from place ≡ opening st user subtree → chmods ≡ opening st user subtree

@@ -1,13 +1,13 @@
 -- The pairs that aren't contained: that users for whom all guards hold have none, and what it means of those who aren't listed.
-use Rattle.std.proofs.Common.{◌≡◌, ◌≢◌, ℕ, zero, suc, ◌+◌, ◌-◌, ◌<◌, ◌≤◌, Bool, true, false, ◌&&◌, cond, not, List, [], ◌∷◌, ◌++◌, length, get_or, take, drop, drop-cons, add-one, take-append-drop, refl, sym, ap, ◌∙◌, Some, None, is_none, arith}
+use Rattle.std.proofs.Common.{◌≡◌, ◌≢◌, ℕ, zero, suc, ◌+◌, ◌<◌, ◌≤◌, Bool, true, false, ◌&&◌, cond, not, List, [], ◌∷◌, ◌++◌, length, get_or, take, drop, drop-cons, add-one, take-append-drop, refl, sym, ap, ◌∙◌, None, is_none, arith}
 use Rattle.std.specs.List.{flat_map, take_while, prefix_len, All}
 use Rattle.std.proofs.lemmas.List.Sums.{take_while-cons, prefix_len-le-length}
 use Rattle.std.proofs.lemmas.List.Folds.{length-prefix_len}
 use Rattle.std.proofs.lemmas.List.Concat.{flat_map-append}
-use Rattle.cg_cgroup.specs.Paths.{Names, is_root}
+use Rattle.cg_cgroup.specs.Paths.{Names}
 use Rattle.cg_cgroup.specs.Identity.{Identity}
 use Rattle.cg_tree.specs.States.{State}
-use Rattle.cg_tree.specs.WellFormed.{IsWellFormed, has_row}
+use Rattle.cg_tree.specs.WellFormed.{IsWellFormed}
 use Rattle.cg_ops.specs.Clauses.{first, unless}
 use Rattle.cg_guards.specs.Guards.{failures}
 use Rattle.cg_guards.specs.Guarding.{IsSubtree}

@@ -1,5 +1,5 @@
 -- What is listed are the pairs of places, each with the user and the subtree that stand there.
-use Rattle.std.proofs.Common.{◌≡◌, ℕ, zero, suc, ◌+◌, List, [], ◌∷◌, ◌++◌, length, length-append, append_assoc, Option, Some, refl, sym, ap, ◌∙◌, arith}
+use Rattle.std.proofs.Common.{◌≡◌, ℕ, suc, ◌+◌, List, [], ◌∷◌, ◌++◌, length, length-append, append_assoc, Some, refl, sym, ◌∙◌, arith}
 use Rattle.std.specs.Prelude.{slice_get}
 use Rattle.std.specs.List.{flat_map}
 use Rattle.std.proofs.lemmas.List.Concat.{flat_map-append}
@@ -9,7 +9,7 @@ use Rattle.cg_tree.specs.States.{State}
 use Rattle.cg_ops.specs.Clauses.{present}
 use Rattle.cg_check.specs.Answers.{answer}
 use Rattle.cg_check.specs.AllAnswers.{pair_unless_contained, pairs_of, pairs_from}
-use Rattle.cg_check.specs.Listed.{Listed, listed_unless_contained, listed_of, listed, listed_at}
+use Rattle.cg_check.specs.Listed.{listed_unless_contained, listed_of, listed, listed_at}
 use Rattle.cg_check.specs.declared.answer.Answer.{Answer}
 use Rattle.cg_check.specs.declared.answer.Answer.TheVariants.{Contained, Escapes, Unsettled}
 

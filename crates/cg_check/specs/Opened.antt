@@ -17,5 +17,5 @@ is_free st user (Mkdir path ∷ op ∷ ops) = allowed st user (Mkdir path) && pa
 is_free st user (other ∷ op ∷ ops) = false
 
 -- the chmod by which the user comes to write a guarded entry, where he owns it and doesn't write it
-abbrev pub chmod_at : Identity → Names → GuardedEntry → List Op
-chmod_at user subtree at = cond (owns user at.entry && not (writes user at.entry)) (Chmod (take at.len subtree) at.name (opened at.entry.mode) ∷ []) []
+abbrev pub opening_chmod : Identity → Names → GuardedEntry → List Op
+opening_chmod user subtree at = cond (owns user at.entry && not (writes user at.entry)) (Chmod (take at.len subtree) at.name (opened at.entry.mode) ∷ []) []

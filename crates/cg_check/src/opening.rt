@@ -2,7 +2,7 @@
 ghost use Rattle.std.specs.Prelude.{◌≡◌, ◌≤◌, ◌++◌, false, IfOk, OnOk, length};
 ghost use Rattle.cg_cgroup.specs.Paths.{is_root};
 ghost use Rattle.cg_tries.specs.Tries.{opening};
-ghost use Rattle.cg_check.specs.Opened.{chmod_at};
+ghost use Rattle.cg_check.specs.Opened.{opening_chmod};
 
 use cg_cgroup::memory::NoMemory;
 use cg_cgroup::path::Path;
@@ -43,7 +43,7 @@ fn open_entry(
 ) -> Result<(), NoMemory>
     requires level { at.now.len ≤ length subtree.now }
     requires mode { at.now.entry.mode ≤ 511 }
-    ensures { OnOk result (chmods.new ≡ chmods.old ++ chmod_at user.now subtree.now at.now) }
+    ensures { OnOk result (chmods.new ≡ chmods.old ++ opening_chmod user.now subtree.now at.now) }
 {
     if !user.owns(&at.entry) || user.may_write(&at.entry) {
         return Ok(());
