@@ -233,6 +233,9 @@ class PictureTest(PageTest):
                 (("control / -memory", f"control {self.TOP} -memory"), [
                     "memory.min: 0 → no limit file", "memory.low: 0 → no limit file", "memory.high: max → no limit file",
                     "memory.max: 2G → no limit file"], "changes a limit of"),
+                (("control / -memory -pids", f"control {self.TOP} -memory -pids"), [
+                    "memory.min: 0 → no limit file", "memory.low: 0 → no limit file", "memory.high: max → no limit file",
+                    "memory.max: 2G → no limit file", "and 1 more limit"], "changes a limit of"),
                 ((f"control {self.TOP} +cpu",), ["cpu.weight: no limit file → 100"], "changes a limit of"),
                 ((f"rmdir {self.MANAGER}",), ["✗ the whole cgroup is removed"], "removes"),
                 ((), ["✗ over its own limits"], "is over its own limits"),
