@@ -148,10 +148,7 @@ fn missing_path<R: AllocGlobal + Files>(
         return Ok(Some(why_missing(alloc, path)?));
     }
     let Some(tree) = tree_bytes(rt, request, seen)? else {
-        return plainly(
-            alloc,
-            "a path of --subtree has to be that of a row of the tree",
-        );
+        return Ok(None);
     };
     match first_missing(alloc, tree.as_slice(), paths.as_slice()) {
         Some(path) => Ok(Some(why_missing(alloc, path)?)),
