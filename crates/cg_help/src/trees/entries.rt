@@ -116,7 +116,7 @@ pub(super) fn value_said(
             let shown = shown_value(alloc, value)?;
             let range = range_of(name);
             Ok(Some(format!(in alloc;
-                "{label}: {name} doesn't accept {shown}: write {range} or \"max\""
+                "{label}: {name} doesn't accept {shown}: write {range}"
             )?))
         }
         None => Ok(None),
@@ -142,7 +142,7 @@ fn is_accepted(name: &str, value: &Value) -> bool {
     match value {
         Value::Integer(number) if name == "cpu.weight" => 1 <= *number && *number <= 10000,
         Value::Integer(number) => 0 <= *number,
-        Value::String(text) => text.as_str() == "max",
+        Value::String(text) => text.as_str() == "max" && name != "cpu.weight",
         _ => false,
     }
 }
@@ -151,6 +151,6 @@ fn range_of(name: &str) -> &'static str {
     if name == "cpu.weight" {
         "1 to 10000"
     } else {
-        "0 to 9223372036854775807"
+        "0 to 9223372036854775807 or \"max\""
     }
 }
