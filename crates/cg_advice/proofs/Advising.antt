@@ -15,23 +15,23 @@ use Rattle.cg_cgroup.specs.declared.files.LimitFile.TheVariants.{MaxDescendants,
 use Rattle.cg_cgroup.specs.declared.files.EntryName.{EntryName}
 use Rattle.cg_cgroup.proofs.PathOrder.{same_path-is, same_path_refl}
 use Rattle.cg_cgroup.proofs.CgroupLaws.{same_entry-refl}
-use Rattle.cg_tree.specs.States.{State, row_at, entry_at, value_at, paths_of, count_below, depth_below}
-use Rattle.cg_tree.specs.WellFormed.{IsWellFormed, enabled_at}
-use Rattle.cg_tree.proofs.StateCounts.{paths_of-with_mode, paths_of-with_value, count_below-same_paths, depth_below-same_paths}
-use Rattle.cg_tree.proofs.StateEntries.{enabled_at-with_mode, enabled_at-with_value}
-use Rattle.cg_tree.proofs.FormedLaws.{formed-with_mode, formed-with_value}
-use Rattle.cg_ops.specs.Clauses.{unless, present}
-use Rattle.cg_ops.proofs.ClauseLaws.{no_parts, no_unless}
-use Rattle.cg_guards.specs.Limits.{is_within_limit, fits_descendants, fits_depth}
-use Rattle.cg_guards.specs.Guards.{Guarded, guarded_entries, guarded_entry, entry_failures, over_failures, GuardsHold}
-use Rattle.cg_guards.specs.Standing.{found, standing}
-use Rattle.cg_guards.specs.declared.guard.Failed.{Failed}
-use Rattle.cg_guards.specs.declared.guard.Guard.TheVariants.{AlreadyOver}
-use Rattle.cg_guards.specs.declared.table.GuardedEntry.{GuardedEntry}
-use Rattle.cg_advice.specs.Mends.{if_reached, reached_of, reached, chown_of, chmod_of, entry_mends, descendants_of, depth_of, limit_mends, mends, made_one, made, advised}
-use Rattle.cg_advice.specs.Advised.{is_on, is_guarded_entry, spared, raised, IsAdvised, is_other, all_but, all_but_limits, AreCountable}
-use Rattle.cg_advice.specs.declared.mend.Mend.{Mend}
-use Rattle.cg_advice.specs.declared.mend.Mend.TheVariants.{Chown, Chmod, Set}
+use Rattle.cg_model.specs.States.{State, row_at, entry_at, value_at, paths_of, count_below, depth_below}
+use Rattle.cg_model.specs.WellFormed.{IsWellFormed, enabled_at}
+use Rattle.cg_steps.proofs.StateCounts.{paths_of-with_mode, paths_of-with_value, count_below-same_paths, depth_below-same_paths}
+use Rattle.cg_steps.proofs.StateEntries.{enabled_at-with_mode, enabled_at-with_value}
+use Rattle.cg_steps.proofs.FormedLaws.{formed-with_mode, formed-with_value}
+use Rattle.cg_model.specs.Clauses.{unless, present}
+use Rattle.cg_steps.proofs.ClauseLaws.{no_parts, no_unless}
+use Rattle.cg_model.specs.Limits.{is_within_limit, fits_descendants, fits_depth}
+use Rattle.cg_model.specs.Guards.{Guarded, guarded_entries, guarded_entry, entry_failures, over_failures, GuardsHold, found, standing}
+use Rattle.cg_model.specs.declared.guard.Failed.{Failed}
+use Rattle.cg_model.specs.declared.guard.Guard.TheVariants.{AlreadyOver}
+use Rattle.cg_model.specs.declared.guard.GuardedEntry.{GuardedEntry}
+use Rattle.cg_model.specs.Mends.{if_reached, reached_of, reached, chown_of, chmod_of, entry_mends, descendants_of, depth_of, limit_mends, mends, made_one, made, advised}
+use Rattle.cg_model.specs.Advised.{is_on, is_guarded_entry, spared, raised, IsAdvised, AreCountable}
+use Rattle.cg_advice.specs.Advised.{is_other, all_but, all_but_limits}
+use Rattle.cg_model.specs.declared.mend.Mend.{Mend}
+use Rattle.cg_model.specs.declared.mend.Mend.TheVariants.{Chown, Chmod, Set}
 use Rattle.cg_advice.proofs.OwnerLaws.{enabled_at-with_owner, paths_of-with_owner, formed-with_owner}
 use Rattle.cg_advice.proofs.Taken.{shut-le, off-spared, less-spared}
 use Rattle.cg_advice.proofs.Running.{run, run-append, run-limits, leaves-all, entry_at-made, entry_at-advised, value_at-advised, value_at-entries}

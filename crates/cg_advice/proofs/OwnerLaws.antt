@@ -14,12 +14,12 @@ use Rattle.cg_cgroup.specs.declared.cgroup.Cgroup.{Cgroup}
 use Rattle.cg_cgroup.proofs.Options.{mapped_from, is_some-mapped}
 use Rattle.cg_cgroup.proofs.CgroupLaws.{file_of-with_file, rest-with_file}
 use Rattle.cg_cgroup.proofs.PathOrder.{path_cmp_total}
-use Rattle.cg_tree.specs.States.{State, row_at, entry_at, value_at, paths_of}
-use Rattle.cg_tree.specs.WellFormed.{IsFormedRow, IsWellFormed, enabled_at}
-use Rattle.cg_tree.proofs.MapLaws.{keys-change_value}
-use Rattle.cg_tree.proofs.StateLaws.{row_at-change_at}
-use Rattle.cg_tree.proofs.FormedReshaped.{formed-reshaped}
-use Rattle.cg_advice.specs.Mends.{owned_by, with_file_owned_by, with_owner_in, with_owner}
+use Rattle.cg_model.specs.States.{State, row_at, entry_at, value_at, paths_of}
+use Rattle.cg_model.specs.WellFormed.{IsFormedRow, IsWellFormed, enabled_at}
+use Rattle.cg_steps.proofs.MapLaws.{keys-change_value}
+use Rattle.cg_steps.proofs.StateLaws.{row_at-change_at}
+use Rattle.cg_steps.proofs.FormedReshaped.{formed-reshaped}
+use Rattle.cg_model.specs.Mends.{owned_by, with_file_owned_by, with_owner_in, with_owner}
 
 -- ---- of a row
 

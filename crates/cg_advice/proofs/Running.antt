@@ -16,18 +16,18 @@ use Rattle.cg_cgroup.specs.declared.files.LimitFile.{LimitFile}
 use Rattle.cg_cgroup.specs.declared.files.EntryName.{EntryName}
 use Rattle.cg_cgroup.proofs.PathOrder.{same_path-is}
 use Rattle.cg_cgroup.proofs.CgroupLaws.{same_entry-true}
-use Rattle.cg_tree.specs.States.{State, entry_at, value_at, count_below, depth_below}
-use Rattle.cg_tree.proofs.StateEntries.{entry_at-with_mode, entry_at-with_value, value_at-with_mode, value_at-with_value}
-use Rattle.cg_ops.specs.Clauses.{unless, present}
-use Rattle.cg_guards.specs.Limits.{fits_descendants, fits_depth}
-use Rattle.cg_guards.specs.Guards.{Guarded, guarded_entry, guarded_entries}
-use Rattle.cg_guards.specs.Standing.{found}
-use Rattle.cg_guards.specs.declared.table.GuardedEntry.{GuardedEntry}
-use Rattle.cg_advice.specs.Mended.{given_uid, shut_mode, mended}
-use Rattle.cg_advice.specs.Mends.{if_reached, reached_of, reached, chown_of, chmod_of, entry_mends, descendants_of, depth_of, limit_mends, mends, owned_by, made_one, made, advised}
-use Rattle.cg_advice.specs.Advised.{is_on, is_guarded_entry, spared, raised, all_but_limits}
-use Rattle.cg_advice.specs.declared.mend.Mend.{Mend}
-use Rattle.cg_advice.specs.declared.mend.Mend.TheVariants.{Chown, Chmod, Set}
+use Rattle.cg_model.specs.States.{State, entry_at, value_at, count_below, depth_below}
+use Rattle.cg_steps.proofs.StateEntries.{entry_at-with_mode, entry_at-with_value, value_at-with_mode, value_at-with_value}
+use Rattle.cg_model.specs.Clauses.{unless, present}
+use Rattle.cg_model.specs.Limits.{fits_descendants, fits_depth}
+use Rattle.cg_model.specs.Guards.{Guarded, guarded_entry, guarded_entries, found}
+use Rattle.cg_model.specs.declared.guard.GuardedEntry.{GuardedEntry}
+use Rattle.cg_model.specs.Mended.{given_uid, shut_mode, mended}
+use Rattle.cg_model.specs.Mends.{if_reached, reached_of, reached, chown_of, chmod_of, entry_mends, descendants_of, depth_of, limit_mends, mends, owned_by, made_one, made, advised}
+use Rattle.cg_model.specs.Advised.{is_on, is_guarded_entry, spared, raised}
+use Rattle.cg_advice.specs.Advised.{all_but_limits}
+use Rattle.cg_model.specs.declared.mend.Mend.{Mend}
+use Rattle.cg_model.specs.declared.mend.Mend.TheVariants.{Chown, Chmod, Set}
 use Rattle.cg_advice.proofs.OwnerLaws.{entry_at-with_owner, value_at-with_owner}
 
 cond_map : {A : Type 0} (b : Bool) (g : A → A) (o : Option A) → cond b (option_map g o) o ≡ option_map (λ x. cond b (g x) x) o

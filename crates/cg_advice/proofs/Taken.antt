@@ -6,8 +6,8 @@ use Rattle.std.proofs.lemmas.Bool.{or_parts, and_parts, ltb-true, eqb-true, fals
 use Rattle.cg_cgroup.specs.Identity.{Identity}
 use Rattle.cg_cgroup.specs.Users.{has_bit, owns, writes, reaches, in_group, IsUser}
 use Rattle.cg_cgroup.specs.declared.user.Entry.{Entry}
-use Rattle.cg_advice.specs.Mended.{shut_mode, mended}
-use Rattle.cg_advice.specs.Advised.{spared}
+use Rattle.cg_model.specs.Mended.{shut_mode, mended}
+use Rattle.cg_model.specs.Advised.{spared}
 
 -- ---- bits
 

@@ -10,18 +10,17 @@ use Rattle.cg_cgroup.specs.Paths.{Names}
 use Rattle.cg_cgroup.specs.Identity.{Identity}
 use Rattle.cg_cgroup.specs.declared.files.Limit.TheVariants.{At}
 use Rattle.cg_cgroup.specs.declared.files.LimitFile.TheVariants.{MaxDescendants}
-use Rattle.cg_tree.specs.States.{State, count_below}
-use Rattle.cg_ops.specs.Clauses.{unless}
+use Rattle.cg_model.specs.States.{State, count_below}
+use Rattle.cg_model.specs.Clauses.{unless}
 use Rattle.cg_lines.specs.OperationLines.{mode_word}
-use Rattle.cg_guards.specs.Limits.{fits_descendants, fits_depth}
-use Rattle.cg_guards.specs.Guards.{guarded_entries}
-use Rattle.cg_guards.specs.Standing.{standing}
-use Rattle.cg_guards.specs.declared.table.GuardedEntry.{GuardedEntry}
+use Rattle.cg_model.specs.Limits.{fits_descendants, fits_depth}
+use Rattle.cg_model.specs.Guards.{guarded_entries, standing}
+use Rattle.cg_model.specs.declared.guard.GuardedEntry.{GuardedEntry}
 use Rattle.cg_guards.proofs.TableWalk.{walk_turn}
-use Rattle.cg_advice.specs.Mends.{if_reached, reached_of, descendants_of, depth_of, limit_mends}
+use Rattle.cg_model.specs.Mends.{if_reached, reached_of, descendants_of, depth_of, limit_mends}
 use Rattle.cg_advice.specs.AdviceLines.{mend_line, mend_lines, reached_lines, over_line, over_lines}
-use Rattle.cg_advice.specs.declared.mend.Mend.{Mend}
-use Rattle.cg_advice.specs.declared.mend.Mend.TheVariants.{Set}
+use Rattle.cg_model.specs.declared.mend.Mend.{Mend}
+use Rattle.cg_model.specs.declared.mend.Mend.TheVariants.{Set}
 
 -- a mode, digit by digit
 pub written_digits : (mode : ℕ) → mode ≤ 511 → decimal (mode / 64) ++ (decimal (mode / 8 % 8) ++ decimal (mode % 8)) ≡ mode_word mode

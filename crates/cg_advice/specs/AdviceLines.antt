@@ -5,20 +5,20 @@ use Rattle.std.specs.Fmt.{decimal}
 use Rattle.cg_cgroup.specs.Paths.{Names, path_text}
 use Rattle.cg_cgroup.specs.Identity.{Identity}
 use Rattle.cg_cgroup.specs.Files.{entry_text}
-use Rattle.cg_tree.specs.States.{State}
-use Rattle.cg_ops.specs.declared.operation.Op.TheVariants as op
+use Rattle.cg_model.specs.States.{State}
+use Rattle.cg_model.specs.declared.operation.Op.TheVariants as op
 use Rattle.cg_lines.specs.OperationLines.{mode_word, spelling}
-use Rattle.cg_guards.specs.GuardNames.{guard_name}
-use Rattle.cg_guards.specs.GuardedUsers.{is_guarded}
-use Rattle.cg_guards.specs.Limits.{fits_descendants, fits_depth}
-use Rattle.cg_guards.specs.declared.table.GuardedEntry.{GuardedEntry}
-use Rattle.cg_guards.specs.declared.guard.Guard.TheVariants.{AlreadyOver}
-use Rattle.cg_advice.specs.Mended.{class_of}
-use Rattle.cg_advice.specs.Mends.{reached, entry_mends, limit_mends}
-use Rattle.cg_advice.specs.declared.mend.Class.{Class}
-use Rattle.cg_advice.specs.declared.mend.Class.TheVariants.{Owner, Group, Others}
-use Rattle.cg_advice.specs.declared.mend.Mend.{Mend}
-use Rattle.cg_advice.specs.declared.mend.Mend.TheVariants.{Chown, Chmod, Set}
+use Rattle.cg_model.specs.GuardNames.{guard_name}
+use Rattle.cg_model.specs.Guards.{is_guarded}
+use Rattle.cg_model.specs.Limits.{fits_descendants, fits_depth}
+use Rattle.cg_model.specs.declared.guard.GuardedEntry.{GuardedEntry}
+use Rattle.cg_model.specs.declared.guard.Guard.TheVariants.{AlreadyOver}
+use Rattle.cg_model.specs.Mended.{class_of}
+use Rattle.cg_model.specs.Mends.{reached, entry_mends, limit_mends}
+use Rattle.cg_model.specs.declared.mend.Class.{Class}
+use Rattle.cg_model.specs.declared.mend.Class.TheVariants.{Owner, Group, Others}
+use Rattle.cg_model.specs.declared.mend.Mend.{Mend}
+use Rattle.cg_model.specs.declared.mend.Mend.TheVariants.{Chown, Chmod, Set}
 
 abbrev pub class_name : Class → List ℕ
 class_name Owner = codes "owner"

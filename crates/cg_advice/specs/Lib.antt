@@ -1,4 +1,2 @@
-pub mod Mended
-pub mod Mends
 pub mod AdviceLines
 pub mod Advised

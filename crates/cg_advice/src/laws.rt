@@ -3,13 +3,13 @@ ghost use Rattle.std.specs.Prelude.{◌≡◌, Some};
 ghost use Rattle.cg_cgroup.specs.Paths.{Names};
 ghost use Rattle.cg_cgroup.specs.Identity.{Identity};
 ghost use Rattle.cg_cgroup.specs.Users.{IsUser};
-ghost use Rattle.cg_tree.specs.States.{State};
-ghost use Rattle.cg_tree.specs.WellFormed.{IsWellFormed};
-ghost use Rattle.cg_guards.specs.Guards.{Guarded, GuardsHold, entry_failures, over_failures};
-ghost use Rattle.cg_guards.specs.Standing.{standing};
-ghost use Rattle.cg_guards.specs.declared.table.GuardedEntry.{GuardedEntry};
-ghost use Rattle.cg_advice.specs.Mends.{advised};
-ghost use Rattle.cg_advice.specs.Advised.{IsAdvised, AreCountable, all_but, all_but_limits};
+ghost use Rattle.cg_model.specs.States.{State};
+ghost use Rattle.cg_model.specs.WellFormed.{IsWellFormed};
+ghost use Rattle.cg_model.specs.Guards.{Guarded, GuardsHold, entry_failures, over_failures, standing};
+ghost use Rattle.cg_model.specs.declared.guard.GuardedEntry.{GuardedEntry};
+ghost use Rattle.cg_model.specs.Mends.{advised};
+ghost use Rattle.cg_model.specs.Advised.{IsAdvised, AreCountable};
+ghost use Rattle.cg_advice.specs.Advised.{all_but, all_but_limits};
 
 /// With the changes made no guard of the subtree fails for the user.
 pub fn advice_mends_all()

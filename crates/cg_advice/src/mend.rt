@@ -1,104 +1,68 @@
 //! The changes that mend a guard that fails.
 ghost use Rattle.std.specs.Prelude.{◌≡◌, ◌≤◌, option_to_list, IfSome};
-ghost use Rattle.cg_advice.specs.Mended.{class_of, shut_mode};
-ghost use Rattle.cg_advice.specs.Mends.{chown_of, chmod_of};
+ghost use Rattle.cg_model.specs.Mended.{class_of, shut_mode};
+ghost use Rattle.cg_model.specs.Mends.{chown_of, chmod_of};
 ghost use Rattle.cg_advice.specs.AdviceLines.{class_name, len_of};
 
-use cg_cgroup::files::{EntryName, Limit, LimitFile};
 use cg_cgroup::user::{Entry, Mode, User};
-use cg_guards::table::GuardedEntry;
+use cg_model::guard::GuardedEntry;
+use cg_model::mend::{Class, Mend};
 
-/// By what a user reaches an entry: the first class that he belongs to.
-#[derive(Clone, Copy, Debug, PartialEq, Eq)]
-pub enum Class {
-    Owner,
-    Group,
-    Others,
-}
-
-impl Class {
-    /// The class of an entry that a user belongs to.
-    pub fn of(user: &User, entry: &Entry) -> Class
-        ensures { result ≡ class_of user.now entry.now }
-    {
-        if user.owns(entry) {
-            Class::Owner
-        } else if user.in_group(entry.gid) {
-            Class::Group
-        } else {
-            Class::Others
-        }
-    }
-
-    /// The word of a report.
-    pub fn name(self) -> &'static str
-        ensures { result.now ≡ class_name self }
-    {
-        match self {
-            Class::Owner => "owner",
-            Class::Group => "group",
-            Class::Others => "others",
-        }
+/// The class of an entry that a user belongs to.
+pub fn class_of(user: &User, entry: &Entry) -> Class
+    ensures { result ≡ class_of user.now entry.now }
+{
+    if user.owns(entry) {
+        Class::Owner
+    } else if user.in_group(entry.gid) {
+        Class::Group
+    } else {
+        Class::Others
     }
 }
 
-/// A change that root makes at the cgroup of the first `len` names of the subtree's path.
-#[derive(Clone, Copy, Debug, PartialEq, Eq)]
-pub enum Mend {
-    /// An entry gets this owner and this group.
-    Chown {
-        len: usize,
-        name: EntryName,
-        uid: u32,
-        gid: u32,
-    },
-    /// An entry gets this mode.
-    Chmod {
-        len: usize,
-        name: EntryName,
-        mode: Mode,
-    },
-    /// A limit file gets this value.
-    Set {
-        len: usize,
-        file: LimitFile,
-        value: Limit,
-    },
+/// The word of a report.
+pub fn class_name(class: Class) -> &'static str
+    ensures { result.now ≡ class_name class }
+{
+    match class {
+        Class::Owner => "owner",
+        Class::Group => "group",
+        Class::Others => "others",
+    }
 }
 
-impl Mend {
-    /// Root in the place of the user, where he owns the entry; the entry's group stays.
-    pub fn chown_of(user: &User, at: &GuardedEntry) -> Option<Mend>
-        ensures mend { option_to_list result ≡ chown_of user.now at.now }
-        ensures level { IfSome result (λ mend. len_of mend ≡ at.now.len) }
-    {
-        if !user.owns(&at.entry) {
-            return None;
-        }
-        Some(Mend::Chown {
-            len: at.len,
-            name: at.name,
-            uid: 0,
-            gid: at.entry.gid,
-        })
+/// Root in the place of the user, where he owns the entry; the entry's group stays.
+pub fn chown_of(user: &User, at: &GuardedEntry) -> Option<Mend>
+    ensures mend { option_to_list result ≡ chown_of user.now at.now }
+    ensures level { IfSome result (λ mend. len_of mend ≡ at.now.len) }
+{
+    if !user.owns(&at.entry) {
+        return None;
     }
+    Some(Mend::Chown {
+        len: at.len,
+        name: at.name,
+        uid: 0,
+        gid: at.entry.gid,
+    })
+}
 
-    /// The entry's mode without the bit by which the user's class writes once he isn't the owner, where it has the bit.
-    pub fn chmod_of(user: &User, at: &GuardedEntry) -> Option<Mend>
-        requires { at.now.entry.mode ≤ 511 }
-        ensures mend { option_to_list result ≡ chmod_of user.now at.now }
-        ensures level { IfSome result (λ mend. len_of mend ≡ at.now.len) }
-    {
-        let mode = shut_mode(user, &at.entry);
-        if mode.get() == at.entry.mode {
-            return None;
-        }
-        Some(Mend::Chmod {
-            len: at.len,
-            name: at.name,
-            mode,
-        })
+/// The entry's mode without the bit by which the user's class writes once he isn't the owner, where it has the bit.
+pub fn chmod_of(user: &User, at: &GuardedEntry) -> Option<Mend>
+    requires { at.now.entry.mode ≤ 511 }
+    ensures mend { option_to_list result ≡ chmod_of user.now at.now }
+    ensures level { IfSome result (λ mend. len_of mend ≡ at.now.len) }
+{
+    let mode = shut_mode(user, &at.entry);
+    if mode.get() == at.entry.mode {
+        return None;
     }
+    Some(Mend::Chmod {
+        len: at.len,
+        name: at.name,
+        mode,
+    })
 }
 
 /// The mode of an entry without the bit by which one who isn't its owner writes it.

@@ -3,23 +3,23 @@ ghost use Rattle.std.specs.Prelude.{◌≡◌, ◌≤◌, ◌++◌, true, false,
 ghost use Rattle.std.specs.List.{flat_map};
 ghost use Rattle.std.specs.Option.{ForSome, option_map};
 ghost use Rattle.cg_cgroup.specs.Paths.{is_root};
-ghost use Rattle.cg_tree.specs.WellFormed.{has_row};
-ghost use Rattle.cg_guards.specs.Guarding.{IsSubtree};
-ghost use Rattle.cg_guards.specs.GuardedUsers.{is_guarded};
+ghost use Rattle.cg_model.specs.WellFormed.{has_row};
+ghost use Rattle.cg_model.specs.Guards.{IsSubtree, is_guarded};
 ghost use Rattle.cg_lines.specs.OperationLines.{mode_word};
-ghost use Rattle.cg_advice.specs.Mends.{if_reached, reached, descendants_of, depth_of};
+ghost use Rattle.cg_model.specs.Mends.{if_reached, reached, descendants_of, depth_of};
 ghost use Rattle.cg_advice.specs.AdviceLines.{owner_word, mend_line, mend_lines, fails_line, reached_lines, over_line, over_lines, advice_lines, IsShown, len_of};
 
-use crate::mend::{Class, Mend};
+use crate::mend::{chmod_of, chown_of, class_name, class_of};
 use cg_cgroup::files::{Limit, LimitFile};
 use cg_cgroup::memory::NoMemory;
 use cg_cgroup::path::Path;
 use cg_cgroup::user::User;
 use cg_guards::failed::{failed_guard, fits_depth, fits_descendants, is_over, reaches};
-use cg_guards::guard::Guard;
-use cg_guards::table::{GuardedEntry, guarded_count, guarded_entry};
+use cg_guards::table::{guarded_count, guarded_entry};
 use cg_lines::lines::op_text;
-use cg_ops::operation::Op;
+use cg_model::guard::{Guard, GuardedEntry};
+use cg_model::mend::Mend;
+use cg_model::operation::Op;
 use cg_tree::hierarchy::Hierarchy;
 use std::alloc::{AllocError, Global};
 
@@ -83,8 +83,8 @@ fn push_entry(
     }
     let line = fails_line(alloc, user, subtree, at)?.into_bytes();
     text.extend_from_slice(line.as_slice())?;
-    push_mend(alloc, text, subtree, Mend::chown_of(user, at))?;
-    push_mend(alloc, text, subtree, Mend::chmod_of(user, at))
+    push_mend(alloc, text, subtree, chown_of(user, at))?;
+    push_mend(alloc, text, subtree, chmod_of(user, at))
 }
 
 /// The lines of the limits of the subtree, where it is over one.
@@ -165,7 +165,7 @@ fn fails_line(
     let name = at.name.name();
     let owner = owner_word(alloc, at.entry.uid, at.entry.gid)?;
     let mode = mode_word(alloc, at.entry.mode)?;
-    let class = Class::of(user, &at.entry).name();
+    let class = class_name(class_of(user, &at.entry));
     format!(in alloc; "fails {guard} {place} {name} {owner} {mode} {class}\n")
 }
 

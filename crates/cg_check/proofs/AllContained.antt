@@ -4,28 +4,28 @@ use Rattle.std.specs.List.{flat_map, All, AllByRecursion, Contains}
 use Rattle.std.proofs.lemmas.List.Elements.{All-from_recursion, All-contains}
 use Rattle.cg_cgroup.specs.Paths.{Names, is_root}
 use Rattle.cg_cgroup.specs.Identity.{Identity}
-use Rattle.cg_tree.specs.States.{State}
-use Rattle.cg_tree.specs.WellFormed.{IsWellFormed, has_row}
-use Rattle.cg_ops.specs.Clauses.{unless, first}
-use Rattle.cg_ops.specs.Steps.{after_all}
-use Rattle.cg_ops.proofs.ClauseLaws.{none_of_first, no_parts}
-use Rattle.cg_guards.specs.Guards.{GuardsHold}
-use Rattle.cg_guards.specs.Guarding.{IsSubtree}
-use Rattle.cg_runs.specs.Strangers.{GuardsHoldForAll}
-use Rattle.cg_runs.specs.declared.fault.CheckFault.{CheckFault}
-use Rattle.cg_runs.specs.declared.fault.CheckFault.TheVariants.{RootSubtree, NoSuchSubtree, NoMemory}
-use Rattle.cg_runs.proofs.RunLaws.{held-guarded, guarded-again}
-use Rattle.cg_runs.proofs.StrangerLaws.{broken-of_stranger}
-use Rattle.cg_check.specs.Answers.{answer}
+use Rattle.cg_model.specs.States.{State}
+use Rattle.cg_model.specs.WellFormed.{IsWellFormed, has_row}
+use Rattle.cg_model.specs.Clauses.{unless, first}
+use Rattle.cg_model.specs.Steps.{after_all}
+use Rattle.cg_steps.proofs.ClauseLaws.{none_of_first, no_parts}
+use Rattle.cg_model.specs.Guards.{GuardsHold, IsSubtree}
+use Rattle.cg_model.specs.Strangers.{GuardsHoldForAll}
+use Rattle.cg_model.specs.declared.fault.CheckFault.{CheckFault}
+use Rattle.cg_model.specs.declared.fault.CheckFault.TheVariants.{RootSubtree, NoSuchSubtree, NoMemory}
+use Rattle.cg_laws.proofs.RunLaws.{held-guarded, guarded-again}
+use Rattle.cg_laws.proofs.StrangerLaws.{broken-of_stranger}
+use Rattle.cg_model.specs.Answers.{answer}
 use Rattle.std.specs.Result.{IsErr, IsErrAnd}
 use Rattle.cg_check.specs.Unguarded.{IsFirstUnguarded}
-use Rattle.cg_check.specs.Checks.{subtree_faults, unless_fault, checked, takes_memory, all_checked, all_take_memory, Gives}
-use Rattle.cg_check.specs.AllAnswers.{pair_unless_contained, pairs_of, pairs_from, all_answers}
-use Rattle.cg_check.specs.Several.{AreContained}
-use Rattle.cg_check.specs.declared.answer.Answer.{Answer}
-use Rattle.cg_check.specs.declared.answer.Answer.TheVariants.{Contained, Escapes, Unsettled}
-use Rattle.cg_check.specs.declared.answer.AllAnswer.{AllAnswer}
-use Rattle.cg_check.specs.declared.answer.AllAnswer.TheVariants as all
+use Rattle.cg_model.specs.Checks.{subtree_faults, unless_fault, checked, all_checked}
+use Rattle.cg_check.specs.Checks.{takes_memory, all_take_memory, Gives}
+use Rattle.cg_model.specs.AllAnswers.{pair_unless_contained, pairs_of, pairs_from, all_answers}
+use Rattle.cg_model.specs.Several.{AreContained}
+use Rattle.cg_model.specs.declared.answer.Answer.{Answer}
+use Rattle.cg_model.specs.declared.answer.Answer.TheVariants.{Contained, Escapes, Unsettled}
+use Rattle.cg_model.specs.declared.answer.AllAnswer.{AllAnswer}
+use Rattle.cg_model.specs.declared.answer.AllAnswer.TheVariants as all
 use Rattle.cg_check.proofs.Checking.{no_fault, guarded-answer, answer-guarded, checked-answer}
 use Rattle.cg_check.proofs.Pairs.{none-element, not-none}
 

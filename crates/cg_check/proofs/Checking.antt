@@ -2,21 +2,21 @@
 use Rattle.std.proofs.Common.{◌≡◌, Bool, true, false, not, List, [], ◌∷◌, refl, sym, ap, ◌∙◌, Option, Some, None, Result, Ok, Err, IfOk, IfErr}
 use Rattle.cg_cgroup.specs.Paths.{Names, is_root}
 use Rattle.cg_cgroup.specs.Identity.{Identity}
-use Rattle.cg_tree.specs.States.{State}
-use Rattle.cg_tree.specs.WellFormed.{has_row}
-use Rattle.cg_ops.specs.Clauses.{first}
-use Rattle.cg_ops.specs.declared.operation.Op.{Op}
-use Rattle.cg_ops.proofs.ClauseLaws.{no_parts, no_unless, none_of_first}
-use Rattle.cg_guards.specs.Guards.{failures, GuardsHold}
-use Rattle.cg_guards.specs.Guarding.{IsSubtree}
-use Rattle.cg_guards.specs.declared.guard.Failed.{Failed}
-use Rattle.cg_runs.specs.declared.fault.CheckFault.{CheckFault}
-use Rattle.cg_runs.specs.declared.fault.CheckFault.TheVariants.{RootSubtree, NoSuchSubtree, NoMemory}
-use Rattle.cg_tries.specs.Escapes.{first_escape}
-use Rattle.cg_check.specs.Answers.{answer_from, answer}
-use Rattle.cg_check.specs.Checks.{subtree_faults, unless_fault, checked, takes_memory, Gives}
-use Rattle.cg_check.specs.declared.answer.Answer.{Answer}
-use Rattle.cg_check.specs.declared.answer.Answer.TheVariants.{Contained, Escapes, Unsettled}
+use Rattle.cg_model.specs.States.{State}
+use Rattle.cg_model.specs.WellFormed.{has_row}
+use Rattle.cg_model.specs.Clauses.{first}
+use Rattle.cg_model.specs.declared.operation.Op.{Op}
+use Rattle.cg_steps.proofs.ClauseLaws.{no_parts, no_unless, none_of_first}
+use Rattle.cg_model.specs.Guards.{failures, GuardsHold, IsSubtree}
+use Rattle.cg_model.specs.declared.guard.Failed.{Failed}
+use Rattle.cg_model.specs.declared.fault.CheckFault.{CheckFault}
+use Rattle.cg_model.specs.declared.fault.CheckFault.TheVariants.{RootSubtree, NoSuchSubtree, NoMemory}
+use Rattle.cg_model.specs.Escapes.{first_escape}
+use Rattle.cg_model.specs.Answers.{answer_from, answer}
+use Rattle.cg_model.specs.Checks.{subtree_faults, unless_fault, checked}
+use Rattle.cg_check.specs.Checks.{takes_memory, Gives}
+use Rattle.cg_model.specs.declared.answer.Answer.{Answer}
+use Rattle.cg_model.specs.declared.answer.Answer.TheVariants.{Contained, Escapes, Unsettled}
 
 not_true : (b : Bool) → not b ≡ true → b ≡ false
 not_true true h = sym h

@@ -12,24 +12,23 @@ use Rattle.cg_cgroup.specs.Numbers.{mode_of}
 use Rattle.cg_cgroup.specs.Users.{owns, writes, opened}
 use Rattle.cg_cgroup.specs.declared.user.Entry.{Entry}
 use Rattle.cg_cgroup.proofs.UserLaws.{opened-le}
-use Rattle.cg_tree.specs.States.{State}
-use Rattle.cg_tree.specs.WellFormed.{IsWellFormed}
-use Rattle.cg_ops.specs.Steps.{after_all}
-use Rattle.cg_ops.specs.declared.operation.Op.{Op}
-use Rattle.cg_guards.specs.Limits.{limits, fits_descendants, fits_depth}
-use Rattle.cg_ops.specs.Clauses.{present}
-use Rattle.cg_ops.specs.declared.operation.Op.TheVariants.{Chmod}
-use Rattle.cg_guards.specs.Guards.{Guarded, guarded_entries, guarded_entry}
-use Rattle.cg_guards.specs.Standing.{found, standing}
-use Rattle.cg_guards.specs.declared.table.GuardedEntry.{GuardedEntry}
+use Rattle.cg_model.specs.States.{State}
+use Rattle.cg_model.specs.WellFormed.{IsWellFormed}
+use Rattle.cg_model.specs.Steps.{after_all}
+use Rattle.cg_model.specs.declared.operation.Op.{Op}
+use Rattle.cg_model.specs.Limits.{limits, fits_descendants, fits_depth}
+use Rattle.cg_model.specs.Clauses.{present}
+use Rattle.cg_model.specs.declared.operation.Op.TheVariants.{Chmod}
+use Rattle.cg_model.specs.Guards.{Guarded, guarded_entries, guarded_entry, found, standing, IsSubtree}
+use Rattle.cg_model.specs.declared.guard.GuardedEntry.{GuardedEntry}
 use Rattle.cg_guards.proofs.TableWalk.{of_guarded, walk_turn, drop_all}
-use Rattle.cg_guards.specs.Guarding.{IsSubtree}
-use Rattle.cg_guards.proofs.Crossing.{none-crosses-same}
-use Rattle.cg_runs.specs.Held.{by_user}
-use Rattle.cg_runs.specs.Verdicts.{broken}
-use Rattle.cg_runs.proofs.BrokenLaws.{whole-broken, broken-whole}
-use Rattle.cg_tries.specs.Tries.{opening_of, opening, with_opening, plain_tries}
-use Rattle.cg_tries.specs.Escapes.{breaks, first_escape, IsUnbroken}
+use Rattle.cg_steps.proofs.Edges.{none-crosses-same}
+use Rattle.cg_model.specs.Held.{by_user}
+use Rattle.cg_model.specs.Verdicts.{broken}
+use Rattle.cg_steps.proofs.BrokenLaws.{whole-broken, broken-whole}
+use Rattle.cg_model.specs.Tries.{opening_of, opening, with_opening, plain_tries}
+use Rattle.cg_model.specs.Escapes.{breaks, first_escape}
+use Rattle.cg_tries.specs.Escapes.{IsUnbroken}
 use Rattle.cg_tries.proofs.Seen.{is_empty, empty_is, breaks-run}
 use Rattle.cg_check.specs.Opened.{is_free, opening_chmod}
 use Rattle.cg_check.proofs.Openings.{opened_state, unless_free, unbroken-opened, subtree-opened, first_escape-is}

@@ -6,19 +6,19 @@ use Rattle.std.proofs.lemmas.List.Sums.{prefix_len-le-length, prefix_len_passes,
 use Rattle.std.proofs.lemmas.List.Folds.{length-prefix_len}
 use Rattle.cg_cgroup.specs.Paths.{Names}
 use Rattle.cg_cgroup.specs.Identity.{Identity}
-use Rattle.cg_tree.specs.States.{State}
-use Rattle.cg_ops.specs.Clauses.{first}
-use Rattle.cg_ops.proofs.ClauseLaws.{first_none, first_some}
-use Rattle.cg_guards.specs.Guards.{failures}
+use Rattle.cg_model.specs.States.{State}
+use Rattle.cg_model.specs.Clauses.{first}
+use Rattle.cg_steps.proofs.ClauseLaws.{first_none, first_some}
+use Rattle.cg_model.specs.Guards.{failures, is_guarded}
 use Rattle.cg_cgroup.specs.declared.user.Entry.{Entry}
-use Rattle.cg_guards.specs.GuardedUsers.{is_guarded, AreSpared}
-use Rattle.cg_guards.specs.declared.guard.Failed.{Failed}
-use Rattle.cg_check.specs.Answers.{answer}
+use Rattle.cg_guards.specs.GuardedUsers.{AreSpared}
+use Rattle.cg_model.specs.declared.guard.Failed.{Failed}
+use Rattle.cg_model.specs.Answers.{answer}
 use Rattle.cg_check.specs.Checks.{takes_memory}
-use Rattle.cg_check.specs.AllAnswers.{pair_unless_contained, pairs_of, pairs_from}
+use Rattle.cg_model.specs.AllAnswers.{pair_unless_contained, pairs_of, pairs_from}
 use Rattle.cg_check.specs.Unguarded.{IsFirstUnguarded}
-use Rattle.cg_check.specs.declared.answer.AllAnswer.{AllAnswer}
-use Rattle.cg_check.specs.declared.answer.AllAnswer.TheVariants.{Pair}
+use Rattle.cg_model.specs.declared.answer.AllAnswer.{AllAnswer}
+use Rattle.cg_model.specs.declared.answer.AllAnswer.TheVariants.{Pair}
 use Rattle.cg_check.proofs.Checking.{guarded-answer, fails-memory}
 use Rattle.cg_check.proofs.Pairs.{pair-some}
 

@@ -1,4 +1,3 @@
-pub mod Lists
 mod Wider
 mod Tried
 mod Monotone

@@ -6,21 +6,20 @@ use Rattle.std.proofs.lemmas.List.Folds.{length-prefix_len}
 use Rattle.std.proofs.lemmas.List.Concat.{flat_map-append}
 use Rattle.cg_cgroup.specs.Paths.{Names}
 use Rattle.cg_cgroup.specs.Identity.{Identity}
-use Rattle.cg_tree.specs.States.{State}
-use Rattle.cg_tree.specs.WellFormed.{IsWellFormed}
-use Rattle.cg_ops.specs.Clauses.{first, unless}
-use Rattle.cg_guards.specs.Guards.{failures}
-use Rattle.cg_guards.specs.Guarding.{IsSubtree}
-use Rattle.cg_guards.specs.GuardedUsers.{is_guarded}
-use Rattle.cg_guards.specs.declared.guard.Failed.{Failed}
+use Rattle.cg_model.specs.States.{State}
+use Rattle.cg_model.specs.WellFormed.{IsWellFormed}
+use Rattle.cg_model.specs.Clauses.{first, unless}
+use Rattle.cg_model.specs.Guards.{failures, IsSubtree, is_guarded}
+use Rattle.cg_model.specs.declared.guard.Failed.{Failed}
 use Rattle.cg_guards.proofs.KeptOff.{while_all, while_both}
-use Rattle.cg_runs.specs.declared.fault.CheckFault.TheVariants.{RootSubtree, NoSuchSubtree}
-use Rattle.cg_check.specs.Answers.{answer}
-use Rattle.cg_check.specs.Checks.{subtree_faults}
-use Rattle.cg_check.specs.AllAnswers.{pair_unless_contained, pairs_from}
-use Rattle.cg_check.specs.Listed.{listed_unless_contained, listed_of, listed, is_contained, unlisted, is_guarded_of_all}
-use Rattle.cg_check.specs.Several.{AreContained}
-use Rattle.cg_check.specs.declared.answer.Answer.TheVariants.{Contained, Escapes, Unsettled}
+use Rattle.cg_model.specs.declared.fault.CheckFault.TheVariants.{RootSubtree, NoSuchSubtree}
+use Rattle.cg_model.specs.Answers.{answer}
+use Rattle.cg_model.specs.Checks.{subtree_faults}
+use Rattle.cg_model.specs.AllAnswers.{pair_unless_contained, pairs_from}
+use Rattle.cg_model.specs.Listed.{listed_unless_contained, listed_of, listed, is_contained, unlisted}
+use Rattle.cg_check.specs.Listed.{is_guarded_of_all}
+use Rattle.cg_model.specs.Several.{AreContained}
+use Rattle.cg_model.specs.declared.answer.Answer.TheVariants.{Contained, Escapes, Unsettled}
 use Rattle.cg_check.proofs.Checking.{no_fault, guarded-answer}
 use Rattle.cg_check.proofs.Pairs.{none-element, not-none}
 use Rattle.cg_check.proofs.AllContained.{are-contained}

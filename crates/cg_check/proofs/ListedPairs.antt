@@ -5,13 +5,14 @@ use Rattle.std.specs.List.{flat_map}
 use Rattle.std.proofs.lemmas.List.Concat.{flat_map-append}
 use Rattle.cg_cgroup.specs.Paths.{Names}
 use Rattle.cg_cgroup.specs.Identity.{Identity}
-use Rattle.cg_tree.specs.States.{State}
-use Rattle.cg_ops.specs.Clauses.{present}
-use Rattle.cg_check.specs.Answers.{answer}
-use Rattle.cg_check.specs.AllAnswers.{pair_unless_contained, pairs_of, pairs_from}
-use Rattle.cg_check.specs.Listed.{listed_unless_contained, listed_of, listed, listed_at}
-use Rattle.cg_check.specs.declared.answer.Answer.{Answer}
-use Rattle.cg_check.specs.declared.answer.Answer.TheVariants.{Contained, Escapes, Unsettled}
+use Rattle.cg_model.specs.States.{State}
+use Rattle.cg_model.specs.Clauses.{present}
+use Rattle.cg_model.specs.Answers.{answer}
+use Rattle.cg_model.specs.AllAnswers.{pair_unless_contained, pairs_of, pairs_from}
+use Rattle.cg_model.specs.Listed.{listed_unless_contained, listed_of, listed}
+use Rattle.cg_check.specs.Listed.{listed_at}
+use Rattle.cg_model.specs.declared.answer.Answer.{Answer}
+use Rattle.cg_model.specs.declared.answer.Answer.TheVariants.{Contained, Escapes, Unsettled}
 
 -- the one between two lists
 at_front : {A : Type 0} (front : List A) (x : A) (others : List A) → slice_get (front ++ x ∷ others) (length front) ≡ Some x

@@ -1,8 +1,7 @@
 -- The first escape is the first plain try that breaks the opened tree, with the opening before it where it isn't free without.
 use Rattle.std.proofs.Common.{◌≡◌, ℕ, zero, suc, ◌+◌, ◌≤◌, Bool, true, false, cond, not, ◌&&◌, List, [], ◌∷◌, ◌++◌, map, filter, find, length, take, nat_le, refl, sym, ap, ◌∙◌, subst, Option, Some, None, is_some, option_map, option_and_then}
-use Rattle.std.proofs.lemmas.Bool.{and_parts}
+use Rattle.std.proofs.lemmas.Bool.{and_parts, eq-eqb}
 use Rattle.std.proofs.lemmas.Nat.{and_or_self}
-use Rattle.std.proofs.lemmas.Bool.{eq-eqb}
 use Rattle.std.specs.List.{flat_map, AllByRecursion}
 use Rattle.std.specs.FinMap as finite
 use Rattle.cg_cgroup.specs.Paths.{Names, inside, parent, path_text}
@@ -13,25 +12,25 @@ use Rattle.cg_cgroup.specs.declared.user.Entry.{Entry}
 use Rattle.cg_cgroup.proofs.UserLaws.{opened-le}
 use Rattle.cg_cgroup.specs.Cgroups.{entry_in}
 use Rattle.std.proofs.lemmas.Option.{none-some}
-use Rattle.cg_tree.specs.States.{State, row_at, entry_at}
-use Rattle.cg_tree.specs.WellFormed.{IsWellFormed}
-use Rattle.cg_ops.specs.Clauses.{present, first}
-use Rattle.cg_ops.specs.Bars.{bars}
-use Rattle.cg_ops.specs.Steps.{after_all, HasMode, HaveModes}
-use Rattle.cg_ops.specs.declared.operation.Op.{Op}
-use Rattle.cg_ops.specs.declared.operation.Op.TheVariants.{Chmod, Move, Mkdir, Rmdir, Control, Set}
-use Rattle.cg_ops.proofs.StepFormed.{formed-after_all}
-use Rattle.cg_guards.specs.Guards.{Guarded, guarded_entries, guarded_entry}
-use Rattle.cg_guards.specs.Guarding.{IsSubtree}
-use Rattle.cg_runs.specs.Held.{by_user}
-use Rattle.cg_tries.specs.Tries.{other_value, set_tries, control_tries, move_tries, probe, numbers_from, probe_tries_at, probe_tries, plain_tries, opening_of, opening, with_opening}
-use Rattle.cg_tries.specs.Escapes.{breaks, first_escape, IsUnbroken}
+use Rattle.cg_model.specs.States.{State, row_at, entry_at}
+use Rattle.cg_model.specs.WellFormed.{IsWellFormed}
+use Rattle.cg_model.specs.Clauses.{present, first}
+use Rattle.cg_model.specs.Bars.{bars}
+use Rattle.cg_model.specs.Steps.{after_all, HasMode, HaveModes}
+use Rattle.cg_model.specs.declared.operation.Op.{Op}
+use Rattle.cg_model.specs.declared.operation.Op.TheVariants.{Chmod, Move, Mkdir, Rmdir, Control, Set}
+use Rattle.cg_steps.proofs.StepFormed.{formed-after_all}
+use Rattle.cg_model.specs.Guards.{Guarded, guarded_entries, guarded_entry, IsSubtree}
+use Rattle.cg_model.specs.Held.{by_user}
+use Rattle.cg_model.specs.Tries.{other_value, set_tries, control_tries, move_tries, probe, numbers_from, probe_tries_at, probe_tries, plain_tries, opening_of, opening, with_opening}
+use Rattle.cg_model.specs.Escapes.{breaks, first_escape}
+use Rattle.cg_tries.specs.Escapes.{IsUnbroken}
 use Rattle.cg_tries.specs.Finding.{allowed}
 use Rattle.cg_tries.proofs.Controls.{changes_enabled}
 use Rattle.cg_tries.proofs.Seen.{unbroken-alike}
 use Rattle.cg_tries.proofs.Single.{nothing_bars}
 use Rattle.cg_check.specs.Opened.{is_free}
-use Rattle.cg_check.proofs.Lists.{all-flat_map, all-present, all-both, all-each, find-same, find-all, find-passes}
+use Rattle.cg_steps.proofs.Lists.{all-flat_map, all-present, all-both, all-each, find-same, find-all, find-passes}
 use Rattle.cg_check.proofs.Wider.{IsWider, wider-itself, wider-all, IsOpening, alike-wider, breaks-opening}
 use Rattle.cg_check.proofs.Tried.{with_true, has_effect, IsTried, IsExact, exact-plain_tries}
 use Rattle.cg_check.proofs.Monotone.{passes_at-stays, move-stays, mkdir-stays, rmdir-stays, set-stays, control-stays}

@@ -2,15 +2,16 @@
 use Rattle.std.proofs.Common.{◌≡◌, ◌≢◌, ℕ, zero, suc, ◌+◌, ◌<◌, true, List, [], ◌∷◌, ◌++◌, length, get_or, drop, drop-cons, add-one, refl, sym, ap, ◌∙◌, Some, None, Ok, arith}
 use Rattle.std.specs.List.{flat_map}
 use Rattle.cg_cgroup.specs.Paths.{Names}
-use Rattle.cg_tree.specs.States.{State}
-use Rattle.cg_ops.specs.Clauses.{first}
-use Rattle.cg_ops.proofs.ClauseLaws.{first_none, first_some, none_of_first, no_parts}
-use Rattle.cg_guards.specs.Guarding.{IsSubtree}
-use Rattle.cg_check.specs.Checks.{subtree_faults, takes_memory}
-use Rattle.cg_check.specs.AllAnswers.{pair_unless_contained}
-use Rattle.cg_check.specs.declared.answer.Answer.{Answer}
-use Rattle.cg_check.specs.declared.answer.Answer.TheVariants.{Contained, Escapes, Unsettled}
-use Rattle.cg_check.specs.declared.answer.AllAnswer.TheVariants as all
+use Rattle.cg_model.specs.States.{State}
+use Rattle.cg_model.specs.Clauses.{first}
+use Rattle.cg_steps.proofs.ClauseLaws.{first_none, first_some, none_of_first, no_parts}
+use Rattle.cg_model.specs.Guards.{IsSubtree}
+use Rattle.cg_model.specs.Checks.{subtree_faults}
+use Rattle.cg_check.specs.Checks.{takes_memory}
+use Rattle.cg_model.specs.AllAnswers.{pair_unless_contained}
+use Rattle.cg_model.specs.declared.answer.Answer.{Answer}
+use Rattle.cg_model.specs.declared.answer.Answer.TheVariants.{Contained, Escapes, Unsettled}
+use Rattle.cg_model.specs.declared.answer.AllAnswer.TheVariants as all
 use Rattle.cg_check.proofs.Checking.{no_fault}
 
 -- ---- one after another

@@ -8,20 +8,21 @@ use Rattle.cg_cgroup.specs.Identity.{Identity}
 use Rattle.cg_cgroup.specs.Files.{all_files}
 use Rattle.cg_cgroup.specs.declared.files.Controller.{Controller}
 use Rattle.cg_cgroup.specs.declared.files.Controller.TheVariants.{Cpu, Memory, Pids}
-use Rattle.cg_tree.specs.States.{State, place_at, paths_of, pids_of}
-use Rattle.cg_tree.specs.WellFormed.{IsWellFormed, has_row, enabled_at}
-use Rattle.cg_ops.specs.declared.operation.Op.{Op}
-use Rattle.cg_ops.specs.declared.operation.Op.TheVariants.{Move, Control, Mkdir, Rmdir, Set, Fork, Exit, Chmod}
-use Rattle.cg_guards.specs.Limits.{limits}
-use Rattle.cg_guards.specs.Guarding.{IsSubtree}
-use Rattle.cg_tries.specs.Tries.{other_value, set_tries, change_of, control_tries, across, move_tries, probe, numbers_from, free_probe, is_inside, probe_tries_at, probe_tries, plain_tries}
-use Rattle.cg_tries.specs.Escapes.{breaks, IsUnbroken}
+use Rattle.cg_model.specs.States.{State, place_at, paths_of, pids_of}
+use Rattle.cg_model.specs.WellFormed.{IsWellFormed, has_row, enabled_at}
+use Rattle.cg_model.specs.declared.operation.Op.{Op}
+use Rattle.cg_model.specs.declared.operation.Op.TheVariants.{Move, Control, Mkdir, Rmdir, Set, Fork, Exit, Chmod}
+use Rattle.cg_model.specs.Limits.{limits}
+use Rattle.cg_model.specs.Guards.{IsSubtree}
+use Rattle.cg_model.specs.Tries.{other_value, set_tries, change_of, control_tries, across, move_tries, probe, numbers_from, free_probe, is_inside, probe_tries_at, probe_tries, plain_tries}
+use Rattle.cg_model.specs.Escapes.{breaks}
+use Rattle.cg_tries.specs.Escapes.{IsUnbroken}
 use Rattle.cg_tries.specs.Finding.{allowed, passes_at}
 use Rattle.cg_tries.proofs.Seen.{is_empty, breaks-run}
 use Rattle.cg_tries.proofs.Single.{set_try, rmdir_try, move_try}
 use Rattle.cg_tries.proofs.Controls.{changes_enabled, control_try}
 use Rattle.cg_check.specs.Opened.{is_free}
-use Rattle.cg_check.proofs.Lists.{all-append, all-flat_map, all-present, all-map_filter, find-passes}
+use Rattle.cg_steps.proofs.Lists.{all-append, all-flat_map, all-present, all-map_filter, find-passes}
 use Rattle.cg_tries.proofs.Probes.{probe_try}
 
 -- a change of controllers that were changed already is no change

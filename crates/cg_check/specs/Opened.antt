@@ -3,10 +3,10 @@ use Rattle.std.specs.Prelude.{Bool, false, not, ◌&&◌, cond, List, [], ◌∷
 use Rattle.cg_cgroup.specs.Paths.{Names, parent}
 use Rattle.cg_cgroup.specs.Identity.{Identity}
 use Rattle.cg_cgroup.specs.Users.{owns, writes, opened}
-use Rattle.cg_tree.specs.States.{State}
-use Rattle.cg_ops.specs.declared.operation.Op.{Op}
-use Rattle.cg_ops.specs.declared.operation.Op.TheVariants.{Chmod, Mkdir}
-use Rattle.cg_guards.specs.declared.table.GuardedEntry.{GuardedEntry}
+use Rattle.cg_model.specs.States.{State}
+use Rattle.cg_model.specs.declared.operation.Op.{Op}
+use Rattle.cg_model.specs.declared.operation.Op.TheVariants.{Chmod, Mkdir}
+use Rattle.cg_model.specs.declared.guard.GuardedEntry.{GuardedEntry}
 use Rattle.cg_tries.specs.Finding.{allowed, passes_at}
 
 -- a try begins with an operation that nothing bars, and a process may pass to a cgroup that it makes

@@ -2,11 +2,11 @@
 use Rattle.std.specs.Prelude.{◌≡◌, ℕ, ◌<◌, List, length, get_or, Option, Some, None}
 use Rattle.cg_cgroup.specs.Paths.{Names}
 use Rattle.cg_cgroup.specs.Identity.{Identity}
-use Rattle.cg_tree.specs.States.{State}
-use Rattle.cg_ops.specs.Clauses.{first}
-use Rattle.cg_check.specs.Answers.{answer}
-use Rattle.cg_check.specs.AllAnswers.{pairs_from}
-use Rattle.cg_check.specs.declared.answer.AllAnswer.TheVariants.{Pair}
+use Rattle.cg_model.specs.States.{State}
+use Rattle.cg_model.specs.Clauses.{first}
+use Rattle.cg_model.specs.Answers.{answer}
+use Rattle.cg_model.specs.AllAnswers.{pairs_from}
+use Rattle.cg_model.specs.declared.answer.AllAnswer.TheVariants.{Pair}
 
 -- The pair of these places is the first that isn't contained; with no places, each is.
 abbrev pub IsFirstUnguarded : State → List Identity → List Names → Option (ℕ × ℕ) → Type 0

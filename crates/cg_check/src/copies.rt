@@ -2,8 +2,8 @@
 ghost use Rattle.std.specs.Prelude.{◌≡◌, IfOk};
 
 use cg_cgroup::memory::NoMemory;
-use cg_ops::changes::{Change, Changes};
-use cg_ops::operation::Op;
+use cg_model::changes::{Change, Changes};
+use cg_model::operation::Op;
 use std::alloc::Global;
 
 /// An equal operation.

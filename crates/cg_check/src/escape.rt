@@ -1,10 +1,11 @@
 //! The first of the tries that breaks a subtree, found in the opened tree: no try is carried out for itself.
 ghost use Rattle.std.specs.Prelude.{◌≡◌, ◌++◌, false, IfOk, OnOk};
-ghost use Rattle.cg_tree.specs.WellFormed.{IsWellFormed};
-ghost use Rattle.cg_guards.specs.Guarding.{IsSubtree};
-ghost use Rattle.cg_ops.specs.Steps.{after_all};
-ghost use Rattle.cg_runs.specs.Held.{by_user};
-ghost use Rattle.cg_tries.specs.Escapes.{first_escape, IsUnbroken};
+ghost use Rattle.cg_model.specs.WellFormed.{IsWellFormed};
+ghost use Rattle.cg_model.specs.Guards.{IsSubtree};
+ghost use Rattle.cg_model.specs.Steps.{after_all};
+ghost use Rattle.cg_model.specs.Held.{by_user};
+ghost use Rattle.cg_model.specs.Escapes.{first_escape};
+ghost use Rattle.cg_tries.specs.Escapes.{IsUnbroken};
 ghost use Rattle.cg_check.specs.Opened.{is_free};
 ghost use Rattle.cg_cgroup.specs.Paths.{is_root, parent};
 ghost use Rattle.cg_tries.specs.Finding.{passes_at};
@@ -15,10 +16,10 @@ use cg_cgroup::memory::NoMemory;
 use cg_cgroup::path::Path;
 use cg_cgroup::user::User;
 use cg_guards::failed::is_over;
-use cg_ops::operation::Op;
+use cg_model::operation::Op;
+use cg_model::operations::Operations;
 use cg_ops::{apply, refusal};
 use cg_tree::hierarchy::Hierarchy;
-use cg_tries::operations::Operations;
 use cg_tries::plain::first_plain_try;
 use std::alloc::Global;
 

@@ -7,19 +7,21 @@ ghost use Rattle.cg_cgroup.specs.Users.{reaches};
 ghost use Rattle.cg_cgroup.specs.declared.user.Entry.{Entry};
 ghost use Rattle.cg_cgroup.specs.declared.files.LimitFile.{LimitFile};
 ghost use Rattle.cg_cgroup.specs.declared.files.EntryName.TheVariants.{File};
-ghost use Rattle.cg_tree.specs.States.{State, entry_at};
-ghost use Rattle.cg_tree.specs.WellFormed.{IsWellFormed};
-ghost use Rattle.cg_ops.specs.declared.operation.Op.{Op};
-ghost use Rattle.cg_guards.specs.Guarding.{IsSubtree};
-ghost use Rattle.cg_guards.specs.Limits.{fits_descendants, fits_depth};
-ghost use Rattle.cg_runs.specs.Held.{IsHeld, by_user};
-ghost use Rattle.cg_tries.specs.Tries.{tries};
-ghost use Rattle.cg_guards.specs.declared.guard.Failed.{Failed};
-ghost use Rattle.cg_check.specs.Answers.{answer, MayBeUnsettled};
-ghost use Rattle.cg_check.specs.AllAnswers.{pairs_from};
-ghost use Rattle.cg_check.specs.Listed.{listed, listed_at, unlisted};
-ghost use Rattle.cg_check.specs.Several.{AreContained};
-ghost use Rattle.cg_check.specs.declared.answer.Answer.TheVariants.{Escapes, Unsettled};
+ghost use Rattle.cg_model.specs.States.{State, entry_at};
+ghost use Rattle.cg_model.specs.WellFormed.{IsWellFormed};
+ghost use Rattle.cg_model.specs.declared.operation.Op.{Op};
+ghost use Rattle.cg_model.specs.Guards.{IsSubtree};
+ghost use Rattle.cg_model.specs.Limits.{fits_descendants, fits_depth};
+ghost use Rattle.cg_model.specs.Held.{IsHeld, by_user};
+ghost use Rattle.cg_model.specs.Tries.{tries};
+ghost use Rattle.cg_model.specs.declared.guard.Failed.{Failed};
+ghost use Rattle.cg_model.specs.Answers.{answer};
+ghost use Rattle.cg_check.specs.Answers.{MayBeUnsettled};
+ghost use Rattle.cg_model.specs.AllAnswers.{pairs_from};
+ghost use Rattle.cg_model.specs.Listed.{listed, unlisted};
+ghost use Rattle.cg_check.specs.Listed.{listed_at};
+ghost use Rattle.cg_model.specs.Several.{AreContained};
+ghost use Rattle.cg_model.specs.declared.answer.Answer.TheVariants.{Escapes, Unsettled};
 
 /// Operations that are the answer are among the tries, and the subtree isn't held over them.
 pub fn escapes_break()

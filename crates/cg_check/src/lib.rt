@@ -2,31 +2,30 @@
 #![tactic(auto)]
 
 ghost use Rattle.std.specs.Prelude.{◌≡◌, ◌≢◌, true, [], drop, is_some, IfOk, IfErr, OnErr};
-ghost use Rattle.cg_ops.specs.Clauses.{first};
-ghost use Rattle.cg_tree.specs.WellFormed.{IsWellFormed};
-ghost use Rattle.cg_guards.specs.Guarding.{IsSubtree};
-ghost use Rattle.cg_guards.specs.Guards.{failures};
-ghost use Rattle.cg_check.specs.Answers.{answer};
-ghost use Rattle.cg_runs.specs.Held.{IsContained};
-ghost use Rattle.cg_check.specs.Checks.{subtree_faults, checked, all_checked, takes_memory, all_take_memory, Gives};
+ghost use Rattle.cg_model.specs.Clauses.{first};
+ghost use Rattle.cg_model.specs.WellFormed.{IsWellFormed};
+ghost use Rattle.cg_model.specs.Guards.{IsSubtree, failures};
+ghost use Rattle.cg_model.specs.Answers.{answer};
+ghost use Rattle.cg_model.specs.Held.{IsContained};
+ghost use Rattle.cg_model.specs.Checks.{subtree_faults, checked, all_checked};
+ghost use Rattle.cg_check.specs.Checks.{takes_memory, all_take_memory, Gives};
 ghost use Rattle.std.specs.List.{flat_map, prefix_len};
 ghost use Rattle.cg_check.specs.Unguarded.{IsFirstUnguarded};
-ghost use Rattle.cg_check.specs.Several.{AreContained};
+ghost use Rattle.cg_model.specs.Several.{AreContained};
 ghost use Rattle.cg_check.specs.Listed.{is_guarded_of_all};
 
-pub mod answer;
 mod copies;
 mod escape;
 pub mod laws;
 mod opening;
 
-use answer::{AllAnswer, Answer};
 use cg_cgroup::path::Path;
 use cg_cgroup::user::User;
 use cg_guards::failed::failed_guard;
-use cg_guards::guard::Failed;
 use cg_guards::users::guarded_users;
-use cg_runs::fault::CheckFault;
+use cg_model::answer::{AllAnswer, Answer};
+use cg_model::fault::CheckFault;
+use cg_model::guard::Failed;
 use cg_tree::hierarchy::Hierarchy;
 use escape::first_escape;
 use std::alloc::Global;

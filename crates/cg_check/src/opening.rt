@@ -1,16 +1,17 @@
 //! The chmods by which a user comes to write what he owns.
 ghost use Rattle.std.specs.Prelude.{◌≡◌, ◌≤◌, ◌++◌, false, IfOk, OnOk, length};
 ghost use Rattle.cg_cgroup.specs.Paths.{is_root};
-ghost use Rattle.cg_tries.specs.Tries.{opening};
+ghost use Rattle.cg_model.specs.Tries.{opening};
 ghost use Rattle.cg_check.specs.Opened.{opening_chmod};
 
 use cg_cgroup::memory::NoMemory;
 use cg_cgroup::path::Path;
 use cg_cgroup::user::{Mode, User};
-use cg_guards::table::{GuardedEntry, guarded_count, guarded_entry};
-use cg_ops::operation::Op;
+use cg_guards::table::{guarded_count, guarded_entry};
+use cg_model::guard::GuardedEntry;
+use cg_model::operation::Op;
+use cg_model::operations::Operations;
 use cg_tree::hierarchy::Hierarchy;
-use cg_tries::operations::Operations;
 use std::alloc::Global;
 
 /// The chmods of all guarded entries that the user owns and doesn't write, in the order of the guards.

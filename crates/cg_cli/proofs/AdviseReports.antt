@@ -4,22 +4,21 @@ use Rattle.std.specs.List.{flat_map}
 use Rattle.std.proofs.lemmas.Bool.{not-true}
 use Rattle.cg_cgroup.specs.Paths.{Names, is_root}
 use Rattle.cg_cgroup.specs.Identity.{Identity}
-use Rattle.cg_tree.specs.States.{State}
-use Rattle.cg_tree.specs.WellFormed.{IsWellFormed, has_row}
-use Rattle.cg_ops.specs.Clauses.{first}
-use Rattle.cg_ops.proofs.ClauseLaws.{none_of_first, no_parts, no_unless}
-use Rattle.cg_guards.specs.Guards.{failures}
-use Rattle.cg_guards.specs.Guarding.{IsSubtree}
-use Rattle.cg_guards.specs.declared.guard.Failed.{Failed}
+use Rattle.cg_model.specs.States.{State}
+use Rattle.cg_model.specs.WellFormed.{IsWellFormed, has_row}
+use Rattle.cg_model.specs.Clauses.{first}
+use Rattle.cg_steps.proofs.ClauseLaws.{none_of_first, no_parts, no_unless}
+use Rattle.cg_model.specs.Guards.{failures, IsSubtree}
+use Rattle.cg_model.specs.declared.guard.Failed.{Failed}
 use Rattle.cg_text.specs.TreeTexts.{tree_of}
 use Rattle.cg_text.specs.declared.tree.fault.TreeFault.{TreeFault}
-use Rattle.cg_runs.specs.declared.fault.CheckFault.{CheckFault}
-use Rattle.cg_runs.specs.declared.fault.CheckFault.TheVariants.{RootSubtree, NoSuchSubtree, NoMemory as CheckNoMemory}
-use Rattle.cg_runs.specs.Held.{IsContained}
-use Rattle.cg_runs.proofs.RunLaws.{contained-guarded}
-use Rattle.cg_check.specs.Checks.{subtree_faults}
+use Rattle.cg_model.specs.declared.fault.CheckFault.{CheckFault}
+use Rattle.cg_model.specs.declared.fault.CheckFault.TheVariants.{RootSubtree, NoSuchSubtree, NoMemory as CheckNoMemory}
+use Rattle.cg_model.specs.Held.{IsContained}
+use Rattle.cg_laws.proofs.RunLaws.{contained-guarded}
+use Rattle.cg_model.specs.Checks.{subtree_faults}
 use Rattle.cg_advice.specs.AdviceLines.{advice_lines, reached_lines, over_lines}
-use Rattle.cg_advice.specs.Mends.{reached}
+use Rattle.cg_model.specs.Mends.{reached}
 use Rattle.cg_cli.specs.Faults.{lifted, lifted_check}
 use Rattle.cg_cli.specs.Arguments.{user_read, path_read}
 use Rattle.cg_cli.specs.Reports.{Report, Reports, fault_report, report_on, takes_memory}

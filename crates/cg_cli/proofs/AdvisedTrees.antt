@@ -6,13 +6,13 @@ use Rattle.cg_cgroup.specs.Users.{IsUser}
 use Rattle.cg_cgroup.specs.Cgroups.{entry_in}
 use Rattle.cg_cgroup.specs.declared.user.Entry.{Entry}
 use Rattle.cg_cgroup.specs.declared.files.EntryName.TheVariants.{Dir}
-use Rattle.cg_tree.specs.States.{State, row_at, entry_at}
-use Rattle.cg_tree.specs.WellFormed.{IsWellFormed, has_row}
-use Rattle.cg_guards.specs.Guarding.{IsSubtree}
-use Rattle.cg_runs.specs.Held.{IsContained}
-use Rattle.cg_runs.proofs.RunLaws.{contained-guarded}
-use Rattle.cg_advice.specs.Mends.{advised}
-use Rattle.cg_advice.specs.Advised.{AreCountable, is_guarded_entry, spared}
+use Rattle.cg_model.specs.States.{State, row_at, entry_at}
+use Rattle.cg_model.specs.WellFormed.{IsWellFormed, has_row}
+use Rattle.cg_model.specs.Guards.{IsSubtree}
+use Rattle.cg_model.specs.Held.{IsContained}
+use Rattle.cg_laws.proofs.RunLaws.{contained-guarded}
+use Rattle.cg_model.specs.Mends.{advised}
+use Rattle.cg_model.specs.Advised.{AreCountable, is_guarded_entry, spared}
 use Rattle.cg_advice.proofs.Advising.{is_advised, mends-all, formed-advised}
 
 -- a cgroup is there where its directory is

@@ -7,18 +7,19 @@ use Rattle.std.proofs.lemmas.List.{take-append-le}
 use Rattle.std.proofs.lemmas.List.Concat.{flat_map-append}
 use Rattle.cg_cgroup.specs.Paths.{Names, same_path}
 use Rattle.cg_cgroup.specs.Identity.{Identity}
-use Rattle.cg_tree.specs.States.{State}
-use Rattle.cg_ops.specs.Clauses.{first}
+use Rattle.cg_model.specs.States.{State}
+use Rattle.cg_model.specs.Clauses.{first}
 use Rattle.cg_text.specs.TreeTexts.{tree_of}
 use Rattle.cg_text.specs.declared.tree.fault.TreeFault.{TreeFault}
 use Rattle.cg_text.specs.declared.tree.fault.TreeFault.TheVariants.{NoMemory as TreeNoMemory}
-use Rattle.cg_runs.specs.declared.fault.CheckFault.{CheckFault}
-use Rattle.cg_runs.specs.declared.fault.CheckFault.TheVariants.{RootSubtree, NoSuchSubtree, NoMemory as CheckNoMemory}
-use Rattle.cg_check.specs.Answers.{answer}
-use Rattle.cg_check.specs.Checks.{subtree_faults, unless_fault, checked, takes_memory as check_takes, Gives}
-use Rattle.cg_check.specs.Listed.{Listed, listed_unless_contained, listed_of, listed}
-use Rattle.cg_check.specs.declared.answer.Answer.{Answer}
-use Rattle.cg_check.specs.declared.answer.Answer.TheVariants.{Contained, Escapes, Unsettled}
+use Rattle.cg_model.specs.declared.fault.CheckFault.{CheckFault}
+use Rattle.cg_model.specs.declared.fault.CheckFault.TheVariants.{RootSubtree, NoSuchSubtree, NoMemory as CheckNoMemory}
+use Rattle.cg_model.specs.Answers.{answer}
+use Rattle.cg_model.specs.Checks.{subtree_faults, unless_fault, checked}
+use Rattle.cg_check.specs.Checks.{takes_memory as check_takes, Gives}
+use Rattle.cg_model.specs.Listed.{Listed, listed_unless_contained, listed_of, listed}
+use Rattle.cg_model.specs.declared.answer.Answer.{Answer}
+use Rattle.cg_model.specs.declared.answer.Answer.TheVariants.{Contained, Escapes, Unsettled}
 use Rattle.cg_check.proofs.Checking.{checked-answer}
 use Rattle.cg_report.specs.PairLines.{pair_text, pairs_text}
 use Rattle.cg_cli.specs.Faults.{lifted, lifted_check}

@@ -10,25 +10,26 @@ use Rattle.std.proofs.lemmas.Option.{slice_get-get_or}
 use Rattle.cg_cgroup.specs.Paths.{Names, same_path}
 use Rattle.cg_cgroup.specs.Identity.{Identity}
 use Rattle.cg_cgroup.proofs.PathOrder.{same_path-is}
-use Rattle.cg_tree.specs.States.{State}
-use Rattle.cg_ops.specs.Clauses.{first, present}
-use Rattle.cg_ops.specs.Steps.{after, after_all, Deed}
-use Rattle.cg_ops.proofs.ClauseLaws.{first_some}
-use Rattle.cg_runs.specs.Held.{IsHeld, AreBy}
-use Rattle.cg_runs.specs.Strangers.{OnlyTheseOpen, IsOfStranger}
-use Rattle.cg_runs.specs.Verdicts.{verdict}
-use Rattle.cg_runs.specs.declared.fault.CheckFault.{CheckFault}
-use Rattle.cg_runs.specs.declared.verdict.Clause.{Clause}
-use Rattle.cg_runs.specs.declared.verdict.Verdict.TheVariants.{Broken}
-use Rattle.cg_check.specs.Answers.{answer}
-use Rattle.cg_check.specs.AllAnswers.{pairs_from, all_answers}
-use Rattle.cg_check.specs.Checks.{subtree_faults, unless_fault, all_checked}
-use Rattle.cg_check.specs.Listed.{Listed, listed_unless_contained, listed_of, listed, listed_at}
-use Rattle.cg_check.specs.Several.{AreContained}
-use Rattle.cg_check.specs.declared.answer.AllAnswer.{AllAnswer}
-use Rattle.cg_check.specs.declared.answer.AllAnswer.TheVariants.{Contained, Pair}
+use Rattle.cg_model.specs.States.{State}
+use Rattle.cg_model.specs.Clauses.{first, present}
+use Rattle.cg_model.specs.Steps.{after, after_all, Deed}
+use Rattle.cg_steps.proofs.ClauseLaws.{first_some}
+use Rattle.cg_model.specs.Held.{IsHeld, AreBy}
+use Rattle.cg_model.specs.Strangers.{OnlyTheseOpen, IsOfStranger}
+use Rattle.cg_model.specs.Verdicts.{verdict}
+use Rattle.cg_model.specs.declared.fault.CheckFault.{CheckFault}
+use Rattle.cg_model.specs.declared.verdict.Clause.{Clause}
+use Rattle.cg_model.specs.declared.verdict.Verdict.TheVariants.{Broken}
+use Rattle.cg_model.specs.Answers.{answer}
+use Rattle.cg_model.specs.AllAnswers.{pairs_from, all_answers}
+use Rattle.cg_model.specs.Checks.{subtree_faults, unless_fault, all_checked}
+use Rattle.cg_model.specs.Listed.{Listed, listed_unless_contained, listed_of, listed}
+use Rattle.cg_check.specs.Listed.{listed_at}
+use Rattle.cg_model.specs.Several.{AreContained}
+use Rattle.cg_model.specs.declared.answer.AllAnswer.{AllAnswer}
+use Rattle.cg_model.specs.declared.answer.AllAnswer.TheVariants.{Contained, Pair}
 use Rattle.cg_check.proofs.ListedPairs.{pairs-listed}
-use Rattle.cg_check.proofs.Lists.{all-each}
+use Rattle.cg_steps.proofs.Lists.{all-each}
 use Rattle.cg_report.specs.AnswerLines.{answer_text}
 use Rattle.cg_report.specs.AuditLines.{subtree_at, pair_line, IsPairShown}
 use Rattle.cg_report.proofs.ShownPairs.{audits_are_shown}

@@ -1,9 +1,9 @@
 mod ReplayLines
-mod ReplayReports
+pub mod ReplayReports
 mod ReplayRuns
 mod ReplayEnds
 mod ReplayReads
-mod CheckReports
+pub mod CheckReports
 mod AdviseReports
 mod AdvisedTrees
 mod EachRead
@@ -14,5 +14,4 @@ mod Once
 mod AllPairs
 mod Closings
 mod ReplayCalls
-mod EscapeReplays
 mod UpgradeReports

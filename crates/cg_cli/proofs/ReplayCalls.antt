@@ -6,7 +6,7 @@ use Rattle.cg_cgroup.specs.Identity.{Identity}
 use Rattle.cg_cgroup.specs.Users.{user_of}
 use Rattle.cg_cgroup.specs.Paths.{Names, is_root, path_at}
 use Rattle.cg_cgroup.specs.declared.cgroup.Cgroup.{Cgroup}
-use Rattle.cg_tree.specs.States.{State, row_at}
+use Rattle.cg_model.specs.States.{State, row_at}
 use Rattle.cg_text.specs.TreeTexts.{tree_of}
 use Rattle.cg_text.specs.declared.tree.fault.TreeFault.{TreeFault}
 use Rattle.cg_text.specs.declared.tree.fault.TreeFault.TheVariants.{NoMemory as TreeNoMemory}
@@ -45,11 +45,11 @@ lifted_before : (fault : TreeFault) → is_before (lifted fault) ≡ true
 lifted_before TreeNoMemory = refl
 lifted_before fault = refl
 
-row_before : (st : State) (subtree : Names) (found : Option Cgroup) → FaultIsBefore (elim found [ None ↦ Err (Rattle.cg_cli.specs.declared.fault.CliFault.TheVariants.Subtree Rattle.cg_runs.specs.declared.fault.CheckFault.TheVariants.NoSuchSubtree) | Some row ↦ Ok (Watched (record { subtree = subtree; original = row; state = st; steps = 0; verdict = Rattle.cg_runs.specs.Verdicts.verdict st [] subtree })) ])
+row_before : (st : State) (subtree : Names) (found : Option Cgroup) → FaultIsBefore (elim found [ None ↦ Err (Rattle.cg_cli.specs.declared.fault.CliFault.TheVariants.Subtree Rattle.cg_model.specs.declared.fault.CheckFault.TheVariants.NoSuchSubtree) | Some row ↦ Ok (Watched (record { subtree = subtree; original = row; state = st; steps = 0; verdict = Rattle.cg_model.specs.Verdicts.verdict st [] subtree })) ])
 row_before st subtree None = refl
 row_before st subtree (Some row) = tt
 
-root_before : (st : State) (subtree : Names) (root : Bool) (other : Result Course CliFault) → FaultIsBefore other → FaultIsBefore (cond root (Err (Rattle.cg_cli.specs.declared.fault.CliFault.TheVariants.Subtree Rattle.cg_runs.specs.declared.fault.CheckFault.TheVariants.RootSubtree)) other)
+root_before : (st : State) (subtree : Names) (root : Bool) (other : Result Course CliFault) → FaultIsBefore other → FaultIsBefore (cond root (Err (Rattle.cg_cli.specs.declared.fault.CliFault.TheVariants.Subtree Rattle.cg_model.specs.declared.fault.CheckFault.TheVariants.RootSubtree)) other)
 root_before st subtree true other before = refl
 root_before st subtree false other before = before
 

@@ -2,13 +2,13 @@
 use Rattle.std.proofs.Common.{◌≡◌, ◌≢◌, ℕ, ◌+◌, ◌<◌, ◌≤◌, true, false, nat_lt, List, length, Some, None, Ok, Err, refl, ap, sym, ◌∙◌, arith}
 use Rattle.std.proofs.lemmas.Bool.Decides.{nat_tests}
 use Rattle.cg_cgroup.specs.Identity.{Identity}
-use Rattle.cg_tree.specs.States.{State}
-use Rattle.cg_ops.specs.Clauses.{first}
-use Rattle.cg_ops.specs.Bars.{bars}
-use Rattle.cg_ops.specs.Outcomes.{RefusedBy}
-use Rattle.cg_ops.specs.declared.operation.Op.{Op}
-use Rattle.cg_ops.specs.declared.outcome.Outcome.{Outcome}
-use Rattle.cg_ops.specs.declared.outcome.Outcome.TheVariants.{Done, Refused}
+use Rattle.cg_model.specs.States.{State}
+use Rattle.cg_model.specs.Clauses.{first}
+use Rattle.cg_model.specs.Bars.{bars}
+use Rattle.cg_steps.specs.Outcomes.{RefusedBy}
+use Rattle.cg_model.specs.declared.operation.Op.{Op}
+use Rattle.cg_model.specs.declared.outcome.Outcome.{Outcome}
+use Rattle.cg_model.specs.declared.outcome.Outcome.TheVariants.{Done, Refused}
 use Rattle.cg_lines.specs.OperationLines.{spelling, IsHeld}
 use Rattle.cg_lines.specs.LineReading.{operation_at}
 use Rattle.cg_lines.specs.declared.lines.fault.LineFault.TheVariants.{TooLong, BadWord}

@@ -1,7 +1,7 @@
 -- What is written anew of a text is of the state that the text has.
 use Rattle.std.proofs.Common.{◌≡◌, ℕ, List, Option, Result, Ok, Err, ap, sym, subst}
 use Rattle.std.specs.Io.KnownBytes.{Appends}
-use Rattle.cg_tree.specs.States.{State}
+use Rattle.cg_model.specs.States.{State}
 use Rattle.cg_text.specs.TreeTexts.{tree_of}
 use Rattle.cg_text.specs.declared.tree.fault.TreeFault.{TreeFault}
 use Rattle.cg_print.specs.Carried.{IsCarried}

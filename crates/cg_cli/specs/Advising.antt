@@ -2,11 +2,11 @@
 use Rattle.std.specs.Prelude.{ℕ, List, Option, Some, None, Result, Ok, codes}
 use Rattle.cg_cgroup.specs.Paths.{Names}
 use Rattle.cg_cgroup.specs.Identity.{Identity}
-use Rattle.cg_tree.specs.States.{State}
-use Rattle.cg_ops.specs.Clauses.{first}
-use Rattle.cg_runs.specs.declared.fault.CheckFault.{CheckFault}
+use Rattle.cg_model.specs.States.{State}
+use Rattle.cg_model.specs.Clauses.{first}
+use Rattle.cg_model.specs.declared.fault.CheckFault.{CheckFault}
 use Rattle.cg_advice.specs.AdviceLines.{advice_lines}
-use Rattle.cg_check.specs.Checks.{subtree_faults, unless_fault}
+use Rattle.cg_model.specs.Checks.{subtree_faults, unless_fault}
 use Rattle.cg_cli.specs.Arguments.{user_read, path_read}
 use Rattle.cg_cli.specs.Reports.{Report, report_on}
 use Rattle.cg_cli.specs.Containment.{in_call}

@@ -4,13 +4,13 @@ use Rattle.std.specs.List.{list_any, flat_map, All}
 use Rattle.std.specs.Io.KnownBytes.{Appends, Keeps}
 use Rattle.cg_cgroup.specs.Paths.{Names, same_path}
 use Rattle.cg_cgroup.specs.Identity.{Identity}
-use Rattle.cg_tree.specs.States.{State}
-use Rattle.cg_ops.specs.Clauses.{first}
-use Rattle.cg_check.specs.Checks.{subtree_faults, unless_fault}
-use Rattle.cg_check.specs.Listed.{Listed, listed, unlisted}
-use Rattle.cg_check.specs.Several.{AreContained}
-use Rattle.cg_check.specs.declared.answer.Answer.{Answer}
-use Rattle.cg_check.specs.declared.answer.Answer.TheVariants.{Contained, Escapes, Unsettled}
+use Rattle.cg_model.specs.States.{State}
+use Rattle.cg_model.specs.Clauses.{first}
+use Rattle.cg_model.specs.Checks.{subtree_faults, unless_fault}
+use Rattle.cg_model.specs.Listed.{Listed, listed, unlisted}
+use Rattle.cg_model.specs.Several.{AreContained}
+use Rattle.cg_model.specs.declared.answer.Answer.{Answer}
+use Rattle.cg_model.specs.declared.answer.Answer.TheVariants.{Contained, Escapes, Unsettled}
 use Rattle.cg_report.specs.PairLines.{pairs_text}
 use Rattle.cg_cli.specs.Audits.{users_read, paths_read}
 use Rattle.cg_cli.specs.Containment.{in_call}

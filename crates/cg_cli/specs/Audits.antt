@@ -2,10 +2,10 @@
 use Rattle.std.specs.Prelude.{ℕ, List, [], ◌∷◌, Result, Ok, Err}
 use Rattle.cg_cgroup.specs.Paths.{Names}
 use Rattle.cg_cgroup.specs.Identity.{Identity}
-use Rattle.cg_tree.specs.States.{State}
-use Rattle.cg_check.specs.Checks.{all_checked}
-use Rattle.cg_check.specs.declared.answer.AllAnswer.{AllAnswer}
-use Rattle.cg_check.specs.declared.answer.AllAnswer.TheVariants.{Contained, Pair}
+use Rattle.cg_model.specs.States.{State}
+use Rattle.cg_model.specs.Checks.{all_checked}
+use Rattle.cg_model.specs.declared.answer.AllAnswer.{AllAnswer}
+use Rattle.cg_model.specs.declared.answer.AllAnswer.TheVariants.{Contained, Pair}
 use Rattle.cg_report.specs.AuditLines.{audit_text}
 use Rattle.cg_cli.specs.Arguments.{user_read, path_read}
 use Rattle.cg_cli.specs.Containment.{in_call, answer_status}

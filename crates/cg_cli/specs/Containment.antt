@@ -2,11 +2,11 @@
 use Rattle.std.specs.Prelude.{ℕ, List, Result, Ok, Err}
 use Rattle.cg_cgroup.specs.Paths.{Names}
 use Rattle.cg_cgroup.specs.Identity.{Identity}
-use Rattle.cg_tree.specs.States.{State}
-use Rattle.cg_runs.specs.declared.fault.CheckFault.{CheckFault}
-use Rattle.cg_check.specs.Checks.{checked}
-use Rattle.cg_check.specs.declared.answer.Answer.{Answer}
-use Rattle.cg_check.specs.declared.answer.Answer.TheVariants.{Contained, Escapes, Unsettled}
+use Rattle.cg_model.specs.States.{State}
+use Rattle.cg_model.specs.declared.fault.CheckFault.{CheckFault}
+use Rattle.cg_model.specs.Checks.{checked}
+use Rattle.cg_model.specs.declared.answer.Answer.{Answer}
+use Rattle.cg_model.specs.declared.answer.Answer.TheVariants.{Contained, Escapes, Unsettled}
 use Rattle.cg_report.specs.AnswerLines.{answer_text}
 use Rattle.cg_cli.specs.Faults.{lifted_check}
 use Rattle.cg_cli.specs.Arguments.{user_read, path_read}

@@ -2,14 +2,14 @@
 use Rattle.std.specs.Prelude.{◌≡◌, ℕ, ◌<◌, [], cond, Option, Some, None, Result, Ok, Err}
 use Rattle.cg_cgroup.specs.Paths.{Names, is_root}
 use Rattle.cg_cgroup.specs.Identity.{Identity}
-use Rattle.cg_tree.specs.States.{State, row_at}
-use Rattle.cg_ops.specs.Steps.{after}
-use Rattle.cg_ops.specs.declared.operation.Op.{Op}
-use Rattle.cg_runs.specs.Verdicts.{verdict}
-use Rattle.cg_runs.specs.Replays.{Progress, stepped}
-use Rattle.cg_runs.specs.declared.verdict.Verdict.{Verdict}
-use Rattle.cg_runs.specs.declared.verdict.Verdict.TheVariants.{Kept, Broken}
-use Rattle.cg_runs.specs.declared.fault.CheckFault.TheVariants.{RootSubtree, NoSuchSubtree}
+use Rattle.cg_model.specs.States.{State, row_at}
+use Rattle.cg_model.specs.Steps.{after}
+use Rattle.cg_model.specs.declared.operation.Op.{Op}
+use Rattle.cg_model.specs.Verdicts.{verdict}
+use Rattle.cg_model.specs.Replays.{Progress, stepped}
+use Rattle.cg_model.specs.declared.verdict.Verdict.{Verdict}
+use Rattle.cg_model.specs.declared.verdict.Verdict.TheVariants.{Kept, Broken}
+use Rattle.cg_model.specs.declared.fault.CheckFault.TheVariants.{RootSubtree, NoSuchSubtree}
 use Rattle.cg_report.specs.VerdictLines.{verdict_text}
 use Rattle.cg_cli.specs.Reports.{Report}
 use Rattle.cg_cli.specs.declared.fault.CliFault.{CliFault}

@@ -8,8 +8,8 @@ use Rattle.cg_text.specs.declared.tree.fault.TreeFault.{TreeFault}
 use Rattle.cg_text.specs.declared.tree.fault.TreeFault.TheVariants as tree
 use Rattle.cg_lines.specs.declared.lines.fault.LineFault.{LineFault}
 use Rattle.cg_lines.specs.declared.lines.fault.LineFault.TheVariants as lines
-use Rattle.cg_runs.specs.declared.fault.CheckFault.{CheckFault}
-use Rattle.cg_runs.specs.declared.fault.CheckFault.TheVariants as check
+use Rattle.cg_model.specs.declared.fault.CheckFault.{CheckFault}
+use Rattle.cg_model.specs.declared.fault.CheckFault.TheVariants as check
 use Rattle.cg_cli.specs.declared.fault.CliFault.{CliFault}
 use Rattle.cg_cli.specs.declared.fault.CliFault.TheVariants.{Uid, Gids, Pid, BadPath, Tree, Subtree, Line, TooManySteps, Read, Write, NoMemory}
 

@@ -6,8 +6,8 @@ use Rattle.cg_text.specs.declared.tree.fault.TreeFault.{TreeFault}
 use Rattle.cg_text.specs.declared.tree.fault.TreeFault.TheVariants.{NoMemory as TreeNoMemory}
 use Rattle.cg_lines.specs.declared.lines.fault.LineFault.{LineFault}
 use Rattle.cg_lines.specs.declared.lines.fault.LineFault.TheVariants.{NoMemory as LineNoMemory}
-use Rattle.cg_runs.specs.declared.fault.CheckFault.{CheckFault}
-use Rattle.cg_runs.specs.declared.fault.CheckFault.TheVariants.{NoMemory as CheckNoMemory}
+use Rattle.cg_model.specs.declared.fault.CheckFault.{CheckFault}
+use Rattle.cg_model.specs.declared.fault.CheckFault.TheVariants.{NoMemory as CheckNoMemory}
 use Rattle.cg_cli.specs.declared.fault.CliFault.{CliFault}
 use Rattle.cg_cli.specs.declared.fault.CliFault.TheVariants.{BadPath, Tree, Subtree, Line, NoMemory}
 

@@ -13,4 +13,3 @@ pub mod Audits
 pub mod Once
 pub mod AllPairs
 pub mod Advising
-pub mod EscapeReplays

@@ -2,13 +2,13 @@
 use Rattle.std.specs.Prelude.{ℕ, List, codes, Option, Some, None, Result, Ok, Err}
 use Rattle.cg_cgroup.specs.Paths.{Names}
 use Rattle.cg_cgroup.specs.Identity.{Identity}
-use Rattle.cg_tree.specs.States.{State}
-use Rattle.cg_ops.specs.Clauses.{first}
-use Rattle.cg_ops.specs.Bars.{bars}
-use Rattle.cg_ops.specs.declared.operation.Op.{Op}
-use Rattle.cg_ops.specs.declared.operation.Op.TheVariants.{Move}
-use Rattle.cg_ops.specs.declared.outcome.Refusal.{Refusal}
-use Rattle.cg_ops.specs.declared.outcome.Outcome.TheVariants.{Refused}
+use Rattle.cg_model.specs.States.{State}
+use Rattle.cg_model.specs.Clauses.{first}
+use Rattle.cg_model.specs.Bars.{bars}
+use Rattle.cg_model.specs.declared.operation.Op.{Op}
+use Rattle.cg_model.specs.declared.operation.Op.TheVariants.{Move}
+use Rattle.cg_model.specs.declared.outcome.Refusal.{Refusal}
+use Rattle.cg_model.specs.declared.outcome.Outcome.TheVariants.{Refused}
 use Rattle.cg_lines.specs.Outcomes.{outcome_text}
 use Rattle.cg_text.specs.TreeTexts.{tree_of}
 use Rattle.cg_cli.specs.Faults.{lifted}

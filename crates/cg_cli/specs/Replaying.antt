@@ -4,7 +4,7 @@ use Rattle.std.specs.List.{All}
 use Rattle.std.specs.Io.{StartsWith}
 use Rattle.std.specs.Io.KnownBytes.{Appends, Keeps, Consumes, IsAtEnd}
 use Rattle.cg_cgroup.specs.Identity.{Identity}
-use Rattle.cg_ops.specs.declared.operation.Op.{Op}
+use Rattle.cg_model.specs.declared.operation.Op.{Op}
 use Rattle.cg_lines.specs.Outcomes.{outcome_text}
 use Rattle.cg_lines.specs.declared.lines.fault.LineFault.TheVariants.{Cut}
 use Rattle.cg_cli.specs.Written.{AppendsPart}

@@ -1,6 +1,6 @@
 -- The report on writing a tree text anew. Own.
 use Rattle.std.specs.Prelude.{◌≡◌, ◌≢◌, ℕ, ◌≤◌, List, length, Option, Some, Result, Ok, Err}
-use Rattle.cg_tree.specs.States.{State}
+use Rattle.cg_model.specs.States.{State}
 use Rattle.cg_text.specs.TreeTexts.{longest_text, document_of, tree_of}
 use Rattle.cg_text.specs.HasState.{HasState}
 use Rattle.cg_print.specs.Documents.{tree_document, IsSpelled}

@@ -3,9 +3,9 @@ ghost use Rattle.std.specs.Prelude.{◌≡◌, ◌≢◌, Ok, Err, Some, IfOk, M
 ghost use Rattle.cg_cgroup.specs.Identity.{Identity};
 ghost use Rattle.cg_cgroup.specs.Paths.{Names, path_at};
 ghost use Rattle.cg_cgroup.specs.Users.{user_of};
-ghost use Rattle.cg_tree.specs.States.{State};
+ghost use Rattle.cg_model.specs.States.{State};
 ghost use Rattle.cg_text.specs.TreeTexts.{tree_of};
-ghost use Rattle.cg_runs.specs.Held.{IsContained};
+ghost use Rattle.cg_model.specs.Held.{IsContained};
 ghost use Rattle.cg_cli.specs.Advising.{contained_line, advised, advice_report, advise_report};
 ghost use Rattle.cg_cli.specs.Reports.{Reports};
 
@@ -17,7 +17,7 @@ use cg_cgroup::memory::NoMemory;
 use cg_cgroup::path::Path;
 use cg_cgroup::user::User;
 use cg_check::fault_of;
-use cg_runs::fault::CheckFault;
+use cg_model::fault::CheckFault;
 use cg_text::tree::read_tree;
 use cg_tree::hierarchy::Hierarchy;
 use std::alloc::Global;

@@ -2,10 +2,10 @@
 ghost use Rattle.std.specs.Prelude.{◌≡◌, ◌≢◌, List, [], map, Ok, Err, IfOk, MatchResult};
 ghost use Rattle.cg_cgroup.specs.Identity.{Identity};
 ghost use Rattle.cg_cgroup.specs.Paths.{Names};
-ghost use Rattle.cg_tree.specs.States.{State};
+ghost use Rattle.cg_model.specs.States.{State};
 ghost use Rattle.cg_text.specs.TreeTexts.{tree_of};
-ghost use Rattle.cg_check.specs.Checks.{all_checked};
-ghost use Rattle.cg_check.specs.Several.{AreContained};
+ghost use Rattle.cg_model.specs.Checks.{all_checked};
+ghost use Rattle.cg_model.specs.Several.{AreContained};
 ghost use Rattle.cg_cli.specs.Audits.{users_read, paths_read, audit_status, pairs_report, audit_report};
 ghost use Rattle.cg_cli.specs.Reports.{Reports};
 
@@ -17,10 +17,10 @@ use crate::write::write_whole;
 use cg_cgroup::memory::NoMemory;
 use cg_cgroup::path::Path;
 use cg_cgroup::user::User;
-use cg_check::answer::AllAnswer;
 use cg_check::check_all;
+use cg_model::answer::AllAnswer;
+use cg_model::fault::CheckFault;
 use cg_report::audit::audit_text;
-use cg_runs::fault::CheckFault;
 use cg_text::tree::read_tree;
 use cg_tree::hierarchy::Hierarchy;
 use std::alloc::Global;

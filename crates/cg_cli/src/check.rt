@@ -3,10 +3,10 @@ ghost use Rattle.std.specs.Prelude.{◌≡◌, ◌≢◌, Ok, Err, Some, IfOk, M
 ghost use Rattle.cg_cgroup.specs.Identity.{Identity};
 ghost use Rattle.cg_cgroup.specs.Paths.{Names, path_at};
 ghost use Rattle.cg_cgroup.specs.Users.{user_of};
-ghost use Rattle.cg_tree.specs.States.{State};
+ghost use Rattle.cg_model.specs.States.{State};
 ghost use Rattle.cg_text.specs.TreeTexts.{tree_of};
-ghost use Rattle.cg_runs.specs.Held.{IsContained};
-ghost use Rattle.cg_check.specs.Checks.{checked};
+ghost use Rattle.cg_model.specs.Held.{IsContained};
+ghost use Rattle.cg_model.specs.Checks.{checked};
 ghost use Rattle.cg_cli.specs.Containment.{answer_status, check_report, subtree_report};
 ghost use Rattle.cg_cli.specs.Reports.{Reports};
 
@@ -16,10 +16,10 @@ use crate::write::write_whole;
 use cg_cgroup::memory::NoMemory;
 use cg_cgroup::path::Path;
 use cg_cgroup::user::User;
-use cg_check::answer::Answer;
 use cg_check::check;
+use cg_model::answer::Answer;
+use cg_model::fault::CheckFault;
 use cg_report::answer::answer_text;
-use cg_runs::fault::CheckFault;
 use cg_text::tree::read_tree;
 use cg_tree::hierarchy::Hierarchy;
 use std::alloc::Global;

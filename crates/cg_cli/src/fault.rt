@@ -8,7 +8,7 @@ use crate::write::WriteFailed;
 use cg_cgroup::memory::NoMemory;
 use cg_cgroup::path::PathFault;
 use cg_lines::lines::LineFault;
-use cg_runs::fault::CheckFault;
+use cg_model::fault::CheckFault;
 use cg_text::tree::{Place, TreeFault};
 use std::alloc::{AllocError, AllocFailed, Global};
 use std::io;

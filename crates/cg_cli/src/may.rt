@@ -1,7 +1,7 @@
 //! One migration: whether a user may move a process to a cgroup.
 ghost use Rattle.std.specs.Prelude.{◌≡◌, IfOk};
-ghost use Rattle.cg_ops.specs.Clauses.{first};
-ghost use Rattle.cg_ops.specs.Bars.{bars};
+ghost use Rattle.cg_model.specs.Clauses.{first};
+ghost use Rattle.cg_model.specs.Bars.{bars};
 ghost use Rattle.cg_cli.specs.May.{permission, may_report};
 ghost use Rattle.cg_cli.specs.Reports.{Reports};
 
@@ -11,8 +11,8 @@ use crate::write::write_whole;
 use cg_cgroup::memory::NoMemory;
 use cg_cgroup::user::User;
 use cg_lines::outcome::outcome_text;
-use cg_ops::operation::Op;
-use cg_ops::outcome::Outcome;
+use cg_model::operation::Op;
+use cg_model::outcome::Outcome;
 use cg_ops::refusal;
 use cg_text::tree::read_tree;
 use cg_tree::hierarchy::Hierarchy;

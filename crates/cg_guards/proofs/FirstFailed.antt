@@ -8,13 +8,12 @@ use Rattle.cg_cgroup.specs.Identity.{Identity}
 use Rattle.cg_cgroup.specs.Users.{reaches}
 use Rattle.cg_cgroup.specs.declared.cgroup.Cgroup.{Cgroup}
 use Rattle.cg_cgroup.specs.declared.user.Entry.{Entry}
-use Rattle.cg_tree.specs.States.{State, row_at, count_below}
-use Rattle.cg_ops.specs.Clauses.{first, present, unless}
-use Rattle.cg_guards.specs.Guards.{Guarded, guarded_entries, guarded_entry, entry_failures}
-use Rattle.cg_guards.specs.Limits.{is_within_limit, fits_descendants}
-use Rattle.cg_guards.specs.Standing.{found, standing}
-use Rattle.cg_guards.specs.declared.guard.Failed.{Failed}
-use Rattle.cg_guards.specs.declared.table.GuardedEntry.{GuardedEntry}
+use Rattle.cg_model.specs.States.{State, row_at, count_below}
+use Rattle.cg_model.specs.Clauses.{first, present, unless}
+use Rattle.cg_model.specs.Guards.{Guarded, guarded_entries, guarded_entry, entry_failures, found, standing}
+use Rattle.cg_model.specs.Limits.{is_within_limit, fits_descendants}
+use Rattle.cg_model.specs.declared.guard.Failed.{Failed}
+use Rattle.cg_model.specs.declared.guard.GuardedEntry.{GuardedEntry}
 use Rattle.cg_guards.proofs.TableWalk.{of_guarded, walk_turn, drop_all}
 
 module _ (st : State) (user : Identity) (subtree : Names) where

@@ -8,15 +8,14 @@ use Rattle.cg_cgroup.specs.Paths.{Names}
 use Rattle.cg_cgroup.specs.Identity.{Identity}
 use Rattle.cg_cgroup.specs.Users.{in_group, has_bit, writes, reaches}
 use Rattle.cg_cgroup.specs.declared.user.Entry.{Entry}
-use Rattle.cg_tree.specs.States.{State}
-use Rattle.cg_ops.specs.Clauses.{first, unless}
-use Rattle.cg_guards.specs.Guards.{guarded_entries, entry_failures}
-use Rattle.cg_guards.specs.Limits.{fits_descendants, fits_depth}
-use Rattle.cg_guards.specs.GuardedUsers.{is_spared, is_alike, is_asked, AreSpared, is_kept_off, kept_off, is_guarded}
-use Rattle.cg_guards.specs.Standing.{standing}
-use Rattle.cg_guards.specs.declared.guard.Failed.{Failed}
-use Rattle.cg_guards.specs.declared.guard.Guard.TheVariants.{AlreadyOver}
-use Rattle.cg_guards.specs.declared.table.GuardedEntry.{GuardedEntry}
+use Rattle.cg_model.specs.States.{State}
+use Rattle.cg_model.specs.Clauses.{first, unless}
+use Rattle.cg_model.specs.Guards.{guarded_entries, entry_failures, is_guarded, standing}
+use Rattle.cg_model.specs.Limits.{fits_descendants, fits_depth}
+use Rattle.cg_guards.specs.GuardedUsers.{is_spared, is_alike, is_asked, AreSpared, is_kept_off, kept_off}
+use Rattle.cg_model.specs.declared.guard.Failed.{Failed}
+use Rattle.cg_model.specs.declared.guard.Guard.TheVariants.{AlreadyOver}
+use Rattle.cg_model.specs.declared.guard.GuardedEntry.{GuardedEntry}
 use Rattle.cg_guards.proofs.FirstFailed.{failing, failures_from, failures_turn}
 use Rattle.cg_guards.proofs.TableWalk.{drop_all}
 

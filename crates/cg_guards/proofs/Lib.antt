@@ -1,12 +1,3 @@
-pub mod Sound
-pub mod GuardedEntries
-pub mod Untouched
-pub mod Barred
-pub mod Crossing
-pub mod Counts
-pub mod Kept
-pub mod Steps
 pub mod FirstFailed
-pub mod OperationLaws
 pub mod KeptOff
 pub mod TableWalk

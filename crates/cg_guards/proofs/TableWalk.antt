@@ -14,12 +14,12 @@ use Rattle.cg_cgroup.specs.declared.files.EntryName.{EntryName}
 use Rattle.cg_cgroup.specs.declared.user.Entry.{Entry}
 use Rattle.cg_cgroup.specs.declared.cgroup.Cgroup.{Cgroup}
 use Rattle.cg_cgroup.specs.Cgroups.{entry_in}
-use Rattle.cg_tree.specs.States.{State, row_at}
-use Rattle.cg_tree.specs.WellFormed.{IsWellFormed}
-use Rattle.cg_ops.specs.Clauses.{present}
-use Rattle.cg_guards.specs.Guards.{Guarded, ancestor, ancestors, limit_file, limit_files, parent_control, parent_dir, guarded_entries}
-use Rattle.cg_guards.specs.Standing.{standing, parent_guards}
-use Rattle.cg_guards.specs.declared.table.GuardedEntry.{GuardedEntry}
+use Rattle.cg_model.specs.States.{State, row_at}
+use Rattle.cg_model.specs.WellFormed.{IsWellFormed}
+use Rattle.cg_model.specs.Clauses.{present}
+use Rattle.cg_model.specs.Guards.{Guarded, ancestor, ancestors, limit_file, limit_files, parent_control, parent_dir, guarded_entries, standing}
+use Rattle.cg_guards.specs.Standing.{parent_guards}
+use Rattle.cg_model.specs.declared.guard.GuardedEntry.{GuardedEntry}
 
 -- ---- places of joined lists
 

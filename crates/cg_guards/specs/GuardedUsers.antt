@@ -5,9 +5,9 @@ use Rattle.cg_cgroup.specs.Paths.{Names}
 use Rattle.cg_cgroup.specs.Identity.{Identity}
 use Rattle.cg_cgroup.specs.Users.{reaches}
 use Rattle.cg_cgroup.specs.declared.user.Entry.{Entry}
-use Rattle.cg_tree.specs.States.{State}
-use Rattle.cg_ops.specs.Clauses.{first}
-use Rattle.cg_guards.specs.Guards.{Guarded, entry_failures, failures}
+use Rattle.cg_model.specs.States.{State}
+use Rattle.cg_model.specs.Clauses.{first}
+use Rattle.cg_model.specs.Guards.{Guarded, entry_failures}
 
 -- the user reaches no such entry
 abbrev pub is_spared : Option Entry → Identity → Bool
@@ -34,7 +34,3 @@ is_kept_off st subtree entries user = is_none (first (flat_map (entry_failures s
 -- those before the first for whom a guard on one of these entries fails
 abbrev pub kept_off : State → Names → List Guarded → List Identity → List Identity
 kept_off st subtree entries users = take_while (is_kept_off st subtree entries) users
-
--- no guard of the subtree fails for the user
-abbrev pub is_guarded : State → Names → Identity → Bool
-is_guarded st subtree user = is_none (first (failures st user subtree))

@@ -1,8 +1,2 @@
-pub mod Limits
-pub mod Edge
-pub mod Guards
-pub mod Guarding
 pub mod GuardedUsers
-pub mod Sound
 pub mod Standing
-pub mod GuardNames

@@ -4,19 +4,18 @@ ghost use Rattle.std.specs.Prelude.{◌≡◌, true, false, ◌&&◌, not};
 ghost use Rattle.std.specs.List.{flat_map};
 ghost use Rattle.cg_cgroup.specs.Paths.{is_root};
 ghost use Rattle.cg_cgroup.specs.Users.{reaches};
-ghost use Rattle.cg_tree.specs.States.{row_at};
-ghost use Rattle.cg_tree.specs.WellFormed.{has_row};
-ghost use Rattle.cg_ops.specs.Clauses.{first};
-ghost use Rattle.cg_guards.specs.Limits.{is_within_limit, fits_descendants, fits_depth};
-ghost use Rattle.cg_guards.specs.Guards.{guarded_entries, entry_failures, failures};
-ghost use Rattle.cg_guards.specs.Guarding.{IsSubtree};
+ghost use Rattle.cg_model.specs.States.{row_at};
+ghost use Rattle.cg_model.specs.WellFormed.{has_row};
+ghost use Rattle.cg_model.specs.Clauses.{first};
+ghost use Rattle.cg_model.specs.Limits.{is_within_limit, fits_descendants, fits_depth};
+ghost use Rattle.cg_model.specs.Guards.{guarded_entries, entry_failures, failures, IsSubtree};
 
-use crate::guard::{Failed, Guard};
 use crate::table::{guarded_count, guarded_entry};
 use cg_cgroup::cgroup::Cgroup;
 use cg_cgroup::files::Limit;
 use cg_cgroup::path::Path;
 use cg_cgroup::user::{Entry, User};
+use cg_model::guard::{Failed, Guard};
 use cg_tree::hierarchy::Hierarchy;
 
 /// The first guard that fails, and `None` exactly where they hold.

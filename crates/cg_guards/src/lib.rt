@@ -2,7 +2,5 @@
 #![tactic(auto)]
 
 pub mod failed;
-pub mod guard;
-pub mod laws;
 pub mod table;
 pub mod users;

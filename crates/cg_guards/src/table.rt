@@ -2,23 +2,13 @@
 ghost use Rattle.std.specs.Prelude.{◌≡◌, ◌≤◌, false, length, slice_get, option_and_then, IfSome};
 ghost use Rattle.std.specs.Option.{option_map};
 ghost use Rattle.cg_cgroup.specs.Paths.{is_root};
-ghost use Rattle.cg_guards.specs.Guards.{guarded_entries};
-ghost use Rattle.cg_guards.specs.Standing.{spotted, standing, parent_guards};
+ghost use Rattle.cg_model.specs.Guards.{guarded_entries, standing};
+ghost use Rattle.cg_guards.specs.Standing.{spotted, parent_guards};
 
-use crate::guard::Guard;
 use cg_cgroup::files::{EntryName, LimitFile};
 use cg_cgroup::path::Path;
-use cg_cgroup::user::Entry;
+use cg_model::guard::{Guard, GuardedEntry};
 use cg_tree::hierarchy::Hierarchy;
-
-/// An entry that is there, and the guard on it: that of this name at the first `len` names of the subtree's path.
-#[derive(Clone, Copy, Debug, PartialEq, Eq)]
-pub struct GuardedEntry {
-    pub guard: Guard,
-    pub len: usize,
-    pub name: EntryName,
-    pub entry: Entry,
-}
 
 /// A guard, and the entry on which it stands.
 #[derive(Clone, Copy)]

@@ -3,9 +3,8 @@
 ghost use Rattle.std.specs.Prelude.{◌≡◌, false, Some};
 ghost use Rattle.std.specs.List.{take_while};
 ghost use Rattle.cg_cgroup.specs.Paths.{is_root};
-ghost use Rattle.cg_guards.specs.Guards.{guarded_entries};
-ghost use Rattle.cg_guards.specs.Guarding.{IsSubtree};
-ghost use Rattle.cg_guards.specs.GuardedUsers.{is_spared, is_alike, is_asked, AreSpared, kept_off, is_guarded};
+ghost use Rattle.cg_model.specs.Guards.{guarded_entries, IsSubtree, is_guarded};
+ghost use Rattle.cg_guards.specs.GuardedUsers.{is_spared, is_alike, is_asked, AreSpared, kept_off};
 
 use crate::failed::{is_over, reaches};
 use crate::table::{guarded_count, guarded_entry};

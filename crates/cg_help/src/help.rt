@@ -12,7 +12,7 @@ use arguments::request::Request;
 use arguments::usage::usage_text;
 use cg_cgroup::memory::NoMemory;
 use cg_cli::fault::CliFault;
-use cg_runs::fault::CheckFault;
+use cg_model::fault::CheckFault;
 use std::alloc::{AllocError, Global};
 use std::rt::{Env, Files};
 use std::{env, io};

@@ -14,13 +14,13 @@ use Rattle.cg_cgroup.specs.declared.files.Controller.{Controller}
 use Rattle.cg_cgroup.specs.declared.files.Controller.TheVariants.{Cpu, Memory, Pids}
 use Rattle.cg_cgroup.specs.declared.files.ControllerSet.{ControllerSet}
 use Rattle.cg_cgroup.specs.declared.cgroup.Cgroup.{Cgroup}
-use Rattle.cg_tree.specs.States.{with_row}
+use Rattle.cg_model.specs.States.{with_row}
 use Rattle.cg_cgroup.proofs.PathOrder.{path_cmp_total, same_path-is, same_path-not, same_path_refl, same_path-other}
 use Rattle.cg_cgroup.proofs.PathParents.{length-parent, parent-is_child}
 use Rattle.cg_cgroup.proofs.PathLaws.{inside_decides, inside-length}
 use Rattle.cg_cgroup.proofs.Options.{same_some, some_value}
-use Rattle.cg_tree.proofs.MapLaws.{any_entry, list_any-map}
-use Rattle.cg_tree.proofs.StateCounts.{count_below-with_row}
+use Rattle.cg_steps.proofs.MapLaws.{any_entry, list_any-map}
+use Rattle.cg_steps.proofs.StateCounts.{count_below-with_row}
 use Rattle.cg_indexed.specs.Links.{no_link, link_at, new_link, put_at, ArePlaced, one_more, raised}
 use Rattle.cg_indexed.specs.Nodes.{Node, IsKin, new_node, no_cgroup, node_at, no_uses, uses_of, recounted}
 use Rattle.cg_indexed.specs.Kept.{Held, held_of, enabled_of, values_of, child_uses, AreKept, new_held, tree_of}

@@ -1,10 +1,9 @@
 -- A climb from a place to the root, and what it leaves.
-use Rattle.std.proofs.Common.{◌≡◌, ℕ, zero, suc, ◌+◌, ◌-◌, ◌<◌, ◌≢◌, Bool, true, false, cond, ◌&&◌, nat_lt, List, [], ◌∷◌, length, take, refl, sym, ap, ◌∙◌, Some, arith, ◌⊎◌, ⊎_elim, inl, inr}
+use Rattle.std.proofs.Common.{◌≡◌, ℕ, zero, suc, ◌+◌, ◌-◌, ◌<◌, ◌≢◌, Bool, true, false, cond, ◌&&◌, nat_lt, List, [], ◌∷◌, length, take, refl, sym, ap, ◌∙◌, Some, arith, ◌⊎◌, ⊎_elim, inl, inr, take-take}
 use Rattle.std.specs.Prelude.{slice_set}
 use Rattle.std.proofs.lemmas.Bool.{cases_eq, lt-ltb, ltb-true, cases_Bool}
 use Rattle.std.proofs.lemmas.Bool.Decides.{same_from_decides}
 use Rattle.std.proofs.lemmas.List.{get_or-set_same, get_or-set_other, length-set, length-take, take_all}
-use Rattle.std.proofs.Common.{take-take}
 use Rattle.std.specs.FinMap as map
 use Rattle.std.specs.FinMap.{FinMap}
 use Rattle.cg_cgroup.specs.Paths.{Names, path_cmp, same_path, inside, below, parent, is_root}

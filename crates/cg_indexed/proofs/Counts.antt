@@ -14,8 +14,8 @@ use Rattle.cg_cgroup.specs.declared.files.Controller.TheVariants.{Cpu, Memory, P
 use Rattle.cg_cgroup.specs.declared.files.ControllerSet.{ControllerSet}
 use Rattle.cg_cgroup.proofs.PathOrder.{path_cmp_total, path_cmp-IsAntisymmetric, same_path-is, same_path_refl}
 use Rattle.cg_cgroup.proofs.PathParents.{is_child-parent, parent-is_child}
-use Rattle.cg_tree.proofs.MapLaws.{any_entry}
-use Rattle.cg_tree.proofs.MapFolds.{gathered, Commutes, gathered-insert, gathered-remove, insert-remove, get-remove-same}
+use Rattle.cg_steps.proofs.MapLaws.{any_entry}
+use Rattle.cg_steps.proofs.MapFolds.{gathered, Commutes, gathered-insert, gathered-remove, insert-remove, get-remove-same}
 use Rattle.cg_indexed.specs.Nodes.{more_if, less_if, uses_of, uses_after}
 use Rattle.cg_indexed.specs.Kept.{child_uses}
 use Rattle.cg_indexed.specs.declared.nodes.Uses.{Uses}

@@ -17,7 +17,7 @@ use Rattle.cg_cgroup.specs.Paths.{Name, Names, path_cmp, same_name, inside, belo
 use Rattle.cg_cgroup.specs.PathText.{names_text}
 use Rattle.cg_cgroup.proofs.PathEnds.{is_name-bytes, path_names}
 use Rattle.cg_cgroup.proofs.PathOrder.{path_cmp_total}
-use Rattle.cg_tree.proofs.MapFolds.{gathered, Commutes, gathered-insert}
+use Rattle.cg_steps.proofs.MapFolds.{gathered, Commutes, gathered-insert}
 use Rattle.cg_indexed.specs.TextKeys.{number_of, numbers_of, IsText, HasText, AreTexts}
 use Rattle.cg_indexed.specs.Levels.{levels_behind, levels_below, deepest}
 use Rattle.cg_indexed.proofs.Counts.{one_more, gathered-count}

@@ -14,15 +14,15 @@ use Rattle.cg_cgroup.specs.declared.files.ControllerSet.{ControllerSet}
 use Rattle.cg_cgroup.specs.declared.files.LimitFile.{LimitFile}
 use Rattle.cg_cgroup.specs.declared.files.LimitFile.TheVariants.{MaxDescendants, MaxDepth, CpuWeight, PidsMax}
 use Rattle.cg_cgroup.specs.declared.cgroup.Cgroup.{Cgroup}
-use Rattle.cg_tree.specs.States.{enabling, enabling_these}
+use Rattle.cg_model.specs.States.{enabling, enabling_these}
 use Rattle.cg_cgroup.proofs.PathOrder.{same_path-is, same_path_refl, same_path_comm, path_cmp-IsAntisymmetric}
 use Rattle.cg_cgroup.proofs.PathParents.{length-parent, is_child-parent, parent-is_child, is_root-is_child, parent-root}
 use Rattle.cg_cgroup.proofs.CgroupLaws.{same_cgroup}
 use Rattle.cg_cgroup.proofs.Options.{same_some}
 use Rattle.std.specs.Cmp.Derive.{both_true}
 use Rattle.std.proofs.lemmas.Bool.{lt-ltb}
-use Rattle.cg_tree.proofs.MapLaws.{entry_any, list_any-map}
-use Rattle.cg_tree.proofs.FormedEnabled.{is_child-itself}
+use Rattle.cg_steps.proofs.MapLaws.{entry_any, list_any-map}
+use Rattle.cg_steps.proofs.FormedEnabled.{is_child-itself}
 use Rattle.cg_indexed.specs.Links.{link_at}
 use Rattle.cg_indexed.specs.Nodes.{Node, node_at, uses_of, recounted, enabling_node, enabled_at, differs, differing, with_files_from, refitted_node, links_to, Refits}
 use Rattle.cg_indexed.specs.Kept.{held_of, enabled_of, values_of, child_uses, AreKept, enabling_held, change_each_held}

@@ -6,7 +6,7 @@ use Rattle.std.proofs.lemmas.List.{length-take-le}
 use Rattle.std.specs.FinMap as map
 use Rattle.std.specs.FinMap.{FinMap}
 use Rattle.cg_cgroup.specs.Paths.{Names, path_cmp, parent}
-use Rattle.cg_tree.specs.States.{State}
+use Rattle.cg_model.specs.States.{State}
 use Rattle.cg_tree.specs.Limits.{is_full, NoneIsFull, IsNearestFull}
 use Rattle.cg_indexed.specs.Links.{link_at, ArePlaced, is_full_link, climbed}
 use Rattle.cg_indexed.specs.declared.links.Link.{Link}

@@ -11,15 +11,15 @@ use Rattle.std.specs.FinMap as map
 use Rattle.std.specs.FinMap.{FinMap}
 use Rattle.cg_cgroup.specs.Paths.{Names, path_cmp, same_path, below}
 use Rattle.cg_cgroup.specs.declared.process.Process.{Process}
-use Rattle.cg_tree.specs.States.{State, has_child, has_live, is_used, paths_of, count_below}
-use Rattle.cg_tree.specs.WellFormed.{IsWellFormed, has_row, may_hold}
+use Rattle.cg_model.specs.States.{State, has_child, has_live, is_used, paths_of, count_below}
+use Rattle.cg_model.specs.WellFormed.{IsWellFormed, has_row, may_hold}
 use Rattle.cg_cgroup.proofs.PathOrder.{path_cmp_total, path_cmp-IsAntisymmetric, same_path-ties, same_path-is}
 use Rattle.cg_cgroup.proofs.Options.{mapped_from, same_some}
-use Rattle.cg_tree.proofs.MapLaws.{any_entry, entry_any, list_any-map, get-change_value, get-changed}
-use Rattle.cg_tree.proofs.MapFolds.{gathered, gathered-insert, gathered-remove, insert-remove, get-remove-same}
-use Rattle.cg_tree.proofs.StateTests.{has_child-row, has_live-process}
-use Rattle.cg_tree.proofs.FormedParts.{may_hold-row}
-use Rattle.cg_tree.proofs.TreeLaws.{below-has_child}
+use Rattle.cg_steps.proofs.MapLaws.{any_entry, entry_any, list_any-map, get-change_value, get-changed}
+use Rattle.cg_steps.proofs.MapFolds.{gathered, gathered-insert, gathered-remove, insert-remove, get-remove-same}
+use Rattle.cg_steps.proofs.StateTests.{has_child-row, has_live-process}
+use Rattle.cg_steps.proofs.FormedParts.{may_hold-row}
+use Rattle.cg_steps.proofs.TreeLaws.{below-has_child}
 use Rattle.cg_indexed.specs.Kept.{Held, change_held, change_each_held, one_live_more, one_live_less}
 use Rattle.cg_indexed.specs.Indexed.{count_live}
 use Rattle.cg_indexed.proofs.Counts.{one_more, one_more-Commutes, gathered-count, any-count, count-none}

@@ -10,11 +10,11 @@ use Rattle.cg_cgroup.specs.Files.{no_controllers, enables}
 use Rattle.cg_cgroup.specs.declared.files.Controller.{Controller}
 use Rattle.cg_cgroup.specs.declared.files.ControllerSet.{ControllerSet}
 use Rattle.cg_cgroup.specs.declared.cgroup.Cgroup.{Cgroup}
-use Rattle.cg_tree.specs.States.{without_row}
+use Rattle.cg_model.specs.States.{without_row}
 use Rattle.cg_cgroup.proofs.PathOrder.{same_path-is, same_path-not, same_path-other, path_cmp-IsAntisymmetric}
 use Rattle.cg_cgroup.proofs.PathParents.{length-parent, is_child-parent, parent-root}
-use Rattle.cg_tree.proofs.MapLaws.{entry_any, list_any-map}
-use Rattle.cg_tree.proofs.StateCounts.{count_below-without_row}
+use Rattle.cg_steps.proofs.MapLaws.{entry_any, list_any-map}
+use Rattle.cg_steps.proofs.StateCounts.{count_below-without_row}
 use Rattle.cg_cgroup.proofs.Options.{same_some}
 use Rattle.cg_indexed.specs.Links.{no_link, link_at, to_nowhere, ArePlaced, one_less, lowered}
 use Rattle.cg_indexed.specs.Nodes.{Node, node_at, uses_of, recounted}

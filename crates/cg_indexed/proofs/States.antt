@@ -11,15 +11,15 @@ use Rattle.cg_cgroup.specs.Files.{stands_under, no_controllers}
 use Rattle.cg_cgroup.specs.Cgroups.{with_files_of}
 use Rattle.cg_cgroup.specs.declared.files.ControllerSet.{ControllerSet}
 use Rattle.cg_cgroup.specs.declared.cgroup.Cgroup.{Cgroup}
-use Rattle.cg_tree.specs.States.{State, row_at, change_each, enabling, enabling_these, with_row, with_enabled}
-use Rattle.cg_tree.specs.WellFormed.{IsWellFormed, has_row, enabled_above, enabled_at}
+use Rattle.cg_model.specs.States.{State, row_at, change_each, enabling, enabling_these, with_row, with_enabled}
+use Rattle.cg_model.specs.WellFormed.{IsWellFormed, has_row, enabled_above, enabled_at}
 use Rattle.cg_cgroup.proofs.PathOrder.{path_cmp-IsAntisymmetric, same_path-is}
 use Rattle.cg_cgroup.proofs.PathParents.{parent-is_child, is_root-is_child, parent-other}
 use Rattle.cg_cgroup.proofs.CgroupLaws.{with_files_of-same}
 use Rattle.cg_cgroup.proofs.Options.{some_value, same_some, is_some-mapped}
-use Rattle.cg_tree.proofs.MapLaws.{get-changed, change_value-there}
-use Rattle.cg_tree.proofs.StateLaws.{row_at-with_row-other, row_at-with_row-same}
-use Rattle.cg_tree.proofs.FormedParts.{enabled_at-row}
+use Rattle.cg_steps.proofs.MapLaws.{get-changed, change_value-there}
+use Rattle.cg_steps.proofs.StateLaws.{row_at-with_row-other, row_at-with_row-same}
+use Rattle.cg_steps.proofs.FormedParts.{enabled_at-row}
 use Rattle.cg_indexed.specs.Kept.{Held, AreFittedBelow, cgroups_of, change_held, change_each_held, with_row_of, enabling_held, new_held}
 use Rattle.cg_indexed.proofs.Living.{get-change_held}
 use Rattle.cg_indexed.proofs.Values.{same_maps, get-mapped, values-insert, option_map-twice}

@@ -16,9 +16,9 @@ use Rattle.cg_cgroup.proofs.PathOrder.{path_cmp_total, same_path-ties, same_path
 use Rattle.cg_cgroup.proofs.PathParents.{inside-take, is_root-is, parent-other}
 use Rattle.cg_cgroup.proofs.PathLaws.{inside-first}
 use Rattle.cg_cgroup.proofs.Options.{mapped_from, is_some-mapped}
-use Rattle.cg_tree.specs.States.{State}
-use Rattle.cg_tree.specs.WellFormed.{IsWellFormed, has_row}
-use Rattle.cg_tree.proofs.MapFolds.{gathered}
+use Rattle.cg_model.specs.States.{State}
+use Rattle.cg_model.specs.WellFormed.{IsWellFormed, has_row}
+use Rattle.cg_steps.proofs.MapFolds.{gathered}
 use Rattle.cg_rows.proofs.Sorted.{holds_true}
 use Rattle.cg_indexed.specs.Kept.{Held, map_values, new_held, tree_of, cgroups_of, change_held, one_live_more}
 use Rattle.cg_indexed.specs.Indexed.{count_live}

@@ -6,8 +6,8 @@ use Rattle.cg_cgroup.specs.Paths.{Names, path_cmp, below, is_child}
 use Rattle.cg_cgroup.specs.Identity.{Identity}
 use Rattle.cg_cgroup.specs.Files.{no_controllers, enables, stands_under}
 use Rattle.cg_cgroup.specs.Cgroups.{file_of}
-use Rattle.cg_tree.specs.States.{State, row_at, enabling}
-use Rattle.cg_tree.specs.WellFormed.{enabled_at}
+use Rattle.cg_model.specs.States.{State, row_at, enabling}
+use Rattle.cg_model.specs.WellFormed.{enabled_at}
 use Rattle.cg_cgroup.specs.declared.files.Controller.{Controller}
 use Rattle.cg_cgroup.specs.declared.files.ControllerSet.{ControllerSet}
 use Rattle.cg_cgroup.specs.declared.files.LimitFile.{LimitFile}

@@ -2,7 +2,7 @@
 use Rattle.std.specs.Prelude.{◌≡◌, ℕ, zero, suc, ◌+◌, ◌-◌, ◌<◌, min, Bool, not, ◌&&◌, cond, nat_lt, Option, List, [], ◌∷◌, ◌++◌, length, get_or, Some, None, slice_set}
 use Rattle.std.specs.FinMap as map
 use Rattle.cg_cgroup.specs.Paths.{Names, path_cmp, parent}
-use Rattle.cg_tree.specs.Limits.{is_under}
+use Rattle.cg_model.specs.Limits.{is_under}
 use Rattle.cg_cgroup.specs.declared.files.Limit.TheVariants.{Max}
 use Rattle.cg_cgroup.specs.declared.cgroup.Cgroup.{Cgroup}
 use Rattle.cg_indexed.specs.declared.links.Link.{Link}

@@ -3,7 +3,7 @@ use Rattle.std.specs.Prelude.{◌≡◌, ℕ, ◌+◌, ◌-◌, ◌<◌, min, Bo
 use Rattle.std.specs.Option.{option_map}
 use mathlib.Core.Bool.{beq}
 use Rattle.cg_cgroup.specs.Files.{no_controllers}
-use Rattle.cg_tree.specs.States.{enabling_these}
+use Rattle.cg_model.specs.States.{enabling_these}
 use Rattle.cg_cgroup.specs.declared.user.Entry.{Entry}
 use Rattle.cg_cgroup.specs.declared.files.Limit.TheVariants.{Max}
 use Rattle.cg_cgroup.specs.declared.files.Controller.{Controller}

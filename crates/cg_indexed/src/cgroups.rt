@@ -4,8 +4,8 @@ ghost use Rattle.std.specs.Option.{option_map};
 ghost use Rattle.std.specs.FinMap as map;
 ghost use Rattle.cg_cgroup.specs.Paths.{parent, is_root};
 ghost use Rattle.cg_cgroup.specs.Files.{enables};
-ghost use Rattle.cg_tree.specs.States.{row_at, count_below, has_child, child_enables, depth_below};
-ghost use Rattle.cg_tree.specs.WellFormed.{has_row};
+ghost use Rattle.cg_model.specs.States.{row_at, count_below, has_child, child_enables, depth_below};
+ghost use Rattle.cg_model.specs.WellFormed.{has_row};
 ghost use Rattle.cg_tree.specs.Limits.{NoneIsFull, IsNearestFull};
 ghost use Rattle.cg_indexed.specs.Kept.{AreFittedBelow, tree_of, new_held, with_row_of, one_live_more, one_live_less, enabling_held, change_held, change_each_held};
 

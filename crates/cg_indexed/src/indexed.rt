@@ -31,7 +31,7 @@ impl Model for Indexed {
     ghost use Rattle.std.specs.Coded.{codes};
     ghost use Rattle.std.specs.FinMap as map;
     ghost use Rattle.std.specs.FinSet as set;
-    ghost use Rattle.cg_tree.specs.States.{State};
+    ghost use Rattle.cg_model.specs.States.{State};
 
     ghost Value = { State };
 

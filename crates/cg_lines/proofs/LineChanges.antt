@@ -7,7 +7,7 @@ use Rattle.std.proofs.lemmas.Bool.{ne_eqb, ltb-true, ltb-false}
 use Rattle.std.proofs.lemmas.Option.{cond_some, none-some}
 use Rattle.std.proofs.lemmas.List.Sums.{fails_before_first}
 use Rattle.std.proofs.lemmas.List.Splits.{slice_split_none, slice_split_first}
-use Rattle.cg_ops.specs.declared.changes.Change.{Change}
+use Rattle.cg_model.specs.declared.changes.Change.{Change}
 use Rattle.cg_lines.specs.LineReading.{is_space, cut, change_at, changes_at}
 use Rattle.cg_cgroup.specs.Options.{◌>>=◌}
 

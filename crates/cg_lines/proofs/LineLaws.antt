@@ -17,9 +17,9 @@ use Rattle.cg_cgroup.specs.declared.files.LimitFile.{LimitFile}
 use Rattle.cg_cgroup.specs.declared.files.EntryName.{EntryName}
 use Rattle.cg_cgroup.proofs.PathAt.{path_at-is, path_at-text}
 use Rattle.cg_cgroup.proofs.NameLaws.{file_names, entry_names}
-use Rattle.cg_ops.specs.declared.changes.Change.{Change}
-use Rattle.cg_ops.specs.declared.operation.Op.{Op}
-use Rattle.cg_ops.specs.declared.operation.Op.TheVariants.{Move, Control, Mkdir, Rmdir, Set, Fork, Exit, Chmod}
+use Rattle.cg_model.specs.declared.changes.Change.{Change}
+use Rattle.cg_model.specs.declared.operation.Op.{Op}
+use Rattle.cg_model.specs.declared.operation.Op.TheVariants.{Move, Control, Mkdir, Rmdir, Set, Fork, Exit, Chmod}
 use Rattle.cg_lines.specs.OperationLines.{change_word, limit_word, mode_word, words, spelling, IsHeld, IsHeldLimit}
 use Rattle.cg_lines.specs.LineReading.{is_space, cut, pid_at, limit_at, mode_at, changes_at, move_at, control_from, control_at, mkdir_at, rmdir_at, set_at, fork_at, exit_at, chmod_at, operation_named, operation_at, Gives}
 use Rattle.cg_cgroup.specs.Options.{◌>>=◌}

@@ -25,7 +25,7 @@ use Rattle.cg_cgroup.specs.declared.files.EntryName.{EntryName}
 use Rattle.cg_cgroup.specs.declared.files.EntryName.TheVariants.{Dir, Procs, SubtreeControl, File}
 use Rattle.cg_cgroup.proofs.PathEnds.{path_names, is_name-bytes}
 use Rattle.cg_cgroup.proofs.NameLaws.{controller_names}
-use Rattle.cg_ops.specs.declared.changes.Change.{Change}
+use Rattle.cg_model.specs.declared.changes.Change.{Change}
 use Rattle.cg_lines.specs.OperationLines.{change_word, limit_word, mode_word, IsHeldLimit}
 use Rattle.cg_lines.specs.LineReading.{number_at, pid_at, limit_at, octal_at, mode_at, sign_at, change_at, changes_at}
 use Rattle.cg_cgroup.specs.Options.{◌>>=◌}

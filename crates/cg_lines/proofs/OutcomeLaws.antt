@@ -2,8 +2,8 @@
 use Rattle.std.proofs.Common.{◌≡◌, refl, ℕ, zero, suc, ◌-◌, ◌≤◌, Bool, true, false, not, ◌&&◌, ◌||◌, nat_eq, List, [], ◌∷◌, ◌++◌, length, take, flat_map, Option, Some, None, arith, subst}
 use Rattle.cg_cgroup.specs.Paths.{Names, is_root}
 use Rattle.cg_cgroup.specs.Identity.{Identity}
-use Rattle.cg_tree.specs.States.{State, row_at, place_at, owner_at, file_at, entry_at, is_used, has_child, has_live, child_enables, count_below}
-use Rattle.cg_tree.specs.WellFormed.{available_at}
+use Rattle.cg_model.specs.States.{State, row_at, place_at, owner_at, file_at, entry_at, is_used, has_child, has_live, child_enables, count_below}
+use Rattle.cg_model.specs.WellFormed.{available_at}
 use Rattle.cg_cgroup.specs.Users.{writes, owns}
 use Rattle.cg_cgroup.specs.Files.{all_controllers, enables, enables_nothing, accepts}
 use Rattle.cg_cgroup.specs.Cgroups.{file_of}
@@ -13,17 +13,18 @@ use Rattle.cg_cgroup.specs.declared.files.Limit.{Limit}
 use Rattle.cg_cgroup.specs.declared.files.EntryName.{EntryName}
 use Rattle.cg_cgroup.specs.declared.files.EntryName.TheVariants.{Dir, Procs, SubtreeControl, File}
 use Rattle.cg_cgroup.specs.declared.cgroup.Cgroup.{Cgroup}
-use Rattle.cg_ops.specs.Clauses.{unless, absent, present, first}
-use Rattle.cg_ops.specs.Changes.{effective}
-use Rattle.cg_ops.specs.Bars.{bars, move_bars, control_bars, mkdir_bars, rmdir_bars, set_bars, fork_bars, exit_bars, chmod_bars, change_bars, may_enable_new, limit_bars, missing_bars, passes, row_above, writes_above, is_under}
-use Rattle.cg_ops.specs.declared.changes.Change.{Change}
-use Rattle.cg_ops.specs.declared.operation.Op.{Op}
-use Rattle.cg_ops.specs.declared.operation.Op.TheVariants.{Move, Control, Mkdir, Rmdir, Set, Fork, Exit, Chmod}
-use Rattle.cg_ops.specs.declared.outcome.Refusal.{Refusal}
-use Rattle.cg_ops.specs.declared.outcome.Outcome.{Outcome}
-use Rattle.cg_ops.specs.declared.outcome.Outcome.TheVariants.{Done, Refused}
-use Rattle.cg_ops.specs.Outcomes.{RefusedBy}
-use Rattle.cg_ops.proofs.Prefixes.{length_common}
+use Rattle.cg_model.specs.Clauses.{unless, absent, present, first}
+use Rattle.cg_model.specs.Changes.{effective}
+use Rattle.cg_model.specs.Bars.{bars, move_bars, control_bars, mkdir_bars, rmdir_bars, set_bars, fork_bars, exit_bars, chmod_bars, change_bars, may_enable_new, limit_bars, missing_bars, passes, row_above, writes_above}
+use Rattle.cg_model.specs.Limits.{is_under}
+use Rattle.cg_model.specs.declared.changes.Change.{Change}
+use Rattle.cg_model.specs.declared.operation.Op.{Op}
+use Rattle.cg_model.specs.declared.operation.Op.TheVariants.{Move, Control, Mkdir, Rmdir, Set, Fork, Exit, Chmod}
+use Rattle.cg_model.specs.declared.outcome.Refusal.{Refusal}
+use Rattle.cg_model.specs.declared.outcome.Outcome.{Outcome}
+use Rattle.cg_model.specs.declared.outcome.Outcome.TheVariants.{Done, Refused}
+use Rattle.cg_steps.specs.Outcomes.{RefusedBy}
+use Rattle.cg_steps.proofs.Prefixes.{length_common}
 use Rattle.cg_lines.specs.Outcomes.{CanShow}
 
 -- the first of the clauses, where there is one, can be shown of the operation

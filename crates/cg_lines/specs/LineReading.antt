@@ -9,9 +9,9 @@ use Rattle.cg_cgroup.specs.Numbers.{pid_of, mode_of}
 use Rattle.cg_cgroup.specs.Files.{controller_named, file_named, entry_named}
 use Rattle.cg_cgroup.specs.declared.files.Limit.{Limit}
 use Rattle.cg_cgroup.specs.declared.files.Limit.TheVariants.{Max, At}
-use Rattle.cg_ops.specs.declared.changes.Change.{Change}
-use Rattle.cg_ops.specs.declared.operation.Op.{Op}
-use Rattle.cg_ops.specs.declared.operation.Op.TheVariants.{Move, Control, Mkdir, Rmdir, Set, Fork, Exit, Chmod}
+use Rattle.cg_model.specs.declared.changes.Change.{Change}
+use Rattle.cg_model.specs.declared.operation.Op.{Op}
+use Rattle.cg_model.specs.declared.operation.Op.TheVariants.{Move, Control, Mkdir, Rmdir, Set, Fork, Exit, Chmod}
 use Rattle.cg_lines.specs.declared.lines.fault.LineFault.{LineFault}
 use Rattle.cg_lines.specs.declared.lines.fault.LineFault.TheVariants as faults
 use Rattle.cg_cgroup.specs.Options.{◌>>=◌}

@@ -2,17 +2,17 @@
 ghost use Rattle.std.specs.Prelude.{◌≡◌, ◌≤◌, [], IfOk, MatchOption, length, take, string_bytes};
 ghost use Rattle.cg_cgroup.specs.Paths.{path_text};
 ghost use Rattle.cg_cgroup.specs.Identity.{Identity};
-ghost use Rattle.cg_tree.specs.States.{State};
-ghost use Rattle.cg_ops.specs.Clauses.{first};
-ghost use Rattle.cg_ops.specs.Bars.{bars};
-ghost use Rattle.cg_ops.specs.declared.operation.Op.{Op};
-ghost use Rattle.cg_ops.specs.declared.outcome.Refusal.{Refusal};
+ghost use Rattle.cg_model.specs.States.{State};
+ghost use Rattle.cg_model.specs.Clauses.{first};
+ghost use Rattle.cg_model.specs.Bars.{bars};
+ghost use Rattle.cg_model.specs.declared.operation.Op.{Op};
+ghost use Rattle.cg_model.specs.declared.outcome.Refusal.{Refusal};
 ghost use Rattle.cg_lines.specs.Outcomes.{path_of, named_len, outcome_text, refusal_text, IsShown, CanShow};
 
 use cg_cgroup::memory::NoMemory;
 use cg_cgroup::path::Path;
-use cg_ops::operation::Op;
-use cg_ops::outcome::{Outcome, Refusal};
+use cg_model::operation::Op;
+use cg_model::outcome::{Outcome, Refusal};
 use std::alloc::{AllocError, Global};
 
 /// The line of an outcome, with its newline: `ok`, or `refused` and why.

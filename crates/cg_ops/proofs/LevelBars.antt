@@ -2,13 +2,14 @@
 use Rattle.std.proofs.Common.{◌≡◌, ◌≢◌, ℕ, zero, suc, ◌+◌, ◌-◌, ◌<◌, Bool, true, false, ◌&&◌, not, Some, None, ◌++◌, length, take, ap, sym, refl, ◌∙◌, true≢false, arith, ⊎_elim}
 use Rattle.std.proofs.lemmas.Bool.{cases_eq}
 use Rattle.cg_cgroup.specs.Paths.{Names}
-use Rattle.cg_tree.specs.States.{State, row_at, count_below}
-use Rattle.cg_tree.specs.Limits.{is_under, bars_child, is_full, NoneIsFull, IsNearestFull}
-use Rattle.cg_ops.specs.Clauses.{unless, present, first}
-use Rattle.cg_ops.specs.Bars.{level_bars, limit_bars}
-use Rattle.cg_ops.specs.declared.outcome.Refusal.{Refusal}
-use Rattle.cg_ops.specs.declared.outcome.Refusal.TheVariants.{DescendantLimit, DepthLimit}
-use Rattle.cg_ops.proofs.ClauseLaws.{first_none, first_some}
+use Rattle.cg_model.specs.States.{State, row_at, count_below}
+use Rattle.cg_model.specs.Limits.{is_under}
+use Rattle.cg_tree.specs.Limits.{bars_child, is_full, NoneIsFull, IsNearestFull}
+use Rattle.cg_model.specs.Clauses.{unless, present, first}
+use Rattle.cg_model.specs.Bars.{level_bars, limit_bars}
+use Rattle.cg_model.specs.declared.outcome.Refusal.{Refusal}
+use Rattle.cg_model.specs.declared.outcome.Refusal.TheVariants.{DescendantLimit, DepthLimit}
+use Rattle.cg_steps.proofs.ClauseLaws.{first_none, first_some}
 
 both_pass : {R : Type 0} (a b : Bool) (x y : R) → not (a && b) ≡ false → first (unless a x ++ unless b y) ≡ None
 both_pass true true x y h = refl

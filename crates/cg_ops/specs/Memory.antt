@@ -1,7 +1,7 @@
 -- Which operations take memory to carry out: those after which a path stands somewhere new.
 use Rattle.std.specs.Prelude.{Bool, true, false}
-use Rattle.cg_ops.specs.declared.operation.Op.{Op}
-use Rattle.cg_ops.specs.declared.operation.Op.TheVariants.{Move, Mkdir, Fork}
+use Rattle.cg_model.specs.declared.operation.Op.{Op}
+use Rattle.cg_model.specs.declared.operation.Op.TheVariants.{Move, Mkdir, Fork}
 
 abbrev pub takes_memory : Op → Bool
 takes_memory (Move pid to) = true

@@ -2,28 +2,24 @@
 #![tactic(auto)]
 
 ghost use Rattle.std.specs.Prelude.{◌≡◌, [], true, OnErr, IfOk};
-ghost use Rattle.cg_ops.specs.Clauses.{first};
-ghost use Rattle.cg_ops.specs.Bars.{bars};
-ghost use Rattle.cg_ops.specs.Next.{next};
+ghost use Rattle.cg_model.specs.Clauses.{first};
+ghost use Rattle.cg_model.specs.Bars.{bars};
+ghost use Rattle.cg_model.specs.Next.{next};
 ghost use Rattle.cg_ops.specs.Memory.{takes_memory};
-ghost use Rattle.cg_ops.specs.Outcomes.{IsRefused, RefusedBy};
+ghost use Rattle.cg_steps.specs.Outcomes.{IsRefused, RefusedBy};
 
-pub mod changes;
-pub mod laws;
 mod limits;
 mod make_remove;
 mod modes;
-pub mod operation;
-pub mod outcome;
 mod process_events;
 mod procs_rule;
 mod subtree_control;
 
 use cg_cgroup::memory::NoMemory;
 use cg_cgroup::user::User;
+use cg_model::operation::Op;
+use cg_model::outcome::{Outcome, Refusal};
 use cg_tree::hierarchy::Hierarchy;
-use operation::Op;
-use outcome::{Outcome, Refusal};
 use std::alloc::Global;
 
 /// The first refusal that an operation of a user meets, and `None` exactly where it meets none.

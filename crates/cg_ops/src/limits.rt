@@ -1,12 +1,12 @@
 //! Setting a limit: a write to a limit file.
 ghost use Rattle.std.specs.Prelude.{◌≡◌};
-ghost use Rattle.cg_ops.specs.Clauses.{first};
-ghost use Rattle.cg_ops.specs.Bars.{set_bars};
+ghost use Rattle.cg_model.specs.Clauses.{first};
+ghost use Rattle.cg_model.specs.Bars.{set_bars};
 
-use crate::outcome::Refusal;
 use cg_cgroup::files::{EntryName, Limit, LimitFile};
 use cg_cgroup::path::Path;
 use cg_cgroup::user::User;
+use cg_model::outcome::Refusal;
 use cg_tree::hierarchy::Hierarchy;
 
 /// The first refusal that a write of a value meets.

@@ -1,16 +1,16 @@
 //! Making and removing a cgroup: its directory.
 ghost use Rattle.std.specs.Prelude.{◌≡◌, ◌<◌, true, [], length, option_copied, is_some, OnOk, OnErr};
-ghost use Rattle.cg_ops.specs.Clauses.{first};
-ghost use Rattle.cg_ops.specs.Bars.{row_above, writes_above, level_bars, limit_bars, mkdir_bars, rmdir_bars};
-ghost use Rattle.cg_ops.specs.Next.{next};
+ghost use Rattle.cg_model.specs.Clauses.{first};
+ghost use Rattle.cg_model.specs.Bars.{row_above, writes_above, level_bars, limit_bars, mkdir_bars, rmdir_bars};
+ghost use Rattle.cg_model.specs.Next.{next};
 
-use crate::operation::Op;
-use crate::outcome::Refusal;
 use cg_cgroup::cgroup::Cgroup;
 use cg_cgroup::files::EntryName;
 use cg_cgroup::memory::NoMemory;
 use cg_cgroup::path::Path;
 use cg_cgroup::user::User;
+use cg_model::operation::Op;
+use cg_model::outcome::Refusal;
 use cg_tree::hierarchy::Hierarchy;
 use cg_tree::limits::is_under;
 use std::alloc::Global;

@@ -1,12 +1,12 @@
 //! Setting the mode of a directory or a file.
 ghost use Rattle.std.specs.Prelude.{◌≡◌};
-ghost use Rattle.cg_ops.specs.Clauses.{first};
-ghost use Rattle.cg_ops.specs.Bars.{chmod_bars};
+ghost use Rattle.cg_model.specs.Clauses.{first};
+ghost use Rattle.cg_model.specs.Bars.{chmod_bars};
 
-use crate::outcome::Refusal;
 use cg_cgroup::files::EntryName;
 use cg_cgroup::path::Path;
 use cg_cgroup::user::User;
+use cg_model::outcome::Refusal;
 use cg_tree::hierarchy::Hierarchy;
 
 /// The first refusal that a change of an entry's mode meets.

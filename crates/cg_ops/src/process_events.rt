@@ -1,13 +1,13 @@
 //! Processes that begin and end.
 ghost use Rattle.std.specs.Prelude.{◌≡◌, [], OnOk, OnErr};
-ghost use Rattle.cg_ops.specs.Clauses.{first};
-ghost use Rattle.cg_ops.specs.Bars.{fork_bars, exit_bars};
-ghost use Rattle.cg_ops.specs.Next.{with_fork};
+ghost use Rattle.cg_model.specs.Clauses.{first};
+ghost use Rattle.cg_model.specs.Bars.{fork_bars, exit_bars};
+ghost use Rattle.cg_model.specs.Next.{with_fork};
 
-use crate::outcome::Refusal;
 use cg_cgroup::memory::NoMemory;
 use cg_cgroup::process::Pid;
 use cg_cgroup::user::User;
+use cg_model::outcome::Refusal;
 use cg_tree::hierarchy::Hierarchy;
 use std::alloc::Global;
 

@@ -1,16 +1,16 @@
 //! Moving a process: writing its PID to a `cgroup.procs`.
 ghost use Rattle.std.specs.Prelude.{◌≡◌, ◌||◌};
-ghost use Rattle.cg_ops.specs.Clauses.{first};
-ghost use Rattle.cg_ops.specs.Bars.{passes, move_bars};
+ghost use Rattle.cg_model.specs.Clauses.{first};
+ghost use Rattle.cg_model.specs.Bars.{passes, move_bars};
 ghost use Rattle.cg_cgroup.specs.Paths.{is_root};
 ghost use Rattle.cg_cgroup.specs.Files.{enables_nothing};
 
-use crate::outcome::Refusal;
 use cg_cgroup::cgroup::Cgroup;
 use cg_cgroup::files::EntryName;
 use cg_cgroup::path::Path;
 use cg_cgroup::process::Pid;
 use cg_cgroup::user::User;
+use cg_model::outcome::Refusal;
 use cg_tree::hierarchy::Hierarchy;
 
 /// The first refusal that a move meets.
@@ -43,7 +43,7 @@ pub fn refusal<H: Hierarchy>(tree: &H, user: &User, pid: Pid, to: &Path) -> Opti
 }
 
 /// Whether a user writes the `cgroup.procs` of the common ancestor of two cgroups.
-#[tactic(auto, using(crate::proofs::Prefixes::take_common, crate::proofs::Prefixes::length_common))]
+#[tactic(auto, using(cg_steps::proofs::Prefixes::take_common, cg_steps::proofs::Prefixes::length_common))]
 fn passes<H: Hierarchy>(tree: &H, user: &User, from: &Path, to: &Path) -> bool
     ensures { result ≡ passes (H.state tree.now) user.now from.now to.now }
 {
@@ -54,7 +54,7 @@ fn passes<H: Hierarchy>(tree: &H, user: &User, from: &Path, to: &Path) -> bool
 }
 
 /// Whether processes may be in a cgroup: it is the root, or enables nothing.
-#[tactic(auto, using(crate::proofs::Prefixes::root_of_length, crate::proofs::Prefixes::no_root_of_length))]
+#[tactic(auto, using(cg_steps::proofs::Prefixes::root_of_length, cg_steps::proofs::Prefixes::no_root_of_length))]
 fn may_hold(cgroup: &Cgroup, path: &Path) -> bool
     ensures { result ≡ (is_root path.now || enables_nothing cgroup.now.enabled) }
 {

@@ -1,19 +1,19 @@
 //! Enabling and disabling controllers: a write to a `cgroup.subtree_control`.
 ghost use Rattle.std.specs.Prelude.{◌≡◌, []};
-ghost use Rattle.cg_tree.specs.States.{row_at};
-ghost use Rattle.cg_tree.specs.WellFormed.{available_at};
-ghost use Rattle.cg_ops.specs.Clauses.{first};
-ghost use Rattle.cg_ops.specs.Changes.{effective};
-ghost use Rattle.cg_ops.specs.Bars.{change_bars, may_enable_new, changes_bars, control_bars};
-ghost use Rattle.cg_ops.specs.Next.{next};
+ghost use Rattle.cg_model.specs.States.{row_at};
+ghost use Rattle.cg_model.specs.WellFormed.{available_at};
+ghost use Rattle.cg_model.specs.Clauses.{first};
+ghost use Rattle.cg_model.specs.Changes.{effective};
+ghost use Rattle.cg_model.specs.Bars.{change_bars, may_enable_new, changes_bars, control_bars};
+ghost use Rattle.cg_model.specs.Next.{next};
 
-use crate::changes::Changes;
-use crate::operation::Op;
-use crate::outcome::Refusal;
 use cg_cgroup::cgroup::Cgroup;
 use cg_cgroup::files::{Controller, ControllerSet, EntryName};
 use cg_cgroup::path::Path;
 use cg_cgroup::user::User;
+use cg_model::changes::Changes;
+use cg_model::operation::Op;
+use cg_model::outcome::Refusal;
 use cg_tree::hierarchy::Hierarchy;
 
 /// The first refusal that a write of changes meets.

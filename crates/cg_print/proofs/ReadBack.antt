@@ -19,7 +19,7 @@ use Rattle.cg_cgroup.specs.declared.cgroup.LimitEntry.{LimitEntry}
 use Rattle.cg_cgroup.specs.declared.cgroup.Cgroup.{Cgroup}
 use Rattle.cg_cgroup.specs.declared.process.Process.{Process}
 use Rattle.cg_cgroup.proofs.AllFiles.{each_passes}
-use Rattle.cg_tree.specs.States.{State}
+use Rattle.cg_model.specs.States.{State}
 use Rattle.cg_text.specs.Records.{Text, CgroupRow, ProcessRow, TreeRecords, no_entry}
 use Rattle.cg_text.specs.Faults.{or_fault, bind}
 use Rattle.cg_text.specs.Document as doc

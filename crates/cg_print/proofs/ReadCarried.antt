@@ -9,7 +9,7 @@ use Rattle.toml.specs.Data.{Data, Items, no_items, item, Members}
 use Rattle.cg_cgroup.specs.Paths.{Names}
 use Rattle.cg_cgroup.specs.declared.cgroup.Cgroup.{Cgroup}
 use Rattle.cg_cgroup.proofs.PathOrder.{path_cmp_total}
-use Rattle.cg_tree.specs.States.{State}
+use Rattle.cg_model.specs.States.{State}
 use Rattle.cg_text.specs.Records.{TreeRecords}
 use Rattle.cg_text.specs.Faults.{or_fault, bind}
 use Rattle.cg_text.specs.Document.{TopKeys, most_rows, count_of, rows_from, cgroup_of, process_of, top_of, format_of, has_few_rows, records_as, records_of, HasFewRows}

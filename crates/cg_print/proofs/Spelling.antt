@@ -19,7 +19,7 @@ use Rattle.cg_cgroup.specs.declared.files.LimitFile.{LimitFile}
 use Rattle.cg_cgroup.specs.declared.cgroup.LimitEntry.{LimitEntry}
 use Rattle.cg_cgroup.specs.declared.cgroup.Cgroup.{Cgroup}
 use Rattle.cg_cgroup.specs.declared.process.Process.{Process}
-use Rattle.cg_tree.specs.States.{State}
+use Rattle.cg_model.specs.States.{State}
 use Rattle.cg_print.specs.Keys.{with_key, with_optional}
 use Rattle.cg_print.specs.Documents.{texts_array, names_in, entry_table, value_written, limit_table, table_of_file, with_file, files_table, cgroup_table, process_table, tree_document, IsSpelled}
 

@@ -25,9 +25,9 @@ use Rattle.cg_cgroup.specs.declared.process.Process.{Process}
 use Rattle.cg_cgroup.proofs.PathAt.{path_at-text}
 use Rattle.cg_cgroup.proofs.PathOrder.{path_cmp_total, path_cmp-IsAntisymmetric}
 use Rattle.cg_cgroup.proofs.CgroupLaws.{with_files_of-same}
-use Rattle.cg_tree.specs.States.{State, row_at}
-use Rattle.cg_tree.specs.WellFormed.{enabled_above, IsFormedRow}
-use Rattle.cg_tree.proofs.FormedParts.{may_hold-row}
+use Rattle.cg_model.specs.States.{State, row_at}
+use Rattle.cg_model.specs.WellFormed.{enabled_above, IsFormedRow}
+use Rattle.cg_steps.proofs.FormedParts.{may_hold-row}
 use Rattle.cg_text.specs.Records.{ProcessRow}
 use Rattle.cg_text.specs.Tree.{id_read, mode_read, entry_read, value_read, file_mode, directory_mode, superuser, file_in, controllers_read, passes_entry, passes_file, passes_value, entries_pass, values_pass, entry_written, file_written, cgroup_written, named, named_rows, pairs_of, cgroup_at, files_stand, pid_read, live_process, live_processes}
 use Rattle.cg_text.specs.HasState.{IsWritten, IsListed, ArePathsOnce, ArePidsOnce, IsTreeOf}

@@ -1,7 +1,7 @@
 -- A text of the document of a tree that is kept, and that a text can carry, has the tree's state.
 use Rattle.std.proofs.Common.{◌≡◌, ◌≢◌, ℕ, ◌≤◌, ◌<◌, true, false, nat_le, List, length, Some, Result, Ok, Err, MatchResult, refl, sym, subst, arith}
 use Rattle.std.proofs.lemmas.Bool.Decides.{nat_tests}
-use Rattle.cg_tree.specs.States.{State}
+use Rattle.cg_model.specs.States.{State}
 use Rattle.cg_text.specs.TreeTexts.{longest_text, document_of, tree_of}
 use Rattle.cg_text.specs.Faults.{Reads}
 use Rattle.cg_text.specs.declared.tree.fault.TreeFault.{TreeFault}

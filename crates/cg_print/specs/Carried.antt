@@ -11,8 +11,8 @@ use Rattle.cg_cgroup.specs.declared.files.LimitFile.{LimitFile}
 use Rattle.cg_cgroup.specs.declared.cgroup.LimitEntry.{LimitEntry}
 use Rattle.cg_cgroup.specs.declared.cgroup.Cgroup.{Cgroup}
 use Rattle.cg_cgroup.specs.declared.process.Process.{Process}
-use Rattle.cg_tree.specs.States.{State, process_at, is_used}
-use Rattle.cg_tree.specs.WellFormed.{IsWellFormed}
+use Rattle.cg_model.specs.States.{State, process_at, is_used}
+use Rattle.cg_model.specs.WellFormed.{IsWellFormed}
 use Rattle.cg_text.specs.Document.{most_rows}
 use Rattle.cg_text.specs.TreeTexts.{longest_text}
 use Rattle.cg_print.specs.Documents.{IsSpelled}

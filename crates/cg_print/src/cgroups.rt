@@ -10,8 +10,8 @@ ghost use Rattle.cg_cgroup.specs.Cgroups.{file_of};
 ghost use Rattle.cg_cgroup.specs.declared.cgroup.Cgroup.{Cgroup};
 ghost use Rattle.cg_cgroup.specs.declared.cgroup.LimitEntry.{LimitEntry};
 ghost use Rattle.cg_cgroup.specs.declared.files.LimitFile.{LimitFile};
-ghost use Rattle.cg_tree.specs.States.{row_at};
-ghost use Rattle.cg_tree.specs.WellFormed.{has_row};
+ghost use Rattle.cg_model.specs.States.{row_at};
+ghost use Rattle.cg_model.specs.WellFormed.{has_row};
 ghost use Rattle.cg_print.specs.Carried.{HasIds, FileHasIds, IsNamedRow, AreNamedRows};
 ghost use Rattle.cg_print.specs.Documents.{entry_table, value_written, limit_table, with_file, files_table, cgroup_table, cgroups_written};
 

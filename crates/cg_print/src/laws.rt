@@ -1,6 +1,6 @@
 //! What holds of every tree that is written.
 ghost use Rattle.std.specs.Prelude.{◌≡◌, ◌≢◌, ◌≤◌, ℕ, List, length, Some, Ok, MatchResult};
-ghost use Rattle.cg_tree.specs.States.{State};
+ghost use Rattle.cg_model.specs.States.{State};
 ghost use Rattle.cg_text.specs.TreeTexts.{longest_text, document_of, tree_of};
 ghost use Rattle.cg_text.specs.declared.tree.fault.TreeFault.TheVariants.{NoMemory as MemoryFault, TooLong};
 ghost use Rattle.cg_print.specs.Carried.{IsKept, IsCarried, IsTooLong};

@@ -5,7 +5,7 @@ ghost use Rattle.std.specs.FinMap as map;
 ghost use Rattle.toml.specs.Data.{array, table};
 ghost use Rattle.toml.specs.View.{view, items_of, table_view};
 ghost use Rattle.cg_cgroup.specs.declared.process.Process.{Process};
-ghost use Rattle.cg_tree.specs.States.{process_at};
+ghost use Rattle.cg_model.specs.States.{process_at};
 ghost use Rattle.cg_print.specs.Carried.{IsNamedProcess, AreNamedProcesses};
 ghost use Rattle.cg_print.specs.Documents.{process_table, processes_written};
 

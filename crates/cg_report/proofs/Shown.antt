@@ -7,18 +7,17 @@ use Rattle.cg_cgroup.specs.Users.{reaches}
 use Rattle.cg_cgroup.specs.Files.{all_files}
 use Rattle.cg_cgroup.specs.declared.user.Entry.{Entry}
 use Rattle.cg_cgroup.specs.declared.files.LimitFile.{LimitFile as File}
-use Rattle.cg_tree.specs.States.{State}
-use Rattle.cg_ops.specs.Clauses.{unless, present}
-use Rattle.cg_ops.specs.declared.operation.Op.{Op}
-use Rattle.cg_guards.specs.Guards.{Guarded, ancestors, limit_files, guarded_entries, guarded_entry, entry_failures, over_failures, failures}
-use Rattle.cg_guards.specs.declared.guard.Failed.{Failed}
-use Rattle.cg_tries.specs.Escapes.{first_escape}
-use Rattle.cg_check.specs.declared.answer.Answer.{Answer}
-use Rattle.cg_check.specs.Answers.{answer_from, answer}
-use Rattle.cg_runs.specs.declared.fault.CheckFault.{CheckFault}
-use Rattle.cg_check.specs.Checks.{subtree_faults, unless_fault, checked}
-use Rattle.cg_ops.specs.Clauses.{first}
-use Rattle.cg_check.proofs.Lists.{all-append}
+use Rattle.cg_model.specs.States.{State}
+use Rattle.cg_model.specs.Clauses.{unless, present, first}
+use Rattle.cg_model.specs.declared.operation.Op.{Op}
+use Rattle.cg_model.specs.Guards.{Guarded, ancestors, limit_files, guarded_entries, guarded_entry, entry_failures, over_failures, failures}
+use Rattle.cg_model.specs.declared.guard.Failed.{Failed}
+use Rattle.cg_model.specs.Escapes.{first_escape}
+use Rattle.cg_model.specs.declared.answer.Answer.{Answer}
+use Rattle.cg_model.specs.Answers.{answer_from, answer}
+use Rattle.cg_model.specs.declared.fault.CheckFault.{CheckFault}
+use Rattle.cg_model.specs.Checks.{subtree_faults, unless_fault, checked}
+use Rattle.cg_steps.proofs.Lists.{all-append}
 use Rattle.cg_report.specs.AnswerLines.{IsShown}
 
 pub all_flat : {A B : Type 0} (P : B → Type 0) (Q : A → Type 0) (f : A → List B) → ((x : A) → Q x → AllByRecursion P (f x)) → (xs : List A) → AllByRecursion Q xs → AllByRecursion P (flat_map f xs)
@@ -39,7 +38,7 @@ ancestors_within : (len many : ℕ) → many ≤ len → AllByRecursion (Within 
 ancestors_within len zero le = tt
 ancestors_within len (suc many) le = (omega (arith, le), ancestors_within len many (omega (arith, le)))
 
-files_within : (len : ℕ) (files : List File) → AllByRecursion (Within len) (map (λ file. record { guard = Rattle.cg_guards.specs.declared.guard.Guard.TheVariants.LimitFile file; len = len; name = Rattle.cg_cgroup.specs.declared.files.EntryName.TheVariants.File file }) files)
+files_within : (len : ℕ) (files : List File) → AllByRecursion (Within len) (map (λ file. record { guard = Rattle.cg_model.specs.declared.guard.Guard.TheVariants.LimitFile file; len = len; name = Rattle.cg_cgroup.specs.declared.files.EntryName.TheVariants.File file }) files)
 files_within len [] = tt
 files_within len (file ∷ files) = (omega arith, files_within len files)
 

@@ -4,17 +4,17 @@ use Rattle.std.specs.Prelude.{unwrap_or}
 use Rattle.std.specs.List.{AllByRecursion, flat_map}
 use Rattle.cg_cgroup.specs.Paths.{Names}
 use Rattle.cg_cgroup.specs.Identity.{Identity}
-use Rattle.cg_tree.specs.States.{State}
-use Rattle.cg_ops.specs.Clauses.{first}
-use Rattle.cg_runs.specs.declared.fault.CheckFault.{CheckFault}
-use Rattle.cg_check.specs.Answers.{answer}
-use Rattle.cg_check.specs.AllAnswers.{pair_unless_contained, pairs_of, pairs_from, all_answers}
-use Rattle.cg_check.specs.Checks.{subtree_faults, unless_fault, all_checked}
-use Rattle.cg_check.specs.declared.answer.Answer.{Answer}
-use Rattle.cg_check.specs.declared.answer.Answer.TheVariants as one
-use Rattle.cg_check.specs.declared.answer.AllAnswer.{AllAnswer}
-use Rattle.cg_check.specs.declared.answer.AllAnswer.TheVariants.{Contained}
-use Rattle.cg_check.proofs.Lists.{all-append}
+use Rattle.cg_model.specs.States.{State}
+use Rattle.cg_model.specs.Clauses.{first}
+use Rattle.cg_model.specs.declared.fault.CheckFault.{CheckFault}
+use Rattle.cg_model.specs.Answers.{answer}
+use Rattle.cg_model.specs.AllAnswers.{pair_unless_contained, pairs_of, pairs_from, all_answers}
+use Rattle.cg_model.specs.Checks.{subtree_faults, unless_fault, all_checked}
+use Rattle.cg_model.specs.declared.answer.Answer.{Answer}
+use Rattle.cg_model.specs.declared.answer.Answer.TheVariants as one
+use Rattle.cg_model.specs.declared.answer.AllAnswer.{AllAnswer}
+use Rattle.cg_model.specs.declared.answer.AllAnswer.TheVariants.{Contained}
+use Rattle.cg_steps.proofs.Lists.{all-append}
 use Rattle.cg_report.specs.AnswerLines.{IsShown}
 use Rattle.cg_report.specs.AuditLines.{subtree_at, IsPairShown}
 use Rattle.cg_report.proofs.Shown.{answer_is_shown}

@@ -5,12 +5,12 @@ use Rattle.cg_cgroup.specs.Paths.{Names, path_text}
 use Rattle.cg_cgroup.specs.Files.{file_name}
 use Rattle.cg_lines.specs.Outcomes.{spaced}
 use Rattle.cg_lines.specs.OperationLines.{spelling}
-use Rattle.cg_ops.specs.declared.operation.Op.{Op}
-use Rattle.cg_guards.specs.declared.guard.Guard.{Guard}
-use Rattle.cg_guards.specs.declared.guard.Guard.TheVariants.{CommonAncestor, LimitFile, ParentControl, ParentDir, AlreadyOver}
-use Rattle.cg_guards.specs.declared.guard.Failed.{Failed}
-use Rattle.cg_check.specs.declared.answer.Answer.{Answer}
-use Rattle.cg_check.specs.declared.answer.Answer.TheVariants.{Contained, Escapes, Unsettled}
+use Rattle.cg_model.specs.declared.operation.Op.{Op}
+use Rattle.cg_model.specs.declared.guard.Guard.{Guard}
+use Rattle.cg_model.specs.declared.guard.Guard.TheVariants.{CommonAncestor, LimitFile, ParentControl, ParentDir, AlreadyOver}
+use Rattle.cg_model.specs.declared.guard.Failed.{Failed}
+use Rattle.cg_model.specs.declared.answer.Answer.{Answer}
+use Rattle.cg_model.specs.declared.answer.Answer.TheVariants.{Contained, Escapes, Unsettled}
 
 -- a guard that fails, and the cgroup at which it does; and the limit file, where it is one's
 abbrev pub guard_text : Guard → List ℕ → List ℕ

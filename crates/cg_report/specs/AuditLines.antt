@@ -3,8 +3,8 @@ use Rattle.std.specs.Prelude.{ℕ, ◌<◌, List, [], ◌++◌, length, map, get
 use Rattle.std.specs.Fmt.{decimal}
 use Rattle.cg_cgroup.specs.Paths.{Names, path_text}
 use Rattle.cg_cgroup.specs.Identity.{Identity}
-use Rattle.cg_check.specs.declared.answer.AllAnswer.{AllAnswer}
-use Rattle.cg_check.specs.declared.answer.AllAnswer.TheVariants.{Contained, Pair}
+use Rattle.cg_model.specs.declared.answer.AllAnswer.{AllAnswer}
+use Rattle.cg_model.specs.declared.answer.AllAnswer.TheVariants.{Contained, Pair}
 use Rattle.cg_report.specs.AnswerLines.{answer_text, IsShown}
 
 -- the uid of the user at a place of a list, and the subtree at one

@@ -2,4 +2,3 @@ pub mod VerdictLines
 pub mod AnswerLines
 pub mod AuditLines
 pub mod PairLines
-pub mod EscapeLines

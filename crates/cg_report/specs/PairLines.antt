@@ -4,7 +4,7 @@ use Rattle.std.specs.List.{flat_map}
 use Rattle.std.specs.Fmt.{decimal}
 use Rattle.cg_cgroup.specs.Paths.{Names, path_text}
 use Rattle.cg_cgroup.specs.Identity.{Identity}
-use Rattle.cg_check.specs.Listed.{Listed}
+use Rattle.cg_model.specs.Listed.{Listed}
 use Rattle.cg_report.specs.AnswerLines.{answer_text}
 
 -- a gid behind another one

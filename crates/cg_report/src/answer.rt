@@ -2,17 +2,17 @@
 ghost use Rattle.std.specs.Prelude.{◌≡◌, ◌≤◌, ◌++◌, length, Ok, IfOk, OnOk, string_bytes};
 ghost use Rattle.cg_cgroup.specs.Paths.{Names};
 ghost use Rattle.cg_cgroup.specs.Identity.{Identity};
-ghost use Rattle.cg_tree.specs.States.{State};
-ghost use Rattle.cg_check.specs.Checks.{checked};
-ghost use Rattle.cg_check.specs.declared.answer.Answer.{Answer};
+ghost use Rattle.cg_model.specs.States.{State};
+ghost use Rattle.cg_model.specs.Checks.{checked};
+ghost use Rattle.cg_model.specs.declared.answer.Answer.{Answer};
 ghost use Rattle.cg_report.specs.AnswerLines.{answer_text, failed_text, op_lines, IsShown};
 
 use cg_cgroup::memory::NoMemory;
 use cg_cgroup::path::Path;
-use cg_check::answer::Answer;
-use cg_guards::guard::{Failed, Guard};
 use cg_lines::lines::op_text;
-use cg_ops::operation::Op;
+use cg_model::answer::Answer;
+use cg_model::guard::{Failed, Guard};
+use cg_model::operation::Op;
 use std::alloc::{AllocError, Global};
 
 /// The lines of the answer for a subtree, each with its newline: `contained`; `escapes` and the line of each operation;

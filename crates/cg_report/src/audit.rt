@@ -2,16 +2,16 @@
 ghost use Rattle.std.specs.Prelude.{◌≡◌, ℕ, List, Ok, IfOk, string_bytes};
 ghost use Rattle.cg_cgroup.specs.Identity.{Identity};
 ghost use Rattle.cg_cgroup.specs.Paths.{Names};
-ghost use Rattle.cg_tree.specs.States.{State};
-ghost use Rattle.cg_check.specs.Checks.{all_checked};
-ghost use Rattle.cg_check.specs.declared.answer.AllAnswer.{AllAnswer};
+ghost use Rattle.cg_model.specs.States.{State};
+ghost use Rattle.cg_model.specs.Checks.{all_checked};
+ghost use Rattle.cg_model.specs.declared.answer.AllAnswer.{AllAnswer};
 ghost use Rattle.cg_report.specs.AuditLines.{audit_text, pair_line, IsPairShown};
 
 use crate::answer::answer_text;
 use cg_cgroup::memory::NoMemory;
 use cg_cgroup::path::Path;
 use cg_cgroup::user::User;
-use cg_check::answer::AllAnswer;
+use cg_model::answer::AllAnswer;
 use std::alloc::{AllocError, Global};
 
 /// The lines of the answer for users and subtrees, each with its newline: `contained`, or the line of the first pair that

@@ -3,6 +3,5 @@
 
 pub mod answer;
 pub mod audit;
-pub mod laws;
 pub mod pair;
 pub mod verdict;

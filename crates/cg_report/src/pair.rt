@@ -8,7 +8,7 @@ use crate::answer::answer_text;
 use cg_cgroup::memory::NoMemory;
 use cg_cgroup::path::Path;
 use cg_cgroup::user::User;
-use cg_check::answer::Answer;
+use cg_model::answer::Answer;
 use std::alloc::{AllocError, Global};
 
 /// The line of a user and a subtree, and then those of their answer, each with its newline. Fails where memory is wanted.

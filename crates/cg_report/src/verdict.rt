@@ -3,7 +3,7 @@ ghost use Rattle.std.specs.Prelude.{◌≡◌, IfOk, string_bytes};
 ghost use Rattle.cg_report.specs.VerdictLines.{clause_text, verdict_text};
 
 use cg_cgroup::memory::NoMemory;
-use cg_runs::verdict::{Clause, Verdict};
+use cg_model::verdict::{Clause, Verdict};
 use std::alloc::{AllocError, Global};
 
 /// The line of a verdict, with its newline: `kept`, or `broken`, after how many steps, and what. Fails where memory is

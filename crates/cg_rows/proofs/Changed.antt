@@ -11,10 +11,10 @@ use Rattle.std.specs.FinMap as map
 use Rattle.std.specs.FinMap.{is_sorted}
 use Rattle.std.specs.FinMap.Entries.{below_all}
 use Rattle.cg_cgroup.specs.Paths.{Names, path_cmp}
-use Rattle.cg_tree.specs.States.{change_each}
+use Rattle.cg_model.specs.States.{change_each}
 use Rattle.cg_cgroup.specs.declared.cgroup.Cgroup.{Cgroup}
 use Rattle.cg_cgroup.proofs.PathOrder.{path_cmp_total}
-use Rattle.cg_tree.proofs.MapLaws.{entries-changed}
+use Rattle.cg_steps.proofs.MapLaws.{entries-changed}
 use Rattle.cg_rows.proofs.Sorted.{shown_entries, holds_true}
 
 module _ {X : Type 0} (f : X → X) where

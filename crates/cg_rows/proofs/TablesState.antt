@@ -6,8 +6,8 @@ use Rattle.std.specs.Ordering.{nat_cmp}
 use Rattle.std.specs.FinMap as map
 use Rattle.cg_cgroup.specs.Paths.{Names, path_cmp, parent}
 use Rattle.cg_cgroup.specs.Files.{no_controllers, is_within}
-use Rattle.cg_tree.specs.States.{State, row_at, process_at, change_at}
-use Rattle.cg_tree.specs.WellFormed.{IsWellFormed, IsFormedRow, has_row, available_at, enabled_above}
+use Rattle.cg_model.specs.States.{State, row_at, process_at, change_at}
+use Rattle.cg_model.specs.WellFormed.{IsWellFormed, IsFormedRow, has_row, available_at, enabled_above}
 use Rattle.cg_rows.specs.Processes.{LiveAndUsed, no_processes}
 use Rattle.cg_rows.specs.RowsForm.{state_of_tables, state_of_root, IsRoot}
 use Rattle.cg_cgroup.specs.declared.files.ControllerSet.{ControllerSet}

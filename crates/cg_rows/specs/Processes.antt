@@ -4,7 +4,7 @@ use Rattle.std.specs.Ordering.{nat_cmp}
 use Rattle.std.specs.FinMap as map
 use Rattle.std.specs.FinSet as set
 use Rattle.cg_cgroup.specs.Paths.{Names}
-use Rattle.cg_tree.specs.States.{placed_at}
+use Rattle.cg_model.specs.States.{placed_at}
 use Rattle.cg_cgroup.specs.declared.process.Process.{Process}
 
 pub record LiveAndUsed : Type 0 where

@@ -4,8 +4,8 @@ use Rattle.std.specs.FinMap as map
 use Rattle.std.specs.FinSet as set
 use Rattle.cg_cgroup.specs.Paths.{path_cmp}
 use Rattle.cg_cgroup.specs.Files.{no_controllers, is_within}
-use Rattle.cg_tree.specs.States.{State}
-use Rattle.cg_tree.specs.WellFormed.{IsFormedRow}
+use Rattle.cg_model.specs.States.{State}
+use Rattle.cg_model.specs.WellFormed.{IsFormedRow}
 use Rattle.cg_cgroup.specs.declared.files.ControllerSet.{ControllerSet}
 use Rattle.cg_cgroup.specs.declared.cgroup.Cgroup.{Cgroup}
 use Rattle.cg_rows.specs.Processes.{LiveAndUsed}

@@ -2,7 +2,7 @@
 ghost use Rattle.std.specs.Prelude.{◌≡◌, ◌≤◌, length, IfOk};
 ghost use Rattle.std.specs.FinMap as map;
 ghost use Rattle.cg_rows.specs.RowsForm.{IsRoot, state_of_root, state_of_tables};
-ghost use Rattle.cg_tree.specs.WellFormed.{IsWellFormed};
+ghost use Rattle.cg_model.specs.WellFormed.{IsWellFormed};
 ghost use Rattle.cg_tree.specs.Limits.{is_full};
 
 mod below;
@@ -35,14 +35,14 @@ impl Model for Rows {
     ghost use Rattle.std.specs.Coded.{codes};
     ghost use Rattle.std.specs.FinMap as map;
     ghost use Rattle.std.specs.FinSet as set;
-    ghost use Rattle.cg_tree.specs.States.{State};
+    ghost use Rattle.cg_model.specs.States.{State};
 
     ghost Value = { State };
 
     ghost coded = { Prim.hlevel (codes, map.code, set.code) };
 
     ghost use Rattle.cg_rows.specs.RowsForm.{state_of_tables};
-    ghost use Rattle.cg_tree.specs.WellFormed.{IsWellFormed};
+    ghost use Rattle.cg_model.specs.WellFormed.{IsWellFormed};
 
     ghost view = { λ t. state_of_tables t.rows t.processes t.controllers };
 

@@ -4,30 +4,31 @@ use Rattle.cg_cgroup.specs.Paths.{Names, is_root}
 use Rattle.cg_cgroup.specs.Identity.{Identity}
 use Rattle.cg_cgroup.specs.Cgroups.{value_in}
 use Rattle.cg_cgroup.specs.declared.cgroup.Cgroup.{Cgroup}
-use Rattle.cg_tree.specs.States.{State, row_at}
-use Rattle.cg_tree.specs.WellFormed.{IsWellFormed}
-use Rattle.cg_ops.specs.Steps.{after, after_all, Deed}
-use Rattle.cg_ops.specs.declared.operation.Op.{Op}
-use Rattle.cg_ops.specs.declared.outcome.Refusal.{Refusal}
-use Rattle.cg_ops.specs.declared.outcome.Outcome.{Outcome}
-use Rattle.cg_ops.specs.declared.outcome.Outcome.TheVariants.{Done, Refused}
-use Rattle.cg_ops.specs.Clauses.{first}
-use Rattle.cg_ops.specs.Bars.{bars}
-use Rattle.cg_ops.specs.Next.{next}
-use Rattle.cg_ops.specs.Outcomes.{RefusedBy, IsRefused}
-use Rattle.cg_ops.proofs.Prefixes.{take_whole, no_root_of_length}
-use Rattle.cg_ops.proofs.StepFormed.{after-allowed, after-barred}
-use Rattle.cg_guards.specs.Limits.{Limits as LimitMap, limits, same_limits}
-use Rattle.cg_guards.proofs.Sound.{sound-formed, sound-after}
-use Rattle.cg_guards.proofs.Crossing.{none-crosses-same}
-use Rattle.cg_runs.specs.Verdicts.{broken, broken_since, or_later, verdict_from}
-use Rattle.cg_runs.specs.Replays.{Progress, or_broken, stepped, IsRunOf}
+use Rattle.cg_model.specs.States.{State, row_at}
+use Rattle.cg_model.specs.WellFormed.{IsWellFormed}
+use Rattle.cg_model.specs.Steps.{after, after_all, Deed}
+use Rattle.cg_model.specs.declared.operation.Op.{Op}
+use Rattle.cg_model.specs.declared.outcome.Refusal.{Refusal}
+use Rattle.cg_model.specs.declared.outcome.Outcome.{Outcome}
+use Rattle.cg_model.specs.declared.outcome.Outcome.TheVariants.{Done, Refused}
+use Rattle.cg_model.specs.Clauses.{first}
+use Rattle.cg_model.specs.Bars.{bars}
+use Rattle.cg_model.specs.Next.{next}
+use Rattle.cg_steps.specs.Outcomes.{RefusedBy, IsRefused}
+use Rattle.cg_steps.proofs.Prefixes.{take_whole, no_root_of_length}
+use Rattle.cg_steps.proofs.StepFormed.{after-allowed, after-barred}
+use Rattle.cg_model.specs.Limits.{Limits as LimitMap, limits, same_limits}
+use Rattle.cg_laws.proofs.Sound.{sound-formed, sound-after}
+use Rattle.cg_steps.proofs.Edges.{none-crosses-same}
+use Rattle.cg_model.specs.Verdicts.{broken, broken_since, or_later, verdict_from}
+use Rattle.cg_model.specs.Replays.{Progress, or_broken, stepped}
+use Rattle.cg_runs.specs.Replays.{IsRunOf}
 use Rattle.cg_runs.specs.Shortcuts.{may_break, moves_over, broken_by, IsIntact, IsReplay}
-use Rattle.cg_runs.specs.declared.verdict.Clause.{Clause}
-use Rattle.cg_runs.specs.declared.verdict.Verdict.{Verdict}
-use Rattle.cg_runs.specs.declared.verdict.Verdict.TheVariants.{Kept, Broken}
-use Rattle.cg_runs.proofs.LimitLaws.{same_limits-is, same_limits-itself}
-use Rattle.cg_runs.proofs.BrokenLaws.{IsWhole, whole-broken, broken-whole}
+use Rattle.cg_model.specs.declared.verdict.Clause.{Clause}
+use Rattle.cg_model.specs.declared.verdict.Verdict.{Verdict}
+use Rattle.cg_model.specs.declared.verdict.Verdict.TheVariants.{Kept, Broken}
+use Rattle.cg_steps.proofs.LimitLaws.{same_limits-is, same_limits-itself}
+use Rattle.cg_steps.proofs.BrokenLaws.{IsWhole, whole-broken, broken-whole}
 use Rattle.cg_runs.proofs.ShortcutLaws.{first-broken_by}
 
 -- ---- intact is whole where nothing moves

@@ -1,10 +1,10 @@
 -- Why a replay doesn't start.
 use Rattle.std.specs.Prelude.{◌≡◌, true, false}
 use Rattle.cg_cgroup.specs.Paths.{Names, is_root}
-use Rattle.cg_tree.specs.States.{State}
-use Rattle.cg_tree.specs.WellFormed.{has_row}
-use Rattle.cg_runs.specs.declared.fault.CheckFault.{CheckFault}
-use Rattle.cg_runs.specs.declared.fault.CheckFault.TheVariants.{RootSubtree, NoSuchSubtree, NoMemory}
+use Rattle.cg_model.specs.States.{State}
+use Rattle.cg_model.specs.WellFormed.{has_row}
+use Rattle.cg_model.specs.declared.fault.CheckFault.{CheckFault}
+use Rattle.cg_model.specs.declared.fault.CheckFault.TheVariants.{RootSubtree, NoSuchSubtree, NoMemory}
 
 -- The first thing that is wrong with a subtree that is asked about.
 abbrev pub IsFaultOf : CheckFault → State → Names → Type 0

@@ -1,37 +1,9 @@
 -- A replay: a run and its verdict, as they stand after the steps so far.
-use Rattle.std.specs.Prelude.{◌≡◌, ℕ, suc, List, length, Some}
-use Rattle.cg_cgroup.specs.Paths.{Names}
-use Rattle.cg_cgroup.specs.Identity.{Identity}
-use Rattle.cg_cgroup.specs.Cgroups.{value_in}
-use Rattle.cg_cgroup.specs.declared.cgroup.Cgroup.{Cgroup}
-use Rattle.cg_tree.specs.States.{State, row_at}
-use Rattle.cg_ops.specs.Steps.{after, after_all, Deed}
-use Rattle.cg_ops.specs.declared.operation.Op.{Op}
-use Rattle.cg_runs.specs.Verdicts.{broken_since, or_later, verdict}
-use Rattle.cg_runs.specs.declared.verdict.Clause.{Clause}
-use Rattle.cg_runs.specs.declared.verdict.Verdict.{Verdict}
-use Rattle.cg_runs.specs.declared.verdict.Verdict.TheVariants.{Kept, Broken}
-
--- The cgroup of the subtree at the start, the state now, how many steps led to it, and the verdict on them.
-pub record Progress : Type 0 where
-  pub subtree : Names
-  pub original : Cgroup
-  pub state : State
-  pub steps : ℕ
-  pub verdict : Verdict
-
--- a verdict with one step more, which breaks these: a break stays
-abbrev pub or_broken : Verdict → List Clause → ℕ → Verdict
-or_broken Kept clauses steps = or_later clauses steps Kept
-or_broken (Broken earlier clause) clauses steps = Broken earlier clause
-
--- one step more, of an operation that may be refused
-abbrev pub stepped : Progress → Identity → Op → Progress
-stepped run user op = record run {
-  state = after run.state user op;
-  steps = suc run.steps;
-  verdict = or_broken run.verdict (broken_since (value_in run.original) run.state (after run.state user op) run.subtree) (suc run.steps);
-}
+use Rattle.std.specs.Prelude.{◌≡◌, List, length, Some}
+use Rattle.cg_model.specs.States.{State, row_at}
+use Rattle.cg_model.specs.Steps.{after_all, Deed}
+use Rattle.cg_model.specs.Verdicts.{verdict}
+use Rattle.cg_model.specs.Replays.{Progress}
 
 -- Where a run from a start has come to by these deeds, and the verdict on it.
 pub record IsRunOf (run : Progress) (start : State) (deeds : List Deed) : Type 0 where

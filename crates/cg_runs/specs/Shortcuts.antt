@@ -3,21 +3,21 @@
 use Rattle.std.specs.Prelude.{◌≡◌, ◌≤◌, Bool, true, false, not, ◌||◌, List, [], Some}
 use Rattle.cg_cgroup.specs.Paths.{Names, same_path, is_child}
 use Rattle.cg_cgroup.specs.Cgroups.{value_in}
-use Rattle.cg_tree.specs.States.{State, place_at}
-use Rattle.cg_tree.specs.WellFormed.{has_row}
-use Rattle.cg_ops.specs.Clauses.{unless}
-use Rattle.cg_ops.specs.declared.operation.Op.{Op}
-use Rattle.cg_ops.specs.declared.operation.Op.TheVariants.{Move, Control, Rmdir, Set}
-use Rattle.cg_ops.specs.declared.outcome.Outcome.{Outcome}
-use Rattle.cg_ops.specs.declared.outcome.Outcome.TheVariants.{Done}
-use Rattle.cg_guards.specs.Limits.{Limits as LimitMap, limits, same_limits, fits_descendants, fits_depth}
-use Rattle.cg_guards.specs.Edge.{is_crossed}
-use Rattle.cg_guards.specs.Sound.{IsSound}
-use Rattle.cg_runs.specs.Replays.{Progress}
-use Rattle.cg_runs.specs.declared.verdict.Clause.{Clause}
-use Rattle.cg_runs.specs.declared.verdict.Clause.TheVariants.{Gone, Crossed, Limits}
-use Rattle.cg_runs.specs.declared.verdict.Verdict.{Verdict}
-use Rattle.cg_runs.specs.declared.verdict.Verdict.TheVariants.{Kept}
+use Rattle.cg_model.specs.States.{State, place_at}
+use Rattle.cg_model.specs.WellFormed.{has_row}
+use Rattle.cg_model.specs.Clauses.{unless}
+use Rattle.cg_model.specs.declared.operation.Op.{Op}
+use Rattle.cg_model.specs.declared.operation.Op.TheVariants.{Move, Control, Rmdir, Set}
+use Rattle.cg_model.specs.declared.outcome.Outcome.{Outcome}
+use Rattle.cg_model.specs.declared.outcome.Outcome.TheVariants.{Done}
+use Rattle.cg_model.specs.Limits.{Limits as LimitMap, limits, same_limits, fits_descendants, fits_depth}
+use Rattle.cg_model.specs.Edge.{is_crossed}
+use Rattle.cg_laws.specs.Sound.{IsSound}
+use Rattle.cg_model.specs.Replays.{Progress}
+use Rattle.cg_model.specs.declared.verdict.Clause.{Clause}
+use Rattle.cg_model.specs.declared.verdict.Clause.TheVariants.{Gone, Crossed, Limits}
+use Rattle.cg_model.specs.declared.verdict.Verdict.{Verdict}
+use Rattle.cg_model.specs.declared.verdict.Verdict.TheVariants.{Kept}
 
 -- the operation, carried out, moves a process over the edge
 abbrev pub moves_over : State → Names → Op → Bool

@@ -2,19 +2,19 @@
 ghost use Rattle.std.specs.Prelude.{◌≡◌, [], List, true, Some};
 ghost use Rattle.cg_cgroup.specs.Paths.{is_child};
 ghost use Rattle.cg_cgroup.specs.Cgroups.{value_in};
-ghost use Rattle.cg_tree.specs.States.{row_at};
-ghost use Rattle.cg_ops.specs.Clauses.{first, unless};
-ghost use Rattle.cg_guards.specs.Limits.{limits, same_limits};
-ghost use Rattle.cg_runs.specs.Verdicts.{broken, or_later};
+ghost use Rattle.cg_model.specs.States.{row_at};
+ghost use Rattle.cg_model.specs.Clauses.{first, unless};
+ghost use Rattle.cg_model.specs.Limits.{limits, same_limits};
+ghost use Rattle.cg_model.specs.Verdicts.{broken, or_later};
 ghost use Rattle.cg_runs.specs.Shortcuts.{moves_over, may_break, broken_by};
 
-use crate::verdict::{Clause, Verdict};
 use cg_cgroup::cgroup::Cgroup;
 use cg_cgroup::files::LimitFile;
 use cg_cgroup::path::Path;
 use cg_guards::failed::{fits_depth, fits_descendants};
-use cg_ops::operation::Op;
-use cg_ops::outcome::Outcome;
+use cg_model::operation::Op;
+use cg_model::outcome::Outcome;
+use cg_model::verdict::{Clause, Verdict};
 use cg_tree::hierarchy::Hierarchy;
 
 /// What is broken of a subtree before any step: it may be over its own limits.

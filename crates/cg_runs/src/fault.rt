@@ -1,19 +1,8 @@
-//! Why a subtree isn't checked, and why a step isn't made.
+//! Why a step of a replay isn't made.
 ghost use Rattle.std.specs.Prelude.{◌≡◌};
 ghost use Rattle.cg_runs.specs.declared.fault.StepFault.{StepFault};
 
 use cg_cgroup::memory::NoMemory;
-
-/// Why a subtree isn't checked.
-#[derive(Clone, Copy, Debug, PartialEq, Eq)]
-pub enum CheckFault {
-    /// 1: the subtree is the root.
-    RootSubtree,
-    /// 2: the subtree isn't there.
-    NoSuchSubtree,
-    /// 3: an allocation was refused.
-    NoMemory,
-}
 
 /// Why a step of a replay isn't made.
 #[derive(Clone, Copy, Debug, PartialEq, Eq)]

@@ -1,22 +1,24 @@
 //! Replaying operations on a tree, with the verdict on a subtree.
 ghost use Rattle.std.specs.Prelude.{◌≡◌, ◌↔◌, true, [], IfOk, IfErr, OnOk, OnErr};
-ghost use Rattle.cg_ops.specs.Clauses.{first};
-ghost use Rattle.cg_ops.specs.Bars.{bars};
+ghost use Rattle.cg_model.specs.Clauses.{first};
+ghost use Rattle.cg_model.specs.Bars.{bars};
 ghost use Rattle.cg_ops.specs.Memory.{takes_memory};
-ghost use Rattle.cg_ops.specs.Outcomes.{RefusedBy};
-ghost use Rattle.cg_guards.specs.Guarding.{IsSubtree};
-ghost use Rattle.cg_runs.specs.Replays.{stepped, IsRunOf};
+ghost use Rattle.cg_steps.specs.Outcomes.{RefusedBy};
+ghost use Rattle.cg_model.specs.Guards.{IsSubtree};
+ghost use Rattle.cg_model.specs.Replays.{stepped};
+ghost use Rattle.cg_runs.specs.Replays.{IsRunOf};
 ghost use Rattle.cg_runs.specs.Faults.{IsFaultOf};
 
 use crate::broken::{broken_at_start, broken_by, may_break, moves_over, verdict_by};
-use crate::fault::{CheckFault, StepFault};
-use crate::verdict::Verdict;
+use crate::fault::StepFault;
 use cg_cgroup::cgroup::Cgroup;
 use cg_cgroup::path::Path;
 use cg_cgroup::user::User;
+use cg_model::fault::CheckFault;
+use cg_model::operation::Op;
+use cg_model::outcome::Outcome;
+use cg_model::verdict::Verdict;
 use cg_ops::apply;
-use cg_ops::operation::Op;
-use cg_ops::outcome::Outcome;
 use cg_tree::hierarchy::Hierarchy;
 use std::alloc::Global;
 use std::marker::Model;
@@ -40,7 +42,7 @@ impl<H: Hierarchy> Model for Replay<H> {
     ghost use Rattle.std.specs.Coded.{codes};
     ghost use Rattle.std.specs.FinMap as map;
     ghost use Rattle.std.specs.FinSet as set;
-    ghost use Rattle.cg_runs.specs.Replays.{Progress};
+    ghost use Rattle.cg_model.specs.Replays.{Progress};
     ghost use Rattle.cg_runs.specs.Shortcuts.{IsReplay};
 
     ghost Value = { Progress };

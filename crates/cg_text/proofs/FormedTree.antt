@@ -5,8 +5,8 @@ use Rattle.std.specs.FinMap.{nat_cmp-IsAntisymmetric}
 use Rattle.cg_cgroup.specs.Paths.{Names, is_root, parent}
 use Rattle.cg_cgroup.specs.Files.{no_controllers, accepts, stands_under, enables_nothing, is_within}
 use Rattle.cg_cgroup.specs.Cgroups.{file_of, entry_in, file_made_by, with_files_of}
-use Rattle.cg_tree.specs.States.{State, row_at, process_at}
-use Rattle.cg_tree.specs.WellFormed.{has_row, enabled_above, available_at, may_hold, IsFormedRow, IsWellFormed}
+use Rattle.cg_model.specs.States.{State, row_at, process_at}
+use Rattle.cg_model.specs.WellFormed.{has_row, enabled_above, available_at, may_hold, IsFormedRow, IsWellFormed}
 use Rattle.cg_cgroup.proofs.PathOrder.{path_cmp-IsAntisymmetric}
 use Rattle.cg_cgroup.proofs.PathParents.{parent-root}
 use Rattle.cg_cgroup.proofs.CgroupLaws.{accepts-default_value, file_of-with_files_of}

@@ -6,8 +6,8 @@ use Rattle.cg_cgroup.specs.Paths.{Names, IsPath, path_at}
 use Rattle.cg_cgroup.specs.Numbers.{is_pid}
 use Rattle.cg_cgroup.proofs.PathAt.{path_at-is}
 use Rattle.cg_cgroup.proofs.PathOrder.{path_cmp-IsAntisymmetric}
-use Rattle.cg_tree.specs.States.{State, process_at}
-use Rattle.cg_tree.specs.WellFormed.{enabled_above, has_row}
+use Rattle.cg_model.specs.States.{State, process_at}
+use Rattle.cg_model.specs.WellFormed.{enabled_above, has_row}
 use Rattle.cg_cgroup.specs.Cgroups.{with_files_of}
 use Rattle.cg_cgroup.specs.declared.cgroup.Cgroup.{Cgroup}
 use Rattle.cg_cgroup.specs.declared.process.Process.{Process}

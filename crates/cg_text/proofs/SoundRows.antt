@@ -9,7 +9,7 @@ use Rattle.cg_cgroup.specs.Numbers.{is_mode}
 use Rattle.cg_cgroup.specs.Users.{has_bit}
 use Rattle.cg_cgroup.specs.Files.{default_value, accepts, is_within}
 use Rattle.cg_cgroup.specs.Cgroups.{file_of, entry_in, entry_made_by}
-use Rattle.cg_tree.specs.WellFormed.{IsWellFormed}
+use Rattle.cg_model.specs.WellFormed.{IsWellFormed}
 use Rattle.cg_cgroup.proofs.CgroupLaws.{accepts-default_value}
 use Rattle.cg_cgroup.specs.declared.user.Entry.{Entry}
 use Rattle.cg_cgroup.specs.declared.files.Limit.{Limit}

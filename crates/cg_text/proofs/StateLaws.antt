@@ -11,10 +11,10 @@ use Rattle.std.specs.FinSet.{same_set}
 use Rattle.cg_cgroup.specs.Paths.{Names, is_root, parent, path_at}
 use Rattle.cg_cgroup.specs.Files.{no_controllers, enables_nothing, is_within}
 use Rattle.cg_cgroup.specs.Cgroups.{with_files_of}
-use Rattle.cg_tree.specs.States.{State, row_at}
-use Rattle.cg_tree.specs.WellFormed.{has_row, enabled_at, enabled_above, available_at, may_hold}
+use Rattle.cg_model.specs.States.{State, row_at}
+use Rattle.cg_model.specs.WellFormed.{has_row, enabled_at, enabled_above, available_at, may_hold}
 use Rattle.cg_cgroup.proofs.Options.{some_value, is_some-mapped}
-use Rattle.cg_tree.proofs.FormedParts.{may_hold-row}
+use Rattle.cg_steps.proofs.FormedParts.{may_hold-row}
 use Rattle.cg_cgroup.proofs.PathOrder.{path_cmp_total, path_cmp-IsAntisymmetric}
 use Rattle.cg_cgroup.specs.declared.files.ControllerSet.{ControllerSet}
 use Rattle.cg_text.specs.Records.{CgroupRow, ProcessRow, TreeRecords}

@@ -7,7 +7,7 @@ use Rattle.std.specs.FinSet.{same_set}
 use Rattle.cg_cgroup.specs.Paths.{Names}
 use Rattle.cg_cgroup.specs.Files.{no_controllers}
 use Rattle.cg_rows.specs.RowsForm.{state_of_tables}
-use Rattle.cg_tree.specs.WellFormed.{IsWellFormed}
+use Rattle.cg_model.specs.WellFormed.{IsWellFormed}
 use Rattle.cg_cgroup.specs.Cgroups.{with_files_of}
 use Rattle.cg_cgroup.proofs.Options.{is_some-mapped}
 use Rattle.cg_cgroup.proofs.PathOrder.{path_cmp_total, path_cmp-IsAntisymmetric}

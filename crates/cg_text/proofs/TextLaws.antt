@@ -5,7 +5,7 @@ use Rattle.std.proofs.lemmas.Str.{IsUtf8-from_is_utf8, is_utf8-from_IsUtf8}
 use Rattle.std.specs.Str.{IsUtf8, is_utf8}
 use Rattle.toml.specs.Data.{Members}
 use Rattle.toml.specs.Parse.{parse_document}
-use Rattle.cg_tree.specs.States.{State}
+use Rattle.cg_model.specs.States.{State}
 use Rattle.cg_text.specs.Faults.{or_fault, bind}
 use Rattle.cg_text.specs.Document.{records_of}
 use Rattle.cg_text.specs.Tree.{first_fault, state_of, state_or, tree_of_records}

@@ -13,8 +13,8 @@ use Rattle.std.specs.FinMap as map
 use Rattle.std.specs.FinMap.{IsAntisymmetric, get-from_entries}
 use Rattle.cg_cgroup.specs.Paths.{Names, path_cmp, is_root, path_at}
 use Rattle.cg_cgroup.specs.Cgroups.{with_files_of}
-use Rattle.cg_tree.specs.States.{row_at, process_at, is_used}
-use Rattle.cg_tree.specs.WellFormed.{enabled_at}
+use Rattle.cg_model.specs.States.{row_at, process_at, is_used}
+use Rattle.cg_model.specs.WellFormed.{enabled_at}
 use Rattle.cg_cgroup.proofs.Options.{none_value}
 use Rattle.cg_cgroup.proofs.PathOrder.{path_cmp_total, path_cmp-IsAntisymmetric}
 use Rattle.cg_cgroup.specs.declared.files.ControllerSet.{ControllerSet}

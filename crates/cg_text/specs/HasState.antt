@@ -5,8 +5,8 @@ use Rattle.std.specs.List.{AllByRecursion}
 use Rattle.toml.specs.Data.{Members}
 use Rattle.cg_cgroup.specs.Paths.{Names, path_at}
 use Rattle.cg_cgroup.specs.Cgroups.{with_files_of}
-use Rattle.cg_tree.specs.States.{State, row_at, process_at, is_used}
-use Rattle.cg_tree.specs.WellFormed.{enabled_above, IsWellFormed}
+use Rattle.cg_model.specs.States.{State, row_at, process_at, is_used}
+use Rattle.cg_model.specs.WellFormed.{enabled_above, IsWellFormed}
 use Rattle.cg_text.specs.Records.{CgroupRow, ProcessRow, TreeRecords}
 use Rattle.cg_text.specs.Document.{records_of}
 use Rattle.cg_text.specs.Tree.{controllers_read, entries_pass, values_pass, superuser, cgroup_at, files_stand, named_rows, pid_read, id_read, live_process}

@@ -11,7 +11,7 @@ use Rattle.cg_cgroup.specs.Identity.{Identity}
 use Rattle.cg_cgroup.specs.Users.{has_bit}
 use Rattle.cg_cgroup.specs.Files.{all_files, controller_named, with_controller, no_controllers, enables_nothing, is_within, default_value, accepts, stands_under}
 use Rattle.cg_cgroup.specs.Cgroups.{file_of, entry_made_by, file_made_by, with_files_of}
-use Rattle.cg_tree.specs.States.{State}
+use Rattle.cg_model.specs.States.{State}
 use Rattle.cg_cgroup.specs.declared.user.Entry.{Entry}
 use Rattle.cg_cgroup.specs.declared.files.Limit.{Limit}
 use Rattle.cg_cgroup.specs.declared.files.Limit.TheVariants.{Max as NoLimit, At}

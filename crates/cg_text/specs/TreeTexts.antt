@@ -3,7 +3,7 @@ use Rattle.std.specs.Prelude.{ℕ, nat_le, cond, List, length, Option, None, Res
 use Rattle.std.specs.Str.{is_utf8}
 use Rattle.toml.specs.Data.{Members}
 use Rattle.toml.specs.Parse.{parse_document}
-use Rattle.cg_tree.specs.States.{State}
+use Rattle.cg_model.specs.States.{State}
 use Rattle.cg_text.specs.Faults.{or_fault, bind}
 use Rattle.cg_text.specs.Document.{records_of}
 use Rattle.cg_text.specs.Tree.{tree_of_records}

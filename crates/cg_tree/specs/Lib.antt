@@ -1,3 +1,1 @@
-pub mod States
-pub mod WellFormed
 pub mod Limits

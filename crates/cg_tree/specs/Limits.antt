@@ -1,15 +1,9 @@
 -- The limits that a new cgroup meets: its parent's, and those of each cgroup above.
-use Rattle.std.specs.Prelude.{◌≡◌, ℕ, ◌-◌, ◌<◌, ◌≤◌, Bool, true, false, ◌&&◌, not, nat_lt, take, Some, None}
+use Rattle.std.specs.Prelude.{◌≡◌, ℕ, ◌-◌, ◌<◌, ◌≤◌, Bool, true, false, ◌&&◌, not, take, Some, None}
 use Rattle.cg_cgroup.specs.Paths.{Names}
-use Rattle.cg_tree.specs.States.{State, row_at, count_below}
-use Rattle.cg_cgroup.specs.declared.files.Limit.{Limit}
-use Rattle.cg_cgroup.specs.declared.files.Limit.TheVariants.{Max, At}
+use Rattle.cg_model.specs.States.{State, row_at, count_below}
 use Rattle.cg_cgroup.specs.declared.cgroup.Cgroup.{Cgroup}
-
--- Own: whether so many are fewer than a limit allows.
-abbrev pub is_under : ℕ → Limit → Bool
-is_under count Max = true
-is_under count (At most) = nat_lt count most
+use Rattle.cg_model.specs.Limits.{is_under}
 
 -- Core Interface Files, cgroup.max.descendants and cgroup.max.depth: whether a cgroup with so many below it bars a child of
 -- the cgroup so many levels below it.

@@ -1,7 +1,7 @@
 //! `Hierarchy`: a tree of cgroups with its processes, however it is kept.
 ghost use Rattle.std.specs.Prelude.{◌≡◌, ◌≤◌, true, false, length, take, OnOk, OnErr, IfOk, MatchOption, option_copied, is_some};
-ghost use Rattle.cg_tree.specs.States.{State, row_at, process_at, place_at, owner_at, is_used, has_child, has_live, child_enables, count_below, depth_below, paths_of, pids_of, file_at, entry_at, with_row, without_row, with_value, with_mode, with_enabled, with_place, with_process, without_process};
-ghost use Rattle.cg_tree.specs.WellFormed.{IsWellFormed, has_row, may_hold, MayEnable};
+ghost use Rattle.cg_model.specs.States.{State, row_at, process_at, place_at, owner_at, is_used, has_child, has_live, child_enables, count_below, depth_below, paths_of, pids_of, file_at, entry_at, with_row, without_row, with_value, with_mode, with_enabled, with_place, with_process, without_process};
+ghost use Rattle.cg_model.specs.WellFormed.{IsWellFormed, has_row, may_hold, MayEnable};
 ghost use Rattle.cg_tree.specs.Limits.{NoneIsFull, IsNearestFull};
 ghost use Rattle.cg_cgroup.specs.Paths.{is_root};
 ghost use Rattle.cg_cgroup.specs.Files.{accepts};

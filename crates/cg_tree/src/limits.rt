@@ -1,6 +1,6 @@
 //! Limits of cgroups.
 ghost use Rattle.std.specs.Prelude.{◌≡◌};
-ghost use Rattle.cg_tree.specs.Limits.{is_under};
+ghost use Rattle.cg_model.specs.Limits.{is_under};
 
 use cg_cgroup::files::Limit;
 

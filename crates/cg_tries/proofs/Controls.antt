@@ -10,23 +10,24 @@ use Rattle.cg_cgroup.specs.declared.files.ControllerSet.{ControllerSet}
 use Rattle.cg_cgroup.specs.declared.files.LimitFile.{LimitFile}
 use Rattle.cg_cgroup.specs.declared.files.LimitFile.TheVariants.{CpuWeight, MemoryMax, PidsMax}
 use Rattle.cg_cgroup.proofs.Options.{some_value, is_some-mapped}
-use Rattle.cg_tree.specs.States.{State, row_at, file_at}
-use Rattle.cg_tree.specs.WellFormed.{IsWellFormed, has_row, enabled_at}
-use Rattle.cg_tree.proofs.StateCounts.{paths_of-with_enabled, count_below-same_paths, depth_below-same_paths}
-use Rattle.cg_tree.proofs.StateEntries.{value_at-file, file_at-with_enabled-same}
-use Rattle.cg_tree.proofs.FormedEnabled.{has_row-with_enabled, enabled_at-with_enabled-same}
-use Rattle.cg_ops.specs.Bars.{bars}
-use Rattle.cg_ops.specs.Changes.{enabled_after}
-use Rattle.cg_ops.specs.Next.{next}
-use Rattle.cg_ops.proofs.StepFormed.{formed-next}
-use Rattle.cg_ops.specs.declared.operation.Op.{Op}
-use Rattle.cg_ops.specs.declared.operation.Op.TheVariants.{Control}
-use Rattle.cg_guards.specs.Guarding.{IsSubtree}
-use Rattle.cg_guards.specs.Limits.{limits}
-use Rattle.cg_runs.specs.Verdicts.{broken}
-use Rattle.cg_runs.specs.declared.verdict.Clause.{Clause}
-use Rattle.cg_tries.specs.Tries.{change_of}
-use Rattle.cg_tries.specs.Escapes.{breaks, IsUnbroken}
+use Rattle.cg_model.specs.States.{State, row_at, file_at}
+use Rattle.cg_model.specs.WellFormed.{IsWellFormed, has_row, enabled_at}
+use Rattle.cg_steps.proofs.StateCounts.{paths_of-with_enabled, count_below-same_paths, depth_below-same_paths}
+use Rattle.cg_steps.proofs.StateEntries.{value_at-file, file_at-with_enabled-same}
+use Rattle.cg_steps.proofs.FormedEnabled.{has_row-with_enabled, enabled_at-with_enabled-same}
+use Rattle.cg_model.specs.Bars.{bars}
+use Rattle.cg_model.specs.Changes.{enabled_after}
+use Rattle.cg_model.specs.Next.{next}
+use Rattle.cg_steps.proofs.StepFormed.{formed-next}
+use Rattle.cg_model.specs.declared.operation.Op.{Op}
+use Rattle.cg_model.specs.declared.operation.Op.TheVariants.{Control}
+use Rattle.cg_model.specs.Guards.{IsSubtree}
+use Rattle.cg_model.specs.Limits.{limits}
+use Rattle.cg_model.specs.Verdicts.{broken}
+use Rattle.cg_model.specs.declared.verdict.Clause.{Clause}
+use Rattle.cg_model.specs.Tries.{change_of}
+use Rattle.cg_model.specs.Escapes.{breaks}
+use Rattle.cg_tries.specs.Escapes.{IsUnbroken}
 use Rattle.cg_tries.specs.Finding.{allowed}
 use Rattle.cg_tries.proofs.Seen.{seen, IsAlike, is_empty, step-alike}
 use Rattle.cg_tries.proofs.Single.{step_breaks, one_operation, limits_stay, nothing_bars, where_so}

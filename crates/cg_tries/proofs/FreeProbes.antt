@@ -14,9 +14,9 @@ use Rattle.std.proofs.lemmas.Map.Made.{length-le_from_is_member}
 use Rattle.cg_cgroup.specs.Paths.{Name, Names, path_cmp}
 use Rattle.cg_cgroup.proofs.Options.{same_some}
 use Rattle.cg_cgroup.proofs.PathOrder.{path_cmp_total, same_path-ties, same_path-is}
-use Rattle.cg_tree.specs.States.{State, paths_of}
-use Rattle.cg_tree.specs.WellFormed.{has_row}
-use Rattle.cg_tries.specs.Tries.{probe, numbers_from, free_probe}
+use Rattle.cg_model.specs.States.{State, paths_of}
+use Rattle.cg_model.specs.WellFormed.{has_row}
+use Rattle.cg_model.specs.Tries.{probe, numbers_from, free_probe}
 
 -- ---- names
 

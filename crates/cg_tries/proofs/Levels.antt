@@ -7,8 +7,8 @@ use Rattle.cg_cgroup.specs.Paths.{Names}
 use Rattle.cg_cgroup.specs.declared.files.Limit.{Limit}
 use Rattle.cg_cgroup.specs.declared.files.Limit.TheVariants.{Max, At}
 use Rattle.cg_cgroup.specs.declared.cgroup.Cgroup.{Cgroup}
-use Rattle.cg_tree.specs.States.{State, row_at, count_below}
-use Rattle.cg_ops.specs.Bars.{is_under}
+use Rattle.cg_model.specs.States.{State, row_at, count_below}
+use Rattle.cg_model.specs.Limits.{is_under}
 use Rattle.cg_tries.specs.Finding.{level_passes, levels_pass, lets_in, lowered}
 
 under_lowered : (len at level : ℕ) (limit : Limit) → at ≤ len → (is_under (len - at) limit && nat_lt len level) ≡ nat_lt len (lowered level at limit)

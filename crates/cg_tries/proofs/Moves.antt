@@ -13,14 +13,15 @@ use Rattle.cg_cgroup.specs.Files.{enables_nothing}
 use Rattle.cg_cgroup.specs.declared.cgroup.Cgroup.{Cgroup}
 use Rattle.cg_cgroup.specs.declared.files.EntryName.TheVariants.{Procs}
 use Rattle.cg_cgroup.proofs.PathLaws.{common_comm}
-use Rattle.cg_tree.specs.States.{State, row_at, place_at, paths_of, pids_of}
-use Rattle.cg_ops.specs.Clauses.{unless, absent, present, first}
-use Rattle.cg_ops.specs.Bars.{passes}
-use Rattle.cg_ops.specs.declared.operation.Op.TheVariants.{Move}
-use Rattle.cg_ops.specs.declared.outcome.Refusal.{Refusal}
-use Rattle.cg_ops.specs.declared.outcome.Refusal.TheVariants.{NoSuchCgroup, NoAccess, NoSuchProcess, InternalProcess}
-use Rattle.cg_tries.specs.Tries.{across, move_tries}
-use Rattle.cg_tries.specs.Escapes.{breaks, IsUnbroken}
+use Rattle.cg_model.specs.States.{State, row_at, place_at, paths_of, pids_of}
+use Rattle.cg_model.specs.Clauses.{unless, absent, present, first}
+use Rattle.cg_model.specs.Bars.{passes}
+use Rattle.cg_model.specs.declared.operation.Op.TheVariants.{Move}
+use Rattle.cg_model.specs.declared.outcome.Refusal.{Refusal}
+use Rattle.cg_model.specs.declared.outcome.Refusal.TheVariants.{NoSuchCgroup, NoAccess, NoSuchProcess, InternalProcess}
+use Rattle.cg_model.specs.Tries.{across, move_tries}
+use Rattle.cg_model.specs.Escapes.{breaks}
+use Rattle.cg_tries.specs.Escapes.{IsUnbroken}
 use Rattle.cg_tries.specs.Finding.{allowed, passes_at, receives, can_leave_to, can_enter_at, goes_from, move_of, first_given, first_move}
 use Rattle.cg_tries.proofs.Single.{move_try, where_so}
 

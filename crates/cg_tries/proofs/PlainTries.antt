@@ -12,17 +12,18 @@ use Rattle.cg_cgroup.proofs.PathLaws.{common-take_first, common-inside_first, co
 use Rattle.cg_cgroup.specs.declared.files.Limit.{Limit}
 use Rattle.cg_cgroup.specs.declared.files.LimitFile.{LimitFile}
 use Rattle.cg_cgroup.specs.declared.files.Controller.{Controller}
-use Rattle.cg_tree.specs.States.{State, row_at, place_at, paths_of, pids_of}
-use Rattle.cg_tree.specs.WellFormed.{IsWellFormed, enabled_at}
-use Rattle.cg_ops.specs.Clauses.{present}
-use Rattle.cg_ops.specs.Bars.{passes}
-use Rattle.cg_ops.specs.declared.operation.Op.{Op}
-use Rattle.cg_ops.specs.declared.operation.Op.TheVariants.{Move, Control, Mkdir, Rmdir, Set}
-use Rattle.cg_guards.specs.Guarding.{IsSubtree}
-use Rattle.cg_guards.specs.Limits.{limits}
-use Rattle.cg_runs.specs.declared.verdict.Clause.{Clause}
-use Rattle.cg_tries.specs.Tries.{other_value, set_tries, change_of, control_tries, move_tries, probe_tries, plain_tries}
-use Rattle.cg_tries.specs.Escapes.{breaks, IsUnbroken}
+use Rattle.cg_model.specs.States.{State, row_at, place_at, paths_of, pids_of}
+use Rattle.cg_model.specs.WellFormed.{IsWellFormed, enabled_at}
+use Rattle.cg_model.specs.Clauses.{present}
+use Rattle.cg_model.specs.Bars.{passes}
+use Rattle.cg_model.specs.declared.operation.Op.{Op}
+use Rattle.cg_model.specs.declared.operation.Op.TheVariants.{Move, Control, Mkdir, Rmdir, Set}
+use Rattle.cg_model.specs.Guards.{IsSubtree}
+use Rattle.cg_model.specs.Limits.{limits}
+use Rattle.cg_model.specs.declared.verdict.Clause.{Clause}
+use Rattle.cg_model.specs.Tries.{other_value, set_tries, change_of, control_tries, move_tries, probe_tries, plain_tries}
+use Rattle.cg_model.specs.Escapes.{breaks}
+use Rattle.cg_tries.specs.Escapes.{IsUnbroken}
 use Rattle.cg_tries.specs.Finding.{allowed, passes_at, if_allowed, first_given, set_of, first_set, control_of, first_control, first_write, receives, can_leave_to, can_enter_at, goes_from, move_of, first_move, writes_both, first_probe_path, first_inside, first_probe, first_passage}
 use Rattle.cg_tries.proofs.Seen.{is_empty, breaks-run}
 use Rattle.cg_tries.proofs.Single.{set_try, rmdir_try}

@@ -10,7 +10,7 @@ use Rattle.cg_cgroup.specs.Paths.{Name, Names, IsPath, is_path, is_name, is_word
 use Rattle.cg_cgroup.specs.PathText.{names_text}
 use Rattle.cg_cgroup.proofs.PathNames.{IsPath-push, names_text-push}
 use Rattle.cg_cgroup.proofs.Options.{same_some}
-use Rattle.cg_tries.specs.Tries.{probe, numbers_from}
+use Rattle.cg_model.specs.Tries.{probe, numbers_from}
 use Rattle.cg_tries.specs.Finding.{short_probe}
 
 -- ---- numbers in turn

@@ -16,18 +16,19 @@ use Rattle.cg_cgroup.proofs.PathLaws.{inside-length}
 use Rattle.cg_cgroup.proofs.PathOrder.{same_path-not, same_path_refl}
 use Rattle.cg_cgroup.proofs.PathParents.{inside-is}
 use Rattle.cg_cgroup.proofs.UserLaws.{writes-made_by}
-use Rattle.cg_tree.specs.States.{State, row_at, place_at, with_row, count_below, depth_below}
-use Rattle.cg_tree.specs.WellFormed.{IsWellFormed, has_row, enabled_at}
-use Rattle.cg_tree.proofs.StateLaws.{row_at-with_row}
-use Rattle.cg_tree.proofs.StateCounts.{count_below-with_row, depth_below-with_row}
-use Rattle.cg_tree.proofs.StateEntries.{value_at-with_row}
-use Rattle.cg_tree.proofs.TreeLaws.{take-there}
-use Rattle.cg_ops.specs.Clauses.{first}
-use Rattle.cg_ops.specs.Bars.{bars}
-use Rattle.cg_ops.specs.Steps.{after}
-use Rattle.cg_ops.specs.declared.operation.Op.TheVariants.{Move, Mkdir}
-use Rattle.cg_guards.specs.Limits.{limits}
-use Rattle.cg_tries.specs.Escapes.{breaks, IsUnbroken}
+use Rattle.cg_model.specs.States.{State, row_at, place_at, with_row, count_below, depth_below}
+use Rattle.cg_model.specs.WellFormed.{IsWellFormed, has_row, enabled_at}
+use Rattle.cg_steps.proofs.StateLaws.{row_at-with_row}
+use Rattle.cg_steps.proofs.StateCounts.{count_below-with_row, depth_below-with_row}
+use Rattle.cg_steps.proofs.StateEntries.{value_at-with_row}
+use Rattle.cg_steps.proofs.TreeLaws.{take-there}
+use Rattle.cg_model.specs.Clauses.{first}
+use Rattle.cg_model.specs.Bars.{bars}
+use Rattle.cg_model.specs.Steps.{after}
+use Rattle.cg_model.specs.declared.operation.Op.TheVariants.{Move, Mkdir}
+use Rattle.cg_model.specs.Limits.{limits}
+use Rattle.cg_model.specs.Escapes.{breaks}
+use Rattle.cg_tries.specs.Escapes.{IsUnbroken}
 use Rattle.cg_tries.specs.Finding.{allowed, passes_at, receives}
 use Rattle.cg_tries.proofs.Seen.{seen, IsAlike, unbroken-alike, breaks-alike_first}
 use Rattle.cg_tries.proofs.Single.{move_try}

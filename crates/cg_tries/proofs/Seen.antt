@@ -6,18 +6,19 @@ use Rattle.cg_cgroup.specs.Cgroups.{value_in}
 use Rattle.cg_cgroup.specs.declared.cgroup.Cgroup.{Cgroup}
 use Rattle.cg_cgroup.specs.declared.files.Limit.{Limit}
 use Rattle.cg_cgroup.specs.declared.files.LimitFile.TheVariants.{MaxDescendants, MaxDepth}
-use Rattle.cg_tree.specs.States.{State, row_at, place_at, pids_of, count_below, depth_below}
-use Rattle.cg_ops.specs.Clauses.{unless}
-use Rattle.cg_ops.specs.Steps.{after, Deed}
-use Rattle.cg_ops.specs.declared.operation.Op.{Op}
-use Rattle.cg_guards.specs.Limits.{Limits, limits, same_limits, is_within_limit}
-use Rattle.cg_guards.specs.Edge.{is_crossed, crossing}
-use Rattle.cg_runs.specs.Held.{by_user}
-use Rattle.cg_runs.specs.Verdicts.{broken, or_later, verdict_from}
-use Rattle.cg_runs.specs.declared.verdict.Clause.{Clause}
-use Rattle.cg_runs.specs.declared.verdict.Clause.TheVariants.{Gone, Crossed, Limits as LimitsChanged, Descendants, Depth}
-use Rattle.cg_runs.specs.declared.verdict.Verdict.{Verdict}
-use Rattle.cg_tries.specs.Escapes.{is_kept, breaks, IsUnbroken}
+use Rattle.cg_model.specs.States.{State, row_at, place_at, pids_of, count_below, depth_below}
+use Rattle.cg_model.specs.Clauses.{unless}
+use Rattle.cg_model.specs.Steps.{after, Deed}
+use Rattle.cg_model.specs.declared.operation.Op.{Op}
+use Rattle.cg_model.specs.Limits.{Limits, limits, same_limits, is_within_limit}
+use Rattle.cg_model.specs.Edge.{is_crossed, crossing}
+use Rattle.cg_model.specs.Held.{by_user}
+use Rattle.cg_model.specs.Verdicts.{broken, or_later, verdict_from}
+use Rattle.cg_model.specs.declared.verdict.Clause.{Clause}
+use Rattle.cg_model.specs.declared.verdict.Clause.TheVariants.{Gone, Crossed, Limits as LimitsChanged, Descendants, Depth}
+use Rattle.cg_model.specs.declared.verdict.Verdict.{Verdict}
+use Rattle.cg_model.specs.Escapes.{is_kept, breaks}
+use Rattle.cg_tries.specs.Escapes.{IsUnbroken}
 
 -- ---- what is seen
 

@@ -11,27 +11,28 @@ use Rattle.cg_cgroup.specs.declared.files.LimitFile.TheVariants.{CpuWeight}
 use Rattle.cg_cgroup.proofs.Options.{mapped_from, same_some}
 use Rattle.cg_cgroup.proofs.PathOrder.{same_path_refl}
 use Rattle.cg_cgroup.proofs.CgroupLaws.{same_file-refl}
-use Rattle.cg_tree.specs.States.{State, row_at, process_at, place_at, with_value, with_place, placed_at, without_row}
-use Rattle.cg_tree.specs.WellFormed.{has_row}
-use Rattle.cg_tree.proofs.StateLaws.{row_at-without_row, process_at-with_place-same}
-use Rattle.cg_tree.proofs.StateEntries.{value_at-with_value}
-use Rattle.cg_ops.specs.Clauses.{first}
-use Rattle.cg_ops.specs.Steps.{after}
-use Rattle.cg_ops.proofs.ClauseLaws.{no_parts, no_unless}
-use Rattle.cg_ops.specs.Bars.{bars}
-use Rattle.cg_ops.specs.Next.{next}
-use Rattle.cg_ops.specs.declared.operation.Op.{Op}
-use Rattle.cg_ops.specs.declared.operation.Op.TheVariants.{Move, Rmdir, Set}
-use Rattle.cg_guards.specs.Limits.{limits, same_limits}
-use Rattle.cg_guards.specs.Edge.{is_crossed}
-use Rattle.cg_guards.proofs.Crossing.{crosses-some}
-use Rattle.cg_runs.specs.Verdicts.{broken}
-use Rattle.cg_runs.specs.declared.verdict.Clause.{Clause}
-use Rattle.cg_runs.specs.declared.verdict.Clause.TheVariants.{Gone, Limits}
-use Rattle.cg_runs.proofs.LimitLaws.{same_limits-is}
-use Rattle.cg_runs.proofs.BrokenLaws.{broken-whole}
-use Rattle.cg_tries.specs.Tries.{other_value}
-use Rattle.cg_tries.specs.Escapes.{breaks, IsUnbroken}
+use Rattle.cg_model.specs.States.{State, row_at, process_at, place_at, with_value, with_place, placed_at, without_row}
+use Rattle.cg_model.specs.WellFormed.{has_row}
+use Rattle.cg_steps.proofs.StateLaws.{row_at-without_row, process_at-with_place-same}
+use Rattle.cg_steps.proofs.StateEntries.{value_at-with_value}
+use Rattle.cg_model.specs.Clauses.{first}
+use Rattle.cg_model.specs.Steps.{after}
+use Rattle.cg_steps.proofs.ClauseLaws.{no_parts, no_unless}
+use Rattle.cg_model.specs.Bars.{bars}
+use Rattle.cg_model.specs.Next.{next}
+use Rattle.cg_model.specs.declared.operation.Op.{Op}
+use Rattle.cg_model.specs.declared.operation.Op.TheVariants.{Move, Rmdir, Set}
+use Rattle.cg_model.specs.Limits.{limits, same_limits}
+use Rattle.cg_model.specs.Edge.{is_crossed}
+use Rattle.cg_steps.proofs.Edges.{crosses-some}
+use Rattle.cg_model.specs.Verdicts.{broken}
+use Rattle.cg_model.specs.declared.verdict.Clause.{Clause}
+use Rattle.cg_model.specs.declared.verdict.Clause.TheVariants.{Gone, Limits}
+use Rattle.cg_steps.proofs.LimitLaws.{same_limits-is}
+use Rattle.cg_steps.proofs.BrokenLaws.{broken-whole}
+use Rattle.cg_model.specs.Tries.{other_value}
+use Rattle.cg_model.specs.Escapes.{breaks}
+use Rattle.cg_tries.specs.Escapes.{IsUnbroken}
 use Rattle.cg_tries.specs.Finding.{allowed}
 use Rattle.cg_tries.proofs.Seen.{is_empty, breaks-run}
 

@@ -9,14 +9,14 @@ use Rattle.cg_cgroup.specs.declared.files.Limit.{Limit}
 use Rattle.cg_cgroup.specs.declared.files.Limit.TheVariants.{Max, At}
 use Rattle.cg_cgroup.specs.declared.files.LimitFile.{LimitFile}
 use Rattle.cg_cgroup.specs.declared.files.Controller.{Controller}
-use Rattle.cg_tree.specs.States.{State, row_at, place_at, paths_of, pids_of, count_below}
-use Rattle.cg_tree.specs.WellFormed.{enabled_at}
-use Rattle.cg_ops.specs.Clauses.{first}
-use Rattle.cg_ops.specs.Bars.{bars, passes, is_under}
-use Rattle.cg_ops.specs.declared.operation.Op.{Op}
-use Rattle.cg_ops.specs.declared.operation.Op.TheVariants.{Move, Control, Mkdir, Rmdir, Set}
-use Rattle.cg_guards.specs.Limits.{limits}
-use Rattle.cg_tries.specs.Tries.{other_value, change_of, probe, free_probe, is_inside}
+use Rattle.cg_model.specs.States.{State, row_at, place_at, paths_of, pids_of, count_below}
+use Rattle.cg_model.specs.WellFormed.{enabled_at}
+use Rattle.cg_model.specs.Clauses.{first}
+use Rattle.cg_model.specs.Bars.{bars, passes}
+use Rattle.cg_model.specs.Limits.{is_under, limits}
+use Rattle.cg_model.specs.declared.operation.Op.{Op}
+use Rattle.cg_model.specs.declared.operation.Op.TheVariants.{Move, Control, Mkdir, Rmdir, Set}
+use Rattle.cg_model.specs.Tries.{other_value, change_of, probe, free_probe, is_inside}
 
 -- nothing bars the operation
 abbrev pub allowed : State → Identity → Op → Bool

@@ -1,3 +1,2 @@
-pub mod Tries
 pub mod Escapes
 pub mod Finding

@@ -3,7 +3,6 @@
 
 pub mod laws;
 mod move_tries;
-pub mod operations;
 pub mod plain;
 mod probe_tries;
 mod write_tries;

@@ -1,15 +1,15 @@
 //! Tries of one move: over the edge of a subtree.
 ghost use Rattle.std.specs.Prelude.{◌≡◌, ◌≤◌, ◌<◌, ℕ, [], ◌∷◌, true, false, find, length, take, option_copied, IfOk};
-ghost use Rattle.cg_tree.specs.States.{paths_of, pids_of};
-ghost use Rattle.cg_ops.specs.Bars.{passes};
+ghost use Rattle.cg_model.specs.States.{paths_of, pids_of};
+ghost use Rattle.cg_model.specs.Bars.{passes};
 ghost use Rattle.cg_tries.specs.Finding.{passes_at, receives, can_leave_to, can_enter_at, goes_from, first_given, move_of, first_move};
 
-use crate::operations::Operations;
 use cg_cgroup::memory::NoMemory;
 use cg_cgroup::path::Path;
 use cg_cgroup::process::Pid;
 use cg_cgroup::user::User;
-use cg_ops::operation::Op;
+use cg_model::operation::Op;
+use cg_model::operations::Operations;
 use cg_tree::hierarchy::Hierarchy;
 use std::alloc::Global;
 
@@ -25,7 +25,7 @@ fn passes_at<H: Hierarchy>(tree: &H, user: &User, path: &Path, len: usize) -> bo
 }
 
 /// Whether the user writes the `cgroup.procs` of the common ancestor of two cgroups.
-#[tactic(auto, using(cg_ops::proofs::Prefixes::take_common, cg_ops::proofs::Prefixes::length_common))]
+#[tactic(auto, using(cg_steps::proofs::Prefixes::take_common, cg_steps::proofs::Prefixes::length_common))]
 fn passes<H: Hierarchy>(tree: &H, user: &User, from: &Path, to: &Path) -> bool
     ensures { result ≡ passes (H.state tree.now) user.now from.now to.now }
 {
@@ -48,7 +48,7 @@ pub fn passes_above<H: Hierarchy>(tree: &H, user: &User, subtree: &Path) -> bool
 }
 
 /// Whether a process may come to a cgroup, once it may pass.
-#[tactic(auto, using(cg_ops::proofs::Prefixes::take_whole, cg_ops::proofs::Prefixes::root_of_length, cg_ops::proofs::Prefixes::no_root_of_length))]
+#[tactic(auto, using(cg_steps::proofs::Prefixes::take_whole, cg_steps::proofs::Prefixes::root_of_length, cg_steps::proofs::Prefixes::no_root_of_length))]
 fn receives<H: Hierarchy>(tree: &H, user: &User, path: &Path) -> bool
     ensures { result ≡ receives (H.state tree.now) user.now path.now }
 {

@@ -1,17 +1,18 @@
 //! The first of the plain tries that breaks a subtree.
 ghost use Rattle.std.specs.Prelude.{◌≡◌, find, IfOk};
-ghost use Rattle.cg_guards.specs.Guarding.{IsSubtree};
-ghost use Rattle.cg_tries.specs.Tries.{plain_tries};
-ghost use Rattle.cg_tries.specs.Escapes.{breaks, IsUnbroken};
+ghost use Rattle.cg_model.specs.Guards.{IsSubtree};
+ghost use Rattle.cg_model.specs.Tries.{plain_tries};
+ghost use Rattle.cg_model.specs.Escapes.{breaks};
+ghost use Rattle.cg_tries.specs.Escapes.{IsUnbroken};
 ghost use Rattle.cg_tries.specs.Finding.{first_passage};
 
 use crate::move_tries::{first_move, passes_above};
-use crate::operations::Operations;
 use crate::probe_tries::first_probe;
 use crate::write_tries::first_write;
 use cg_cgroup::memory::NoMemory;
 use cg_cgroup::path::Path;
 use cg_cgroup::user::User;
+use cg_model::operations::Operations;
 use cg_tree::hierarchy::Hierarchy;
 use std::alloc::Global;
 

@@ -1,19 +1,19 @@
 //! Tries of a new cgroup above a subtree, to which a process from inside moves.
 ghost use Rattle.std.specs.Prelude.{◌≡◌, ◌≤◌, ◌<◌, ◌+◌, ℕ, find, length, take, nat_lt, IfOk};
 ghost use Rattle.cg_cgroup.specs.Paths.{IsPath};
-ghost use Rattle.cg_tree.specs.States.{paths_of, pids_of};
-ghost use Rattle.cg_tree.specs.WellFormed.{has_row};
-ghost use Rattle.cg_ops.specs.Bars.{is_under};
-ghost use Rattle.cg_tries.specs.Tries.{is_inside};
+ghost use Rattle.cg_model.specs.States.{paths_of, pids_of};
+ghost use Rattle.cg_model.specs.WellFormed.{has_row};
+ghost use Rattle.cg_model.specs.Limits.{is_under};
+ghost use Rattle.cg_model.specs.Tries.{is_inside};
 ghost use Rattle.cg_tries.specs.Finding.{lets_in, lowered, writes_both, short_probe, free_path, first_probe_path, first_inside, first_probe};
 
-use crate::operations::Operations;
 use cg_cgroup::files::Limit;
 use cg_cgroup::memory::NoMemory;
 use cg_cgroup::path::{Path, PathFault};
 use cg_cgroup::process::Pid;
 use cg_cgroup::user::User;
-use cg_ops::operation::Op;
+use cg_model::operation::Op;
+use cg_model::operations::Operations;
 use cg_tree::hierarchy::Hierarchy;
 use std::alloc::Global;
 
@@ -100,7 +100,7 @@ fn probe(alloc: Global, subtree: &Path, len: usize, number: usize) -> Result<Opt
 }
 
 /// Whether there is a cgroup of a path.
-#[tactic(auto, using(cg_ops::proofs::Prefixes::take_whole))]
+#[tactic(auto, using(cg_steps::proofs::Prefixes::take_whole))]
 fn is_there<H: Hierarchy>(tree: &H, path: &Path) -> bool
     ensures { result ≡ has_row (H.state tree.now) path.now }
 {

@@ -2,19 +2,19 @@
 ghost use Rattle.std.specs.Prelude.{◌≡◌, false, IfOk, cond, ◌∷◌, [], Some, None};
 ghost use Rattle.cg_cgroup.specs.Paths.{is_root, parent};
 ghost use Rattle.cg_cgroup.specs.Files.{enables};
-ghost use Rattle.cg_tree.specs.States.{row_at};
-ghost use Rattle.cg_tree.specs.WellFormed.{enabled_at};
-ghost use Rattle.cg_tries.specs.Tries.{other_value};
+ghost use Rattle.cg_model.specs.States.{row_at};
+ghost use Rattle.cg_model.specs.WellFormed.{enabled_at};
+ghost use Rattle.cg_model.specs.Tries.{other_value};
 ghost use Rattle.cg_tries.specs.Finding.{if_allowed, set_of, first_set, control_of, first_control, first_write};
 
-use crate::operations::Operations;
 use cg_cgroup::cgroup::Cgroup;
 use cg_cgroup::files::{Controller, Limit, LimitFile};
 use cg_cgroup::memory::NoMemory;
 use cg_cgroup::path::Path;
 use cg_cgroup::user::User;
-use cg_ops::changes::{Change, Changes};
-use cg_ops::operation::Op;
+use cg_model::changes::{Change, Changes};
+use cg_model::operation::Op;
+use cg_model::operations::Operations;
 use cg_ops::refusal;
 use cg_tree::hierarchy::Hierarchy;
 use std::alloc::Global;
@@ -86,7 +86,7 @@ fn first_set<H: Hierarchy>(
 }
 
 /// Whether the subtree's parent enables a controller.
-#[tactic(auto, using(cg_ops::proofs::Prefixes::take_parent))]
+#[tactic(auto, using(cg_steps::proofs::Prefixes::take_parent))]
 fn is_enabled_above<H: Hierarchy>(tree: &H, subtree: &Path, controller: Controller) -> bool
     requires { is_root subtree.now ≡ false }
     ensures { result ≡ enables (enabled_at (H.state tree.now) (parent subtree.now)) controller }
@@ -98,7 +98,7 @@ fn is_enabled_above<H: Hierarchy>(tree: &H, subtree: &Path, controller: Controll
 }
 
 /// The change of a controller that has an effect at the subtree's parent, where the user may make it.
-#[tactic(auto, using(cg_ops::proofs::Prefixes::take_parent))]
+#[tactic(auto, using(cg_steps::proofs::Prefixes::take_parent))]
 fn control_of<H: Hierarchy>(
     alloc: Global,
     tree: &H,

@@ -3,7 +3,7 @@ use super::writers::{ByteByByte, FailsOnce, TakesNone};
 use cg_cli::advise::advise_bytes;
 use cg_cli::arguments::UserIds;
 use cg_cli::fault::CliFault;
-use cg_runs::fault::CheckFault;
+use cg_model::fault::CheckFault;
 use std::alloc::Global;
 use std::process::Abort;
 use std::test::Fail;

@@ -5,7 +5,7 @@ use crate::samples::{DELEGATION, NO_PARENT};
 use cg_cli::arguments::UserIds;
 use cg_cli::audit::audit_bytes;
 use cg_cli::fault::CliFault;
-use cg_runs::fault::CheckFault;
+use cg_model::fault::CheckFault;
 use cg_text::tree::{Place, TreeFault};
 use std::alloc::Global;
 use std::process::Abort;

@@ -5,7 +5,7 @@ use crate::samples::{DELEGATION, INTERNAL_PROCESS, NO_PARENT};
 use cg_cli::arguments::UserIds;
 use cg_cli::check::check_bytes;
 use cg_cli::fault::{CliFault, fault_text};
-use cg_runs::fault::CheckFault;
+use cg_model::fault::CheckFault;
 use cg_text::tree::{Place, TreeFault};
 use std::process::Abort;
 use std::test::Fail;

@@ -6,7 +6,7 @@ use cg_cli::arguments::UserIds;
 use cg_cli::fault::CliFault;
 use cg_cli::replay::{replay_bytes, replay_from};
 use cg_lines::lines::LineFault;
-use cg_runs::fault::CheckFault;
+use cg_model::fault::CheckFault;
 use std::alloc::{AllocError, Global};
 use std::process::Abort;
 use std::test::Fail;

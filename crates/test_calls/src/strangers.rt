@@ -1,13 +1,13 @@
 //! A subtree that is contained against one user, and broken by another who wasn't asked about.
 use cg_cgroup::path::Path;
 use cg_cgroup::user::User;
-use cg_check::answer::AllAnswer;
 use cg_check::check_all;
 use cg_lines::lines::read_op;
-use cg_ops::outcome::{Outcome, Refusal};
+use cg_model::answer::AllAnswer;
+use cg_model::outcome::{Outcome, Refusal};
+use cg_model::verdict::{Clause, Verdict};
 use cg_rows::rows::Rows;
 use cg_runs::replay::Replay;
-use cg_runs::verdict::{Clause, Verdict};
 use cg_text::tree::read_tree;
 use std::alloc::Global;
 use std::test::Fail;

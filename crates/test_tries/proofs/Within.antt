@@ -1,13 +1,13 @@
 -- A subtree within its own limits is unbroken at the start.
 use Rattle.std.proofs.Common.{◌≡◌, ℕ, Bool, true, false, cond, not, List, [], ◌∷◌, ◌++◌, map, filter, Option, Some, None, refl, ap, ◌∙◌}
 use Rattle.cg_cgroup.specs.Paths.{Names, inside}
-use Rattle.cg_tree.specs.States.{State, place_at, pids_of}
-use Rattle.cg_tree.specs.WellFormed.{has_row}
-use Rattle.cg_ops.specs.Clauses.{unless}
-use Rattle.cg_guards.specs.Limits.{limits, fits_descendants, fits_depth}
-use Rattle.cg_guards.specs.Edge.{is_crossed}
-use Rattle.cg_runs.specs.declared.verdict.Clause.TheVariants.{Gone, Crossed, Limits as LimitsChanged, Descendants, Depth}
-use Rattle.cg_runs.proofs.LimitLaws.{same_limits-itself}
+use Rattle.cg_model.specs.States.{State, place_at, pids_of}
+use Rattle.cg_model.specs.WellFormed.{has_row}
+use Rattle.cg_model.specs.Clauses.{unless}
+use Rattle.cg_model.specs.Limits.{limits, fits_descendants, fits_depth}
+use Rattle.cg_model.specs.Edge.{is_crossed}
+use Rattle.cg_model.specs.declared.verdict.Clause.TheVariants.{Gone, Crossed, Limits as LimitsChanged, Descendants, Depth}
+use Rattle.cg_steps.proofs.LimitLaws.{same_limits-itself}
 use Rattle.cg_tries.specs.Escapes.{IsUnbroken}
 
 uncrossed : (subtree : Names) (place : Option Names) → is_crossed subtree place place ≡ false

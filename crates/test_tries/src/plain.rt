@@ -1,14 +1,14 @@
 //! The first plain try and the judge's are the same on random trees.
 ghost use Rattle.std.specs.Prelude.{◌≡◌};
-ghost use Rattle.cg_tree.specs.WellFormed.{has_row};
-ghost use Rattle.cg_guards.specs.Limits.{is_within_limit, fits_descendants, fits_depth};
+ghost use Rattle.cg_model.specs.WellFormed.{has_row};
+ghost use Rattle.cg_model.specs.Limits.{is_within_limit, fits_descendants, fits_depth};
 
 use crate::judge;
 use crate::random::{Random, tree, users};
 use cg_cgroup::files::Limit;
 use cg_cgroup::path::Path;
 use cg_cgroup::user::User;
-use cg_ops::operation::Op;
+use cg_model::operation::Op;
 use cg_rows::rows::Rows;
 use cg_tree::hierarchy::Hierarchy;
 use cg_tries::plain::first_plain_try;
@@ -27,7 +27,7 @@ fn is_within(count: u64, limit: Limit) -> bool
 }
 
 /// Whether there is a cgroup of a path.
-#[tactic(auto, using(cg_ops::proofs::Prefixes::take_whole))]
+#[tactic(auto, using(cg_steps::proofs::Prefixes::take_whole))]
 fn is_there<H: Hierarchy>(tree: &H, path: &Path) -> bool
     ensures { result ≡ has_row (H.state tree.now) path.now }
 {
@@ -35,7 +35,7 @@ fn is_there<H: Hierarchy>(tree: &H, path: &Path) -> bool
 }
 
 /// Whether a cgroup is within its limit of descendants.
-#[tactic(auto, using(cg_ops::proofs::Prefixes::take_whole))]
+#[tactic(auto, using(cg_steps::proofs::Prefixes::take_whole))]
 fn fits_descendants<H: Hierarchy>(tree: &H, path: &Path) -> bool
     ensures { result ≡ fits_descendants (H.state tree.now) path.now }
 {
@@ -47,7 +47,7 @@ fn fits_descendants<H: Hierarchy>(tree: &H, path: &Path) -> bool
 }
 
 /// Whether a cgroup is within its limit of depth.
-#[tactic(auto, using(cg_ops::proofs::Prefixes::take_whole))]
+#[tactic(auto, using(cg_steps::proofs::Prefixes::take_whole))]
 fn fits_depth<H: Hierarchy>(tree: &H, path: &Path) -> bool
     ensures { result ≡ fits_depth (H.state tree.now) path.now }
 {
@@ -70,7 +70,7 @@ fn kind(found: Option<&[Op]>) -> usize {
     }
 }
 
-#[tactic(auto, using(crate::proofs::Within::unbroken_within, cg_ops::proofs::Prefixes::no_root_of_length))]
+#[tactic(auto, using(crate::proofs::Within::unbroken_within, cg_steps::proofs::Prefixes::no_root_of_length))]
 /// Asks for a subtree, where it may be asked about, and gives the kind of what breaks it.
 fn ask(
     rt: &impl Abort,

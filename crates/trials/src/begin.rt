@@ -5,7 +5,8 @@ use cg_cgroup::memory::NoMemory;
 use cg_cgroup::path::PathFault;
 use cg_cli::fault::CliFault;
 use cg_lines::lines::LineFault;
-use cg_runs::fault::{CheckFault, StepFault};
+use cg_model::fault::CheckFault;
+use cg_runs::fault::StepFault;
 use cg_text::tree::TreeFault;
 use std::alloc::{AllocError, AllocFailed, Global};
 

@@ -1,5 +1,5 @@
 use Rattle.std.proofs.Common.{sym, ap, ◌∙◌, Ok}
-use Rattle.cg_runs.proofs.RunLaws.{contained-guarded}
+use Rattle.cg_laws.proofs.RunLaws.{contained-guarded}
 use Rattle.cg_check.proofs.Checking.{no_fault, no_failure, guarded-answer, checked-answer, unguarded-gives, unguarded-uncontained}
 use Rattle.cg_check.proofs.check.Goals as goal
 

@@ -1,5 +1,5 @@
 use Rattle.std.proofs.Common.{◌∙◌, ◌<◌, length, arith}
-use Rattle.cg_check.specs.Checks.{subtree_faults}
+use Rattle.cg_model.specs.Checks.{subtree_faults}
 use Rattle.cg_check.proofs.Pairs.{none-here, some-here, some_length}
 use Rattle.cg_check.proofs.first_fault.Goals as goal
 

@@ -1,8 +1,8 @@
 use Rattle.std.proofs.Common.{◌≡◌, ◌<◌, drop}
 use Rattle.std.specs.List.{flat_map}
-use Rattle.cg_tree.specs.WellFormed.{IsWellFormed}
-use Rattle.cg_ops.specs.Clauses.{first}
-use Rattle.cg_check.specs.Checks.{subtree_faults}
+use Rattle.cg_model.specs.WellFormed.{IsWellFormed}
+use Rattle.cg_model.specs.Clauses.{first}
+use Rattle.cg_model.specs.Checks.{subtree_faults}
 use Rattle.cg_check.proofs.first_fault.Given as goal
 
 -- the first fault of the subtrees that are still to come is that of all

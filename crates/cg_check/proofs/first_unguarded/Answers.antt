@@ -1,4 +1,4 @@
-use Rattle.cg_guards.specs.GuardedUsers.{is_guarded}
+use Rattle.cg_model.specs.Guards.{is_guarded}
 use Rattle.cg_guards.proofs.KeptOff.{none_spared}
 use Rattle.cg_check.proofs.FirstUnguarded.{below_start, below_end, below_found, below_kept, all_left}
 use Rattle.cg_check.proofs.Pairs.{subtree_at}

@@ -1,19 +1,19 @@
 //! What operations are carried out on: a tree, or a tree of which a subtree is watched.
 ghost use Rattle.std.specs.Prelude.{◌≡◌, Ok, IfOk, OnOk, OnErr};
-ghost use Rattle.cg_ops.specs.Clauses.{first};
-ghost use Rattle.cg_ops.specs.Bars.{bars};
-ghost use Rattle.cg_ops.specs.Outcomes.{RefusedBy};
+ghost use Rattle.cg_model.specs.Clauses.{first};
+ghost use Rattle.cg_model.specs.Bars.{bars};
+ghost use Rattle.cg_steps.specs.Outcomes.{RefusedBy};
 ghost use Rattle.cg_cli.specs.Courses.{Course, HasRoom, state_of, on_course, closing, verdict_status};
 
 use cg_cgroup::memory::NoMemory;
 use cg_cgroup::user::User;
+use cg_model::operation::Op;
+use cg_model::outcome::Outcome;
+use cg_model::verdict::Verdict;
 use cg_ops::apply;
-use cg_ops::operation::Op;
-use cg_ops::outcome::Outcome;
 use cg_report::verdict::verdict_text;
 use cg_runs::fault::StepFault;
 use cg_runs::replay::Replay;
-use cg_runs::verdict::Verdict;
 use cg_tree::hierarchy::Hierarchy;
 use std::alloc::Global;
 

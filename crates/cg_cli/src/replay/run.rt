@@ -1,6 +1,5 @@
 //! The one core of both replays: it is fed pieces of the operations' bytes.
-ghost use Rattle.std.specs.Prelude.{◌≡◌, ◌+◌, ◌<◌, ◌≤◌, ◌++◌, OnOk, IfOk, length};
-ghost use Rattle.std.specs.Prelude.{[], ◌*◌};
+ghost use Rattle.std.specs.Prelude.{◌≡◌, ◌+◌, ◌<◌, ◌≤◌, ◌++◌, OnOk, IfOk, length, [], ◌*◌};
 ghost use Rattle.cg_cli.specs.Replays.{end_read, most_operations, longest_line};
 ghost use Rattle.cg_cli.specs.Courses.{HasMade, came_to};
 ghost use Rattle.cg_cli.specs.Replaying.{coming, most_taken, IsWaiting, Fed};

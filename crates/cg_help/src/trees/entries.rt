@@ -115,9 +115,7 @@ pub(super) fn value_said(
         Some((name, value)) => {
             let shown = shown_value(alloc, value)?;
             let range = range_of(name);
-            Ok(Some(format!(in alloc;
-                "{label}: {name} doesn't accept {shown}: write {range}"
-            )?))
+            Ok(Some(format!(in alloc; "{label}: {name} doesn't accept {shown}: write {range}")?))
         }
         None => Ok(None),
     }

@@ -145,7 +145,9 @@ fn keys_said(alloc: Global, table: &Table, keys: &[Key]) -> Result<Option<String
     if let Some(key) = unknown_key(table, keys) {
         let shown = quoted(alloc, key)?;
         let names = names_of(alloc, keys)?;
-        return Ok(Some(format!(in alloc; "there is no key {shown}: leave it out; there are{names}")?));
+        return Ok(Some(format!(in alloc;
+            "there is no key {shown}: leave it out; there are{names}"
+        )?));
     }
     for (key, kind, is_needed) in keys {
         if let Some(why) = key_said(alloc, table, key, *kind, *is_needed)? {

@@ -1,6 +1,6 @@
 //! What holds of operations and their lines.
 ghost use Rattle.std.specs.Prelude.{◌≡◌, ◌↔◌, ◌≤◌, ℕ, List, length, Some};
-ghost use Rattle.cg_ops.specs.declared.operation.Op.{Op};
+ghost use Rattle.cg_model.specs.declared.operation.Op.{Op};
 ghost use Rattle.cg_lines.specs.OperationLines.{spelling, IsHeld};
 ghost use Rattle.cg_lines.specs.LineLengths.{HasFewChanges};
 ghost use Rattle.cg_lines.specs.LineReading.{operation_at};

@@ -8,8 +8,8 @@ use crate::lines::fault::LineFault;
 use crate::lines::words::{change_of, cut, limit_of, mode_of, pid_of};
 use cg_cgroup::files::{EntryName, LimitFile};
 use cg_cgroup::path::Path;
-use cg_ops::changes::Changes;
-use cg_ops::operation::Op;
+use cg_model::changes::Changes;
+use cg_model::operation::Op;
 use std::alloc::Global;
 
 fn path_of(alloc: Global, word: &str) -> Result<Path, LineFault>

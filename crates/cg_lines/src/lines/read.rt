@@ -1,11 +1,11 @@
 //! Reading an operation line.
 ghost use Rattle.std.specs.Prelude.{◌≡◌, ◌≢◌, ◌≤◌, ◌<◌, ◌↔◌, length, IfOk, Err};
-ghost use Rattle.cg_ops.specs.declared.operation.Op.{Op};
+ghost use Rattle.cg_model.specs.declared.operation.Op.{Op};
 ghost use Rattle.cg_lines.specs.OperationLines.{spelling, IsHeld};
 
 use crate::lines::fault::LineFault;
 use crate::lines::operations::operation_of;
-use cg_ops::operation::Op;
+use cg_model::operation::Op;
 use std::alloc::Global;
 use std::str;
 

@@ -6,7 +6,7 @@ ghost use Rattle.cg_lines.specs.LineReading.{cut, number_at, pid_at, limit_at, o
 use cg_cgroup::files::{Controller, Limit};
 use cg_cgroup::process::Pid;
 use cg_cgroup::user::Mode;
-use cg_ops::changes::Change;
+use cg_model::changes::Change;
 
 /// The first word of a text, and what is behind the space that ends it; `None` without a space.
 pub fn cut(text: &str) -> Option<(&str, &str)>

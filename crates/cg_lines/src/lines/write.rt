@@ -3,7 +3,7 @@ ghost use Rattle.std.specs.Prelude.{◌≡◌, ◌++◌, [], ◌∷◌, IfOk, On
 ghost use Rattle.std.specs.String.{string_bytes};
 ghost use Rattle.std.specs.List.{flat_map};
 ghost use Rattle.cg_cgroup.specs.Paths.{path_text, IsPath};
-ghost use Rattle.cg_ops.specs.declared.operation.Op.TheVariants.{Move, Control, Mkdir, Rmdir, Set, Fork, Exit, Chmod};
+ghost use Rattle.cg_model.specs.declared.operation.Op.TheVariants.{Move, Control, Mkdir, Rmdir, Set, Fork, Exit, Chmod};
 ghost use Rattle.cg_lines.specs.OperationLines.{change_word, limit_word, mode_word, spelling, IsHeld};
 
 use cg_cgroup::files::{EntryName, Limit, LimitFile};
@@ -11,8 +11,8 @@ use cg_cgroup::memory::NoMemory;
 use cg_cgroup::path::Path;
 use cg_cgroup::process::Pid;
 use cg_cgroup::user::Mode;
-use cg_ops::changes::{Change, Changes};
-use cg_ops::operation::Op;
+use cg_model::changes::{Change, Changes};
+use cg_model::operation::Op;
 use std::alloc::Global;
 
 fn whole(path: &Path) -> &str

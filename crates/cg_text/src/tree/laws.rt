@@ -2,8 +2,8 @@
 ghost use Rattle.std.specs.Prelude.{◌≡◌, ◌↔◌, ℕ, true, List, is_some, Ok};
 ghost use Rattle.cg_cgroup.specs.Paths.{Names, IsPath};
 ghost use Rattle.cg_cgroup.specs.Numbers.{is_pid};
-ghost use Rattle.cg_tree.specs.States.{State, process_at};
-ghost use Rattle.cg_tree.specs.WellFormed.{has_row};
+ghost use Rattle.cg_model.specs.States.{State, process_at};
+ghost use Rattle.cg_model.specs.WellFormed.{has_row};
 ghost use Rattle.cg_text.specs.TreeTexts.{tree_of};
 ghost use Rattle.cg_text.specs.HasState.{HasState};
 

@@ -2,7 +2,7 @@
 use crate::guards::trees::first_failed;
 use cg_cgroup::files::LimitFile;
 use cg_cgroup::user::User;
-use cg_guards::guard::{Failed, Guard};
+use cg_model::guard::{Failed, Guard};
 use cg_rows::rows::Rows;
 use cg_text::tree::read_tree;
 use std::alloc::Global;

@@ -2,7 +2,7 @@
 use crate::guards::trees::{DELEGATION, PARENT_DELEGATED, SINGLE, first_failed, tree_with};
 use cg_cgroup::files::LimitFile;
 use cg_cgroup::user::User;
-use cg_guards::guard::{Failed, Guard};
+use cg_model::guard::{Failed, Guard};
 use std::alloc::Global;
 use std::process::Abort;
 use std::test::Fail;

@@ -5,8 +5,8 @@ ghost use Rattle.cg_cgroup.specs.Paths.{is_root};
 use cg_cgroup::path::Path;
 use cg_cgroup::user::User;
 use cg_guards::failed::failed_guard;
-use cg_guards::guard::Failed;
 use cg_indexed::indexed::Indexed;
+use cg_model::guard::Failed;
 use cg_rows::rows::Rows;
 use cg_text::tree::read_tree;
 use cg_tree::hierarchy::Hierarchy;
@@ -154,7 +154,7 @@ fn failed_of<H: Hierarchy>(
     Ok(failed_guard(tree, user, &subtree))
 }
 
-#[tactic(auto, using(cg_ops::proofs::Prefixes::root_of_length, cg_ops::proofs::Prefixes::no_root_of_length))]
+#[tactic(auto, using(cg_steps::proofs::Prefixes::root_of_length, cg_steps::proofs::Prefixes::no_root_of_length))]
 fn is_root(path: &Path) -> bool
     ensures { result ≡ is_root path.now }
 {

@@ -5,8 +5,8 @@ use cg_cgroup::files::{Controller, EntryName, Limit, LimitFile};
 use cg_cgroup::path::{Path, PathFault};
 use cg_cgroup::process::Pid;
 use cg_cgroup::user::Mode;
-use cg_ops::changes::{Change, Changes};
-use cg_ops::operation::Op;
+use cg_model::changes::{Change, Changes};
+use cg_model::operation::Op;
 use std::alloc::Global;
 use std::test::Fail;
 

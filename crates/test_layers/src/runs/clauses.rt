@@ -1,7 +1,7 @@
 //! Each clause, at the start where it can be broken there, and at a later step where it can be broken there.
 use crate::runs::trees::{replay_of, replay_with, verdict_after};
 use cg_cgroup::process::Pid;
-use cg_runs::verdict::{Clause, Verdict};
+use cg_model::verdict::{Clause, Verdict};
 use std::test::Fail;
 
 #[test]

@@ -2,10 +2,10 @@
 use cg_cgroup::path::Path;
 use cg_cgroup::user::User;
 use cg_lines::lines::read_op;
-use cg_ops::outcome::{Outcome, Refusal};
+use cg_model::outcome::{Outcome, Refusal};
+use cg_model::verdict::Verdict;
 use cg_rows::rows::Rows;
 use cg_runs::replay::Replay;
-use cg_runs::verdict::Verdict;
 use cg_text::tree::read_tree;
 use std::alloc::Global;
 use std::test::Fail;

@@ -4,8 +4,8 @@ use cg_cgroup::path::{Path, PathFault};
 use cg_cgroup::process::Pid;
 use cg_cgroup::user::Mode;
 use cg_lines::lines::{LONGEST_LINE, LineFault, op_text, read_op};
-use cg_ops::changes::{Change, Changes};
-use cg_ops::operation::Op;
+use cg_model::changes::{Change, Changes};
+use cg_model::operation::Op;
 use std::alloc::{AllocError, Global};
 use std::test::Fail;
 

@@ -1,6 +1,6 @@
 //! The lines of outcomes: each refusal that each kind of operation can meet.
 ghost use Rattle.std.specs.Prelude.{◌≡◌, IfSome, length};
-ghost use Rattle.cg_ops.specs.declared.outcome.Outcome.{Outcome};
+ghost use Rattle.cg_model.specs.declared.outcome.Outcome.{Outcome};
 ghost use Rattle.cg_lines.specs.Outcomes.{CanShow};
 
 use cg_cgroup::files::{Controller, EntryName, Limit, LimitFile};
@@ -9,9 +9,9 @@ use cg_cgroup::path::Path;
 use cg_cgroup::process::Pid;
 use cg_cgroup::user::Mode;
 use cg_lines::outcome::outcome_text;
-use cg_ops::changes::Changes;
-use cg_ops::operation::Op;
-use cg_ops::outcome::{Outcome, Refusal};
+use cg_model::changes::Changes;
+use cg_model::operation::Op;
+use cg_model::outcome::{Outcome, Refusal};
 use std::alloc::Global;
 use std::test::Fail;
 

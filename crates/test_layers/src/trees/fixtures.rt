@@ -2,9 +2,9 @@
 ghost use Rattle.std.specs.Prelude.{◌≡◌, true, not, ◌||◌, [], cond, Some, None, IfOk};
 ghost use Rattle.cg_cgroup.specs.Files.{enables, stands_under};
 ghost use Rattle.cg_cgroup.specs.Cgroups.{file_made_by, entry_made_by, cgroup_made_by};
-ghost use Rattle.cg_tree.specs.States.{child_enables};
+ghost use Rattle.cg_model.specs.States.{child_enables};
 ghost use Rattle.cg_rows.specs.RowsForm.{IsRoot, state_of_root};
-ghost use Rattle.cg_tree.specs.WellFormed.{has_row, available_at};
+ghost use Rattle.cg_model.specs.WellFormed.{has_row, available_at};
 
 use cg_cgroup::cgroup::{Cgroup, LimitEntry};
 use cg_cgroup::files::{Controller, ControllerSet, EntryName, Limit, LimitFile};

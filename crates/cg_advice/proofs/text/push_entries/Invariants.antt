@@ -1,7 +1,7 @@
 use Rattle.std.proofs.Common.{◌≡◌, ◌++◌, drop}
 use Rattle.std.specs.List.{flat_map}
-use Rattle.cg_guards.specs.Guards.{guarded_entries}
-use Rattle.cg_advice.specs.Mends.{reached_of}
+use Rattle.cg_model.specs.Guards.{guarded_entries}
+use Rattle.cg_model.specs.Mends.{reached_of}
 use Rattle.cg_advice.specs.AdviceLines.{reached_lines}
 use Rattle.cg_advice.proofs.text.push_entries.Given as goal
 

@@ -1,6 +1,6 @@
 use Rattle.std.proofs.Common.{◌≡◌, drop}
-use Rattle.cg_ops.specs.Steps.{after_all}
-use Rattle.cg_runs.specs.Held.{by_user}
+use Rattle.cg_model.specs.Steps.{after_all}
+use Rattle.cg_model.specs.Held.{by_user}
 use Rattle.cg_check.proofs.escape.carry_out.Given as goal
 
 -- what is still to be carried out leads to the same state

@@ -1,5 +1,5 @@
 use Rattle.std.proofs.Common.{◌≡◌, ◌++◌, sym, ap, ◌∙◌, subst, List, Option, Some, IfOk}
-use Rattle.cg_ops.specs.declared.operation.Op.{Op}
+use Rattle.cg_model.specs.declared.operation.Op.{Op}
 use Rattle.cg_check.specs.Opened.{is_free}
 use Rattle.cg_check.proofs.Escaping.{escape-unopened, opened-is, no_length, opened-subtree, opened-unbroken, escape-none, escape-free, escape-joined}
 use Rattle.cg_check.proofs.escape.first_unbroken_escape.Goals as goal

@@ -1,5 +1,5 @@
 use Rattle.std.proofs.Common.{◌≡◌, ◌++◌}
-use Rattle.cg_tries.specs.Tries.{opening}
+use Rattle.cg_model.specs.Tries.{opening}
 use Rattle.cg_check.proofs.Escaping.{opening_from}
 use Rattle.cg_check.proofs.opening.opening.Given as goal
 

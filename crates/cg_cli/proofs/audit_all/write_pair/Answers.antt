@@ -1,8 +1,8 @@
 use Rattle.std.proofs.Common.{◌∙◌}
 use Rattle.std.proofs.lemmas.Result.{err_from_is_err_and}
 use Rattle.cg_report.proofs.Shown.{answers_are_shown}
-use Rattle.cg_check.specs.Answers.{answer}
-use Rattle.cg_check.specs.Listed.{listed_unless_contained}
+use Rattle.cg_model.specs.Answers.{answer}
+use Rattle.cg_model.specs.Listed.{listed_unless_contained}
 use Rattle.cg_cli.proofs.AllPairs.{fault_wants, contained_writes, pair_writes, pair_stops, wants}
 use Rattle.cg_cli.proofs.audit_all.write_pair.Goals as goal
 

@@ -1,7 +1,7 @@
 use Rattle.std.proofs.Common.{◌-◌, length, take, drop, ap, ◌∙◌}
 use Rattle.std.proofs.lemmas.List.{take_rest}
 use Rattle.std.proofs.lemmas.Result.{err_from_is_err_and}
-use Rattle.cg_check.specs.Listed.{listed_of, listed}
+use Rattle.cg_model.specs.Listed.{listed_of, listed}
 use Rattle.cg_check.proofs.ListedLaws.{listed_past}
 use Rattle.cg_cli.proofs.AllPairs.{begins, goes_on, stops, passes_on, user_next}
 use Rattle.cg_cli.proofs.audit_all.write_pairs.Goals as goal

@@ -1,5 +1,5 @@
 use Rattle.std.proofs.Common.{length}
-use Rattle.cg_check.specs.Listed.{listed}
+use Rattle.cg_model.specs.Listed.{listed}
 use Rattle.cg_cli.proofs.AllPairs.{Front}
 use Rattle.cg_cli.proofs.audit_all.write_pairs.Given as goal
 

@@ -1,7 +1,7 @@
 use Rattle.std.proofs.Common.{sym, ap, ◌∙◌, subst}
 use Rattle.std.proofs.lemmas.Result.{err_from_is_err_and}
-use Rattle.cg_ops.specs.Clauses.{first}
-use Rattle.cg_check.specs.Checks.{subtree_faults}
+use Rattle.cg_model.specs.Clauses.{first}
+use Rattle.cg_model.specs.Checks.{subtree_faults}
 use Rattle.cg_check.proofs.Pairs.{none-element}
 use Rattle.cg_cli.proofs.AllPairs.{Front, goes_on, stops, here_next}
 use Rattle.cg_cli.proofs.audit_all.write_user.Goals as goal

@@ -1,5 +1,5 @@
 use Rattle.std.proofs.Common.{drop}
-use Rattle.cg_check.specs.Listed.{listed_of}
+use Rattle.cg_model.specs.Listed.{listed_of}
 use Rattle.cg_cli.proofs.AllPairs.{Front}
 use Rattle.cg_cli.proofs.audit_all.write_user.Given as goal
 

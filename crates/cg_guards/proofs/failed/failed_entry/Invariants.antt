@@ -1,7 +1,7 @@
 use Rattle.std.proofs.Common.{◌≡◌}
 use Rattle.std.specs.List.{flat_map}
-use Rattle.cg_ops.specs.Clauses.{first}
-use Rattle.cg_guards.specs.Guards.{guarded_entries, entry_failures}
+use Rattle.cg_model.specs.Clauses.{first}
+use Rattle.cg_model.specs.Guards.{guarded_entries, entry_failures}
 use Rattle.cg_guards.proofs.FirstFailed.{failures_from}
 use Rattle.cg_guards.proofs.failed.failed_entry.Given as goal
 

@@ -1,5 +1,5 @@
 use Rattle.std.proofs.Common.{◌≡◌}
-use Rattle.cg_guards.specs.Guards.{guarded_entries}
+use Rattle.cg_model.specs.Guards.{guarded_entries}
 use Rattle.cg_guards.specs.GuardedUsers.{AreSpared, kept_off}
 use Rattle.cg_guards.proofs.KeptOff.{kept_from}
 use Rattle.cg_guards.proofs.users.off_entries.Given as goal

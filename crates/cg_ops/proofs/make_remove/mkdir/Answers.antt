@@ -1,7 +1,7 @@
 use Rattle.std.proofs.Common.{sym, ap, ◌∙◌, is_some, true≢false}
-use Rattle.cg_ops.proofs.Allowed.{allowed_mkdir, formed_mkdir}
-use Rattle.cg_ops.proofs.Prefixes.{take_parent}
-use Rattle.cg_tree.specs.States.{row_at}
+use Rattle.cg_steps.proofs.Allowed.{allowed_mkdir, formed_mkdir}
+use Rattle.cg_steps.proofs.Prefixes.{take_parent}
+use Rattle.cg_model.specs.States.{row_at}
 use Rattle.cg_ops.proofs.make_remove.mkdir.Goals as goal
 
 pub add-requires-clause-keeps : goal.add-requires-clause-keeps

@@ -1,9 +1,9 @@
 use Rattle.std.proofs.Common.{sym, subst, ap, ◌∙◌, is_some, true≢false}
-use Rattle.cg_tree.specs.States.{row_at}
-use Rattle.cg_tree.specs.WellFormed.{MayEnable}
-use Rattle.cg_ops.proofs.Allowed.{there_control}
-use Rattle.cg_ops.proofs.AllowedControl.{allowed_control}
-use Rattle.cg_ops.proofs.Prefixes.{take_whole}
+use Rattle.cg_model.specs.States.{row_at}
+use Rattle.cg_model.specs.WellFormed.{MayEnable}
+use Rattle.cg_steps.proofs.Allowed.{there_control}
+use Rattle.cg_steps.proofs.AllowedControl.{allowed_control}
+use Rattle.cg_steps.proofs.Prefixes.{take_whole}
 use Rattle.cg_ops.proofs.subtree_control.carry_out.Goals as goal
 
 pub set_enabled-requires-clause-keeps : goal.set_enabled-requires-clause-keeps

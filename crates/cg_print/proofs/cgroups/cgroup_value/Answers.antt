@@ -4,7 +4,7 @@ use Rattle.toml.specs.Data.{table}
 use Rattle.toml.proofs.Views.{view-Table}
 use Rattle.cg_cgroup.proofs.Options.{same_some}
 use Rattle.cg_cgroup.specs.declared.cgroup.Cgroup.{Cgroup}
-use Rattle.cg_tree.specs.States.{row_at}
+use Rattle.cg_model.specs.States.{row_at}
 use Rattle.cg_print.specs.Carried.{IsNamedRow}
 use Rattle.cg_print.specs.Documents.{cgroup_table}
 use Rattle.cg_print.proofs.cgroups.cgroup_value.Goals as goal

@@ -1,6 +1,6 @@
 //! A change of what a cgroup enables for its children.
 ghost use Rattle.std.specs.Prelude.{◌≡◌, map as map_list};
-ghost use Rattle.cg_tree.specs.States.{enabling, change_each};
+ghost use Rattle.cg_model.specs.States.{enabling, change_each};
 
 use crate::tables::kin::is_child;
 use crate::tables::path_table::PathTable;

@@ -1,6 +1,6 @@
 use Rattle.std.proofs.Common.{find, subst, ap, ◌≡◌, ◌∙◌, List, Option}
 use Rattle.std.specs.Result.{IfOk}
-use Rattle.cg_ops.specs.declared.operation.Op.{Op}
+use Rattle.cg_model.specs.declared.operation.Op.{Op}
 use Rattle.cg_tries.specs.Finding.{can_leave_to, can_enter_at, first_given, move_of}
 use Rattle.cg_tries.proofs.move_tries.first_move.Goals as goal
 

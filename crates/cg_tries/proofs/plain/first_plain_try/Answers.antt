@@ -1,7 +1,7 @@
 use Rattle.std.proofs.Common.{◌≡◌, List, Option, subst, sym, ap, ◌∙◌}
 use Rattle.std.specs.Option.{option_or}
 use Rattle.std.specs.Result.{IfOk}
-use Rattle.cg_ops.specs.declared.operation.Op.{Op}
+use Rattle.cg_model.specs.declared.operation.Op.{Op}
 use Rattle.cg_tries.specs.Finding.{first_passage}
 use Rattle.cg_tries.proofs.PlainTries.{plain-is, no_passage}
 use Rattle.cg_tries.proofs.plain.first_plain_try.Goals as goal

@@ -1,5 +1,5 @@
 use Rattle.std.proofs.Common.{◌≡◌, drop, find}
-use Rattle.cg_tries.specs.Tries.{is_inside}
+use Rattle.cg_model.specs.Tries.{is_inside}
 use Rattle.cg_tries.proofs.probe_tries.first_inside.Given as goal
 
 -- the first is among those that are still to come

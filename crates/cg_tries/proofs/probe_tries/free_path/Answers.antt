@@ -1,6 +1,6 @@
 use Rattle.std.proofs.Common.{◌≡◌, ℕ, ◌+◌, ◌-◌, Bool, not, cond, take, find, Some, option_and_then, sym, ap, ◌∙◌}
-use Rattle.cg_tree.specs.WellFormed.{has_row}
-use Rattle.cg_tries.specs.Tries.{probe, numbers_from}
+use Rattle.cg_model.specs.WellFormed.{has_row}
+use Rattle.cg_model.specs.Tries.{probe, numbers_from}
 use Rattle.cg_tries.specs.Finding.{short_probe}
 use Rattle.cg_tries.proofs.ProbeNames.{numbers_next, none_short, short_is}
 use Rattle.cg_tries.proofs.probe_tries.free_path.Goals as goal

@@ -1,6 +1,6 @@
 use Rattle.std.proofs.Common.{◌≡◌, ◌-◌, not, take, find}
-use Rattle.cg_tree.specs.WellFormed.{has_row}
-use Rattle.cg_tries.specs.Tries.{probe, numbers_from}
+use Rattle.cg_model.specs.WellFormed.{has_row}
+use Rattle.cg_model.specs.Tries.{probe, numbers_from}
 use Rattle.cg_tries.proofs.probe_tries.free_path.Given as goal
 
 -- the first is among those that are still to come

@@ -1,6 +1,6 @@
 use Rattle.std.proofs.Common.{sym, ap, subst, ◌∙◌, ℕ, ◌+◌, arith}
 use Rattle.std.specs.Prelude.{option_copied}
-use Rattle.cg_ops.specs.Bars.{is_under}
+use Rattle.cg_model.specs.Limits.{is_under}
 use Rattle.cg_tries.proofs.Levels.{OpenAbove, open_barred, open_full, open_row, open_gone, lowered-le}
 use Rattle.cg_tries.proofs.probe_tries.open_levels.Goals as goal
 

@@ -1,7 +1,7 @@
 use Rattle.std.proofs.Common.{◌≡◌, Some, Err, false, ◌++◌, ◌∷◌, [], subst, sym, ap, ◌∙◌, take}
 use Rattle.cg_cgroup.specs.Paths.{Name, Names, IsPath, is_path}
 use Rattle.cg_cgroup.proofs.PathNames.{IsPath-take}
-use Rattle.cg_tries.specs.Tries.{probe}
+use Rattle.cg_model.specs.Tries.{probe}
 use Rattle.cg_tries.proofs.ProbeNames.{short-is_path, short-not_path}
 use Rattle.cg_tries.proofs.probe_tries.probe.Goals as goal
 

@@ -1,7 +1,7 @@
 use Rattle.std.proofs.Common.{◌≡◌, true, Some, None, sym, ap, ◌∙◌}
-use Rattle.cg_guards.specs.Limits.{is_within_limit}
-use Rattle.cg_tree.specs.States.{row_at, count_below}
-use Rattle.cg_ops.proofs.Prefixes.{take_whole}
+use Rattle.cg_model.specs.Limits.{is_within_limit}
+use Rattle.cg_model.specs.States.{row_at, count_below}
+use Rattle.cg_steps.proofs.Prefixes.{take_whole}
 use Rattle.test_tries.proofs.plain.fits_descendants.Goals as goal
 
 pub returns-in-Some : goal.returns-in-Some

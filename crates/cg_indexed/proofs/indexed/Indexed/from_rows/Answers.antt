@@ -1,6 +1,6 @@
 use Rattle.std.proofs.Common.{ap, sym, subst, ◌∙◌, arith}
 use Rattle.std.specs.FinMap as map
-use Rattle.cg_tree.specs.WellFormed.{IsWellFormed}
+use Rattle.cg_model.specs.WellFormed.{IsWellFormed}
 use Rattle.cg_indexed.proofs.Living.{AreCounted}
 use Rattle.cg_indexed.proofs.Taken.{AreRaised, raised_none, raised_home, raised_more, raised_all}
 use Rattle.cg_indexed.proofs.indexed.Indexed.from_rows.Goals as goal

@@ -1,7 +1,7 @@
 use Rattle.std.proofs.Common.{◌≡◌, ap, sym, subst, refl, ◌∙◌, []}
 use Rattle.std.specs.FinMap as map
 use Rattle.cg_cgroup.specs.Paths.{path_cmp}
-use Rattle.cg_tree.specs.WellFormed.{IsWellFormed}
+use Rattle.cg_model.specs.WellFormed.{IsWellFormed}
 use Rattle.cg_rows.specs.Processes.{LiveAndUsed, no_processes}
 use Rattle.cg_rows.specs.RowsForm.{state_of_root}
 use Rattle.cg_rows.proofs.TablesState.{formed_root}

@@ -3,8 +3,8 @@ use Rattle.std.proofs.lemmas.Result.{on_ok_weaker}
 use Rattle.std.specs.Prelude.{OnOk, OnErr}
 use Rattle.std.specs.FinMap as map
 use Rattle.cg_cgroup.specs.Paths.{parent}
-use Rattle.cg_tree.specs.States.{State, with_row}
-use Rattle.cg_tree.specs.WellFormed.{IsWellFormed, has_row}
+use Rattle.cg_model.specs.States.{State, with_row}
+use Rattle.cg_model.specs.WellFormed.{IsWellFormed, has_row}
 use Rattle.cg_rows.specs.RowsForm.{state_of_tables}
 use Rattle.cg_indexed.specs.Kept.{Held, new_held}
 use Rattle.cg_indexed.specs.Indexed.{state_of, IsIndexed}

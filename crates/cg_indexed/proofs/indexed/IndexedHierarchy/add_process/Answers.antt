@@ -1,9 +1,9 @@
 use Rattle.std.proofs.Common.{◌≡◌, ap, sym, subst, None, refl, ◌∙◌, arith}
 use Rattle.std.specs.FinMap as map
 use Rattle.cg_cgroup.specs.Paths.{Names}
-use Rattle.cg_tree.specs.States.{State, is_used, with_process}
-use Rattle.cg_tree.specs.WellFormed.{IsWellFormed, may_hold}
-use Rattle.cg_tree.proofs.FormedLaws.{formed-with_process}
+use Rattle.cg_model.specs.States.{State, is_used, with_process}
+use Rattle.cg_model.specs.WellFormed.{IsWellFormed, may_hold}
+use Rattle.cg_steps.proofs.FormedLaws.{formed-with_process}
 use Rattle.cg_rows.specs.Processes.{LiveAndUsed, with_new}
 use Rattle.cg_rows.specs.RowsForm.{state_of_tables}
 use Rattle.cg_indexed.specs.Kept.{change_held, one_live_more}

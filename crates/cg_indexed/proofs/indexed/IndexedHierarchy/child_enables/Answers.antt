@@ -1,6 +1,6 @@
 use Rattle.std.proofs.Common.{ap, take, ◌∙◌}
-use Rattle.cg_tree.specs.States.{child_enables}
-use Rattle.cg_tree.specs.WellFormed.{has_row}
+use Rattle.cg_model.specs.States.{child_enables}
+use Rattle.cg_model.specs.WellFormed.{has_row}
 use Rattle.cg_indexed.proofs.indexed.IndexedHierarchy.child_enables.Goals as goal
 
 pub child_enables-requires-clause-there : goal.child_enables-requires-clause-there

@@ -1,6 +1,6 @@
 use Rattle.std.proofs.Common.{ap, take, ◌∙◌}
-use Rattle.cg_tree.specs.States.{count_below}
-use Rattle.cg_tree.specs.WellFormed.{has_row}
+use Rattle.cg_model.specs.States.{count_below}
+use Rattle.cg_model.specs.WellFormed.{has_row}
 use Rattle.cg_indexed.proofs.indexed.IndexedHierarchy.count_below.Goals as goal
 
 pub count_below-requires-clause-there : goal.count_below-requires-clause-there

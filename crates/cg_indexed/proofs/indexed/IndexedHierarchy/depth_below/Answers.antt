@@ -1,5 +1,5 @@
 use Rattle.std.proofs.Common.{ap, take, ◌∙◌}
-use Rattle.cg_tree.specs.States.{depth_below}
+use Rattle.cg_model.specs.States.{depth_below}
 use Rattle.cg_indexed.proofs.indexed.IndexedHierarchy.depth_below.Goals as goal
 
 pub returns : goal.returns

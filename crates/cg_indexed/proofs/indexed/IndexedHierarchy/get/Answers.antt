@@ -1,6 +1,6 @@
 use Rattle.std.proofs.Common.{ap, subst, take, ◌∙◌}
-use Rattle.cg_tree.specs.States.{row_at}
-use Rattle.cg_tree.specs.WellFormed.{IsWellFormed}
+use Rattle.cg_model.specs.States.{row_at}
+use Rattle.cg_model.specs.WellFormed.{IsWellFormed}
 use Rattle.cg_indexed.proofs.indexed.IndexedHierarchy.get.Goals as goal
 
 pub returns-clause-row : goal.returns-clause-row

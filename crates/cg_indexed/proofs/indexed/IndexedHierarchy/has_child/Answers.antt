@@ -1,6 +1,6 @@
 use Rattle.std.proofs.Common.{ap, sym, subst, take, nat_lt, ◌∙◌}
-use Rattle.cg_tree.specs.States.{count_below}
-use Rattle.cg_tree.specs.WellFormed.{IsWellFormed, has_row}
+use Rattle.cg_model.specs.States.{count_below}
+use Rattle.cg_model.specs.WellFormed.{IsWellFormed, has_row}
 use Rattle.cg_indexed.proofs.Living.{has_child-counted}
 use Rattle.cg_indexed.proofs.indexed.IndexedHierarchy.has_child.Goals as goal
 

@@ -1,7 +1,7 @@
 use Rattle.std.proofs.Common.{ap, sym, take, nat_lt, ◌∙◌}
 use Rattle.std.specs.FinMap as map
-use Rattle.cg_tree.specs.States.{State, has_live}
-use Rattle.cg_tree.specs.WellFormed.{has_row}
+use Rattle.cg_model.specs.States.{State, has_live}
+use Rattle.cg_model.specs.WellFormed.{has_row}
 use Rattle.cg_cgroup.proofs.Options.{mapped_from}
 use Rattle.cg_indexed.specs.Indexed.{state_of}
 use Rattle.cg_indexed.proofs.Living.{has_live-counted}

@@ -1,7 +1,7 @@
 use Rattle.std.proofs.Common.{ap, refl, subst, take, ◌∙◌}
 use Rattle.std.specs.Option.{MatchOption}
-use Rattle.cg_tree.specs.States.{State}
-use Rattle.cg_tree.specs.WellFormed.{has_row}
+use Rattle.cg_model.specs.States.{State}
+use Rattle.cg_model.specs.WellFormed.{has_row}
 use Rattle.cg_tree.specs.Limits.{NoneIsFull, IsNearestFull}
 use Rattle.cg_indexed.specs.Kept.{tree_of}
 use Rattle.cg_indexed.specs.Indexed.{state_of}

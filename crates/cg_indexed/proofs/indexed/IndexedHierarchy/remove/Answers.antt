@@ -1,8 +1,8 @@
 use Rattle.std.proofs.Common.{◌≡◌, ap, sym, subst, ◌∙◌}
 use Rattle.std.specs.FinMap as map
-use Rattle.cg_tree.specs.States.{State, has_child, without_row}
-use Rattle.cg_tree.specs.WellFormed.{IsWellFormed, has_row}
-use Rattle.cg_tree.proofs.FormedLaws.{formed-without_row}
+use Rattle.cg_model.specs.States.{State, has_child, without_row}
+use Rattle.cg_model.specs.WellFormed.{IsWellFormed, has_row}
+use Rattle.cg_steps.proofs.FormedLaws.{formed-without_row}
 use Rattle.cg_rows.specs.RowsForm.{state_of_tables}
 use Rattle.cg_indexed.specs.Indexed.{state_of, IsIndexed}
 use Rattle.cg_indexed.proofs.Values.{values-remove}

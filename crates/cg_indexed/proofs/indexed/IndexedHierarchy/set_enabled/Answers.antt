@@ -1,8 +1,8 @@
 use Rattle.std.proofs.Common.{◌≡◌, ap, sym, subst, take_all, refl, is_some, true≢false, ◌∙◌, arith}
 use Rattle.std.specs.FinMap as map
-use Rattle.cg_tree.specs.States.{State, with_enabled}
-use Rattle.cg_tree.specs.WellFormed.{IsWellFormed, has_row}
-use Rattle.cg_tree.proofs.FormedLaws.{formed-with_enabled}
+use Rattle.cg_model.specs.States.{State, with_enabled}
+use Rattle.cg_model.specs.WellFormed.{IsWellFormed, has_row}
+use Rattle.cg_steps.proofs.FormedLaws.{formed-with_enabled}
 use Rattle.cg_rows.specs.RowsForm.{state_of_tables}
 use Rattle.cg_indexed.specs.Kept.{cgroups_of, change_each_held, enabling_held}
 use Rattle.cg_indexed.specs.Indexed.{state_of, IsIndexed}

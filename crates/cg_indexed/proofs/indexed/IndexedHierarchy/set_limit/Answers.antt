@@ -1,9 +1,9 @@
 use Rattle.std.proofs.Common.{◌≡◌, ap, sym, subst, take_all, is_some, true≢false, ◌∙◌, arith}
 use Rattle.std.specs.FinMap as map
 use Rattle.cg_cgroup.specs.Cgroups.{with_value_in}
-use Rattle.cg_tree.specs.States.{State, row_at, with_value}
-use Rattle.cg_tree.specs.WellFormed.{IsWellFormed}
-use Rattle.cg_tree.proofs.FormedLaws.{formed-with_value}
+use Rattle.cg_model.specs.States.{State, row_at, with_value}
+use Rattle.cg_model.specs.WellFormed.{IsWellFormed}
+use Rattle.cg_steps.proofs.FormedLaws.{formed-with_value}
 use Rattle.cg_indexed.specs.Kept.{cgroups_of, change_held, with_row_of}
 use Rattle.cg_indexed.specs.Indexed.{state_of, IsIndexed}
 use Rattle.cg_rows.specs.RowsForm.{state_of_tables}

@@ -1,9 +1,9 @@
 use Rattle.std.proofs.Common.{◌≡◌, ap, sym, subst, is_some, true≢false, refl, ◌∙◌, arith}
 use Rattle.std.specs.FinMap as map
-use Rattle.cg_tree.specs.States.{State, process_at, placed_at, with_place}
-use Rattle.cg_tree.specs.WellFormed.{IsWellFormed, may_hold}
-use Rattle.cg_tree.proofs.FormedLaws.{formed-with_place}
-use Rattle.cg_tree.proofs.MapLaws.{change_value-there}
+use Rattle.cg_model.specs.States.{State, process_at, placed_at, with_place}
+use Rattle.cg_model.specs.WellFormed.{IsWellFormed, may_hold}
+use Rattle.cg_steps.proofs.FormedLaws.{formed-with_place}
+use Rattle.cg_steps.proofs.MapLaws.{change_value-there}
 use Rattle.cg_rows.specs.Processes.{LiveAndUsed, with_place_of}
 use Rattle.cg_rows.specs.RowsForm.{state_of_tables}
 use Rattle.cg_indexed.specs.Kept.{cgroups_of, change_held, one_live_more, one_live_less}

@@ -4,7 +4,7 @@ use Rattle.std.specs.Option.{option_copied_mut}
 use Rattle.std.specs.Cmp.{nat_cmp_total}
 use Rattle.std.specs.FinMap as map
 use Rattle.std.specs.FinSet as set
-use Rattle.cg_tree.specs.States.{placed_at}
+use Rattle.cg_model.specs.States.{placed_at}
 use Rattle.cg_cgroup.specs.declared.process.Process.{Process}
 use Rattle.cg_rows.specs.Processes.{with_place_of}
 use Rattle.cg_rows.proofs.StdMaps.{get-shown, shown-insert}

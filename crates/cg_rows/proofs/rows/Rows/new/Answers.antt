@@ -1,5 +1,5 @@
 use Rattle.std.proofs.Common.{sym, subst}
-use Rattle.cg_tree.specs.WellFormed.{IsWellFormed}
+use Rattle.cg_model.specs.WellFormed.{IsWellFormed}
 use Rattle.cg_rows.proofs.TablesState.{formed_root, tables_of_root, no_keys}
 use Rattle.cg_rows.proofs.rows.Rows.new.Goals as goal
 

@@ -1,5 +1,5 @@
 use Rattle.std.proofs.Common.{ap}
-use Rattle.cg_tree.specs.States.{State}
+use Rattle.cg_model.specs.States.{State}
 use Rattle.cg_rows.proofs.rows.Rows.processes.Goals as goal
 
 pub returns-clause-live : goal.returns-clause-live

@@ -2,11 +2,11 @@ use Rattle.std.proofs.Common.{◌≡◌, ap, sym, ◌∙◌, subst, Ok, Err}
 use Rattle.std.proofs.lemmas.Result.{on_ok_weaker}
 use Rattle.std.specs.Prelude.{OnOk, OnErr}
 use Rattle.cg_cgroup.specs.Paths.{Names}
-use Rattle.cg_tree.specs.States.{is_used, with_process}
-use Rattle.cg_tree.specs.WellFormed.{IsWellFormed}
+use Rattle.cg_model.specs.States.{is_used, with_process}
+use Rattle.cg_model.specs.WellFormed.{IsWellFormed}
 use Rattle.cg_rows.specs.Processes.{with_new}
 use Rattle.cg_rows.specs.RowsForm.{state_of_tables}
-use Rattle.cg_tree.proofs.FormedLaws.{formed-with_process}
+use Rattle.cg_steps.proofs.FormedLaws.{formed-with_process}
 use Rattle.cg_rows.proofs.rows.RowsHierarchy.add_process.Goals as goal
 
 pub insert-requires : goal.insert-requires

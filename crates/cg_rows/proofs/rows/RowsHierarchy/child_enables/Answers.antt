@@ -1,5 +1,5 @@
 use Rattle.std.proofs.Common.{ap, take, ◌∙◌}
-use Rattle.cg_tree.specs.States.{child_enables}
+use Rattle.cg_model.specs.States.{child_enables}
 use Rattle.cg_cgroup.specs.Files.{enables}
 use Rattle.cg_rows.proofs.Below.{any_below}
 use Rattle.cg_rows.proofs.rows.RowsHierarchy.child_enables.Goals as goal

@@ -1,5 +1,5 @@
 use Rattle.std.proofs.Common.{ap, take, ◌∙◌}
-use Rattle.cg_tree.specs.States.{count_below}
+use Rattle.cg_model.specs.States.{count_below}
 use Rattle.cg_rows.proofs.Below.{count_found}
 use Rattle.cg_rows.proofs.rows.RowsHierarchy.count_below.Goals as goal
 

@@ -1,6 +1,6 @@
 use Rattle.std.proofs.Common.{ap, sym, take, ◌∙◌}
 use Rattle.std.proofs.lemmas.List.{length-take-le}
-use Rattle.cg_tree.specs.States.{depth_below}
+use Rattle.cg_model.specs.States.{depth_below}
 use Rattle.cg_rows.proofs.Below.{depth_found}
 use Rattle.cg_rows.proofs.rows.RowsHierarchy.depth_below.Goals as goal
 

@@ -1,5 +1,5 @@
 use Rattle.std.proofs.Common.{ap, take, ◌∙◌}
-use Rattle.cg_tree.specs.States.{has_child}
+use Rattle.cg_model.specs.States.{has_child}
 use Rattle.cg_rows.proofs.Below.{any_child_below}
 use Rattle.cg_rows.proofs.rows.RowsHierarchy.has_child.Goals as goal
 

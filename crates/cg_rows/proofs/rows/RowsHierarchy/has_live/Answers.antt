@@ -1,5 +1,5 @@
 use Rattle.std.proofs.Common.{ap, take, ◌∙◌}
-use Rattle.cg_tree.specs.States.{has_live}
+use Rattle.cg_model.specs.States.{has_live}
 use Rattle.cg_rows.proofs.rows.RowsHierarchy.has_live.Goals as goal
 
 pub returns : goal.returns

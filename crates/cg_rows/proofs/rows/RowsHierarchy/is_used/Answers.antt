@@ -1,5 +1,5 @@
 use Rattle.std.proofs.Common.{ap, ◌∙◌}
-use Rattle.cg_tree.specs.States.{is_used}
+use Rattle.cg_model.specs.States.{is_used}
 use Rattle.cg_rows.proofs.rows.RowsHierarchy.is_used.Goals as goal
 
 pub returns : goal.returns

@@ -1,8 +1,8 @@
 use Rattle.std.proofs.Common.{ap, sym, ◌∙◌, subst}
-use Rattle.cg_tree.specs.States.{with_enabled}
-use Rattle.cg_tree.specs.WellFormed.{IsWellFormed}
+use Rattle.cg_model.specs.States.{with_enabled}
+use Rattle.cg_model.specs.WellFormed.{IsWellFormed}
 use Rattle.cg_rows.specs.RowsForm.{state_of_tables}
-use Rattle.cg_tree.proofs.FormedLaws.{formed-with_enabled}
+use Rattle.cg_steps.proofs.FormedLaws.{formed-with_enabled}
 use Rattle.cg_rows.proofs.rows.RowsHierarchy.set_enabled.Goals as goal
 
 pub invariant_of-self : goal.invariant_of-self

@@ -1,7 +1,7 @@
 use Rattle.std.proofs.Common.{◌<◌, Ok, ap, sym, ◌∙◌, arith}
 use Rattle.cg_cgroup.specs.Cgroups.{value_in}
-use Rattle.cg_ops.specs.Clauses.{first}
-use Rattle.cg_runs.specs.Replays.{Progress, stepped}
+use Rattle.cg_model.specs.Clauses.{first}
+use Rattle.cg_model.specs.Replays.{Progress, stepped}
 use Rattle.cg_runs.specs.Shortcuts.{broken_by}
 use Rattle.cg_runs.proofs.ReplayLaws.{IsApplied, step-still, step-done, replay-still, replay-done}
 use Rattle.cg_runs.proofs.replay.Replay.step.Goals as goal

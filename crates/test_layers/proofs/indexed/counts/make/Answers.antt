@@ -1,11 +1,11 @@
 use Rattle.std.proofs.Common.{◌≡◌, ℕ, ◌+◌, ◌-◌, false, Bor, Option, Some, None, is_some, option_copied, length, take, refl, sym, ap, ◌∙◌, subst, arith, take_all}
 use Rattle.cg_cgroup.specs.Paths.{Names, parent}
 use Rattle.cg_cgroup.specs.Cgroups.{cgroup_made_by}
-use Rattle.cg_tree.specs.States.{row_at, with_row}
-use Rattle.cg_tree.specs.WellFormed.{IsWellFormed, has_row}
+use Rattle.cg_model.specs.States.{row_at, with_row}
+use Rattle.cg_model.specs.WellFormed.{IsWellFormed, has_row}
 use Rattle.cg_cgroup.specs.declared.cgroup.Cgroup.{Cgroup}
-use Rattle.cg_tree.proofs.FormedParts.{enabled_at-row}
-use Rattle.cg_tree.proofs.FormedLaws.{formed-with_made_row}
+use Rattle.cg_steps.proofs.FormedParts.{enabled_at-row}
+use Rattle.cg_steps.proofs.FormedLaws.{formed-with_made_row}
 use Rattle.test_layers.proofs.indexed.counts.make.Goals as goal
 
 some_copied : (found : Option (Bor Cgroup)) → is_some (option_copied found) ≡ is_some found

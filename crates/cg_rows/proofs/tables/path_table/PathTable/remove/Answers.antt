@@ -1,5 +1,4 @@
-use Rattle.cg_cgroup.proofs.PathOrder.{path_cmp_total}
-use Rattle.cg_cgroup.proofs.PathOrder.{path_cmp-IsAntisymmetric}
+use Rattle.cg_cgroup.proofs.PathOrder.{path_cmp_total, path_cmp-IsAntisymmetric}
 use Rattle.cg_rows.proofs.Sorted.{removed, removed_sorted, no_gap}
 use Rattle.cg_rows.proofs.tables.path_table.PathTable.remove.Goals as goal
 

@@ -1,6 +1,6 @@
 use Rattle.std.proofs.Common.{get_or}
 use Rattle.cg_cgroup.specs.Paths.{Names}
-use Rattle.cg_tree.specs.States.{enabling}
+use Rattle.cg_model.specs.States.{enabling}
 use Rattle.cg_cgroup.specs.declared.cgroup.Cgroup.{Cgroup}
 use Rattle.cg_rows.proofs.Changed.{changed_one}
 use Rattle.cg_rows.proofs.tables.path_table.enable.enable_all.Goals as goal

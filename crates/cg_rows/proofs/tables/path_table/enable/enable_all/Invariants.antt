@@ -1,5 +1,5 @@
 use Rattle.std.proofs.Common.{◌≡◌, ◌++◌, take, drop, map}
-use Rattle.cg_tree.specs.States.{enabling}
+use Rattle.cg_model.specs.States.{enabling}
 use Rattle.cg_rows.proofs.tables.path_table.enable.enable_all.Given as goal
 
 abbrev pub invariant-loop-entry : goal.invariant-loop-entry

@@ -2,7 +2,7 @@ use Rattle.std.proofs.Common.{◌≡◌, map, length, sym, ap, ◌∙◌}
 use Rattle.std.proofs.lemmas.List.{with_items_is, length-map}
 use Rattle.std.specs.Vec.{with_items}
 use Rattle.cg_cgroup.specs.Paths.{Names}
-use Rattle.cg_tree.specs.States.{enabling}
+use Rattle.cg_model.specs.States.{enabling}
 use Rattle.cg_cgroup.specs.declared.cgroup.Cgroup.{Cgroup}
 use Rattle.cg_rows.proofs.Changed.{each_changed, each_sorted}
 use Rattle.cg_rows.proofs.tables.path_table.enable.PathTable+Cgroup.enable.Goals as goal

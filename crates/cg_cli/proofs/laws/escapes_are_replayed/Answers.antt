@@ -1,5 +1,0 @@
-use Rattle.cg_cli.proofs.EscapeReplays.{escapes_replayed}
-use Rattle.cg_cli.proofs.laws.escapes_are_replayed.Goals as goal
-
-pub returns : goal.returns
-returns c = escapes_replayed

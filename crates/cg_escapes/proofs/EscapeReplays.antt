@@ -1,0 +1,252 @@
+-- The lines of an escape are replayed one by one, and break the subtree.
+use Rattle.std.proofs.Common.{◌≡◌, ℕ, ◌+◌, ◌<◌, Bool, true, false, nat_lt, cond, not, List, [], ◌∷◌, ◌++◌, length, Option, Some, None, is_some, Result, Ok, Err, refl, ap, sym, ◌∙◌, subst, append_assoc, append-nil, true≢false, arith, codes, inl, inr}
+use Rattle.std.specs.List.{AllByRecursion}
+use Rattle.std.proofs.lemmas.Bool.{lt-ltb, le-ltb}
+use Rattle.std.proofs.lemmas.List.Elements.{All-nil}
+use Rattle.cg_cgroup.specs.Identity.{Identity}
+use Rattle.cg_cgroup.specs.Paths.{Names, is_root}
+use Rattle.cg_cgroup.specs.declared.cgroup.Cgroup.{Cgroup}
+use Rattle.cg_model.specs.States.{State, row_at}
+use Rattle.cg_model.specs.WellFormed.{has_row}
+use Rattle.cg_model.specs.Clauses.{unless, first}
+use Rattle.cg_model.specs.Steps.{Deed}
+use Rattle.cg_model.specs.declared.operation.Op.{Op}
+use Rattle.cg_model.specs.declared.outcome.Outcome.{Outcome}
+use Rattle.cg_model.specs.declared.outcome.Outcome.TheVariants.{Done, Refused}
+use Rattle.cg_model.specs.Guards.{IsSubtree}
+use Rattle.cg_model.specs.Verdicts.{verdict}
+use Rattle.cg_model.specs.Held.{by_user}
+use Rattle.cg_model.specs.Replays.{Progress, stepped}
+use Rattle.cg_runs.specs.Replays.{IsRunOf}
+use Rattle.cg_model.specs.declared.verdict.Clause.{Clause}
+use Rattle.cg_model.specs.declared.verdict.Verdict.{Verdict}
+use Rattle.cg_model.specs.declared.verdict.Verdict.TheVariants.{Kept, Broken}
+use Rattle.cg_model.specs.declared.fault.CheckFault.{CheckFault}
+use Rattle.cg_model.specs.declared.fault.CheckFault.TheVariants.{RootSubtree, NoSuchSubtree}
+use Rattle.cg_runs.proofs.ReplayLaws.{run-stepped}
+use Rattle.cg_model.specs.Answers.{answer}
+use Rattle.cg_model.specs.Checks.{subtree_faults, unless_fault, checked}
+use Rattle.cg_model.specs.declared.answer.Answer.{Answer}
+use Rattle.cg_model.specs.declared.answer.Answer.TheVariants.{Contained, Escapes, Unsettled}
+use Rattle.cg_check.proofs.AnswerLaws.{escape-broken}
+use Rattle.cg_lines.specs.OperationLines.{spelling}
+use Rattle.cg_lines.specs.Outcomes.{path_of, refusal_text, outcome_text}
+use Rattle.cg_lines.proofs.LineLaws.{line_again}
+use Rattle.cg_lines.proofs.LineLengths.{one_line}
+use Rattle.cg_report.specs.AnswerLines.{op_lines}
+use Rattle.cg_report.specs.VerdictLines.{verdict_text}
+use Rattle.cg_escapes.specs.EscapeLines.{HasLine, HaveLines}
+use Rattle.cg_escapes.proofs.EscapeLines.{escape_lines}
+use Rattle.cg_text.specs.TreeTexts.{tree_of}
+use Rattle.cg_text.specs.HasState.{HasState}
+use Rattle.cg_text.specs.declared.tree.fault.TreeFault.{TreeFault}
+use Rattle.cg_text.proofs.TextLaws.{text_has_state}
+use Rattle.cg_text.proofs.NamedLaws.{paths_named, pids_named}
+use Rattle.cg_cli.specs.Faults.{lifted}
+use Rattle.cg_cli.specs.Arguments.{user_read, path_read}
+use Rattle.cg_cli.specs.May.{tree_read}
+use Rattle.cg_cli.specs.Reports.{Report, report_on}
+use Rattle.cg_cli.specs.Containment.{in_call, answer_status, answer_report, subtree_report, check_report}
+use Rattle.cg_cli.specs.Courses.{Course, Watched, state_of, on_course, course_from, verdict_status}
+use Rattle.cg_cli.specs.Replays.{outcome_of, operation_read, with_front, lines_said, closed, course_read, replay_report}
+use Rattle.cg_escapes.specs.EscapeReplays.{AreLines, EndsBroken, IsReplayed}
+use Rattle.cg_cli.specs.declared.fault.CliFault.{CliFault}
+use Rattle.cg_cli.specs.declared.fault.CliFault.TheVariants.{Subtree}
+use Rattle.cg_cli.proofs.ReplayReports.{report_of_line, report_of_end}
+use Rattle.cg_cli.proofs.CheckReports.{report_is, of_bytes}
+
+-- ---- operations whose lines are replayed
+
+-- where operations lead
+abbrev on_all : Course → Identity → List Op → Course
+on_all course user [] = course
+on_all course user (op ∷ ops) = on_all (on_course course user op) user ops
+
+-- a line that can be read
+line_is_read : (done : ℕ) (op : Op) → HasLine op → done < 65536 → operation_read done (spelling op) ≡ Ok op
+line_is_read done op line few =
+    let a : nat_lt done 65536 ≡ true = lt-ltb done 65536 few in
+    let b : nat_lt 8192 (length (spelling op)) ≡ false = le-ltb 8192 (length (spelling op)) line.1 in
+    let c = line_again op line.0 in
+    rw (a, b, c) refl
+
+-- the line of an outcome ends with its newline
+outcome_line : (op : Op) (outcome : Outcome) → (others : List ℕ) × (outcome_text op outcome ≡ others ++ 10 ∷ [])
+outcome_line op Done = (codes "ok", refl)
+outcome_line op (Refused refusal) = (codes "refused " ++ refusal_text (path_of op) refusal, refl)
+
+line_and_lines : (line text : List ℕ) → (others : List ℕ) × (line ≡ others ++ 10 ∷ []) → AreLines text → AreLines (line ++ text)
+line_and_lines line text one (inl none) = inr (one.0, ap (λ t. line ++ t) none ∙ append-nil line ∙ one.1)
+line_and_lines line text one (inr rest) = inr (line ++ rest.0, ap (λ t. line ++ t) rest.1 ∙ sym (append_assoc line rest.0 (10 ∷ [])))
+
+-- each is answered by a line, and no fault is met
+all_said : (user : Identity) (ops : List Op) (course : Course) (done : ℕ) → AllByRecursion HasLine ops → done + length ops < 65536
+    → (text : List ℕ) × AreLines text × (lines_said course user done (op_lines ops) ≡ record { text = text; ending = Ok (on_all course user ops) })
+all_said user [] course done all few = ([], inl refl, report_of_end course user done [] (All-nil _))
+all_said user (op ∷ ops) course done all few =
+    let rest = all_said user ops (on_course course user op) (done + 1) all.1 (omega (arith, few)) in
+    let outcome = outcome_of (state_of course) user op in
+    let said = outcome_text op outcome in (
+      said ++ rest.0,
+      line_and_lines said rest.0 (outcome_line op outcome) rest.1,
+      ap (lines_said course user done) (append_assoc (spelling op) (10 ∷ []) (op_lines ops))
+          ∙ report_of_line course user done (spelling op) (op_lines ops) (one_line op all.0.0)
+          ∙ ap (λ read. report_on read (λ op. with_front (outcome_text op (outcome_of (state_of course) user op)) (lines_said (on_course course user op) user (done + 1) (op_lines ops)))) (line_is_read done op all.0 (omega (arith, few)))
+          ∙ ap (with_front said) rest.2,
+    )
+
+-- ---- the verdict
+
+-- the run of a watched course with these operations more
+record RunsOn (run : Progress) (user : Identity) (ops : List Op) (start : State) (deeds : List Deed) : Type 0 where
+  to : Progress
+  course : on_all (Watched run) user ops ≡ Watched to
+  subtree : to.subtree ≡ run.subtree
+  run_of : IsRunOf to start (deeds ++ by_user user ops)
+
+runs_on : (user : Identity) (ops : List Op) (run : Progress) (start : State) (deeds : List Deed) → IsRunOf run start deeds → RunsOn run user ops start deeds
+runs_on user [] run start deeds is = record { to = run; course = refl; subtree = refl; run_of = subst (IsRunOf run start) (sym (append-nil deeds)) is }
+runs_on user (op ∷ ops) run start deeds is =
+    let rest = runs_on user ops (stepped run user op) start (deeds ++ (user, op) ∷ []) (run-stepped run start deeds user op is) in
+    record {
+      to = rest.to;
+      course = rest.course;
+      subtree = rest.subtree;
+      run_of = subst (IsRunOf rest.to start) (append_assoc deeds ((user, op) ∷ []) (by_user user ops)) rest.run_of;
+    }
+
+broken_of : (found : Verdict) → (found ≡ Kept → ⊥) → (steps : ℕ) × (clause : Clause) × (found ≡ Broken steps clause)
+broken_of Kept never = absurd (never refl)
+broken_of (Broken steps clause) never = (steps, clause, refl)
+
+-- ---- what was read
+
+report_ok : {A : Type 0} (read : Result A CliFault) (report : A → Report) (status : ℕ) → (report_on read report).ending ≡ Ok status → (x : A) × (read ≡ Ok x) × ((report x).ending ≡ Ok status)
+report_ok (Ok x) report status is = (x, refl, is)
+report_ok (Err fault) report status is = cc
+
+tree_ok : (read : Result State TreeFault) (st : State) → elim read as (λ _. Result State CliFault) [ Ok st ↦ Ok st | Err fault ↦ Err (lifted fault) ] ≡ Ok st → read ≡ Ok st
+tree_ok (Ok one) st is = let same : one ≡ st = cc in ap Ok same
+tree_ok (Err fault) st is = cc
+
+found_escapes : (found : Result Answer CheckFault) (one : Answer) (ops : List Op) → in_call found ≡ Ok one → one ≡ Escapes ops → found ≡ Ok (Escapes ops)
+found_escapes (Ok some) one ops is escapes = let same : some ≡ one = cc in ap Ok (same ∙ escapes)
+found_escapes (Err fault) one ops is escapes = cc
+
+status_is : (status other : ℕ) → ◌≡◌ {A = Result ℕ CliFault} (Ok status) (Ok other) → status ≡ other
+status_is status other is = cc
+
+escapes_of : (found : Answer) → answer_status found ≡ 1 → (ops : List Op) × (found ≡ Escapes ops)
+escapes_of Contained is = cc
+escapes_of (Escapes ops) is = (ops, refl)
+escapes_of (Unsettled failed) is = cc
+
+unfaulted : (fault : Option CheckFault) (stated found : Answer) → unless_fault fault stated ≡ Ok found → (fault ≡ None) × (stated ≡ found)
+unfaulted None stated found is = (refl, cc)
+unfaulted (Some fault) stated found is = cc
+
+sub_of : (root there : Bool) → first (unless (not root) RootSubtree ++ unless there NoSuchSubtree) ≡ None → (there ≡ true) × (root ≡ false)
+sub_of false true is = (refl, refl)
+sub_of false false is = cc
+sub_of true there is = cc
+
+row_of : (found : Option Cgroup) → is_some found ≡ true → (row : Cgroup) × (found ≡ Some row)
+row_of None is = absurd (true≢false (sym is))
+row_of (Some row) is = (row, refl)
+
+-- the course of a tree, by whether the path is the root and by its cgroup
+abbrev course_by : State → Names → Bool → Option Cgroup → Result Course CliFault
+course_by st path root found =
+    cond root (Err (Subtree RootSubtree)) (elim found [
+      | None ↦ Err (Subtree NoSuchSubtree)
+      | Some row ↦ Ok (Watched (record { subtree = path; original = row; state = st; steps = 0; verdict = verdict st [] path }))
+    ])
+
+abbrev read_by : Result Names CliFault → Result State TreeFault → Result Course CliFault
+read_by named tree =
+    elim named [
+      | Ok path ↦ elim (elim tree as (λ _. Result State CliFault) [ Ok st ↦ Ok st | Err fault ↦ Err (lifted fault) ]) [ Ok st ↦ course_from st (Some path) | Err fault ↦ Err fault ]
+      | Err fault ↦ Err fault
+    ]
+
+-- ---- the whole
+
+module _ (text : List ℕ) (uid : ℕ) (gids : List ℕ) (subtree : List ℕ) (user : Identity) (path : Names) (st : State) (ops : List Op)
+    (of_user : user_read uid gids ≡ Ok user) (of_path : path_read subtree ≡ Ok path) (of_text : tree_of text ≡ Ok st) (is : checked st user path ≡ Ok (Escapes ops)) where
+  stated : (first (subtree_faults st path) ≡ None) × (answer st user path ≡ Escapes ops)
+  stated = unfaulted (first (subtree_faults st path)) (answer st user path) (Escapes ops) is
+
+  sub : IsSubtree st path
+  sub = sub_of (is_root path) (has_row st path) stated.0
+
+  has : HasState text st
+  has = text_has_state text st of_text
+
+  lines : HaveLines ops
+  lines = escape_lines st user path has.tree.formed (record { paths = paths_named text st has; pids = pids_named text st has }) sub ops stated.1
+
+  printed : (check_report text uid gids subtree).text ≡ codes "escapes\n" ++ op_lines ops
+  printed =
+      ap (λ (r : Report). r.text) (report_is text uid gids subtree user path st of_user of_path of_text)
+      ∙ ap (λ found. (report_on (in_call found) (answer_report path)).text) is
+
+  row : (row : Cgroup) × (row_at st path ≡ Some row)
+  row = row_of (row_at st path) sub.0
+
+  abbrev begun : Progress
+  begun = record { subtree = path; original = row.0; state = st; steps = 0; verdict = verdict st [] path }
+
+  begins : course_from st (Some path) ≡ Ok (Watched begun)
+  begins = λ i. course_by st path (sub.1 i) (row.1 i)
+
+  course_is : course_read (Some subtree) text ≡ Ok (Watched begun)
+  course_is = ap (λ named. read_by named (tree_of text)) of_path ∙ ap (read_by (Ok path)) of_text ∙ begins
+
+  said : (lines : List ℕ) × AreLines lines × (lines_said (Watched begun) user 0 (op_lines ops) ≡ record { text = lines; ending = Ok (on_all (Watched begun) user ops) })
+  said = all_said user ops (Watched begun) 0 lines.0 (omega (arith, lines.1))
+
+  run : RunsOn begun user ops st []
+  run = runs_on user ops begun st [] (record { original = row.1; state = refl; steps = refl; verdict = refl })
+
+  found : run.to.verdict ≡ verdict st (by_user user ops) path
+  found = run.run_of.verdict ∙ ap (verdict st (by_user user ops)) run.subtree
+
+  broken : (steps : ℕ) × (clause : Clause) × (run.to.verdict ≡ Broken steps clause)
+  broken = broken_of run.to.verdict (λ kept. escape-broken st user path ops stated.1 (sym found ∙ kept))
+
+  report : replay_report text uid gids (Some subtree) (op_lines ops) ≡ record { text = said.0 ++ verdict_text run.to.verdict; ending = Ok (verdict_status run.to.verdict) }
+  report =
+      ap (λ u. closed (report_on u (λ user. report_on (course_read (Some subtree) text) (λ course. lines_said course user 0 (op_lines ops))))) of_user
+      ∙ ap (λ c. closed (report_on c (λ course. lines_said course user 0 (op_lines ops)))) course_is
+      ∙ ap closed said.2
+      ∙ ap (λ (c : Course). closed (record { text = said.0; ending = Ok c })) run.course
+
+  replayed : EndsBroken (replay_report text uid gids (Some subtree) (op_lines ops))
+  replayed = record {
+    front = said.0;
+    before = said.1;
+    steps = broken.0;
+    clause = broken.1;
+    text = ap (λ (r : Report). r.text) report ∙ ap (λ v. said.0 ++ verdict_text v) broken.2;
+    ending = ap (λ (r : Report). r.ending) report ∙ ap (λ v. Ok (verdict_status v)) broken.2;
+  }
+
+  pub replays_broken : IsReplayed text uid gids subtree ops
+  replays_broken = record {
+    printed = printed;
+    lines = lines;
+    answered = of_bytes text uid gids subtree user path st of_user of_path of_text (λ s u p. answer s u p ≡ Escapes ops) stated.1;
+    replayed = replayed;
+  }
+
+pub escapes_replayed : (text : List ℕ) (uid : ℕ) (gids : List ℕ) (subtree : List ℕ) → (check_report text uid gids subtree).ending ≡ Ok 1 → (ops : List Op) × IsReplayed text uid gids subtree ops
+escapes_replayed text uid gids subtree is =
+    let user = report_ok (user_read uid gids) (λ user. report_on (path_read subtree) (λ path. report_on (tree_read text) (λ st. subtree_report st user path))) 1 is in
+    let path = report_ok (path_read subtree) (λ path. report_on (tree_read text) (λ st. subtree_report st user.0 path)) 1 user.2 in
+    let tree = report_ok (tree_read text) (λ st. subtree_report st user.0 path.0) 1 path.2 in
+    let one = report_ok (in_call (checked tree.0 user.0 path.0)) (answer_report path.0) 1 tree.2 in
+    let status : answer_status one.0 ≡ 1 = status_is (answer_status one.0) 1 one.2 in
+    let ops = escapes_of one.0 status in (
+      ops.0,
+      replays_broken text uid gids subtree user.0 path.0 tree.0 ops.0 user.1 path.1 (tree_ok (tree_of text) tree.0 tree.1) (found_escapes (checked tree.0 user.0 path.0) one.0 ops.0 one.1 ops.1),
+    )

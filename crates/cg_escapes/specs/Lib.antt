@@ -1,0 +1,2 @@
+pub mod EscapeLines
+pub mod EscapeReplays

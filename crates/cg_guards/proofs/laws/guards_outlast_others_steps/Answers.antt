@@ -1,5 +1,0 @@
-use Rattle.cg_guards.proofs.Steps.{sound-formed, hold-unopened}
-use Rattle.cg_guards.proofs.laws.guards_outlast_others_steps.Goals as goal
-
-pub returns : goal.returns
-returns c = λ st user other subtree op whole. hold-unopened st user other subtree op (sound-formed st whole)

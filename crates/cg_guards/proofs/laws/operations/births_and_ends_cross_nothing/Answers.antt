@@ -1,5 +1,0 @@
-use Rattle.cg_guards.proofs.OperationLaws.{fork-crosses-nothing, exit-crosses-nothing}
-use Rattle.cg_guards.proofs.laws.operations.births_and_ends_cross_nothing.Goals as goal
-
-pub returns : goal.returns
-returns c = record { fork = fork-crosses-nothing; exit = exit-crosses-nothing }

@@ -1,0 +1,13 @@
+pub mod GuardedEntries
+pub mod Sound
+pub mod Untouched
+pub mod Barred
+pub mod Crossing
+pub mod Counts
+pub mod Kept
+pub mod Steps
+pub mod OperationLaws
+pub mod RunLaws
+pub mod StrangerLaws
+pub mod ThroughoutLaws
+pub mod CountLaws

@@ -1,5 +1,0 @@
-use Rattle.cg_runs.proofs.CountLaws.{descendants-start, depth-start, start-count}
-use Rattle.cg_runs.proofs.laws.counts_break_at_start.Goals as goal
-
-pub returns : goal.returns
-returns c = record { descendants = descendants-start; depth = depth-start; alone = start-count }

@@ -1,5 +1,0 @@
-use Rattle.cg_runs.proofs.StrangerLaws.{broken-of_stranger}
-use Rattle.cg_runs.proofs.laws.first_break_is_of_stranger.Goals as goal
-
-pub returns : goal.returns
-returns c = broken-of_stranger

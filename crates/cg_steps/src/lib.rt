@@ -1,0 +1,4 @@
+//! Laws of states and of steps, over the definitions alone.
+#![tactic(auto)]
+
+pub mod laws;
