@@ -269,9 +269,23 @@ class Page(Small):
         nothing = right.replace("`many`", "`none`")
         self.assertEqual(theorems.faults_of(nothing, self.top), (1, ["there is no call high::called with none"]))
 
-
     def test_what_no_theorem_reaches(self):
         self.assertEqual([it.name for it in theorems.unreached(PAGE, World(self.top))], ["other", "bound", "Held", "Course", "told"])
+
+
+    def test_marks(self):
+        count, faults = theorems.marks_of(PAGE, self.top)
+        self.assertEqual(faults, [])
+        far, mark = "crates/low/specs/Far.antt", f"-- How it is kept: {theorems.MARK}\n"
+        self.write(far, "abbrev pub far : ℕ\nfar = 1\n")
+        told = f"no theorem reaches {far}: its first line ends with '{theorems.MARK}'"
+        self.assertEqual(theorems.marks_of(PAGE, self.top), (count + 1, [told]))
+        self.write(far, mark + "abbrev pub far : ℕ\nfar = 1\n")
+        self.assertEqual(theorems.marks_of(PAGE, self.top), (count + 1, []))
+        words = "crates/low/specs/Words.antt"
+        self.write(words, mark + theorems.text_of(f"{self.top}/{words}"))
+        told = f"a theorem reaches {words}, whose first line says otherwise"
+        self.assertEqual(theorems.marks_of(PAGE, self.top)[1], [told])
 
 
 class Names(Small):
@@ -299,15 +313,15 @@ class Repository(unittest.TestCase):
         return {(it.file.split("/")[1], it.name) for it in found}
 
     def test_contained_is_of_runs_alone(self):
-        reached = self.reached("cg_runs::specs::Held::IsContained")
-        self.assertLessEqual({("cg_runs", "verdict"), ("cg_ops", "bars"), ("cg_ops", "Op"), ("cg_tree", "State")}, reached)
+        reached = self.reached("cg_model::specs::Held::IsContained")
+        self.assertLessEqual({("cg_model", "verdict"), ("cg_model", "bars"), ("cg_model", "Op"), ("cg_model", "State")}, reached)
         self.assertFalse({"cg_text", "cg_check", "cg_tries", "cg_indexed"} & {crate for crate, _ in reached})
 
     def test_check_reaches_what_its_clauses_do(self):
         contained, report = (self.reached("cg_cli::check::check_bytes", it) for it in ("contained", "report"))
-        self.assertLessEqual({("cg_text", "tree_of"), ("cg_runs", "IsContained")}, contained)
-        self.assertNotIn(("cg_tries", "tries"), contained)
-        self.assertIn(("cg_tries", "tries"), report)
+        self.assertLessEqual({("cg_text", "tree_of"), ("cg_model", "IsContained")}, contained)
+        self.assertNotIn(("cg_model", "tries"), contained)
+        self.assertIn(("cg_model", "tries"), report)
         self.assertEqual(self.reached("cg_cli::check::check_bytes"), contained | report)
 
     def test_how_it_is_kept_is_never_reached(self):

@@ -9,6 +9,7 @@ from believed import World, closure, definitions_of
 from crates import read
 from edited import text_of
 
+MARK = "nobody has to believe it."
 ITEM = re.compile(r"`(\w+(?:::\w+)+)`(?:: (`\w+`(?:(?:, | and )`\w+`)*))?")
 ROW = re.compile(r"\| (\d+) \|")
 
@@ -52,6 +53,24 @@ def unreached(text, world):
     """Returns the definitions that no theorem of the page reaches, file by file."""
     reached = [reached_by(world, line.split(" | ")[2]) for line in text.split("\n") if ROW.match(line)]
     return [it for it in definitions_of(world) if not any(it in found for found in reached)]
+
+
+def marks_of(text, top="."):
+    """Returns how many files of definitions there are, and those whose first line says of belief what isn't so.
+
+    A file that no theorem of the page reaches says that nobody has to believe it, and no other does.
+    """
+    world = World(top)
+    own = [*definitions_of(world)]
+    rest = unreached(text, world)
+    faults, files = [], sorted({it.file for it in own})
+    for file in files:
+        is_reached = any(it.file == file and it not in rest for it in own)
+        is_marked = text_of(f"{top}/{file}").partition("\n")[0].endswith(MARK)
+        if is_reached == is_marked:
+            faults.append(f"a theorem reaches {file}, whose first line says otherwise" if is_reached
+                          else f"no theorem reaches {file}: its first line ends with '{MARK}'")
+    return len(files), faults
 
 
 def table_of(world, theorems):

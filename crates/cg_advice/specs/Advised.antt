@@ -1,3 +1,4 @@
+-- How an answer is found: nobody has to believe it.
 -- What the changes of the advice leave of a tree.
 use Rattle.std.specs.Prelude.{Bool, ◌&&◌, not, ◌++◌, filter, take}
 use Rattle.std.specs.List.{flat_map}

@@ -1,3 +1,4 @@
+-- How paths are kept: nobody has to believe it.
 -- How a path is kept: the text of its names, and where each name ends in it.
 use Rattle.std.specs.Prelude.{◌≡◌, ℕ, ◌+◌, List, [], ◌∷◌, length}
 use Rattle.std.specs.List.{flat_map}

@@ -1,3 +1,4 @@
+-- How an answer is found: nobody has to believe it.
 -- The answer for a user and a subtree, and for several of both.
 use Rattle.cg_model.specs.declared.guard.Guard.{Guard}
 use Rattle.cg_model.specs.declared.guard.Guard.TheVariants.{CommonAncestor, LimitFile, ParentControl, ParentDir, AlreadyOver}

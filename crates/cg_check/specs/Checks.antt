@@ -1,3 +1,4 @@
+-- How an answer is found: nobody has to believe it.
 -- What the checks answer: the first fault of the paths, and else the answer.
 use Rattle.std.specs.Prelude.{◌≡◌, Bool, true, false, Result, Ok, Err}
 use Rattle.cg_model.specs.declared.fault.CheckFault.{CheckFault}

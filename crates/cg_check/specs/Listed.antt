@@ -1,3 +1,4 @@
+-- How an answer is found: nobody has to believe it.
 -- All pairs of a user and a subtree that aren't contained.
 use Rattle.std.specs.Prelude.{Bool, List, [], ◌∷◌, slice_get}
 use Rattle.std.specs.List.{list_all}

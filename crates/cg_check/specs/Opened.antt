@@ -1,3 +1,4 @@
+-- How an answer is found: nobody has to believe it.
 -- How the first escape is found in the opened tree, and the opening. Nothing in it has to be believed.
 use Rattle.std.specs.Prelude.{Bool, false, not, ◌&&◌, cond, List, [], ◌∷◌, take}
 use Rattle.cg_cgroup.specs.Paths.{Names, parent}

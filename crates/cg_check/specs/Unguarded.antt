@@ -1,3 +1,4 @@
+-- How an answer is found: nobody has to believe it.
 -- The first pair of a user and a subtree for which a guard fails, by its places.
 use Rattle.std.specs.Prelude.{◌≡◌, ℕ, ◌<◌, List, length, get_or, Option, Some, None}
 use Rattle.cg_cgroup.specs.Paths.{Names}

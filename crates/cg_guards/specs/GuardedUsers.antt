@@ -1,3 +1,4 @@
+-- How an answer is found: nobody has to believe it.
 -- The users of a list for whom the guards of a subtree hold.
 use Rattle.std.specs.Prelude.{◌≡◌, Bool, true, false, not, ◌&&◌, nat_eq, bit_and, List, Option, Some, None, is_none}
 use Rattle.std.specs.List.{flat_map, take_while}

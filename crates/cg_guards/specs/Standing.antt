@@ -1,3 +1,4 @@
+-- How an answer is found: nobody has to believe it.
 -- The guarded entries of a subtree, one after another, where they are there.
 use Rattle.std.specs.Prelude.{ℕ, List, [], ◌∷◌}
 use Rattle.cg_cgroup.specs.declared.files.EntryName.TheVariants.{Dir, SubtreeControl}

@@ -1,3 +1,4 @@
+-- How it is read and written: nobody has to believe it.
 -- What stands below the line of a fault: lines, each of which begins with two spaces. Own.
 use Rattle.std.specs.Prelude.{ℕ, ◌+◌, ◌/◌, ◌%◌, Bool, true, false, List, [], ◌∷◌, ◌++◌, cond, nat_eq, nat_lt, nat_le, ◌&&◌, ◌≡◌, ◌⊎◌}
 use Rattle.std.specs.List.{flat_map}

@@ -1,3 +1,4 @@
+-- How a tree is kept: nobody has to believe it.
 -- How `Indexed` keeps a tree: the state that it shows, and the counts of live processes.
 use Rattle.std.specs.Prelude.{◌≡◌, ℕ, count_by, Some}
 use Rattle.std.specs.Ordering.{nat_cmp}

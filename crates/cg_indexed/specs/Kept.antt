@@ -1,3 +1,4 @@
+-- How a tree is kept: nobody has to believe it.
 -- How cgroups are kept at places, and what is kept of each.
 use Rattle.std.specs.Prelude.{◌≡◌, ℕ, ◌+◌, ◌-◌, min, ◌&&◌, List, length, map as map_list, count_by, Some, None, is_some, true}
 use Rattle.std.specs.FinMap as map

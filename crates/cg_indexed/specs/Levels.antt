@@ -1,3 +1,4 @@
+-- How a tree is kept: nobody has to believe it.
 -- How deep paths lie below a path.
 use Rattle.std.specs.Prelude.{ℕ, ◌-◌, ◌&&◌, ◌==◌, nat_lt, nat_eq, cond, max, List, length, map, filter, fold, count_by, drop, slice_index_or}
 use Rattle.std.specs.List.{starts_with}

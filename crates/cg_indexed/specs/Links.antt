@@ -1,3 +1,4 @@
+-- How a tree is kept: nobody has to believe it.
 -- Links from places to those of the parents, and what a climb along them changes and finds.
 use Rattle.std.specs.Prelude.{◌≡◌, ℕ, zero, suc, ◌+◌, ◌-◌, ◌<◌, min, Bool, not, ◌&&◌, cond, nat_lt, Option, List, [], ◌∷◌, ◌++◌, length, get_or, Some, None, slice_set}
 use Rattle.std.specs.FinMap as map

@@ -1,3 +1,4 @@
+-- How a tree is kept: nobody has to believe it.
 -- Cgroups at their places, and what is counted of their children and processes.
 use Rattle.std.specs.Prelude.{◌≡◌, ℕ, ◌+◌, ◌-◌, ◌<◌, min, Bool, true, ◌&&◌, not, cond, nat_eq, List, ◌++◌, map, length, get_or, Option, Some, None, is_none, slice_set}
 use Rattle.std.specs.Option.{option_map}

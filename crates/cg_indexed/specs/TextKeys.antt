@@ -1,3 +1,4 @@
+-- How a tree is kept: nobody has to believe it.
 -- Numbers kept under the texts of paths, seen as a map from paths.
 use Rattle.std.specs.Prelude.{◌≡◌, ℕ, List, map as map_list, string_bytes, String}
 use Rattle.std.specs.List.{All}

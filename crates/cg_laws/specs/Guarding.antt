@@ -1,3 +1,4 @@
+-- What laws beside the theorems speak of: nobody has to believe it.
 -- What the laws of a step speak of.
 use Rattle.std.specs.Prelude.{◌≡◌, true, List, []}
 use Rattle.std.specs.List.{All, flat_map}

@@ -1,3 +1,4 @@
+-- What laws beside the theorems speak of: nobody has to believe it.
 -- The part of well-formedness that containment stands on. Every step keeps it, whatever mode a chmod sets.
 use Rattle.std.specs.Prelude.{◌≡◌, ℕ, true, is_some}
 use Rattle.cg_cgroup.specs.Paths.{Names, parent}

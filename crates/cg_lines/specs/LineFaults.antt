@@ -1,3 +1,4 @@
+-- How it is read and written: nobody has to believe it.
 -- Why a line gave no operation.
 use Rattle.cg_cgroup.specs.declared.path.PathFault.{PathFault}
 use Rattle.cg_cgroup.specs.declared.path.PathFault.TheVariants as paths

@@ -1,3 +1,4 @@
+-- How it is read and written: nobody has to believe it.
 -- How many changes an operation may have so that its line can't be too long. Own.
 use Rattle.std.specs.Prelude.{◌≤◌, length}
 use Rattle.cg_model.specs.declared.operation.Op.{Op}

@@ -1,3 +1,4 @@
+-- How it is read and written: nobody has to believe it.
 -- Which operations take memory to carry out: those after which a path stands somewhere new.
 use Rattle.std.specs.Prelude.{Bool, true, false}
 use Rattle.cg_model.specs.declared.operation.Op.{Op}

@@ -1,3 +1,4 @@
+-- How a tree is kept: nobody has to believe it.
 -- How tables are kept: a list of entries whose keys rise. Where a key stands in it, or belongs.
 use Rattle.std.specs.Prelude.{◌≡◌, ℕ, ◌<◌, ◌≤◌, List, length}
 use Rattle.std.specs.List.{HoldsAt}

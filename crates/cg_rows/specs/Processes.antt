@@ -1,3 +1,4 @@
+-- How a tree is kept: nobody has to believe it.
 -- The processes of a tree: those that are live, by PID, and the PIDs that were ever used.
 use Rattle.std.specs.Prelude.{ℕ, None, Some}
 use Rattle.std.specs.Ordering.{nat_cmp}

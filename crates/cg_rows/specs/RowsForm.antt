@@ -1,3 +1,4 @@
+-- How a tree is kept: nobody has to believe it.
 -- How `Rows` keeps a tree: the state that its tables show, and what holds of the root that a tree begins with.
 use Rattle.std.specs.Prelude.{◌≡◌, true, []}
 use Rattle.std.specs.FinMap as map

@@ -1,3 +1,4 @@
+-- How an answer is found: nobody has to believe it.
 -- Why a replay doesn't start.
 use Rattle.std.specs.Prelude.{◌≡◌, true, false}
 use Rattle.cg_cgroup.specs.Paths.{Names, is_root}

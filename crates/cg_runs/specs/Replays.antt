@@ -1,3 +1,4 @@
+-- How an answer is found: nobody has to believe it.
 -- A replay: a run and its verdict, as they stand after the steps so far.
 use Rattle.std.specs.Prelude.{◌≡◌, List, length, Some}
 use Rattle.cg_model.specs.States.{State, row_at}

@@ -1,3 +1,4 @@
+-- How an answer is found: nobody has to believe it.
 -- How a replay tells what a step breaks: by no more than the operation may change. That this is what the definition says
 -- is proved; a reader of the contracts needs none of it.
 use Rattle.std.specs.Prelude.{◌≡◌, ◌≤◌, Bool, true, false, not, ◌||◌, List, [], Some}

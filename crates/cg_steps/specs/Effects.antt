@@ -1,3 +1,4 @@
+-- What laws beside the theorems speak of: nobody has to believe it.
 -- What an operation may change, whoever carries it out: all else stays as it was.
 use Rattle.std.specs.Prelude.{ℕ, Bool, false, ◌&&◌, nat_eq, is_some}
 use Rattle.cg_cgroup.specs.Paths.{Names, same_path, is_child}

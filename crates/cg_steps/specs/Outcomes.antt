@@ -1,3 +1,4 @@
+-- What laws beside the theorems speak of: nobody has to believe it.
 -- Outcomes against the first bar.
 use Rattle.std.specs.Prelude.{◌≡◌, Option, Some, None}
 use Rattle.cg_model.specs.declared.outcome.Refusal.{Refusal}

@@ -1,3 +1,4 @@
+-- How it is read and written: nobody has to believe it.
 -- Where the reader finds a row by its path. Own.
 use Rattle.std.specs.Prelude.{length, option_copied}
 use Rattle.std.specs.Ordering.{nat_cmp, ordering_then}

@@ -1,3 +1,4 @@
+-- How it is read and written: nobody has to believe it.
 -- What the reader's tables of a tree say.
 use Rattle.std.specs.Prelude.{◌≡◌, ℕ, is_some, List}
 use Rattle.std.specs.Option.{option_map}

@@ -1,3 +1,4 @@
+-- How it is read and written: nobody has to believe it.
 -- What the reader's top table stands for.
 use Rattle.std.specs.Prelude.{map}
 use Rattle.toml.specs.View.{items_view}

@@ -1,3 +1,4 @@
+-- How a tree is kept: nobody has to believe it.
 -- The limits that a new cgroup meets: its parent's, and those of each cgroup above.
 use Rattle.std.specs.Prelude.{◌≡◌, ℕ, ◌-◌, ◌<◌, ◌≤◌, Bool, true, false, ◌&&◌, not, take, Some, None}
 use Rattle.cg_cgroup.specs.Paths.{Names}

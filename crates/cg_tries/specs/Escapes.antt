@@ -1,3 +1,4 @@
+-- How an answer is found: nobody has to believe it.
 -- Whether a user breaks a subtree by a list of operations, and the first of the tries by which he does.
 use Rattle.std.specs.Prelude.{◌≡◌, []}
 use Rattle.cg_cgroup.specs.Paths.{Names}

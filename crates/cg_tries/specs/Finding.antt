@@ -1,3 +1,4 @@
+-- How an answer is found: nobody has to believe it.
 -- How the first plain try that breaks is found without carrying tries out. Nothing in it has to be believed.
 use Rattle.std.specs.Prelude.{ℕ, zero, suc, ◌+◌, ◌-◌, min, Bool, true, false, cond, not, ◌&&◌, ◌||◌, nat_le, List, [], ◌∷◌, length, take, find, Option, Some, None, is_some, option_and_then}
 use Rattle.std.specs.Option.{option_map, option_or}

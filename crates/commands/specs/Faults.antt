@@ -1,3 +1,4 @@
+-- How it is read and written: nobody has to believe it.
 -- What a fault of the command line is to the program. Own.
 use Rattle.arguments.specs.declared.fault.ArgumentsFault.{ArgumentsFault}
 use Rattle.arguments.specs.declared.fault.ArgumentsFault.TheVariants as arguments
