@@ -17,6 +17,7 @@ HEAD = re.compile(r" *(?:pub(?:\([\w ]+\))? )?(?:const |unsafe )*fn ")
 BODY = re.compile(r" *\{\}?$|.*[{;]$")
 OWNER = re.compile(r"(?:pub )?trait (\w+)|impl(?:<.*?>)? (?:(?:\w+::)*(\w+)(?:<.*?>)? for )?&?(\w+)")
 TYPE = re.compile(r"^pub (?:struct|enum|trait) (\w+)", re.M)
+NAMED = re.compile(r"\b(\w+)::(\w+)::")
 SHOWN = re.compile(r"^pub use (\w+)::(\w+|\{[^}]*\});", re.M)
 
 
@@ -160,8 +161,14 @@ def rows_of(text, sources):
     return rows
 
 
+def module_not_there(edit, sources):
+    """Returns a module of another crate that an edit's new text names and that isn't there, or None."""
+    named = [it for _, _, new in edit.pairs for it in NAMED.findall(new) if it[0] in sources.edits]
+    return next((f"{crate}::{inner}" for crate, inner in named if [crate, inner] not in sources.places), None)
+
+
 def faults_of_edits(text, rows, sources):
-    """Returns what is wrong with where the edits stand."""
+    """Returns what is wrong with where the edits stand, and with what they name."""
     for crate, edit in ((crate, edit) for crate, edits in sources.edits.items() for edit in edits):
         name = edit.name.partition("/")[2]
         here = [it for it in rows if it.names(name, crate)]
@@ -170,6 +177,8 @@ def faults_of_edits(text, rows, sources):
             yield f"nothing names the edit {edit.name}"
         elif edit.verdict:
             yield f"the edit {edit.name}: {edit.verdict[1]}"
+        elif module_not_there(edit, sources):
+            yield f"the edit {edit.name} names the module {module_not_there(edit, sources)}, which isn't there"
         elif not all(any(row.is_about(sources, *it) for it in changed) for row in here):
             yield f"the edit {edit.name} stands in a row that is not about what it changes"
 

@@ -146,6 +146,13 @@ class Promised(unittest.TestCase):
         [fault] = self.faults()
         self.assertIn("the edit low/less_by_nothing: it can't be applied", fault)
 
+    def test_edit_that_names_a_module_that_is_not_there(self):
+        edit = "file: src/counts.rt\nold: self.held / 2\nnew: low::{}::helped()\n"
+        self.write("must-fail/less_by_nothing.edit", edit.format("gone"))
+        self.assertEqual(self.faults(), ["the edit low/less_by_nothing names the module low::gone, which isn't there"])
+        self.write("must-fail/less_by_nothing.edit", edit.format("inner"))
+        self.assertEqual(self.faults(), [])
+
     def test_heading_names_the_crates(self):
         self.assertEqual(self.faults(" (`low`)", ""), [])
         other = self.folder.replace("low", "high")

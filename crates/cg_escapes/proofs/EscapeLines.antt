@@ -195,23 +195,24 @@ module _ (st : State) (user : Identity) (subtree : Names) (formed : IsWellFormed
   short-names [] = omega arith
   short-names (name ∷ names) = let rest = short-names names in let l = length-append (47 ∷ name) (names_text names) in omega (arith, rest, l)
 
-  short-opening : length (opening st user subtree) ≤ 4105
+  short-opening : length (opening st user subtree) ≤ 5000
   short-opening =
       let fewer = flat_map-short (opening_of st user subtree) short-opening_of (guarded_entries subtree) in
       let names = short-names subtree in
       let bytes = path_bytes subtree path in
-      let files : length (ancestors (length subtree) ++ limit_files (length subtree)) ≡ length (ancestors (length subtree)) + 8 = length-append (ancestors (length subtree)) (limit_files (length subtree)) in
+      let files : length (ancestors (length subtree) ++ limit_files (length subtree)) ≡ length (ancestors (length subtree)) + length (limit_files (length subtree)) = length-append (ancestors (length subtree)) (limit_files (length subtree)) in
       let all : length (guarded_entries subtree) ≡ length (ancestors (length subtree) ++ limit_files (length subtree)) + 2 =
       length-append (ancestors (length subtree) ++ limit_files (length subtree)) (parent_control subtree ∷ parent_dir subtree ∷ []) in
       let front = length-ancestors (length subtree) in
-      omega (arith, fewer, names, bytes, files, all, front)
+      let few : length (limit_files (length subtree)) ≤ 900 = omega arith in
+      omega (arith, fewer, names, bytes, files, few, all, front)
 
   -- ---- all tries
 
   lines_of : (ops : List Op) → AllByRecursion IsWritten ops → AllByRecursion HasLine ops
   lines_of ops all = all-each IsWritten HasLine (λ op written. (written.0, line_length op written.0 written.1)) ops all
 
-  lines-opened : (before ops : List Op) → AllByRecursion IsWritten before → length before ≤ 4105 → AreWritten ops → AllByRecursion HaveLines (with_opening before ops)
+  lines-opened : (before ops : List Op) → AllByRecursion IsWritten before → length before ≤ 5000 → AreWritten ops → AllByRecursion HaveLines (with_opening before ops)
   lines-opened [] ops all short written = ((lines_of ops written.0, omega (arith, written.1)), tt)
   lines-opened (op ∷ others) ops all short written =
       let l = length-append (op ∷ others) ops in
