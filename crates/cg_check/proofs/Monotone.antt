@@ -32,7 +32,7 @@ use Rattle.cg_model.specs.declared.operation.Op.TheVariants.{Move, Control, Mkdi
 use Rattle.cg_model.specs.declared.outcome.Refusal.{Refusal}
 use Rattle.cg_model.specs.declared.outcome.Refusal.TheVariants.{NoSuchCgroup, NoAccess, NoSuchProcess, InternalProcess, NotAvailable, ChildUses, Exists, DescendantLimit, DepthLimit, HasChildren, HasProcesses, NoSuchFile, BadValue}
 use Rattle.cg_steps.proofs.ClauseLaws.{no_parts, no_unless, no_absent, no_present}
-use Rattle.cg_tries.specs.Finding.{passes_at}
+use Rattle.cg_ops.specs.Moves.{passes_at}
 use Rattle.cg_check.proofs.Wider.{IsWider}
 
 -- ---- lists of clauses

@@ -17,7 +17,8 @@ use Rattle.cg_model.specs.Guards.{IsSubtree}
 use Rattle.cg_model.specs.Tries.{other_value, set_tries, change_of, control_tries, across, move_tries, probe, numbers_from, free_probe, is_inside, probe_tries_at, probe_tries, plain_tries}
 use Rattle.cg_model.specs.Escapes.{breaks}
 use Rattle.cg_tries.specs.Escapes.{IsUnbroken}
-use Rattle.cg_tries.specs.Finding.{allowed, passes_at}
+use Rattle.cg_ops.specs.Moves.{passes_at}
+use Rattle.cg_tries.specs.Finding.{allowed}
 use Rattle.cg_tries.proofs.Seen.{is_empty, breaks-run}
 use Rattle.cg_tries.proofs.Single.{set_try, rmdir_try, move_try}
 use Rattle.cg_tries.proofs.Controls.{changes_enabled, control_try}

@@ -24,7 +24,8 @@ use Rattle.cg_model.specs.declared.verdict.Clause.{Clause}
 use Rattle.cg_model.specs.Tries.{other_value, set_tries, change_of, control_tries, move_tries, probe_tries, plain_tries}
 use Rattle.cg_model.specs.Escapes.{breaks}
 use Rattle.cg_tries.specs.Escapes.{IsUnbroken}
-use Rattle.cg_tries.specs.Finding.{allowed, passes_at, if_allowed, first_given, set_of, first_set, control_of, first_control, first_write, receives, can_leave_to, can_enter_at, goes_from, move_of, first_move, writes_both, first_probe_path, first_inside, first_probe, first_passage}
+use Rattle.cg_ops.specs.Moves.{passes_at}
+use Rattle.cg_tries.specs.Finding.{allowed, if_allowed, first_given, set_of, first_set, control_of, first_control, first_write, receives, can_leave_to, can_enter_at, goes_from, move_of, first_move, writes_both, first_probe_path, first_inside, first_probe, first_passage}
 use Rattle.cg_tries.proofs.Seen.{is_empty, breaks-run}
 use Rattle.cg_tries.proofs.Single.{set_try, rmdir_try}
 use Rattle.cg_tries.proofs.Controls.{control_try}

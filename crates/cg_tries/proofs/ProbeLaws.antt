@@ -25,7 +25,8 @@ use Rattle.cg_steps.proofs.Prefixes.{no_root_of_length}
 use Rattle.cg_model.specs.Tries.{probe, free_probe, numbers_from, is_inside, probe_tries_at, probe_tries}
 use Rattle.cg_model.specs.Escapes.{breaks}
 use Rattle.cg_tries.specs.Escapes.{IsUnbroken}
-use Rattle.cg_tries.specs.Finding.{allowed, passes_at, short_probe, levels_pass, lets_in, writes_both, probe_path, first_probe_path, first_inside, first_probe}
+use Rattle.cg_ops.specs.Moves.{passes_at}
+use Rattle.cg_tries.specs.Finding.{allowed, short_probe, levels_pass, lets_in, writes_both, probe_path, first_probe_path, first_inside, first_probe}
 use Rattle.cg_tries.proofs.Moves.{find-map_filter, find-same, find-guarded}
 use Rattle.cg_tries.proofs.Single.{where_so}
 use Rattle.cg_tries.proofs.Probes.{probe_try}
