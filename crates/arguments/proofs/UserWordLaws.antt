@@ -11,7 +11,7 @@ use Rattle.std.proofs.lemmas.Option.{cond_some, none-some}
 use Rattle.std.proofs.lemmas.List.Sums.{fails_before_first}
 use Rattle.std.proofs.lemmas.List.Splits.{slice_split_none, slice_split_first}
 use Rattle.std.proofs.lemmas.Str.Parse.{IsNumeralModel, numerals_by_value, tells_all_ascii_digits, not_in_digits, parse_plain}
-use Rattle.arguments.specs.UserWords.{is_comma, cut, is_id, id_at, ids_at}
+use Rattle.arguments.specs.UserWords.{is_comma, cut_at, is_id, id_at, ids_at}
 
 own : IsNumeralModel (λ ds. all_ascii_digits ds ≡ true) (digits_value 10)
 own = numerals_by_value (λ ds. all_ascii_digits ds ≡ true) tells_all_ascii_digits
@@ -55,7 +55,7 @@ id_read {E} word (Err e) h = sym (id_none word (λ p. h ((p.1, own.to word p.0),
 abbrev pub with_front : {A : Type 0} → List A → Option (List A) → Option (List A)
 with_front front read = option_map (λ others. front ++ others) read
 
-split_cut : (text : List ℕ) (parts : List ℕ × List ℕ) → cut is_comma text ≡ Some parts → slice_split is_comma text ≡ parts.0 ∷ slice_split is_comma parts.1
+split_cut : (text : List ℕ) (parts : List ℕ × List ℕ) → cut_at is_comma text ≡ Some parts → slice_split is_comma text ≡ parts.0 ∷ slice_split is_comma parts.1
 split_cut text parts h =
     let at = position_or_len is_comma text in
     let p = cond_some (nat_lt at (length text)) (before_first is_comma text, after_first is_comma text) parts h in
@@ -65,14 +65,14 @@ not_cut : {A : Type 0} (b : Bool) (x : A) → cond b (Some x) None ≡ None → 
 not_cut true x h = absurd (none-some x (sym h))
 not_cut false x h = refl
 
-split_whole : (text : List ℕ) → cut is_comma text ≡ None → slice_split is_comma text ≡ text ∷ []
+split_whole : (text : List ℕ) → cut_at is_comma text ≡ None → slice_split is_comma text ≡ text ∷ []
 split_whole text h =
     let at = position_or_len is_comma text in
     let l = ltb-false at (length text) (not_cut (nat_lt at (length text)) (before_first is_comma text, after_first is_comma text) h) in
     slice_split_none is_comma text (λ k d s. fails_before_first is_comma text k d (omega (arith, l)))
 
 -- a step of the loop over the words
-pub ids_more : (front text : List ℕ) (parts : List ℕ × List ℕ) (id : ℕ) (read : Option (List ℕ)) → cut is_comma text ≡ Some parts → id_at parts.0 ≡ Some id → with_front front (ids_at (slice_split is_comma text)) ≡ read → with_front (front ++ (id ∷ [])) (ids_at (slice_split is_comma parts.1)) ≡ read
+pub ids_more : (front text : List ℕ) (parts : List ℕ × List ℕ) (id : ℕ) (read : Option (List ℕ)) → cut_at is_comma text ≡ Some parts → id_at parts.0 ≡ Some id → with_front front (ids_at (slice_split is_comma text)) ≡ read → with_front (front ++ (id ∷ [])) (ids_at (slice_split is_comma parts.1)) ≡ read
 ids_more front text parts id read e f h =
     elim (ids_at (slice_split is_comma parts.1)) as (λ rest. with_front (front ++ (id ∷ [])) rest ≡ with_front front (option_map (λ ids. id ∷ ids) rest)) [
       | None ↦ refl
@@ -83,20 +83,20 @@ ids_more front text parts id read e f h =
     ∙ h
 
 -- the last word
-pub ids_last : (front text : List ℕ) (id : ℕ) (read : Option (List ℕ)) → cut is_comma text ≡ None → id_at text ≡ Some id → with_front front (ids_at (slice_split is_comma text)) ≡ read → read ≡ Some (front ++ (id ∷ []))
+pub ids_last : (front text : List ℕ) (id : ℕ) (read : Option (List ℕ)) → cut_at is_comma text ≡ None → id_at text ≡ Some id → with_front front (ids_at (slice_split is_comma text)) ≡ read → read ≡ Some (front ++ (id ∷ []))
 ids_last front text id read e f h =
     sym h
     ∙ ap (λ (ws : List (List ℕ)). with_front front (ids_at ws)) (split_whole text e)
     ∙ ap (λ (first : Option ℕ). with_front front (option_and_then (λ i. Some (i ∷ [])) first)) f
 
 -- a word that is no id
-pub ids_bad : (front text : List ℕ) (parts : List ℕ × List ℕ) (read : Option (List ℕ)) → cut is_comma text ≡ Some parts → id_at parts.0 ≡ None → with_front front (ids_at (slice_split is_comma text)) ≡ read → read ≡ None
+pub ids_bad : (front text : List ℕ) (parts : List ℕ × List ℕ) (read : Option (List ℕ)) → cut_at is_comma text ≡ Some parts → id_at parts.0 ≡ None → with_front front (ids_at (slice_split is_comma text)) ≡ read → read ≡ None
 ids_bad front text parts read e f h =
     sym h
     ∙ ap (λ (ws : List (List ℕ)). with_front front (ids_at ws)) (split_cut text parts e)
     ∙ ap (λ (first : Option ℕ). with_front front (option_and_then (λ i. option_map (λ ids. i ∷ ids) (ids_at (slice_split is_comma parts.1))) first)) f
 
-pub ids_last_bad : (front text : List ℕ) (read : Option (List ℕ)) → cut is_comma text ≡ None → id_at text ≡ None → with_front front (ids_at (slice_split is_comma text)) ≡ read → read ≡ None
+pub ids_last_bad : (front text : List ℕ) (read : Option (List ℕ)) → cut_at is_comma text ≡ None → id_at text ≡ None → with_front front (ids_at (slice_split is_comma text)) ≡ read → read ≡ None
 ids_last_bad front text read e f h =
     sym h
     ∙ ap (λ (ws : List (List ℕ)). with_front front (ids_at ws)) (split_whole text e)

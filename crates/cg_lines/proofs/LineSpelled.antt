@@ -26,7 +26,7 @@ use Rattle.cg_cgroup.specs.declared.files.EntryName.TheVariants.{Dir, Procs, Sub
 use Rattle.cg_cgroup.proofs.PathEnds.{path_names, is_name-bytes}
 use Rattle.cg_cgroup.proofs.NameLaws.{controller_names}
 use Rattle.cg_model.specs.declared.changes.Change.{Change}
-use Rattle.cg_lines.specs.OperationLines.{change_word, limit_word, mode_word, IsHeldLimit}
+use Rattle.cg_lines.specs.OperationLines.{change_word, limit_word, mode_word, IsLimitInRange}
 use Rattle.cg_lines.specs.LineReading.{number_at, pid_at, limit_at, octal_at, mode_at, sign_at, change_at, changes_at}
 use Rattle.cg_cgroup.specs.Options.{◌>>=◌}
 use Rattle.cg_lines.proofs.LineWords.{is_graphic, is_word, are_words}
@@ -88,7 +88,7 @@ changes_words [] = refl
 changes_words (change ∷ changes) =
     and_from (is_word (change_word change)) (are_words (map change_word changes)) (sign_word change.on change.controller) (changes_words changes)
 
-pub limit_is_word : (value : Limit) → IsHeldLimit value → is_word (limit_word value) ≡ true
+pub limit_is_word : (value : Limit) → IsLimitInRange value → is_word (limit_word value) ≡ true
 limit_is_word Max h = refl
 limit_is_word (At value) h = decimal_word value h
 
@@ -153,17 +153,17 @@ not_max value l = false_from_ne_true (same_name (decimal value) (codes "max")) (
     let d = decimal_byte value 0 l (decimal_is_IsNumeral value l).0.0 in
     omega (arith, d, first))
 
-pub limit_takes : (word : List ℕ) (value : Limit) → limit_at word ≡ Some value → IsHeldLimit value × (word ≡ limit_word value)
+pub limit_takes : (word : List ℕ) (value : Limit) → limit_at word ≡ Some value → IsLimitInRange value × (word ≡ limit_word value)
 unfolding limit_at
 limit_takes word value h =
     elim (chosen (same_name word (codes "max")) (Some Max) (option_map At (number_at word)) (Some value) h) [
-      | inl p ↦ subst (λ (v : Limit). IsHeldLimit v × (word ≡ limit_word v)) (same_Some Max value p.1) (tt, (bytes_decides word (codes "max")).0 p.0)
+      | inl p ↦ subst (λ (v : Limit). IsLimitInRange v × (word ≡ limit_word v)) (same_Some Max value p.1) (tt, (bytes_decides word (codes "max")).0 p.0)
       | inr p ↦
           let n = map_some At (number_at word) value p.1 in
-          subst (λ (v : Limit). IsHeldLimit v × (word ≡ limit_word v)) n.2 (number_takes word n.0 n.1)
+          subst (λ (v : Limit). IsLimitInRange v × (word ≡ limit_word v)) n.2 (number_takes word n.0 n.1)
     ]
 
-pub limit_again : (value : Limit) → IsHeldLimit value → limit_at (limit_word value) ≡ Some value
+pub limit_again : (value : Limit) → IsLimitInRange value → limit_at (limit_word value) ≡ Some value
 unfolding limit_at
 limit_again Max h = refl
 limit_again (At value) h =
