@@ -21,7 +21,7 @@ use Rattle.cg_steps.proofs.StateCounts.{paths_of-with_mode, paths_of-with_value,
 use Rattle.cg_steps.proofs.StateEntries.{enabled_at-with_mode, enabled_at-with_value}
 use Rattle.cg_steps.proofs.FormedLaws.{formed-with_mode, formed-with_value}
 use Rattle.cg_model.specs.Clauses.{unless, present}
-use Rattle.cg_steps.proofs.ClauseLaws.{no_parts, no_unless}
+use Rattle.cg_steps.proofs.ClauseLaws.{no_parts, no_unless, none_each, each_none}
 use Rattle.cg_model.specs.Limits.{is_within_limit, fits_descendants, fits_depth}
 use Rattle.cg_model.specs.Guards.{Guarded, guarded_entries, guarded_entry, entry_failures, over_failures, GuardsHold, found, standing}
 use Rattle.cg_model.specs.declared.guard.Failed.{Failed}
@@ -165,14 +165,6 @@ spared_off user other failed false entry is_user off = off
 user_off : (user : Identity) (failed : Failed) (entry : Option Entry) → IsUser user → present (option_map (spared user) entry) (λ e. unless (not (reaches user e)) failed) ≡ []
 user_off user failed None is_user = refl
 user_off user failed (Some e) is_user = ap (λ b. unless (not b) failed) (off-spared user e is_user)
-
-none_each : {A R : Type 0} (f : A → List R) (xs : List A) → flat_map f xs ≡ [] → AllByRecursion (λ x. f x ≡ []) xs
-none_each f [] h = tt
-none_each f (x ∷ xs) h = let parts = no_parts (f x) (flat_map f xs) h in (parts.0, none_each f xs parts.1)
-
-each_none : {A R : Type 0} (f : A → List R) (xs : List A) → AllByRecursion (λ x. f x ≡ []) xs → flat_map f xs ≡ []
-each_none f [] h = refl
-each_none f (x ∷ xs) h = λ i. h.0 i ++ each_none f xs h.1 i
 
 all_each : {A : Type 0} (P Q : A → Type 0) → ((x : A) → P x → Q x) → (xs : List A) → AllByRecursion P xs → AllByRecursion Q xs
 all_each P Q each [] ps = tt

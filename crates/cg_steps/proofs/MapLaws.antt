@@ -7,15 +7,15 @@ use Rattle.std.specs.FinMap as finite
 use Rattle.std.specs.FinMap.{FinMap, IsAntisymmetric, get, insert, entries}
 use Rattle.std.specs.FinMap.Entries.{find, put, by_order, is_sorted, below_all}
 
-first_of_both : (a b : Bool) → T (a && b) → T a
+pub first_of_both : (a b : Bool) → T (a && b) → T a
 first_of_both true b h = tt
 first_of_both false b h = h
 
-second_of_both : (a b : Bool) → T (a && b) → T b
+pub second_of_both : (a b : Bool) → T (a && b) → T b
 second_of_both true b h = h
 second_of_both false b h = absurd h
 
-is_less : (r : Ordering) → T (is_lt r) → r ≡ Less
+pub is_less : (r : Ordering) → T (is_lt r) → r ≡ Less
 is_less Less h = refl
 is_less Equal h = absurd h
 is_less Greater h = absurd h

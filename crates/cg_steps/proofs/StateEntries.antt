@@ -21,12 +21,12 @@ use Rattle.cg_steps.proofs.FormedEnabled.{enabling-by, is_child-itself}
 -- ---- readings of a row that is changed at one path
 
 module _ {A : Type 0} (read : Cgroup → Option A) (g : Cgroup → Cgroup) where
-  read_same : ((row : Cgroup) → read (g row) ≡ read row) → (b : Bool) (r : Option Cgroup) → option_and_then read (cond b (option_map g r) r) ≡ option_and_then read r
+  pub read_same : ((row : Cgroup) → read (g row) ≡ read row) → (b : Bool) (r : Option Cgroup) → option_and_then read (cond b (option_map g r) r) ≡ option_and_then read r
   read_same same true None = refl
   read_same same true (Some row) = same row
   read_same same false r = refl
 
-  read_changed : (c : Bool) (h : A → A) → ((row : Cgroup) → read (g row) ≡ cond c (option_map h (read row)) (read row))
+  pub read_changed : (c : Bool) (h : A → A) → ((row : Cgroup) → read (g row) ≡ cond c (option_map h (read row)) (read row))
       → (b : Bool) (r : Option Cgroup) → option_and_then read (cond b (option_map g r) r) ≡ cond (b && c) (option_map h (option_and_then read r)) (option_and_then read r)
   read_changed true h changed true None = refl
   read_changed false h changed true None = refl
@@ -38,10 +38,10 @@ read_cond read true r s = refl
 read_cond read false r s = refl
 
 -- what a row enables, if it is there
-abbrev enabled_of : Option Cgroup → ControllerSet
+abbrev pub enabled_of : Option Cgroup → ControllerSet
 enabled_of r = elim r [ None ↦ no_controllers | Some row ↦ row.enabled ]
 
-enabled_same : (g : Cgroup → Cgroup) → ((row : Cgroup) → (g row).enabled ≡ row.enabled) → (b : Bool) (r : Option Cgroup) → enabled_of (cond b (option_map g r) r) ≡ enabled_of r
+pub enabled_same : (g : Cgroup → Cgroup) → ((row : Cgroup) → (g row).enabled ≡ row.enabled) → (b : Bool) (r : Option Cgroup) → enabled_of (cond b (option_map g r) r) ≡ enabled_of r
 enabled_same g same true None = refl
 enabled_same g same true (Some row) = same row
 enabled_same g same false r = refl
