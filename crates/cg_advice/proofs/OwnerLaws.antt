@@ -24,18 +24,23 @@ use Rattle.cg_model.specs.Mends.{owned_by, with_file_owned_by, with_owner_in, wi
 
 -- ---- of a row
 
-owner_part : (b : Bool) (uid gid : ℕ) (o : Option LimitEntry) → option_map (λ x. x.entry) (cond b (option_map (with_file_owned_by uid gid) o) o) ≡ cond b (option_map (owned_by uid gid) (option_map (λ x. x.entry) o)) (option_map (λ x. x.entry) o)
+owner_part : (b : Bool) (uid gid : ℕ) (o : Option LimitEntry)
+    → option_map (λ x. x.entry) (cond b (option_map (with_file_owned_by uid gid) o) o)
+    ≡ cond b (option_map (owned_by uid gid) (option_map (λ x. x.entry) o)) (option_map (λ x. x.entry) o)
 owner_part false uid gid o = refl
 owner_part true uid gid None = refl
 owner_part true uid gid (Some x) = refl
 
-value_kept : (b : Bool) (uid gid : ℕ) (o : Option LimitEntry) → option_map (λ x. x.value) (cond b (option_map (with_file_owned_by uid gid) o) o) ≡ option_map (λ x. x.value) o
+value_kept : (b : Bool) (uid gid : ℕ) (o : Option LimitEntry)
+    → option_map (λ x. x.value) (cond b (option_map (with_file_owned_by uid gid) o) o) ≡ option_map (λ x. x.value) o
 value_kept false uid gid o = refl
 value_kept true uid gid None = refl
 value_kept true uid gid (Some x) = refl
 
 module _ (uid gid : ℕ) (row : Cgroup) where
-  file_of-with_owner_in : (name : EntryName) (file : LimitFile) → file_of (with_owner_in name uid gid row) file ≡ cond (same_entry name (File file)) (option_map (with_file_owned_by uid gid) (file_of row file)) (file_of row file)
+  file_of-with_owner_in : (name : EntryName) (file : LimitFile)
+      → file_of (with_owner_in name uid gid row) file
+      ≡ cond (same_entry name (File file)) (option_map (with_file_owned_by uid gid) (file_of row file)) (file_of row file)
   file_of-with_owner_in (File file) other = file_of-with_file file (with_file_owned_by uid gid) row other
   file_of-with_owner_in Dir MaxDescendants = refl
   file_of-with_owner_in Procs MaxDescendants = refl
@@ -50,7 +55,9 @@ module _ (uid gid : ℕ) (row : Cgroup) where
   value_in-with_owner_in name file =
       ap (option_map (λ x. x.value)) (file_of-with_owner_in name file) ∙ value_kept (same_entry name (File file)) uid gid (file_of row file)
 
-  entry_in-with_owner_in : (name other : EntryName) → entry_in (with_owner_in name uid gid row) other ≡ cond (same_entry name other) (option_map (owned_by uid gid) (entry_in row other)) (entry_in row other)
+  entry_in-with_owner_in : (name other : EntryName)
+      → entry_in (with_owner_in name uid gid row) other
+      ≡ cond (same_entry name other) (option_map (owned_by uid gid) (entry_in row other)) (entry_in row other)
   entry_in-with_owner_in name (File file) =
       ap (option_map (λ x. x.entry)) (file_of-with_owner_in name file) ∙ owner_part (same_entry name (File file)) uid gid (file_of row file)
   entry_in-with_owner_in (File file) Dir = ap Some (rest-with_file file (with_file_owned_by uid gid) row).dir
@@ -70,9 +77,11 @@ of_changed : {A : Type 0} (P : A → Type 0) (b : Bool) (g : A → A) (o : Optio
 of_changed P true g o changed kept y is = let from = mapped_from g o y is in subst P from.2 (changed from.0 (kept from.0 from.1))
 of_changed P false g o changed kept y is = kept y is
 
-formed_row-with_owner_in : (above : ControllerSet) (name : EntryName) (uid gid : ℕ) (row : Cgroup) → IsFormedRow above row → IsFormedRow above (with_owner_in name uid gid row)
+formed_row-with_owner_in : (above : ControllerSet) (name : EntryName) (uid gid : ℕ) (row : Cgroup) → IsFormedRow above row
+    → IsFormedRow above (with_owner_in name uid gid row)
 formed_row-with_owner_in above name uid gid row formed = record {
-  files = λ file. ap is_some (file_of-with_owner_in uid gid row name file) ∙ is_some-changed (same_entry name (File file)) (with_file_owned_by uid gid) (file_of row file) ∙ formed.files file;
+  files = λ file. ap is_some (file_of-with_owner_in uid gid row name file)
+      ∙ is_some-changed (same_entry name (File file)) (with_file_owned_by uid gid) (file_of row file) ∙ formed.files file;
   values = λ file held is.
       of_changed (λ (x : LimitEntry). accepts file x.value ≡ true) (same_entry name (File file)) (with_file_owned_by uid gid) (file_of row file)
       (λ x accepted. accepted) (formed.values file) held (sym (file_of-with_owner_in uid gid row name file) ∙ is);
@@ -83,7 +92,9 @@ formed_row-with_owner_in above name uid gid row formed = record {
 -- ---- of a tree
 
 module _ (st : State) (p : Names) (name : EntryName) (uid gid : ℕ) (q : Names) where
-  pub entry_at-with_owner : (other : EntryName) → entry_at (with_owner st p name uid gid) q other ≡ cond (same_path p q && same_entry name other) (option_map (owned_by uid gid) (entry_at st q other)) (entry_at st q other)
+  pub entry_at-with_owner : (other : EntryName)
+      → entry_at (with_owner st p name uid gid) q other
+      ≡ cond (same_path p q && same_entry name other) (option_map (owned_by uid gid) (entry_at st q other)) (entry_at st q other)
   entry_at-with_owner other =
       ap (option_and_then (λ row. entry_in row other)) (row_at-change_at p (with_owner_in name uid gid) st q)
       ∙ read_changed (λ row. entry_in row other) (with_owner_in name uid gid) (same_entry name other) (owned_by uid gid) (λ row. entry_in-with_owner_in uid gid row name other) (same_path p q) (row_at st q)
@@ -95,7 +106,8 @@ module _ (st : State) (p : Names) (name : EntryName) (uid gid : ℕ) (q : Names)
 
   pub enabled_at-with_owner : enabled_at (with_owner st p name uid gid) q ≡ enabled_at st q
   enabled_at-with_owner =
-      ap enabled_of (row_at-change_at p (with_owner_in name uid gid) st q) ∙ enabled_same (with_owner_in name uid gid) (λ row. enabled-with_owner_in uid gid row name) (same_path p q) (row_at st q)
+      ap enabled_of (row_at-change_at p (with_owner_in name uid gid) st q)
+      ∙ enabled_same (with_owner_in name uid gid) (λ row. enabled-with_owner_in uid gid row name) (same_path p q) (row_at st q)
 
 pub paths_of-with_owner : (st : State) (p : Names) (name : EntryName) (uid gid : ℕ) → paths_of (with_owner st p name uid gid) ≡ paths_of st
 paths_of-with_owner st p name uid gid = keys-change_value path_cmp_total st.rows p (with_owner_in name uid gid)

@@ -79,7 +79,8 @@ module _ (st : State) (user : Identity) (subtree : Names) (whole : IsUnbroken st
       all-map_filter Exact (λ path. Move pid path ∷ []) (λ path. cond (inside subtree place) (not (inside subtree path)) (inside subtree path)) (paths_of st) (λ path over.
       record { exact = with_true _ _ (move_try st user subtree pid place path whole at over); tried = tt })))
 
-  is_inside-place : (pid : ℕ) → is_inside st subtree pid ≡ true → (place : Names) × (place_at st pid ≡ Some place) × (inside subtree place ≡ true)
+  is_inside-place : (pid : ℕ) → is_inside st subtree pid ≡ true
+      → (place : Names) × (place_at st pid ≡ Some place) × (inside subtree place ≡ true)
   is_inside-place pid is =
       elim (place_at st pid) as (λ found. elim found as (λ _. Bool) [ None ↦ false | Some place ↦ inside subtree place ] ≡ true → (place : Names) × (found ≡ Some place) × (inside subtree place ≡ true)) [
         | None ↦ λ h. absurd (true≢false (sym h))
@@ -90,7 +91,8 @@ module _ (st : State) (user : Identity) (subtree : Names) (whole : IsUnbroken st
   not-false true h = sym h
   not-false false h = refl
 
-  exact-probe : (len : ℕ) → len < length subtree → (number : ℕ) → free_probe st (take len subtree) ≡ Some number → (pid : ℕ) → is_inside st subtree pid ≡ true
+  exact-probe : (len : ℕ) → len < length subtree → (number : ℕ) → free_probe st (take len subtree) ≡ Some number → (pid : ℕ)
+      → is_inside st subtree pid ≡ true
       → Exact (Mkdir (probe (take len subtree) number) ∷ Move pid (probe (take len subtree) number) ∷ [])
   exact-probe len within number first pid is =
       let free = not-false _ (find-passes (λ n. not (has_row st (probe (take len subtree) n))) (numbers_from 0 (length (paths_of st) + 1)) number first) in

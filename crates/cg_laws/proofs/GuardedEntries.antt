@@ -40,7 +40,8 @@ module _ (subtree : Names) (P : Guarded → Type 0) where
   all_ancestors zero each = tt
   all_ancestors (suc m) each = (each m, all_ancestors m each)
 
-  pub all_guarded : ((n : ℕ) → P (ancestor n)) → ((file : LimitFile) → P (limit_file (length subtree) file)) → P (parent_control subtree) → P (parent_dir subtree) → All P (guarded_entries subtree)
+  pub all_guarded : ((n : ℕ) → P (ancestor n)) → ((file : LimitFile) → P (limit_file (length subtree) file)) → P (parent_control subtree)
+      → P (parent_dir subtree) → All P (guarded_entries subtree)
   all_guarded ancestor file control dir =
       All-append P (ancestors (length subtree) ++ limit_files (length subtree)) (parent_control subtree ∷ parent_dir subtree ∷ [])
       (All-append P (ancestors (length subtree)) (limit_files (length subtree))
@@ -93,7 +94,8 @@ holding st user subtree hold =
     }
 
 -- they hold again where the guarded entries are untouched and the counts fit
-pub hold-untouched : (st new : State) (user : Identity) (subtree : Names) → GuardsHold st user subtree → AreUntouched st new subtree → over_failures new subtree ≡ [] → GuardsHold new user subtree
+pub hold-untouched : (st new : State) (user : Identity) (subtree : Names) → GuardsHold st user subtree → AreUntouched st new subtree
+    → over_failures new subtree ≡ [] → GuardsHold new user subtree
 hold-untouched st new user subtree hold untouched fits = λ i.
     each_none (entry_failures new user subtree) (guarded_entries subtree)
     (each (guarded_entries subtree) (recursion_from_All (λ guarded. guarded_entry new subtree guarded ≡ guarded_entry st subtree guarded) (guarded_entries subtree) untouched)

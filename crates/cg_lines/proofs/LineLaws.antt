@@ -35,12 +35,14 @@ abbrev Takes : List ℕ → List ℕ → Op → Type 0
 Takes name text op = IsInRange op × (name ++ (32 ∷ text) ≡ spelling op)
 
 -- two words with a space between them
-joined : (text : List ℕ) (words : List ℕ × List ℕ) (first second : List ℕ) → cut text ≡ Some words → words.0 ≡ first → words.1 ≡ second → text ≡ first ++ (32 ∷ second)
+joined : (text : List ℕ) (words : List ℕ × List ℕ) (first second : List ℕ) → cut text ≡ Some words → words.0 ≡ first → words.1 ≡ second
+    → text ≡ first ++ (32 ∷ second)
 joined text words first second h e f =
     cut_parts text words h ∙ ap (λ (w : List ℕ). w ++ (32 ∷ words.1)) e ∙ ap (λ (w : List ℕ). first ++ (32 ∷ w)) f
 
 -- three of them
-joined_three : (text : List ℕ) (words others : List ℕ × List ℕ) (first second third : List ℕ) → cut text ≡ Some words → cut words.1 ≡ Some others → words.0 ≡ first → others.0 ≡ second → others.1 ≡ third → text ≡ first ++ (32 ∷ (second ++ (32 ∷ third)))
+joined_three : (text : List ℕ) (words others : List ℕ × List ℕ) (first second third : List ℕ) → cut text ≡ Some words
+    → cut words.1 ≡ Some others → words.0 ≡ first → others.0 ≡ second → others.1 ≡ third → text ≡ first ++ (32 ∷ (second ++ (32 ∷ third)))
 joined_three text words others first second third h k e f g =
     joined text words first (second ++ (32 ∷ third)) h e (joined words.1 others second third k f g)
 
@@ -62,7 +64,9 @@ move_takes text op h =
     ((p.0, q.0), behind (codes "move") text (decimal pid.0 ++ (32 ∷ path_text to.0)) (joined text w.0 (decimal pid.0) (path_text to.0) w.1 p.1 (sym q.1)))
 
 -- the words of one change or more are joined to the text that was split
-control_text : (at : Names) (words : List ℕ × List ℕ) (changes : List Change) → path_text at ≡ words.0 → changes_at (slice_split is_space words.1) ≡ Some changes → words.0 ++ (32 ∷ words.1) ≡ join_with_byte 32 (path_text at ∷ map change_word changes)
+control_text : (at : Names) (words : List ℕ × List ℕ) (changes : List Change) → path_text at ≡ words.0
+    → changes_at (slice_split is_space words.1) ≡ Some changes
+    → words.0 ++ (32 ∷ words.1) ≡ join_with_byte 32 (path_text at ∷ map change_word changes)
 control_text at words [] e h =
     let split = changes_takes (slice_split is_space words.1) [] h in
     let some : 0 ≡ _ = ap length (sym split) ∙ length-slice_split is_space words.1 in
@@ -72,7 +76,8 @@ control_text at words (change ∷ changes) e h =
     ap (λ (w : List ℕ). w ++ (32 ∷ words.1)) (sym e)
     ∙ ap (λ (t : List ℕ). path_text at ++ (32 ∷ t)) (sym (join_with_byte-slice_split 32 words.1) ∙ ap (join_with_byte 32) split)
 
-control_from_takes : (text : List ℕ) (parts : Option (List ℕ × List ℕ)) (op : Op) → cut text ≡ parts → control_from text parts ≡ Some op → Takes (codes "control") text op
+control_from_takes : (text : List ℕ) (parts : Option (List ℕ × List ℕ)) (op : Op) → cut text ≡ parts → control_from text parts ≡ Some op
+    → Takes (codes "control") text op
 control_from_takes text None op e h =
     let at = bind_some (path_at text) (λ at. Some (Control at [])) op h in
     let q = path_at-is text at.0 at.1 in
@@ -153,7 +158,8 @@ chmod_takes text op h =
     )
 
 -- the operation of one name, or that of the others
-takes_named : (name word text : List ℕ) (op : Op) (read others : Option Op) → cond (same_name name word) read others ≡ Some op → (read ≡ Some op → Takes word text op) → (others ≡ Some op → Takes name text op) → Takes name text op
+takes_named : (name word text : List ℕ) (op : Op) (read others : Option Op) → cond (same_name name word) read others ≡ Some op
+    → (read ≡ Some op → Takes word text op) → (others ≡ Some op → Takes name text op) → Takes name text op
 takes_named name word text op read others h here there =
     elim (chosen (same_name name word) read others (Some op) h) [
       | inl p ↦ subst (λ (n : List ℕ). Takes n text op) (sym ((bytes_decides name word).0 p.0)) (here p.1)
@@ -204,7 +210,8 @@ move_again pid to h k =
     (bind_at (pid_at (decimal pid)) pid (λ pid. path_at (path_text to) >>= λ to. Some (Move pid to)) (Some (Move pid to)) (pid_again pid h)
     (ap (λ (o : Option Names). o >>= λ to. Some (Move pid to)) (path_at-text to k)))
 
-control_again : (at : Names) (changes : List Change) → IsPath at → control_at (join_with_byte 32 (path_text at ∷ map change_word changes)) ≡ Some (Control at changes)
+control_again : (at : Names) (changes : List Change) → IsPath at
+    → control_at (join_with_byte 32 (path_text at ∷ map change_word changes)) ≡ Some (Control at changes)
 unfolding control_at
 control_again at [] h =
     ap (control_from (path_text at)) (cut_none (path_text at) (path_word at h))
@@ -224,7 +231,8 @@ rmdir_again : (path : Names) → IsPath path → rmdir_at (path_text path) ≡ S
 unfolding rmdir_at
 rmdir_again path h = ap (λ (o : Option Names). o >>= λ path. Some (Rmdir path)) (path_at-text path h)
 
-set_again : (at : Names) (file : LimitFile) (value : Limit) → IsPath at → IsLimitInRange value → set_at (path_text at ++ (32 ∷ (file_name file ++ (32 ∷ limit_word value)))) ≡ Some (Set at file value)
+set_again : (at : Names) (file : LimitFile) (value : Limit) → IsPath at → IsLimitInRange value
+    → set_at (path_text at ++ (32 ∷ (file_name file ++ (32 ∷ limit_word value)))) ≡ Some (Set at file value)
 unfolding set_at
 set_again at file value h k =
     let rest = file_name file ++ (32 ∷ limit_word value) in
@@ -235,7 +243,8 @@ set_again at file value h k =
     (bind_at (file_named (file_name file)) file (λ file. limit_at (limit_word value) >>= λ value. Some (Set at file value)) made (file_names.found file)
     (ap (λ (o : Option Limit). o >>= λ value. Some (Set at file value)) (limit_again value k)))))
 
-fork_again : (parent child : ℕ) → is_pid parent ≡ true → is_pid child ≡ true → fork_at (decimal parent ++ (32 ∷ decimal child)) ≡ Some (Fork parent child)
+fork_again : (parent child : ℕ) → is_pid parent ≡ true → is_pid child ≡ true
+    → fork_at (decimal parent ++ (32 ∷ decimal child)) ≡ Some (Fork parent child)
 unfolding fork_at
 fork_again parent child h k =
     bind_at (cut (decimal parent ++ (32 ∷ decimal child))) (decimal parent, decimal child) (λ words. pid_at words.0 >>= λ parent. pid_at words.1 >>= λ child. Some (Fork parent child)) (Some (Fork parent child)) (cut_word (decimal parent) (decimal child) (decimal_word parent (small_pid parent h)))
@@ -246,7 +255,8 @@ exit_again : (pid : ℕ) → is_pid pid ≡ true → exit_at (decimal pid) ≡ S
 unfolding exit_at
 exit_again pid h = ap (λ (o : Option ℕ). o >>= λ pid. Some (Exit pid)) (pid_again pid h)
 
-chmod_again : (at : Names) (entry : EntryName) (mode : ℕ) → IsPath at → is_mode mode ≡ true → chmod_at (path_text at ++ (32 ∷ (entry_text entry ++ (32 ∷ mode_word mode)))) ≡ Some (Chmod at entry mode)
+chmod_again : (at : Names) (entry : EntryName) (mode : ℕ) → IsPath at → is_mode mode ≡ true
+    → chmod_at (path_text at ++ (32 ∷ (entry_text entry ++ (32 ∷ mode_word mode)))) ≡ Some (Chmod at entry mode)
 unfolding chmod_at
 chmod_again at entry mode h k =
     let rest = entry_text entry ++ (32 ∷ mode_word mode) in
@@ -258,7 +268,8 @@ chmod_again at entry mode h k =
     (ap (λ (o : Option ℕ). o >>= λ mode. Some (Chmod at entry mode)) (mode_again mode k)))))
 
 -- a name, a space and what the operation of that name reads
-named_again : (name text : List ℕ) (op : Op) → is_word name ≡ true → operation_named name text ≡ Some op → operation_at (name ++ (32 ∷ text)) ≡ Some op
+named_again : (name text : List ℕ) (op : Op) → is_word name ≡ true → operation_named name text ≡ Some op
+    → operation_at (name ++ (32 ∷ text)) ≡ Some op
 unfolding operation_at
 named_again name text op w h =
     bind_at (cut (name ++ (32 ∷ text))) (name, text) (λ words. operation_named words.0 words.1) (Some op) (cut_word name text w) h
@@ -282,11 +293,13 @@ pub one_operation : (one other : Op) → IsInRange one → IsInRange other → s
 one_operation one other h k e = same_Some one other (sym (line_again one h) ∙ ap operation_at e ∙ line_again other k)
 
 -- what a reader of lines answers
-pub read_ok : (line : List ℕ) (r : Result Op LineFault) (most : ℕ) → ReadsAs r (operation_at line) → length line ≤ most → IfOk r (λ op. (line ≡ spelling op) × (length line ≤ most) × IsInRange op)
+pub read_ok : (line : List ℕ) (r : Result Op LineFault) (most : ℕ) → ReadsAs r (operation_at line) → length line ≤ most
+    → IfOk r (λ op. (line ≡ spelling op) × (length line ≤ most) × IsInRange op)
 read_ok line (Ok op) most h l = let p = line_takes line op h in (p.1, l, p.0)
 read_ok line (Err fault) most h l = tt
 
-pub read_bad : (line : List ℕ) (r : Result Op LineFault) → ReadsAs r (operation_at line) → r ≡ Err BadWord → (op : Op) → IsInRange op → line ≢ spelling op
+pub read_bad : (line : List ℕ) (r : Result Op LineFault) → ReadsAs r (operation_at line) → r ≡ Err BadWord → (op : Op) → IsInRange op
+    → line ≢ spelling op
 read_bad line r h e op k spelled =
     let none : operation_at line ≡ None = subst (λ (q : Result Op LineFault). ReadsAs q (operation_at line)) e h in
     none-some op (sym none ∙ (ap operation_at spelled ∙ line_again op k))

@@ -61,7 +61,8 @@ controller_length controller = omega arith
 between : (first second : List ℕ) → length (first ++ (32 ∷ second)) ≡ length first + 1 + length second
 between first second = let l = length-append first (32 ∷ second) in omega (arith, l)
 
-changes_length : (word : List ℕ) (changes : List Change) → length (join_with_byte 32 (word ∷ map change_word changes)) ≤ length word + 8 * length changes
+changes_length : (word : List ℕ) (changes : List Change)
+    → length (join_with_byte 32 (word ∷ map change_word changes)) ≤ length word + 8 * length changes
 changes_length word [] = omega arith
 changes_length word (change ∷ changes) =
     let rest = changes_length (change_word change) changes in

@@ -95,7 +95,8 @@ limit_is_word (At value) h = decimal_word value h
 octal_digit : (n : ℕ) → n ≤ 7 → is_graphic (48 + n) ≡ true
 octal_digit n h = graphic (48 + n) (omega (arith, h)) (omega (arith, h))
 
-mode_parts : (mode : ℕ) → is_mode mode ≡ true → (mode / 64 ≤ 7) × (mode / 8 % 8 ≤ 7) × (mode % 8 ≤ 7) × (mode / 64 * 64 + mode / 8 % 8 * 8 + mode % 8 ≡ mode)
+mode_parts : (mode : ℕ) → is_mode mode ≡ true
+    → (mode / 64 ≤ 7) × (mode / 8 % 8 ≤ 7) × (mode % 8 ≤ 7) × (mode / 64 * 64 + mode / 8 % 8 * 8 + mode % 8 ≡ mode)
 mode_parts mode h =
     let l = leb-true mode 511 h in
     (omega (arith, l), omega arith, omega arith, omega arith)
@@ -167,7 +168,8 @@ pub limit_again : (value : Limit) → IsLimitInRange value → limit_at (limit_w
 unfolding limit_at
 limit_again Max h = refl
 limit_again (At value) h =
-    ap (λ (b : Bool). cond b (Some Max) (option_map At (number_at (decimal value)))) (not_max value h) ∙ ap (option_map At) (number_again value h)
+    ap (λ (b : Bool). cond b (Some Max) (option_map At (number_at (decimal value)))) (not_max value h)
+    ∙ ap (option_map At) (number_again value h)
 
 -- ---- modes
 
@@ -186,7 +188,8 @@ octal_again n h =
     let value : 48 + n - 48 ≡ n = omega arith in
     ap (λ (b : Bool). cond b (Some (48 + n - 48)) None) test ∙ ap (λ (m : ℕ). Some m) value
 
-spelled_mode : (a b c x y z : ℕ) → (x ≤ 7) × (a ≡ 48 + x) → (y ≤ 7) × (b ≡ 48 + y) → (z ≤ 7) × (c ≡ 48 + z) → (a ∷ b ∷ c ∷ []) ≡ mode_word (x * 64 + y * 8 + z)
+spelled_mode : (a b c x y z : ℕ) → (x ≤ 7) × (a ≡ 48 + x) → (y ≤ 7) × (b ≡ 48 + y) → (z ≤ 7) × (c ≡ 48 + z)
+    → (a ∷ b ∷ c ∷ []) ≡ mode_word (x * 64 + y * 8 + z)
 spelled_mode a b c x y z h k l =
     let first : a ≡ 48 + (x * 64 + y * 8 + z) / 64 = omega (arith, h, k, l) in
     let second : b ≡ 48 + (x * 64 + y * 8 + z) / 8 % 8 = omega (arith, h, k, l) in
@@ -234,7 +237,8 @@ change_takes (sign ∷ name) change h =
     ∙ ap (λ (n : List ℕ). cond on.0 43 45 ∷ n) (controller_names.named name controller.0 controller.1)
     ∙ ap change_word same
 
-change_again : (on : Bool) (controller : Controller) → change_at (cond on 43 45 ∷ controller_name controller) ≡ Some (record { on = on; controller = controller })
+change_again : (on : Bool) (controller : Controller)
+    → change_at (cond on 43 45 ∷ controller_name controller) ≡ Some (record { on = on; controller = controller })
 unfolding change_at
 change_again true Cpu = refl
 change_again true controller = refl
@@ -257,7 +261,8 @@ changes_again (change ∷ changes) =
     (ap (λ (o : Option (List Change)). o >>= λ others. Some (change ∷ others)) (changes_again changes))
 
 -- three digits that are written one by one, behind two words and before a newline
-pub written_mode : (at entry : List ℕ) (mode : ℕ) → mode ≤ 511 → at ++ (32 ∷ (entry ++ (32 ∷ (decimal (mode / 64) ++ (decimal (mode / 8 % 8) ++ (decimal (mode % 8) ++ (10 ∷ []))))))) ≡ (at ++ (32 ∷ (entry ++ (32 ∷ mode_word mode)))) ++ (10 ∷ [])
+pub written_mode : (at entry : List ℕ) (mode : ℕ) → mode ≤ 511
+    → at ++ (32 ∷ (entry ++ (32 ∷ (decimal (mode / 64) ++ (decimal (mode / 8 % 8) ++ (decimal (mode % 8) ++ (10 ∷ []))))))) ≡ (at ++ (32 ∷ (entry ++ (32 ∷ mode_word mode)))) ++ (10 ∷ [])
 written_mode at entry mode l =
     let owner = decimal_digit (mode / 64) (omega (arith, l)) in
     let group = decimal_digit (mode / 8 % 8) (omega arith) in
@@ -265,6 +270,7 @@ written_mode at entry mode l =
     rw (owner, group, others) (simp append_assoc)
 
 -- changes that are written one by one behind a word
-pub written_changes : (word : List ℕ) (changes : List Change) → join_with_byte 32 (word ∷ map change_word changes) ≡ word ++ flat_map (λ (change : Change). 32 ∷ change_word change) changes
+pub written_changes : (word : List ℕ) (changes : List Change)
+    → join_with_byte 32 (word ∷ map change_word changes) ≡ word ++ flat_map (λ (change : Change). 32 ∷ change_word change) changes
 written_changes word [] = sym (append-nil word)
 written_changes word (change ∷ changes) = ap (λ (text : List ℕ). word ++ (32 ∷ text)) (written_changes (change_word change) changes)

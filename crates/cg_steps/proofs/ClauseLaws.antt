@@ -29,7 +29,8 @@ pub no_absent : {A R : Type 0} (found : Option A) (r : R) → absent found r ≡
 no_absent None r h = cc
 no_absent (Some x) r h = refl
 
-pub no_present : {A R : Type 0} (found : Option A) (clauses : A → List R) → present found clauses ≡ [] → (x : A) → found ≡ Some x → clauses x ≡ []
+pub no_present : {A R : Type 0} (found : Option A) (clauses : A → List R) → present found clauses ≡ [] → (x : A) → found ≡ Some x
+    → clauses x ≡ []
 no_present None clauses h x is = cc
 no_present (Some y) clauses h x is = cc
 

@@ -78,7 +78,8 @@ with_live st live used places used_too formed = record {
 }
 
 -- one process is changed or new, and holds what each did
-one_process : (b : Bool) (x : Option Process) (o : Option Process) (P : Process → Type 0) → ((process : Process) → b ≡ true → x ≡ Some process → P process) → ((process : Process) → o ≡ Some process → P process)
+one_process : (b : Bool) (x : Option Process) (o : Option Process) (P : Process → Type 0)
+    → ((process : Process) → b ≡ true → x ≡ Some process → P process) → ((process : Process) → o ≡ Some process → P process)
     → (process : Process) → cond b x o ≡ Some process → P process
 one_process true x o P changed kept process is = changed process refl is
 one_process false x o P changed kept process is = kept process is
@@ -89,7 +90,8 @@ formed-without_process st pid formed =
     one_process (nat_eq pid q) None (process_at st q) (λ process. process_at st q ≡ Some process) (λ process _ none. absurd (true≢false (sym (ap is_some none)))) (λ process is. is) process (sym (process_at-without_process st pid q) ∙ is) in
     with_live st (without_process st pid).live st.used (λ q process is. formed.places q process (left q process is)) (λ q process is. formed.used q process (left q process is)) formed
 
-pub formed-with_place : (st : State) (pid : ℕ) (path : Names) → may_hold st path ≡ true → IsWellFormed st → IsWellFormed (with_place st pid path)
+pub formed-with_place : (st : State) (pid : ℕ) (path : Names) → may_hold st path ≡ true → IsWellFormed st
+    → IsWellFormed (with_place st pid path)
 formed-with_place st pid path hold formed =
     with_live st (with_place st pid path).live st.used
     (λ q process is.
@@ -104,7 +106,8 @@ formed-with_place st pid path hold formed =
     process (sym (process_at-with_place st pid path q) ∙ is))
     formed
 
-pub formed-with_process : (st : State) (pid uid : ℕ) (path : Names) → may_hold st path ≡ true → IsWellFormed st → IsWellFormed (with_process st pid uid path)
+pub formed-with_process : (st : State) (pid uid : ℕ) (path : Names) → may_hold st path ≡ true → IsWellFormed st
+    → IsWellFormed (with_process st pid uid path)
 formed-with_process st pid uid path hold formed =
     with_live st (with_process st pid uid path).live (with_process st pid uid path).used
     (λ q process is.
