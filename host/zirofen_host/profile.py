@@ -13,6 +13,7 @@ LIMIT_FILES = {
     "memory.low": ("memory", 0),
     "memory.high": ("memory", "max"),
     "memory.max": ("memory", "max"),
+    "memory.swap.max": ("memory", "max"),
     "pids.max": ("pids", "max"),
 }
 
@@ -35,7 +36,7 @@ _READ_ONLY = re.compile(r"(.*\.)?(controllers|events|events\.local|stat|stat\.lo
                         r"|effective|isolated|slabinfo|pressure)\Z")
 # limits beside the profile's own
 _OTHER_LIMIT = re.compile(r"cgroup\.(freeze|kill|type|threads)|cpu\.(max|max\.burst|idle|weight\.nice|uclamp\.(min|max))"
-                          r"|memory\.(swap\.(max|high)|zswap\.(max|writeback)|oom\.group|reclaim)"
+                          r"|memory\.(swap\.high|zswap\.(max|writeback)|oom\.group|reclaim)"
                           r"|io\.(max|weight|latency|bfq\.weight|prio\.class)"
                           r"|cpuset\.(cpus|mems)(\.partition|\.exclusive)?"
                           r"|(hugetlb|rdma|misc|dmem)\.(.*\.)?(max|min|low)\Z")

@@ -16,7 +16,7 @@ TRIES = 100
 # what a user can try without privileges, and the model leaves out
 OTHERS = ("threads", "rename", "born", "xattr", "chown", "write")
 WRITTEN = ("cgroup.type", "cgroup.freeze", "cgroup.kill", "cgroup.threads", "cgroup.pressure", "memory.oom.group", "memory.reclaim",
-           "memory.swap.max", "memory.swap.high", "cpu.max", "cpu.weight.nice", "cpu.idle", "cpu.max.burst", "memory.peak",
+           "memory.swap.high", "cpu.max", "cpu.weight.nice", "cpu.idle", "cpu.max.burst", "memory.peak",
            "cgroup.controllers", "cgroup.events", "cgroup.stat", "cpu.pressure", "memory.pressure", "memory.zswap.max",
            "irq.pressure")
 TEXTS = ("0", "1", "max", "threaded", "domain", "10", "+pids", "100000")

@@ -19,6 +19,7 @@ LIMIT_FILES = {
     "memory.low": ("memory", 0, 0, MOST, True),
     "memory.high": ("memory", MAX, 0, MOST, True),
     "memory.max": ("memory", MAX, 0, MOST, True),
+    "memory.swap.max": ("memory", MAX, 0, MOST, True),
     "pids.max": ("pids", MAX, 0, MOST, True),
 }
 DESCENDANTS, DEPTH = "cgroup.max.descendants", "cgroup.max.depth"

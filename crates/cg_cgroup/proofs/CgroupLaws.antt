@@ -9,7 +9,7 @@ use Rattle.cg_cgroup.specs.Cgroups.{file_of, entry_in, value_in, with_file, with
 use Rattle.cg_cgroup.specs.declared.files.Limit.{Limit}
 use Rattle.cg_cgroup.specs.declared.files.ControllerSet.{ControllerSet}
 use Rattle.cg_cgroup.specs.declared.files.LimitFile.{LimitFile}
-use Rattle.cg_cgroup.specs.declared.files.LimitFile.TheVariants.{MaxDescendants, MaxDepth, CpuWeight, MemoryMin, MemoryLow, MemoryHigh, MemoryMax, PidsMax}
+use Rattle.cg_cgroup.specs.declared.files.LimitFile.TheVariants.{MaxDescendants, MaxDepth, CpuWeight, MemoryMin, MemoryLow, MemoryHigh, MemoryMax, MemorySwapMax, PidsMax}
 use Rattle.cg_cgroup.specs.declared.files.EntryName.{EntryName}
 use Rattle.cg_cgroup.specs.declared.files.EntryName.TheVariants.{Dir, Procs, SubtreeControl, File}
 use Rattle.cg_cgroup.specs.declared.cgroup.LimitEntry.{LimitEntry}
@@ -29,6 +29,7 @@ same_file-true MemoryMin MemoryMin h = refl
 same_file-true MemoryLow MemoryLow h = refl
 same_file-true MemoryHigh MemoryHigh h = refl
 same_file-true MemoryMax MemoryMax h = refl
+same_file-true MemorySwapMax MemorySwapMax h = refl
 same_file-true PidsMax PidsMax h = refl
 same_file-true file other h = cc
 
@@ -55,6 +56,7 @@ file_of-with_file MemoryMin f row MemoryMin = refl
 file_of-with_file MemoryLow f row MemoryLow = refl
 file_of-with_file MemoryHigh f row MemoryHigh = refl
 file_of-with_file MemoryMax f row MemoryMax = refl
+file_of-with_file MemorySwapMax f row MemorySwapMax = refl
 file_of-with_file PidsMax f row PidsMax = refl
 file_of-with_file file f row other = refl
 
@@ -175,6 +177,7 @@ same_cgroup old new rest files =
       memory_low = files MemoryLow i;
       memory_high = files MemoryHigh i;
       memory_max = files MemoryMax i;
+      memory_swap_max = files MemorySwapMax i;
       pids_max = files PidsMax i;
       enabled = rest.enabled i;
     }

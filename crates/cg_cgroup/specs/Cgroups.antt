@@ -8,7 +8,7 @@ use Rattle.cg_cgroup.specs.declared.user.Entry.{Entry}
 use Rattle.cg_cgroup.specs.declared.files.Limit.{Limit}
 use Rattle.cg_cgroup.specs.declared.files.ControllerSet.{ControllerSet}
 use Rattle.cg_cgroup.specs.declared.files.LimitFile.{LimitFile}
-use Rattle.cg_cgroup.specs.declared.files.LimitFile.TheVariants.{MaxDescendants, MaxDepth, CpuWeight, MemoryMin, MemoryLow, MemoryHigh, MemoryMax, PidsMax}
+use Rattle.cg_cgroup.specs.declared.files.LimitFile.TheVariants.{MaxDescendants, MaxDepth, CpuWeight, MemoryMin, MemoryLow, MemoryHigh, MemoryMax, MemorySwapMax, PidsMax}
 use Rattle.cg_cgroup.specs.declared.files.EntryName.{EntryName}
 use Rattle.cg_cgroup.specs.declared.files.EntryName.TheVariants.{Dir, Procs, SubtreeControl, File}
 use Rattle.cg_cgroup.specs.declared.cgroup.LimitEntry.{LimitEntry}
@@ -22,6 +22,7 @@ file_of row MemoryMin = row.memory_min
 file_of row MemoryLow = row.memory_low
 file_of row MemoryHigh = row.memory_high
 file_of row MemoryMax = row.memory_max
+file_of row MemorySwapMax = row.memory_swap_max
 file_of row PidsMax = row.pids_max
 
 -- the entry of a directory or file, where it is there
@@ -44,6 +45,7 @@ with_file MemoryMin f row = record row { memory_min = option_map f row.memory_mi
 with_file MemoryLow f row = record row { memory_low = option_map f row.memory_low }
 with_file MemoryHigh f row = record row { memory_high = option_map f row.memory_high }
 with_file MemoryMax f row = record row { memory_max = option_map f row.memory_max }
+with_file MemorySwapMax f row = record row { memory_swap_max = option_map f row.memory_swap_max }
 with_file PidsMax f row = record row { pids_max = option_map f row.pids_max }
 
 abbrev pub with_value_of : Limit → LimitEntry → LimitEntry
@@ -79,6 +81,7 @@ with_files_of enabled user row = record row {
   memory_low = refitted enabled user MemoryLow row.memory_low;
   memory_high = refitted enabled user MemoryHigh row.memory_high;
   memory_max = refitted enabled user MemoryMax row.memory_max;
+  memory_swap_max = refitted enabled user MemorySwapMax row.memory_swap_max;
   pids_max = refitted enabled user PidsMax row.pids_max;
 }
 
@@ -95,6 +98,7 @@ cgroup_made_by user enabled = with_files_of enabled user (record {
   memory_low = None;
   memory_high = None;
   memory_max = None;
+  memory_swap_max = None;
   pids_max = None;
   enabled = no_controllers;
 })

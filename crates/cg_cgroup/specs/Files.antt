@@ -9,7 +9,7 @@ use Rattle.cg_cgroup.specs.declared.files.Controller.{Controller}
 use Rattle.cg_cgroup.specs.declared.files.Controller.TheVariants.{Cpu, Memory, Pids}
 use Rattle.cg_cgroup.specs.declared.files.ControllerSet.{ControllerSet}
 use Rattle.cg_cgroup.specs.declared.files.LimitFile.{LimitFile}
-use Rattle.cg_cgroup.specs.declared.files.LimitFile.TheVariants.{MaxDescendants, MaxDepth, CpuWeight, MemoryMin, MemoryLow, MemoryHigh, MemoryMax, PidsMax}
+use Rattle.cg_cgroup.specs.declared.files.LimitFile.TheVariants.{MaxDescendants, MaxDepth, CpuWeight, MemoryMin, MemoryLow, MemoryHigh, MemoryMax, MemorySwapMax, PidsMax}
 use Rattle.cg_cgroup.specs.declared.files.EntryName.{EntryName}
 use Rattle.cg_cgroup.specs.declared.files.EntryName.TheVariants.{Dir, Procs, SubtreeControl, File}
 
@@ -60,7 +60,7 @@ is_within set other = list_all (λ controller. not (enables set controller) || e
 
 -- The order used everywhere. Core Interface Files; CPU, Memory and PID.
 abbrev pub all_files : List LimitFile
-all_files = MaxDescendants ∷ MaxDepth ∷ CpuWeight ∷ MemoryMin ∷ MemoryLow ∷ MemoryHigh ∷ MemoryMax ∷ PidsMax ∷ []
+all_files = MaxDescendants ∷ MaxDepth ∷ CpuWeight ∷ MemoryMin ∷ MemoryLow ∷ MemoryHigh ∷ MemoryMax ∷ MemorySwapMax ∷ PidsMax ∷ []
 
 abbrev pub same_file : LimitFile → LimitFile → Bool
 same_file MaxDescendants MaxDescendants = true
@@ -70,6 +70,7 @@ same_file MemoryMin MemoryMin = true
 same_file MemoryLow MemoryLow = true
 same_file MemoryHigh MemoryHigh = true
 same_file MemoryMax MemoryMax = true
+same_file MemorySwapMax MemorySwapMax = true
 same_file PidsMax PidsMax = true
 same_file file other = false
 
@@ -88,6 +89,7 @@ file_name MemoryMin = texts.memory_min
 file_name MemoryLow = texts.memory_low
 file_name MemoryHigh = texts.memory_high
 file_name MemoryMax = texts.memory_max
+file_name MemorySwapMax = texts.memory_swap_max
 file_name PidsMax = texts.pids_max
 
 -- the limit file of a name
@@ -116,6 +118,7 @@ controller_of MemoryMin = Some Memory
 controller_of MemoryLow = Some Memory
 controller_of MemoryHigh = Some Memory
 controller_of MemoryMax = Some Memory
+controller_of MemorySwapMax = Some Memory
 controller_of PidsMax = Some Pids
 
 abbrev pub default_value : LimitFile → Limit
@@ -126,6 +129,7 @@ default_value MemoryMin = At 0
 default_value MemoryLow = At 0
 default_value MemoryHigh = Max
 default_value MemoryMax = Max
+default_value MemorySwapMax = Max
 default_value PidsMax = Max
 
 -- CPU: a weight is 1 to 10000. The range of all others is own.

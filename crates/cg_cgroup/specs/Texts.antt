@@ -31,6 +31,9 @@ memory_high = codes "memory.high"
 abbrev pub memory_max : List ℕ
 memory_max = codes "memory.max"
 
+abbrev pub memory_swap_max : List ℕ
+memory_swap_max = codes "memory.swap.max"
+
 abbrev pub pids_max : List ℕ
 pids_max = codes "pids.max"
 
@@ -38,4 +41,4 @@ pids_max = codes "pids.max"
 abbrev pub reserved_names : List (List ℕ)
 reserved_names =
     codes "." ∷ codes ".." ∷ cgroup_controllers ∷ cgroup_procs ∷ cgroup_subtree_control ∷ cgroup_max_descendants
-    ∷ cgroup_max_depth ∷ cpu_weight ∷ memory_min ∷ memory_low ∷ memory_high ∷ memory_max ∷ pids_max ∷ []
+    ∷ cgroup_max_depth ∷ cpu_weight ∷ memory_min ∷ memory_low ∷ memory_high ∷ memory_max ∷ memory_swap_max ∷ pids_max ∷ []

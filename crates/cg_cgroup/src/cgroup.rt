@@ -38,6 +38,7 @@ pub struct Cgroup {
     pub memory_low: Option<LimitEntry>,
     pub memory_high: Option<LimitEntry>,
     pub memory_max: Option<LimitEntry>,
+    pub memory_swap_max: Option<LimitEntry>,
     pub pids_max: Option<LimitEntry>,
     pub enabled: ControllerSet,
 }
@@ -59,6 +60,7 @@ impl Cgroup {
             memory_low: None,
             memory_high: None,
             memory_max: None,
+            memory_swap_max: None,
             pids_max: None,
             enabled: ControllerSet::none(),
         };
@@ -78,6 +80,7 @@ impl Cgroup {
             LimitFile::MemoryLow => self.memory_low,
             LimitFile::MemoryHigh => self.memory_high,
             LimitFile::MemoryMax => self.memory_max,
+            LimitFile::MemorySwapMax => self.memory_swap_max,
             LimitFile::PidsMax => self.pids_max,
         }
     }
@@ -113,6 +116,7 @@ impl Cgroup {
             LimitFile::MemoryLow => set_value_of(&mut self.memory_low, value),
             LimitFile::MemoryHigh => set_value_of(&mut self.memory_high, value),
             LimitFile::MemoryMax => set_value_of(&mut self.memory_max, value),
+            LimitFile::MemorySwapMax => set_value_of(&mut self.memory_swap_max, value),
             LimitFile::PidsMax => set_value_of(&mut self.pids_max, value),
         }
     }
@@ -141,6 +145,7 @@ impl Cgroup {
             LimitFile::MemoryLow => set_mode_of(&mut self.memory_low, mode),
             LimitFile::MemoryHigh => set_mode_of(&mut self.memory_high, mode),
             LimitFile::MemoryMax => set_mode_of(&mut self.memory_max, mode),
+            LimitFile::MemorySwapMax => set_mode_of(&mut self.memory_swap_max, mode),
             LimitFile::PidsMax => set_mode_of(&mut self.pids_max, mode),
         }
     }
@@ -155,6 +160,12 @@ impl Cgroup {
         self.memory_low = refitted(self.memory_low, LimitFile::MemoryLow, enabled, user);
         self.memory_high = refitted(self.memory_high, LimitFile::MemoryHigh, enabled, user);
         self.memory_max = refitted(self.memory_max, LimitFile::MemoryMax, enabled, user);
+        self.memory_swap_max = refitted(
+            self.memory_swap_max,
+            LimitFile::MemorySwapMax,
+            enabled,
+            user,
+        );
         self.pids_max = refitted(self.pids_max, LimitFile::PidsMax, enabled, user);
     }
 }

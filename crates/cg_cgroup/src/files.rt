@@ -114,12 +114,13 @@ pub enum LimitFile {
     MemoryLow,
     MemoryHigh,
     MemoryMax,
+    MemorySwapMax,
     PidsMax,
 }
 
 impl LimitFile {
     /// The limit files, in their order.
-    pub const ALL: [LimitFile; 8] = [
+    pub const ALL: [LimitFile; 9] = [
         LimitFile::MaxDescendants,
         LimitFile::MaxDepth,
         LimitFile::CpuWeight,
@@ -127,6 +128,7 @@ impl LimitFile {
         LimitFile::MemoryLow,
         LimitFile::MemoryHigh,
         LimitFile::MemoryMax,
+        LimitFile::MemorySwapMax,
         LimitFile::PidsMax,
     ];
 
@@ -145,6 +147,7 @@ impl LimitFile {
             LimitFile::MemoryLow => "memory.low",
             LimitFile::MemoryHigh => "memory.high",
             LimitFile::MemoryMax => "memory.max",
+            LimitFile::MemorySwapMax => "memory.swap.max",
             LimitFile::PidsMax => "pids.max",
         }
     }
@@ -163,6 +166,7 @@ impl LimitFile {
             "memory.low" => Some(LimitFile::MemoryLow),
             "memory.high" => Some(LimitFile::MemoryHigh),
             "memory.max" => Some(LimitFile::MemoryMax),
+            "memory.swap.max" => Some(LimitFile::MemorySwapMax),
             "pids.max" => Some(LimitFile::PidsMax),
             _ => None,
         }
@@ -178,7 +182,8 @@ impl LimitFile {
             LimitFile::MemoryMin
             | LimitFile::MemoryLow
             | LimitFile::MemoryHigh
-            | LimitFile::MemoryMax => Some(Controller::Memory),
+            | LimitFile::MemoryMax
+            | LimitFile::MemorySwapMax => Some(Controller::Memory),
             LimitFile::PidsMax => Some(Controller::Pids),
         }
     }
@@ -204,6 +209,7 @@ impl LimitFile {
             | LimitFile::MaxDepth
             | LimitFile::MemoryHigh
             | LimitFile::MemoryMax
+            | LimitFile::MemorySwapMax
             | LimitFile::PidsMax => Limit::Max,
         }
     }

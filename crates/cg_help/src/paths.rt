@@ -80,6 +80,7 @@ fn is_reserved(name: &str) -> bool {
             | "memory.low"
             | "memory.high"
             | "memory.max"
+            | "memory.swap.max"
             | "pids.max"
     )
 }

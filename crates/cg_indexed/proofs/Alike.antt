@@ -40,7 +40,8 @@ cgroup_same x y e =
     both _ _ (held_same x.memory_low y.memory_low) (
     both _ _ (held_same x.memory_high y.memory_high) (
     both _ _ (held_same x.memory_max y.memory_max) (
-    both _ _ (held_same x.pids_max y.pids_max) (set_same x.enabled y.enabled))))))))))) e in
+    both _ _ (held_same x.memory_swap_max y.memory_swap_max) (
+    both _ _ (held_same x.pids_max y.pids_max) (set_same x.enabled y.enabled)))))))))))) e in
     λ i. record {
       dir = p.0 i;
       procs = p.1.0 i;
@@ -52,8 +53,9 @@ cgroup_same x y e =
       memory_low = p.1.1.1.1.1.1.1.0 i;
       memory_high = p.1.1.1.1.1.1.1.1.0 i;
       memory_max = p.1.1.1.1.1.1.1.1.1.0 i;
-      pids_max = p.1.1.1.1.1.1.1.1.1.1.0 i;
-      enabled = p.1.1.1.1.1.1.1.1.1.1.1 i;
+      memory_swap_max = p.1.1.1.1.1.1.1.1.1.1.0 i;
+      pids_max = p.1.1.1.1.1.1.1.1.1.1.1.0 i;
+      enabled = p.1.1.1.1.1.1.1.1.1.1.1.1 i;
     }
 
 pub cgroup_found : (x y : Cgroup) → x ≡ y → cgroups.ghosts.eq x y ≡ true

@@ -32,6 +32,7 @@ no_cgroup = record {
   memory_low = None;
   memory_high = None;
   memory_max = None;
+  memory_swap_max = None;
   pids_max = None;
   enabled = no_controllers;
 }
@@ -165,6 +166,7 @@ with_files_from changed fresh row = record row {
   memory_low = cond changed.memory fresh.memory_low row.memory_low;
   memory_high = cond changed.memory fresh.memory_high row.memory_high;
   memory_max = cond changed.memory fresh.memory_max row.memory_max;
+  memory_swap_max = cond changed.memory fresh.memory_swap_max row.memory_swap_max;
   pids_max = cond changed.pids fresh.pids_max row.pids_max;
 }
 

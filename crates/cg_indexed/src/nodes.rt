@@ -393,6 +393,7 @@ fn take_files(cgroup: &mut Cgroup, changed: ControllerSet, from: &Cgroup)
         cgroup.memory_low = from.memory_low;
         cgroup.memory_high = from.memory_high;
         cgroup.memory_max = from.memory_max;
+        cgroup.memory_swap_max = from.memory_swap_max;
     }
     if changed.pids {
         cgroup.pids_max = from.pids_max;

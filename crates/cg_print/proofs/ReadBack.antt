@@ -61,6 +61,7 @@ files_record row = record {
   memory_low = option_map file_record row.memory_low;
   memory_high = option_map file_record row.memory_high;
   memory_max = option_map file_record row.memory_max;
+  memory_swap_max = option_map file_record row.memory_swap_max;
   pids_max = option_map file_record row.pids_max;
 }
 
@@ -142,8 +143,8 @@ module _ (row : Cgroup) where
       → AsksEach test only → PassesNames test → doc.files_of Two (table (files_table row)) ≡ files_keys Two (files_table row)
   opened test only read asks passes = read (files_table row) ∙ ap (λ b. if b then files_keys Two (files_table row) else None) (only_files test only asks passes)
 
-  abbrev joined_files : (procs subtree_control : Option EntryRecord) (max_descendants max_depth cpu_weight memory_min memory_low memory_high memory_max pids_max : Option (Option FileRecord)) → Option FilesRecord
-  joined_files procs subtree_control max_descendants max_depth cpu_weight memory_min memory_low memory_high memory_max pids_max = do
+  abbrev joined_files : (procs subtree_control : Option EntryRecord) (max_descendants max_depth cpu_weight memory_min memory_low memory_high memory_max memory_swap_max pids_max : Option (Option FileRecord)) → Option FilesRecord
+  joined_files procs subtree_control max_descendants max_depth cpu_weight memory_min memory_low memory_high memory_max memory_swap_max pids_max = do
     procs ← procs
     subtree_control ← subtree_control
     max_descendants ← max_descendants
@@ -153,6 +154,7 @@ module _ (row : Cgroup) where
     memory_low ← memory_low
     memory_high ← memory_high
     memory_max ← memory_max
+    memory_swap_max ← memory_swap_max
     pids_max ← pids_max
     Some (record {
       procs = procs;
@@ -164,6 +166,7 @@ module _ (row : Cgroup) where
       memory_low = memory_low;
       memory_high = memory_high;
       memory_max = memory_max;
+      memory_swap_max = memory_swap_max;
       pids_max = pids_max;
     })
 
@@ -182,8 +185,9 @@ module _ (row : Cgroup) where
       let low = file_at texts.memory_low row.memory_low (at_key texts.memory_low ∙ or_none (table_of_file row.memory_low)) in
       let high = file_at texts.memory_high row.memory_high (at_key texts.memory_high ∙ or_none (table_of_file row.memory_high)) in
       let most = file_at texts.memory_max row.memory_max (at_key texts.memory_max ∙ or_none (table_of_file row.memory_max)) in
+      let swap = file_at texts.memory_swap_max row.memory_swap_max (at_key texts.memory_swap_max ∙ or_none (table_of_file row.memory_swap_max)) in
       let pids = file_at texts.pids_max row.pids_max (at_key texts.pids_max ∙ or_none (table_of_file row.pids_max)) in
-      λ i. joined_files (procs i) (control i) (descendants i) (levels i) (weight i) (least i) (low i) (high i) (most i) (pids i)
+      λ i. joined_files (procs i) (control i) (descendants i) (levels i) (weight i) (least i) (low i) (high i) (most i) (swap i) (pids i)
 
   files_back : doc.files_of Two (table (files_table row)) ≡ Some (files_record row)
   files_back =

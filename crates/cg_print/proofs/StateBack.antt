@@ -16,7 +16,7 @@ use Rattle.cg_cgroup.specs.declared.files.Limit.{Limit}
 use Rattle.cg_cgroup.specs.declared.files.Limit.TheVariants.{Max, At}
 use Rattle.cg_cgroup.specs.declared.files.ControllerSet.{ControllerSet}
 use Rattle.cg_cgroup.specs.declared.files.LimitFile.{LimitFile}
-use Rattle.cg_cgroup.specs.declared.files.LimitFile.TheVariants.{MaxDescendants, MaxDepth, CpuWeight, MemoryMin, MemoryLow, MemoryHigh, MemoryMax, PidsMax}
+use Rattle.cg_cgroup.specs.declared.files.LimitFile.TheVariants.{MaxDescendants, MaxDepth, CpuWeight, MemoryMin, MemoryLow, MemoryHigh, MemoryMax, MemorySwapMax, PidsMax}
 use Rattle.cg_cgroup.specs.declared.files.EntryName.{EntryName}
 use Rattle.cg_cgroup.specs.declared.files.EntryName.TheVariants.{Dir, Procs, SubtreeControl, File}
 use Rattle.cg_cgroup.specs.declared.cgroup.LimitEntry.{LimitEntry}
@@ -117,6 +117,7 @@ module _ (path : Names) (row : Cgroup) (above : ControllerSet) (at : IsNamedRow 
       let low = optional_again MemoryLow row.memory_low (λ _ is. is) in
       let high = optional_again MemoryHigh row.memory_high (λ _ is. is) in
       let most = optional_again MemoryMax row.memory_max (λ _ is. is) in
+      let swap = optional_again MemorySwapMax row.memory_swap_max (λ _ is. is) in
       let pids = optional_again PidsMax row.pids_max (λ _ is. is) in
       let enabled = ap (λ o. unwrap_or o no_controllers) (controllers_again row.enabled) in
       λ i. record {
@@ -130,6 +131,7 @@ module _ (path : Names) (row : Cgroup) (above : ControllerSet) (at : IsNamedRow 
         memory_low = low i;
         memory_high = high i;
         memory_max = most i;
+        memory_swap_max = swap i;
         pids_max = pids i;
         enabled = enabled i;
       }

@@ -39,7 +39,7 @@ is_key FilesTable key =
     ((same_name key texts.cgroup_procs || same_name key texts.cgroup_subtree_control)
     || (same_name key texts.cgroup_max_descendants || same_name key texts.cgroup_max_depth))
     || (((same_name key texts.cpu_weight || same_name key texts.memory_min) || (same_name key texts.memory_low || same_name key texts.memory_high))
-    || (same_name key texts.memory_max || same_name key texts.pids_max))
+    || (same_name key texts.memory_max || (same_name key texts.memory_swap_max || same_name key texts.pids_max)))
 is_key (EntryTable format) key = (same_name key (codes "uid") || same_name key (codes "mode")) || (is_two format && same_name key (codes "gid"))
 is_key (FileTable format) key = ((same_name key (codes "uid") || same_name key (codes "mode")) || (is_two format && same_name key (codes "gid"))) || same_name key (codes "value")
 
@@ -109,6 +109,7 @@ files_keys format keys = do
   memory_low ← optional (file_of format) (get_member texts.memory_low keys)
   memory_high ← optional (file_of format) (get_member texts.memory_high keys)
   memory_max ← optional (file_of format) (get_member texts.memory_max keys)
+  memory_swap_max ← optional (file_of format) (get_member texts.memory_swap_max keys)
   pids_max ← optional (file_of format) (get_member texts.pids_max keys)
   Some (record {
     procs = procs;
@@ -120,6 +121,7 @@ files_keys format keys = do
     memory_low = memory_low;
     memory_high = memory_high;
     memory_max = memory_max;
+    memory_swap_max = memory_swap_max;
     pids_max = pids_max;
   })
 

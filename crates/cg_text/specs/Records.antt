@@ -40,5 +40,6 @@ no_files = record {
   memory_low = None;
   memory_high = None;
   memory_max = None;
+  memory_swap_max = None;
   pids_max = None;
 }

@@ -17,7 +17,7 @@ use Rattle.cg_cgroup.specs.declared.files.Limit.{Limit}
 use Rattle.cg_cgroup.specs.declared.files.Limit.TheVariants.{Max as NoLimit, At}
 use Rattle.cg_cgroup.specs.declared.files.ControllerSet.{ControllerSet}
 use Rattle.cg_cgroup.specs.declared.files.LimitFile.{LimitFile}
-use Rattle.cg_cgroup.specs.declared.files.LimitFile.TheVariants.{MaxDescendants, MaxDepth, CpuWeight, MemoryMin, MemoryLow, MemoryHigh, MemoryMax, PidsMax}
+use Rattle.cg_cgroup.specs.declared.files.LimitFile.TheVariants.{MaxDescendants, MaxDepth, CpuWeight, MemoryMin, MemoryLow, MemoryHigh, MemoryMax, MemorySwapMax, PidsMax}
 use Rattle.cg_cgroup.specs.declared.cgroup.LimitEntry.{LimitEntry}
 use Rattle.cg_cgroup.specs.declared.cgroup.Cgroup.{Cgroup}
 use Rattle.cg_cgroup.specs.declared.process.Process.{Process}
@@ -111,6 +111,7 @@ file_in files MemoryMin = files.memory_min
 file_in files MemoryLow = files.memory_low
 file_in files MemoryHigh = files.memory_high
 file_in files MemoryMax = files.memory_max
+file_in files MemorySwapMax = files.memory_swap_max
 file_in files PidsMax = files.pids_max
 
 -- the controllers that texts name, beside those of a set
@@ -185,6 +186,7 @@ cgroup_written format row = record {
   memory_low = option_map (file_written format MemoryLow) row.files.memory_low;
   memory_high = option_map (file_written format MemoryHigh) row.files.memory_high;
   memory_max = option_map (file_written format MemoryMax) row.files.memory_max;
+  memory_swap_max = option_map (file_written format MemorySwapMax) row.files.memory_swap_max;
   pids_max = option_map (file_written format PidsMax) row.files.pids_max;
   enabled = unwrap_or (controllers_read row.enabled) no_controllers;
 }

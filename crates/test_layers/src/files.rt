@@ -11,6 +11,7 @@ fn names_are_the_kernels(rt: HostRuntime) {
         "memory.low",
         "memory.high",
         "memory.max",
+        "memory.swap.max",
         "pids.max",
     ];
     for (file, name) in LimitFile::ALL.iter().zip(names) {

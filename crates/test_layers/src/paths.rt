@@ -79,6 +79,7 @@ fn reserved_names(rt: HostRuntime) -> Result<(), Fail> {
         "memory.low",
         "memory.high",
         "memory.max",
+        "memory.swap.max",
         "pids.max",
     ];
     for name in names {

@@ -31,7 +31,7 @@ fn has_name_bytes(name: &[u8]) -> bool
 }
 
 /// The names that no cgroup has: a directory's own entries and the interface files of the profile.
-const RESERVED: [&str; 13] = [
+const RESERVED: [&str; 14] = [
     ".",
     "..",
     "cgroup.controllers",
@@ -44,6 +44,7 @@ const RESERVED: [&str; 13] = [
     "memory.low",
     "memory.high",
     "memory.max",
+    "memory.swap.max",
     "pids.max",
 ];
 

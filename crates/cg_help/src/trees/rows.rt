@@ -208,7 +208,9 @@ fn first_standing_nowhere<'a>(
 fn controller_of(file: &str) -> Option<&'static str> {
     match file {
         "cpu.weight" => Some("cpu"),
-        "memory.min" | "memory.low" | "memory.high" | "memory.max" => Some("memory"),
+        "memory.min" | "memory.low" | "memory.high" | "memory.max" | "memory.swap.max" => Some(
+            "memory",
+        ),
         "pids.max" => Some("pids"),
         _ => None,
     }

@@ -54,7 +54,7 @@ const LIMIT_FILE: [Key; 4] = [
     ("value", Kind::Value, false),
 ];
 
-const FILES: [Key; 10] = [
+const FILES: [Key; 11] = [
     ("cgroup.procs", Kind::Table, false),
     ("cgroup.subtree_control", Kind::Table, false),
     ("cgroup.max.descendants", Kind::Table, false),
@@ -64,6 +64,7 @@ const FILES: [Key; 10] = [
     ("memory.low", Kind::Table, false),
     ("memory.high", Kind::Table, false),
     ("memory.max", Kind::Table, false),
+    ("memory.swap.max", Kind::Table, false),
     ("pids.max", Kind::Table, false),
 ];
 

@@ -102,6 +102,7 @@ fn is_file_name(key: &str) -> bool
             | "memory.low"
             | "memory.high"
             | "memory.max"
+            | "memory.swap.max"
             | "pids.max"
     )
 }
@@ -214,6 +215,7 @@ fn files_keys(format: Format, table: &Table) -> Option<FilesRecord>
         memory_low: file_at(format, table, "memory.low")?,
         memory_high: file_at(format, table, "memory.high")?,
         memory_max: file_at(format, table, "memory.max")?,
+        memory_swap_max: file_at(format, table, "memory.swap.max")?,
         pids_max: file_at(format, table, "pids.max")?,
     })
 }

@@ -55,6 +55,7 @@ pub struct FilesRecord {
     pub memory_low: Option<FileRecord>,
     pub memory_high: Option<FileRecord>,
     pub memory_max: Option<FileRecord>,
+    pub memory_swap_max: Option<FileRecord>,
     pub pids_max: Option<FileRecord>,
 }
 
@@ -72,6 +73,7 @@ impl FilesRecord {
         memory_low: None,
         memory_high: None,
         memory_max: None,
+        memory_swap_max: None,
         pids_max: None,
     };
 
@@ -87,6 +89,7 @@ impl FilesRecord {
             LimitFile::MemoryLow => self.memory_low,
             LimitFile::MemoryHigh => self.memory_high,
             LimitFile::MemoryMax => self.memory_max,
+            LimitFile::MemorySwapMax => self.memory_swap_max,
             LimitFile::PidsMax => self.pids_max,
         }
     }

@@ -58,6 +58,7 @@ fn fitted(above: ControllerSet, cgroup: Cgroup) -> Cgroup
         memory_low: brought(above, LimitFile::MemoryLow, cgroup.memory_low),
         memory_high: brought(above, LimitFile::MemoryHigh, cgroup.memory_high),
         memory_max: brought(above, LimitFile::MemoryMax, cgroup.memory_max),
+        memory_swap_max: brought(above, LimitFile::MemorySwapMax, cgroup.memory_swap_max),
         pids_max: brought(above, LimitFile::PidsMax, cgroup.pids_max),
         ..cgroup
     }

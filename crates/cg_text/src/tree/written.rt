@@ -202,6 +202,7 @@ pub fn cgroup_written(format: Format, row: &CgroupRecord) -> Cgroup
         memory_low: brought_file(format, LimitFile::MemoryLow, files.memory_low),
         memory_high: brought_file(format, LimitFile::MemoryHigh, files.memory_high),
         memory_max: brought_file(format, LimitFile::MemoryMax, files.memory_max),
+        memory_swap_max: brought_file(format, LimitFile::MemorySwapMax, files.memory_swap_max),
         pids_max: brought_file(format, LimitFile::PidsMax, files.pids_max),
         enabled: controllers_read(&row.enabled).unwrap_or(ControllerSet::none()),
     }

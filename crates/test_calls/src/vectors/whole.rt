@@ -56,6 +56,7 @@ fn plain() -> Cgroup {
         memory_low: None,
         memory_high: None,
         memory_max: None,
+        memory_swap_max: None,
         pids_max: None,
         enabled: ControllerSet {
             cpu: false,
@@ -72,6 +73,7 @@ fn with_memory(cgroup: Cgroup, memory_max: Limit) -> Cgroup {
         memory_low: Some(limit(0, Limit::At(0))),
         memory_high: Some(limit(0, Limit::Max)),
         memory_max: Some(limit(0, memory_max)),
+        memory_swap_max: Some(limit(0, Limit::Max)),
         ..cgroup
     }
 }

@@ -12,7 +12,7 @@ use std::test::Fail;
 type Named = (usize, &'static str);
 
 /// The guarded entries, in the order of the guards.
-const GUARDED: [(Guard, Named); 12] = [
+const GUARDED: [(Guard, Named); 13] = [
     (Guard::CommonAncestor, (1, "\"cgroup.procs\"")),
     (Guard::CommonAncestor, (0, "\"cgroup.procs\"")),
     (
@@ -42,6 +42,10 @@ const GUARDED: [(Guard, Named); 12] = [
     (
         Guard::LimitFile(LimitFile::MemoryMax),
         (2, "\"memory.max\""),
+    ),
+    (
+        Guard::LimitFile(LimitFile::MemorySwapMax),
+        (2, "\"memory.swap.max\""),
     ),
     (Guard::LimitFile(LimitFile::PidsMax), (2, "\"pids.max\"")),
     (Guard::ParentControl, (1, "\"cgroup.subtree_control\"")),

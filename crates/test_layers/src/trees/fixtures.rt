@@ -111,6 +111,7 @@ pub fn cgroup_of(owners: Owners, above: ControllerSet) -> Cgroup
         memory_low: file_under(above, uid, LimitFile::MemoryLow),
         memory_high: file_under(above, uid, LimitFile::MemoryHigh),
         memory_max: file_under(above, uid, LimitFile::MemoryMax),
+        memory_swap_max: file_under(above, uid, LimitFile::MemorySwapMax),
         pids_max: file_under(above, uid, LimitFile::PidsMax),
         enabled: ControllerSet::none(),
     }
