@@ -232,7 +232,10 @@ class PictureTest(PageTest):
                 ((f"set {self.MANAGER} memory.max max",), ["memory.max: 2G → max"], "changes a limit of"),
                 (("control / -memory", f"control {self.TOP} -memory"), [
                     "memory.min: 0 → no limit file", "memory.low: 0 → no limit file", "memory.high: max → no limit file",
-                    "memory.max: 2G → no limit file", "and 1 more limits"], "changes a limit of"),
+                    "memory.max: 2G → no limit file", "and 1 more limit"], "changes a limit of"),
+                (("control / -memory -pids", f"control {self.TOP} -memory -pids"), [
+                    "memory.min: 0 → no limit file", "memory.low: 0 → no limit file", "memory.high: max → no limit file",
+                    "memory.max: 2G → no limit file", "and 2 more limits"], "changes a limit of"),
                 ((f"control {self.TOP} +cpu",), ["cpu.weight: no limit file → 100"], "changes a limit of"),
                 ((f"rmdir {self.MANAGER}",), ["✗ the whole cgroup is removed"], "removes"),
                 ((), ["✗ over its own limits"], "is over its own limits"),

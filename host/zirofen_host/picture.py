@@ -71,8 +71,9 @@ class Picture:
             changes = self.breaks[1]
             subtree.lines += [("limit", f"{file}: {value(file, before)} → {value(file, behind)}")
                               for file, before, behind in changes[:MOST_LIMITS]]
-            if len(changes) > MOST_LIMITS:
-                subtree.lines.append(("limit", f"and {len(changes) - MOST_LIMITS} more limits"))
+            more = len(changes) - MOST_LIMITS
+            if more > 0:
+                subtree.lines.append(("limit", f"and {more} more limit{'s' if more > 1 else ''}"))
         elif self.breaks[0] == "gone":
             subtree.lines.append(("limit", "✗ the whole cgroup is removed"))
         elif self.breaks[0] == "over":

@@ -62,6 +62,10 @@ all_push : {A : Type 0} (P : A → Type 0) (xs : List A) (x : A) → AllByRecurs
 all_push P [] x all here = (here, tt)
 all_push P (y ∷ xs) x all here = (all.0, all_push P xs x all.1 here)
 
+-- what holds of the first items and of the next holds of these together
+pub all_more : {A : Type 0} (P : A → Type 0) (xs : List A) (i : ℕ) (d : A) → i < length xs → AllByRecursion P (take i xs) → P (get_or xs i d) → AllByRecursion P (take (i + 1) xs)
+all_more P xs i d inside kept next = subst (AllByRecursion P) (sym (take_more xs i d inside)) (all_push P (take i xs) (get_or xs i d) kept next)
+
 module _ {K X : Type 0} {R : K → K → Ordering} (o : IsTotalOrder R) (m : FinMap R X) (keys : List K) (same : keys ≡ finite.keys m) (i : ℕ) (key : K) (inside : i < length keys) (is : key ≡ get_or keys i key) where
   within : i < length (entries m)
   within = omega (arith, ap length same, length-map (entries m) (λ (e : K × X). e.0))

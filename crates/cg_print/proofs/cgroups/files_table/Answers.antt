@@ -1,5 +1,6 @@
-use Rattle.std.proofs.Common.{◌≡◌, ap, subst, ◌∙◌, fold, take, arith}
+use Rattle.std.proofs.Common.{◌≡◌, get_or, sym, ap, subst, ◌∙◌, fold, take, arith}
 use Rattle.std.proofs.lemmas.List.{take_all}
+use Rattle.std.proofs.lemmas.List.Sums.{fold_more}
 use Rattle.std.specs.List.{AllByRecursion}
 use Rattle.toml.specs.Data.{table, no_members}
 use Rattle.toml.specs.View.{view, table_view, members_view}
@@ -7,9 +8,11 @@ use Rattle.toml.proofs.Views.{view-Table}
 use Rattle.toml.specs.declared.value.Value.{Table}
 use Rattle.cg_cgroup.specs.Texts.{cgroup_procs, cgroup_subtree_control}
 use Rattle.cg_cgroup.specs.Files.{all_files}
+use Rattle.cg_cgroup.specs.declared.files.LimitFile.TheVariants.{MaxDescendants}
 use Rattle.cg_print.specs.Carried.{FileHasIds}
 use Rattle.cg_print.specs.Keys.{with_key}
 use Rattle.cg_print.specs.Documents.{entry_table, with_file, files_table}
+use Rattle.cg_print.proofs.Entries.{all_more}
 use Rattle.cg_print.proofs.cgroups.files_table.Goals as goal
 
 pub loop-file-init : goal.loop-file-init
@@ -22,6 +25,18 @@ loop-file-init c =
       written = c.in_ok-put-2.ensures
           ∙ (λ i. with_key cgroup_subtree_control (control i) ((c.in_ok-put.ensures ∙ (λ j. with_key cgroup_procs (procs j) (none j))) i));
       ids = tt;
+    }
+
+pub loop-file-preserved : goal.loop-file-preserved
+loop-file-preserved c =
+    let row = c.args.cgroup.now in
+    let i = c.loop-file.file-index in
+    let first = with_key cgroup_subtree_control (table (entry_table row.subtree_control)) (with_key cgroup_procs (table (entry_table row.procs)) no_members) in
+    record {
+      written = c.in_ok-put_file.ensures.written
+          ∙ ap (λ keys. with_file row keys (get_or all_files i MaxDescendants)) c.loop-file.invariant.written
+          ∙ sym (fold_more (with_file row) first all_files i MaxDescendants c.loop-file-test.true);
+      ids = all_more (FileHasIds row) all_files i MaxDescendants c.loop-file-test.true c.loop-file.invariant.ids c.in_ok-put_file.ensures.ids;
     }
 
 pub returns-clause-written : goal.returns-clause-written
