@@ -11,12 +11,13 @@ use Rattle.std.proofs.lemmas.Option.{cond_some, none-some}
 use Rattle.std.proofs.lemmas.List.Sums.{fails_before_first}
 use Rattle.std.proofs.lemmas.List.Splits.{slice_split_none, slice_split_first}
 use Rattle.std.proofs.lemmas.Str.Parse.{IsNumeralModel, numerals_by_value, tells_all_ascii_digits, not_in_digits, parse_plain}
-use Rattle.arguments.specs.UserWords.{is_comma, cut, is_id, id_at, ids_at}
+use Rattle.arguments.specs.UserWords.{is_comma, cut_at, is_id, id_at, ids_at}
 
 own : IsNumeralModel (λ ds. all_ascii_digits ds ≡ true) (digits_value 10)
 own = numerals_by_value (λ ds. all_ascii_digits ds ≡ true) tells_all_ascii_digits
 
-id_is : (word : List ℕ) → all_ascii_digits word ≡ true → 0 < length word → digits_value 10 word < 2 ^ 32 → id_at word ≡ Some (digits_value 10 word)
+id_is : (word : List ℕ) → all_ascii_digits word ≡ true → 0 < length word → digits_value 10 word < 2 ^ 32
+    → id_at word ≡ Some (digits_value 10 word)
 unfolding id_at
 id_is word digits some small =
     ap (λ (b : Bool). cond b (Some (digits_value 10 word)) None)
@@ -39,14 +40,16 @@ pub id_plus : (word : List ℕ) → get_or word 0 0 ≡ 43 → id_at word ≡ No
 id_plus word plus = id_none word (λ p. not_in_digits own word 43 p.0 (λ r. omega (arith, r.0)) 0 p.1 plus)
 
 -- of a word with no plus sign at its front an id is what `parse` gives
-pub id_parsed : {E : Type 0} (word : List ℕ) (r : Result ℕ E) → get_or word 0 0 ≢ 43 → ParsesUnsigned 32 10 word r → result_ok r ≡ id_at word
+pub id_parsed : {E : Type 0} (word : List ℕ) (r : Result ℕ E) → get_or word 0 0 ≢ 43 → ParsesUnsigned 32 10 word r
+    → result_ok r ≡ id_at word
 id_parsed {E} word (Ok n) plain h =
     let p = parse_plain own {E = E} 32 word (Ok n) h plain in
     ap (λ (m : ℕ). Some m) p.1 ∙ sym (id_is word p.0.0 p.0.1 p.0.2)
 id_parsed {E} word (Err e) plain h = sym (id_none word (parse_plain own {E = E} 32 word (Err e) h plain))
 
 -- of a word that may have a plus sign at its front what is behind it is read
-pub id_read : {E : Type 0} (word : List ℕ) (r : Result ℕ E) → OkIff r (IsNumeral 10 word × (digits_value 10 word < 2 ^ 32)) (digits_value 10 word) → result_ok r ≡ id_at word
+pub id_read : {E : Type 0} (word : List ℕ) (r : Result ℕ E)
+    → OkIff r (IsNumeral 10 word × (digits_value 10 word < 2 ^ 32)) (digits_value 10 word) → result_ok r ≡ id_at word
 id_read {E} word (Ok n) h =
     ap (λ (m : ℕ). Some m) h.1 ∙ sym (id_is word (own.from word h.0.0.1) h.0.0.0 h.0.1)
 id_read {E} word (Err e) h = sym (id_none word (λ p. h ((p.1, own.to word p.0), p.2)))
@@ -55,7 +58,8 @@ id_read {E} word (Err e) h = sym (id_none word (λ p. h ((p.1, own.to word p.0),
 abbrev pub with_front : {A : Type 0} → List A → Option (List A) → Option (List A)
 with_front front read = option_map (λ others. front ++ others) read
 
-split_cut : (text : List ℕ) (parts : List ℕ × List ℕ) → cut is_comma text ≡ Some parts → slice_split is_comma text ≡ parts.0 ∷ slice_split is_comma parts.1
+split_cut : (text : List ℕ) (parts : List ℕ × List ℕ) → cut_at is_comma text ≡ Some parts
+    → slice_split is_comma text ≡ parts.0 ∷ slice_split is_comma parts.1
 split_cut text parts h =
     let at = position_or_len is_comma text in
     let p = cond_some (nat_lt at (length text)) (before_first is_comma text, after_first is_comma text) parts h in
@@ -65,14 +69,16 @@ not_cut : {A : Type 0} (b : Bool) (x : A) → cond b (Some x) None ≡ None → 
 not_cut true x h = absurd (none-some x (sym h))
 not_cut false x h = refl
 
-split_whole : (text : List ℕ) → cut is_comma text ≡ None → slice_split is_comma text ≡ text ∷ []
+split_whole : (text : List ℕ) → cut_at is_comma text ≡ None → slice_split is_comma text ≡ text ∷ []
 split_whole text h =
     let at = position_or_len is_comma text in
     let l = ltb-false at (length text) (not_cut (nat_lt at (length text)) (before_first is_comma text, after_first is_comma text) h) in
     slice_split_none is_comma text (λ k d s. fails_before_first is_comma text k d (omega (arith, l)))
 
 -- a step of the loop over the words
-pub ids_more : (front text : List ℕ) (parts : List ℕ × List ℕ) (id : ℕ) (read : Option (List ℕ)) → cut is_comma text ≡ Some parts → id_at parts.0 ≡ Some id → with_front front (ids_at (slice_split is_comma text)) ≡ read → with_front (front ++ (id ∷ [])) (ids_at (slice_split is_comma parts.1)) ≡ read
+pub ids_more : (front text : List ℕ) (parts : List ℕ × List ℕ) (id : ℕ) (read : Option (List ℕ)) → cut_at is_comma text ≡ Some parts
+    → id_at parts.0 ≡ Some id → with_front front (ids_at (slice_split is_comma text)) ≡ read
+    → with_front (front ++ (id ∷ [])) (ids_at (slice_split is_comma parts.1)) ≡ read
 ids_more front text parts id read e f h =
     elim (ids_at (slice_split is_comma parts.1)) as (λ rest. with_front (front ++ (id ∷ [])) rest ≡ with_front front (option_map (λ ids. id ∷ ids) rest)) [
       | None ↦ refl
@@ -83,20 +89,23 @@ ids_more front text parts id read e f h =
     ∙ h
 
 -- the last word
-pub ids_last : (front text : List ℕ) (id : ℕ) (read : Option (List ℕ)) → cut is_comma text ≡ None → id_at text ≡ Some id → with_front front (ids_at (slice_split is_comma text)) ≡ read → read ≡ Some (front ++ (id ∷ []))
+pub ids_last : (front text : List ℕ) (id : ℕ) (read : Option (List ℕ)) → cut_at is_comma text ≡ None → id_at text ≡ Some id
+    → with_front front (ids_at (slice_split is_comma text)) ≡ read → read ≡ Some (front ++ (id ∷ []))
 ids_last front text id read e f h =
     sym h
     ∙ ap (λ (ws : List (List ℕ)). with_front front (ids_at ws)) (split_whole text e)
     ∙ ap (λ (first : Option ℕ). with_front front (option_and_then (λ i. Some (i ∷ [])) first)) f
 
 -- a word that is no id
-pub ids_bad : (front text : List ℕ) (parts : List ℕ × List ℕ) (read : Option (List ℕ)) → cut is_comma text ≡ Some parts → id_at parts.0 ≡ None → with_front front (ids_at (slice_split is_comma text)) ≡ read → read ≡ None
+pub ids_bad : (front text : List ℕ) (parts : List ℕ × List ℕ) (read : Option (List ℕ)) → cut_at is_comma text ≡ Some parts
+    → id_at parts.0 ≡ None → with_front front (ids_at (slice_split is_comma text)) ≡ read → read ≡ None
 ids_bad front text parts read e f h =
     sym h
     ∙ ap (λ (ws : List (List ℕ)). with_front front (ids_at ws)) (split_cut text parts e)
     ∙ ap (λ (first : Option ℕ). with_front front (option_and_then (λ i. option_map (λ ids. i ∷ ids) (ids_at (slice_split is_comma parts.1))) first)) f
 
-pub ids_last_bad : (front text : List ℕ) (read : Option (List ℕ)) → cut is_comma text ≡ None → id_at text ≡ None → with_front front (ids_at (slice_split is_comma text)) ≡ read → read ≡ None
+pub ids_last_bad : (front text : List ℕ) (read : Option (List ℕ)) → cut_at is_comma text ≡ None → id_at text ≡ None
+    → with_front front (ids_at (slice_split is_comma text)) ≡ read → read ≡ None
 ids_last_bad front text read e f h =
     sym h
     ∙ ap (λ (ws : List (List ℕ)). with_front front (ids_at ws)) (split_whole text e)

@@ -13,8 +13,8 @@ abbrev pub is_colon : ℕ → Bool
 is_colon b = b == 58
 
 -- what is before the first byte of a kind, and what is behind it
-abbrev pub cut : (ℕ → Bool) → List ℕ → Option (List ℕ × List ℕ)
-cut test text = cond (nat_lt (position_or_len test text) (length text)) (Some (before_first test text, after_first test text)) None
+abbrev pub cut_at : (ℕ → Bool) → List ℕ → Option (List ℕ × List ℕ)
+cut_at test text = cond (nat_lt (position_or_len test text) (length text)) (Some (before_first test text, after_first test text)) None
 
 -- A uid or a gid: decimal digits, one or more, that write a number of 32 bits.
 abbrev pub is_id : List ℕ → Bool
@@ -42,4 +42,4 @@ user_alone word = option_map (λ uid. (uid, [])) (id_at word)
 
 -- A user is UID, or UID:GID,GID..
 abbrev pub user_at : List ℕ → Option (ℕ × List ℕ)
-user_at word = elim (cut is_colon word) [ None ↦ user_alone word | Some parts ↦ user_with parts ]
+user_at word = elim (cut_at is_colon word) [ None ↦ user_alone word | Some parts ↦ user_with parts ]

@@ -2,7 +2,7 @@
 ghost use Rattle.std.specs.Prelude.{◌≡◌, ◌≢◌, Some, None, MatchResult};
 ghost use Rattle.std.specs.Option.{ok_or, option_map};
 ghost use Rattle.std.specs.List.{slice_split};
-ghost use Rattle.arguments.specs.UserWords.{is_comma, is_colon, cut, id_at, ids_at, user_at};
+ghost use Rattle.arguments.specs.UserWords.{is_comma, is_colon, cut_at, id_at, ids_at, user_at};
 
 use crate::fault::ArgumentsFault;
 use std::alloc::Global;
@@ -55,14 +55,14 @@ fn ids_of(alloc: Global, words: &str) -> Result<Vec<u32>, ArgumentsFault>
 
 /// What is before the first colon, and what is behind it.
 fn cut_at_colon(word: &str) -> Option<(&str, &str)>
-    ensures { option_map (λ parts. (parts.0.now, parts.1.now)) result ≡ cut is_colon word.now }
+    ensures { option_map (λ parts. (parts.0.now, parts.1.now)) result ≡ cut_at is_colon word.now }
 {
     word.split_once(':')
 }
 
 /// What is before the first comma, and what is behind it.
 fn cut_at_comma(words: &str) -> Option<(&str, &str)>
-    ensures { option_map (λ parts. (parts.0.now, parts.1.now)) result ≡ cut is_comma words.now }
+    ensures { option_map (λ parts. (parts.0.now, parts.1.now)) result ≡ cut_at is_comma words.now }
 {
     words.split_once(',')
 }

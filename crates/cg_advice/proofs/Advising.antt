@@ -21,7 +21,7 @@ use Rattle.cg_steps.proofs.StateCounts.{paths_of-with_mode, paths_of-with_value,
 use Rattle.cg_steps.proofs.StateEntries.{enabled_at-with_mode, enabled_at-with_value}
 use Rattle.cg_steps.proofs.FormedLaws.{formed-with_mode, formed-with_value}
 use Rattle.cg_model.specs.Clauses.{unless, present}
-use Rattle.cg_steps.proofs.ClauseLaws.{no_parts, no_unless}
+use Rattle.cg_steps.proofs.ClauseLaws.{no_parts, no_unless, none_each, each_none}
 use Rattle.cg_model.specs.Limits.{is_within_limit, fits_descendants, fits_depth}
 use Rattle.cg_model.specs.Guards.{Guarded, guarded_entries, guarded_entry, entry_failures, over_failures, GuardsHold, found, standing}
 use Rattle.cg_model.specs.declared.guard.Failed.{Failed}
@@ -114,7 +114,8 @@ module _ (st : State) (user : Identity) (subtree : Names) where
 
   -- the subtree is within its limits, and so is each that was within its own
   module _ (path : Names) where
-    descendants-by : (b : Bool) → same_path subtree path ≡ b → (b ≡ false → fits_descendants st path ≡ true) → fits_descendants new path ≡ true
+    descendants-by : (b : Bool) → same_path subtree path ≡ b → (b ≡ false → fits_descendants st path ≡ true)
+        → fits_descendants new path ≡ true
     descendants-by b is kept =
         descendants-limit new path
         ∙ ap (λ n. fits_in n (value_at new path MaxDescendants)) (count_below-same_paths st new same_paths path)
@@ -154,7 +155,8 @@ module _ (st : State) (user : Identity) (subtree : Names) where
 -- ---- the guards on entries
 
 -- nobody is let in
-spared_off : (user other : Identity) (failed : Failed) (is_on : Bool) (entry : Option Entry) → (IsUser other) → present entry (λ e. unless (not (reaches other e)) failed) ≡ []
+spared_off : (user other : Identity) (failed : Failed) (is_on : Bool) (entry : Option Entry) → (IsUser other)
+    → present entry (λ e. unless (not (reaches other e)) failed) ≡ []
     → present (cond is_on (option_map (spared user) entry) entry) (λ e. unless (not (reaches other e)) failed) ≡ []
 spared_off user other failed true None is_user off = refl
 spared_off user other failed true (Some e) is_user off =
@@ -162,24 +164,18 @@ spared_off user other failed true (Some e) is_user off =
 spared_off user other failed false entry is_user off = off
 
 -- and the user isn't left in
-user_off : (user : Identity) (failed : Failed) (entry : Option Entry) → IsUser user → present (option_map (spared user) entry) (λ e. unless (not (reaches user e)) failed) ≡ []
+user_off : (user : Identity) (failed : Failed) (entry : Option Entry) → IsUser user
+    → present (option_map (spared user) entry) (λ e. unless (not (reaches user e)) failed) ≡ []
 user_off user failed None is_user = refl
 user_off user failed (Some e) is_user = ap (λ b. unless (not b) failed) (off-spared user e is_user)
-
-none_each : {A R : Type 0} (f : A → List R) (xs : List A) → flat_map f xs ≡ [] → AllByRecursion (λ x. f x ≡ []) xs
-none_each f [] h = tt
-none_each f (x ∷ xs) h = let parts = no_parts (f x) (flat_map f xs) h in (parts.0, none_each f xs parts.1)
-
-each_none : {A R : Type 0} (f : A → List R) (xs : List A) → AllByRecursion (λ x. f x ≡ []) xs → flat_map f xs ≡ []
-each_none f [] h = refl
-each_none f (x ∷ xs) h = λ i. h.0 i ++ each_none f xs h.1 i
 
 all_each : {A : Type 0} (P Q : A → Type 0) → ((x : A) → P x → Q x) → (xs : List A) → AllByRecursion P xs → AllByRecursion Q xs
 all_each P Q each [] ps = tt
 all_each P Q each (x ∷ xs) ps = (each x ps.0, all_each P Q each xs ps.1)
 
 -- each guard of a table stands on an entry of it
-listed : (subtree : Names) (front back : List Guarded) → AllByRecursion (λ guarded. list_any (is_on subtree (take guarded.len subtree) guarded.name) (front ++ back) ≡ true) back
+listed : (subtree : Names) (front back : List Guarded)
+    → AllByRecursion (λ guarded. list_any (is_on subtree (take guarded.len subtree) guarded.name) (front ++ back) ≡ true) back
 listed subtree front [] = tt
 listed subtree front (guarded ∷ back) = (
   list_any-append (is_on subtree (take guarded.len subtree) guarded.name) front (guarded ∷ back)
@@ -203,7 +199,8 @@ mends-all st user subtree is_user = λ i.
     ++ not_over st user subtree subtree (λ other. let never : ⊥ = cc (same_path_refl subtree, other) in absurd never) i
 
 -- The guards that held for anyone and any subtree hold.
-pub opens-nothing : (st : State) (user : Identity) (subtree : Names) (other : Identity) (path : Names) → IsUser other → GuardsHold st other path → GuardsHold (advised st user subtree) other path
+pub opens-nothing : (st : State) (user : Identity) (subtree : Names) (other : Identity) (path : Names) → IsUser other
+    → GuardsHold st other path → GuardsHold (advised st user subtree) other path
 opens-nothing st user subtree other path is_user hold =
     let parts = no_parts (flat_map (entry_failures st other path) (guarded_entries path)) (over_failures st path) hold in
     λ i.
@@ -225,7 +222,8 @@ all_filtered test (x ∷ xs) =
     ] refl
 
 -- the entry whose changes aren't made stays as it is
-entry_at-all_but : (st : State) (user : Identity) (subtree : Names) (at : GuardedEntry) → entry_at (all_but st user subtree at) (take at.len subtree) at.name ≡ entry_at st (take at.len subtree) at.name
+entry_at-all_but : (st : State) (user : Identity) (subtree : Names) (at : GuardedEntry)
+    → entry_at (all_but st user subtree at) (take at.len subtree) at.name ≡ entry_at st (take at.len subtree) at.name
 entry_at-all_but st user subtree at =
     let path = take at.len subtree in
     let others = filter (is_other subtree at) (reached st user subtree) in
@@ -241,7 +239,8 @@ entry_at-all_but st user subtree at =
     same None = refl
     same (Some x) = refl
 
-pub entry-needed : (st : State) (user : Identity) (subtree : Names) (guarded : Guarded) (at : GuardedEntry) → standing st subtree guarded ≡ Some at
+pub entry-needed : (st : State) (user : Identity) (subtree : Names) (guarded : Guarded) (at : GuardedEntry)
+    → standing st subtree guarded ≡ Some at
     → entry_failures (all_but st user subtree at) user subtree guarded ≡ entry_failures st user subtree guarded
 entry-needed st user subtree guarded at is =
     ap (λ o. present o (λ e. unless (not (reaches user e)) (record { guard = guarded.guard; len = guarded.len })))
@@ -257,7 +256,8 @@ entry-needed st user subtree guarded at is =
     name_is : guarded.name ≡ at.name
     name_is = (placed (guarded_entry st subtree guarded) is).1
 
-pub limits-needed : (st : State) (user : Identity) (subtree : Names) → over_failures (all_but_limits st user subtree) subtree ≡ over_failures st subtree
+pub limits-needed : (st : State) (user : Identity) (subtree : Names)
+    → over_failures (all_but_limits st user subtree) subtree ≡ over_failures st subtree
 limits-needed st user subtree =
     let left = all_but_limits st user subtree in
     let same = paths_of-made subtree (flat_map (entry_mends user) (reached st user subtree)) st in
@@ -278,7 +278,8 @@ formed-made_one subtree (Chown len name uid gid) st can = formed-with_owner st (
 formed-made_one subtree (Chmod len name mode) st can = formed-with_mode st (take len subtree) name mode can
 formed-made_one subtree (Set len file value) st can = formed-with_value st (take len subtree) file value can
 
-formed-made : (subtree : Names) (mends : List Mend) (st : State) → AllByRecursion CanBeMade mends → IsWellFormed st → IsWellFormed (made subtree mends st)
+formed-made : (subtree : Names) (mends : List Mend) (st : State) → AllByRecursion CanBeMade mends → IsWellFormed st
+    → IsWellFormed (made subtree mends st)
 formed-made subtree [] st can formed = formed
 formed-made subtree (mend ∷ mends) st can formed = formed-made subtree mends (made_one subtree mend st) can.1 (formed-made_one subtree mend st can.0 formed)
 
@@ -286,7 +287,8 @@ all_both : {A : Type 0} (P : A → Type 0) (xs ys : List A) → AllByRecursion P
 all_both P [] ys here there = there
 all_both P (x ∷ xs) ys here there = (here.0, all_both P xs ys here.1 there)
 
-all_flat : {A B : Type 0} (P : B → Type 0) (Q : A → Type 0) (f : A → List B) → ((x : A) → Q x → AllByRecursion P (f x)) → (xs : List A) → AllByRecursion Q xs → AllByRecursion P (flat_map f xs)
+all_flat : {A B : Type 0} (P : B → Type 0) (Q : A → Type 0) (f : A → List B) → ((x : A) → Q x → AllByRecursion P (f x)) → (xs : List A)
+    → AllByRecursion Q xs → AllByRecursion P (flat_map f xs)
 all_flat P Q f each [] all = tt
 all_flat P Q f each (x ∷ xs) all = all_both P (f x) (flat_map f xs) (each x all.0) (all_flat P Q f each xs all.1)
 

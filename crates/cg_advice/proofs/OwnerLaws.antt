@@ -1,7 +1,7 @@
 -- What reading a tree gives after the owner of an entry is changed, and that the tree stays well-formed.
 use Rattle.std.proofs.Common.{◌≡◌, ℕ, ◌≤◌, Bool, true, false, cond, ◌&&◌, refl, sym, ap, ◌∙◌, subst, Option, Some, None, is_some, option_map, option_and_then}
 use Rattle.cg_cgroup.specs.Paths.{Names, same_path}
-use Rattle.cg_cgroup.specs.Files.{same_entry, accepts, no_controllers}
+use Rattle.cg_cgroup.specs.Files.{same_entry, accepts}
 use Rattle.cg_cgroup.specs.Cgroups.{file_of, entry_in, value_in}
 use Rattle.cg_cgroup.specs.declared.user.Entry.{Entry}
 use Rattle.cg_cgroup.specs.declared.files.ControllerSet.{ControllerSet}
@@ -18,23 +18,29 @@ use Rattle.cg_model.specs.States.{State, row_at, entry_at, value_at, paths_of}
 use Rattle.cg_model.specs.WellFormed.{IsFormedRow, IsWellFormed, enabled_at}
 use Rattle.cg_steps.proofs.MapLaws.{keys-change_value}
 use Rattle.cg_steps.proofs.StateLaws.{row_at-change_at}
-use Rattle.cg_steps.proofs.FormedReshaped.{formed-reshaped}
+use Rattle.cg_steps.proofs.StateEntries.{read_same, read_changed, enabled_of, enabled_same}
+use Rattle.cg_steps.proofs.FormedLaws.{formed-change_at}
 use Rattle.cg_model.specs.Mends.{owned_by, with_file_owned_by, with_owner_in, with_owner}
 
 -- ---- of a row
 
-owner_part : (b : Bool) (uid gid : ℕ) (o : Option LimitEntry) → option_map (λ x. x.entry) (cond b (option_map (with_file_owned_by uid gid) o) o) ≡ cond b (option_map (owned_by uid gid) (option_map (λ x. x.entry) o)) (option_map (λ x. x.entry) o)
+owner_part : (b : Bool) (uid gid : ℕ) (o : Option LimitEntry)
+    → option_map (λ x. x.entry) (cond b (option_map (with_file_owned_by uid gid) o) o)
+    ≡ cond b (option_map (owned_by uid gid) (option_map (λ x. x.entry) o)) (option_map (λ x. x.entry) o)
 owner_part false uid gid o = refl
 owner_part true uid gid None = refl
 owner_part true uid gid (Some x) = refl
 
-value_kept : (b : Bool) (uid gid : ℕ) (o : Option LimitEntry) → option_map (λ x. x.value) (cond b (option_map (with_file_owned_by uid gid) o) o) ≡ option_map (λ x. x.value) o
+value_kept : (b : Bool) (uid gid : ℕ) (o : Option LimitEntry)
+    → option_map (λ x. x.value) (cond b (option_map (with_file_owned_by uid gid) o) o) ≡ option_map (λ x. x.value) o
 value_kept false uid gid o = refl
 value_kept true uid gid None = refl
 value_kept true uid gid (Some x) = refl
 
 module _ (uid gid : ℕ) (row : Cgroup) where
-  file_of-with_owner_in : (name : EntryName) (file : LimitFile) → file_of (with_owner_in name uid gid row) file ≡ cond (same_entry name (File file)) (option_map (with_file_owned_by uid gid) (file_of row file)) (file_of row file)
+  file_of-with_owner_in : (name : EntryName) (file : LimitFile)
+      → file_of (with_owner_in name uid gid row) file
+      ≡ cond (same_entry name (File file)) (option_map (with_file_owned_by uid gid) (file_of row file)) (file_of row file)
   file_of-with_owner_in (File file) other = file_of-with_file file (with_file_owned_by uid gid) row other
   file_of-with_owner_in Dir MaxDescendants = refl
   file_of-with_owner_in Procs MaxDescendants = refl
@@ -49,7 +55,9 @@ module _ (uid gid : ℕ) (row : Cgroup) where
   value_in-with_owner_in name file =
       ap (option_map (λ x. x.value)) (file_of-with_owner_in name file) ∙ value_kept (same_entry name (File file)) uid gid (file_of row file)
 
-  entry_in-with_owner_in : (name other : EntryName) → entry_in (with_owner_in name uid gid row) other ≡ cond (same_entry name other) (option_map (owned_by uid gid) (entry_in row other)) (entry_in row other)
+  entry_in-with_owner_in : (name other : EntryName)
+      → entry_in (with_owner_in name uid gid row) other
+      ≡ cond (same_entry name other) (option_map (owned_by uid gid) (entry_in row other)) (entry_in row other)
   entry_in-with_owner_in name (File file) =
       ap (option_map (λ x. x.entry)) (file_of-with_owner_in name file) ∙ owner_part (same_entry name (File file)) uid gid (file_of row file)
   entry_in-with_owner_in (File file) Dir = ap Some (rest-with_file file (with_file_owned_by uid gid) row).dir
@@ -69,9 +77,11 @@ of_changed : {A : Type 0} (P : A → Type 0) (b : Bool) (g : A → A) (o : Optio
 of_changed P true g o changed kept y is = let from = mapped_from g o y is in subst P from.2 (changed from.0 (kept from.0 from.1))
 of_changed P false g o changed kept y is = kept y is
 
-formed_row-with_owner_in : (above : ControllerSet) (name : EntryName) (uid gid : ℕ) (row : Cgroup) → IsFormedRow above row → IsFormedRow above (with_owner_in name uid gid row)
+formed_row-with_owner_in : (above : ControllerSet) (name : EntryName) (uid gid : ℕ) (row : Cgroup) → IsFormedRow above row
+    → IsFormedRow above (with_owner_in name uid gid row)
 formed_row-with_owner_in above name uid gid row formed = record {
-  files = λ file. ap is_some (file_of-with_owner_in uid gid row name file) ∙ is_some-changed (same_entry name (File file)) (with_file_owned_by uid gid) (file_of row file) ∙ formed.files file;
+  files = λ file. ap is_some (file_of-with_owner_in uid gid row name file)
+      ∙ is_some-changed (same_entry name (File file)) (with_file_owned_by uid gid) (file_of row file) ∙ formed.files file;
   values = λ file held is.
       of_changed (λ (x : LimitEntry). accepts file x.value ≡ true) (same_entry name (File file)) (with_file_owned_by uid gid) (file_of row file)
       (λ x accepted. accepted) (formed.values file) held (sym (file_of-with_owner_in uid gid row name file) ∙ is);
@@ -81,29 +91,10 @@ formed_row-with_owner_in above name uid gid row formed = record {
 
 -- ---- of a tree
 
-module _ {A : Type 0} (read : Cgroup → Option A) (g : Cgroup → Cgroup) where
-  read_same : ((row : Cgroup) → read (g row) ≡ read row) → (b : Bool) (r : Option Cgroup) → option_and_then read (cond b (option_map g r) r) ≡ option_and_then read r
-  read_same same true None = refl
-  read_same same true (Some row) = same row
-  read_same same false r = refl
-
-  read_changed : (c : Bool) (h : A → A) → ((row : Cgroup) → read (g row) ≡ cond c (option_map h (read row)) (read row))
-      → (b : Bool) (r : Option Cgroup) → option_and_then read (cond b (option_map g r) r) ≡ cond (b && c) (option_map h (option_and_then read r)) (option_and_then read r)
-  read_changed true h changed true None = refl
-  read_changed false h changed true None = refl
-  read_changed c h changed true (Some row) = changed row
-  read_changed c h changed false r = refl
-
-abbrev enabled_of : Option Cgroup → ControllerSet
-enabled_of r = elim r [ None ↦ no_controllers | Some row ↦ row.enabled ]
-
-enabled_same : (g : Cgroup → Cgroup) → ((row : Cgroup) → (g row).enabled ≡ row.enabled) → (b : Bool) (r : Option Cgroup) → enabled_of (cond b (option_map g r) r) ≡ enabled_of r
-enabled_same g same true None = refl
-enabled_same g same true (Some row) = same row
-enabled_same g same false r = refl
-
 module _ (st : State) (p : Names) (name : EntryName) (uid gid : ℕ) (q : Names) where
-  pub entry_at-with_owner : (other : EntryName) → entry_at (with_owner st p name uid gid) q other ≡ cond (same_path p q && same_entry name other) (option_map (owned_by uid gid) (entry_at st q other)) (entry_at st q other)
+  pub entry_at-with_owner : (other : EntryName)
+      → entry_at (with_owner st p name uid gid) q other
+      ≡ cond (same_path p q && same_entry name other) (option_map (owned_by uid gid) (entry_at st q other)) (entry_at st q other)
   entry_at-with_owner other =
       ap (option_and_then (λ row. entry_in row other)) (row_at-change_at p (with_owner_in name uid gid) st q)
       ∙ read_changed (λ row. entry_in row other) (with_owner_in name uid gid) (same_entry name other) (owned_by uid gid) (λ row. entry_in-with_owner_in uid gid row name other) (same_path p q) (row_at st q)
@@ -115,28 +106,14 @@ module _ (st : State) (p : Names) (name : EntryName) (uid gid : ℕ) (q : Names)
 
   pub enabled_at-with_owner : enabled_at (with_owner st p name uid gid) q ≡ enabled_at st q
   enabled_at-with_owner =
-      ap enabled_of (row_at-change_at p (with_owner_in name uid gid) st q) ∙ enabled_same (with_owner_in name uid gid) (λ row. enabled-with_owner_in uid gid row name) (same_path p q) (row_at st q)
+      ap enabled_of (row_at-change_at p (with_owner_in name uid gid) st q)
+      ∙ enabled_same (with_owner_in name uid gid) (λ row. enabled-with_owner_in uid gid row name) (same_path p q) (row_at st q)
 
 pub paths_of-with_owner : (st : State) (p : Names) (name : EntryName) (uid gid : ℕ) → paths_of (with_owner st p name uid gid) ≡ paths_of st
 paths_of-with_owner st p name uid gid = keys-change_value path_cmp_total st.rows p (with_owner_in name uid gid)
 
--- the rows with the one at a path changed
-at_path : Names → (Cgroup → Cgroup) → Names → Cgroup → Cgroup
-at_path path g q row = cond (same_path path q) (g row) row
-
-cond_map : (b : Bool) (g : Cgroup → Cgroup) (o : Option Cgroup) → cond b (option_map g o) o ≡ option_map (λ row. cond b (g row) row) o
-cond_map true g o = refl
-cond_map false g None = refl
-cond_map false g (Some row) = refl
-
-cond_kept : {A : Type 0} (P : A → Type 0) (b : Bool) (x y : A) → P x → P y → P (cond b x y)
-cond_kept P true x y p q = p
-cond_kept P false x y p q = q
-
-pub formed-with_owner : (st : State) (path : Names) (name : EntryName) (uid gid : ℕ) → IsWellFormed st → IsWellFormed (with_owner st path name uid gid)
-unfolding at_path
+pub formed-with_owner : (st : State) (path : Names) (name : EntryName) (uid gid : ℕ) → IsWellFormed st
+    → IsWellFormed (with_owner st path name uid gid)
 formed-with_owner st path name uid gid =
-    formed-reshaped st (with_owner st path name uid gid).rows (at_path path (with_owner_in name uid gid))
-    (λ q. row_at-change_at path (with_owner_in name uid gid) st q ∙ cond_map (same_path path q) (with_owner_in name uid gid) (row_at st q))
-    (λ q row. cond_kept (λ (r : Cgroup). r.enabled ≡ row.enabled) (same_path path q) _ row (enabled-with_owner_in uid gid row name) refl)
-    (λ above q row formed. cond_kept (IsFormedRow above) (same_path path q) _ row (formed_row-with_owner_in above name uid gid row formed) formed)
+    formed-change_at st path (with_owner_in name uid gid) (λ row. enabled-with_owner_in uid gid row name)
+    (λ above row formed. formed_row-with_owner_in above name uid gid row formed)

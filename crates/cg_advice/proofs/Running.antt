@@ -59,15 +59,21 @@ module _ (subtree path : Names) (name : EntryName) where
   run [] entry = entry
   run (mend ∷ mends) entry = run mends (run_one mend entry)
 
-  entry_at-made_one : (mend : Mend) (st : State) → entry_at (made_one subtree mend st) path name ≡ option_map (run_one mend) (entry_at st path name)
-  entry_at-made_one (Chown len other uid gid) st = entry_at-with_owner st (take len subtree) other uid gid path name ∙ cond_map (is_it len other) (owned_by uid gid) (entry_at st path name)
-  entry_at-made_one (Chmod len other mode) st = entry_at-with_mode st (take len subtree) other mode path name ∙ cond_map (is_it len other) (with_mode_of mode) (entry_at st path name)
-  entry_at-made_one (Set len file value) st = entry_at-with_value st (take len subtree) file value path name ∙ sym (map_same (entry_at st path name))
+  entry_at-made_one : (mend : Mend) (st : State)
+      → entry_at (made_one subtree mend st) path name ≡ option_map (run_one mend) (entry_at st path name)
+  entry_at-made_one (Chown len other uid gid) st = entry_at-with_owner st (take len subtree) other uid gid path name
+      ∙ cond_map (is_it len other) (owned_by uid gid) (entry_at st path name)
+  entry_at-made_one (Chmod len other mode) st = entry_at-with_mode st (take len subtree) other mode path name
+      ∙ cond_map (is_it len other) (with_mode_of mode) (entry_at st path name)
+  entry_at-made_one (Set len file value) st = entry_at-with_value st (take len subtree) file value path name
+      ∙ sym (map_same (entry_at st path name))
 
-  pub entry_at-made : (mends : List Mend) (st : State) → entry_at (made subtree mends st) path name ≡ option_map (run mends) (entry_at st path name)
+  pub entry_at-made : (mends : List Mend) (st : State)
+      → entry_at (made subtree mends st) path name ≡ option_map (run mends) (entry_at st path name)
   entry_at-made [] st = sym (map_same (entry_at st path name))
   entry_at-made (mend ∷ mends) st =
-      entry_at-made mends (made_one subtree mend st) ∙ ap (option_map (run mends)) (entry_at-made_one mend st) ∙ map_map (run_one mend) (run mends) (entry_at st path name)
+      entry_at-made mends (made_one subtree mend st) ∙ ap (option_map (run mends)) (entry_at-made_one mend st)
+      ∙ map_map (run_one mend) (run mends) (entry_at st path name)
 
   pub run-append : (xs ys : List Mend) (entry : Entry) → run (xs ++ ys) entry ≡ run ys (run xs entry)
   run-append [] ys entry = refl
@@ -93,12 +99,14 @@ module _ (subtree path : Names) (name : EntryName) where
   leaves user at other entry =
       run-append (chown_of user at) (chmod_of user at) entry
       ∙ ap (run (chmod_of user at)) (run-unless (not (owns user at.entry)) _ entry ∙ skipped (not (owns user at.entry)) (owned_by (given_uid user at.entry) at.entry.gid entry) entry)
-      ∙ run-unless (nat_eq (shut_mode user at.entry) at.entry.mode) _ entry ∙ skipped (nat_eq (shut_mode user at.entry) at.entry.mode) (with_mode_of (shut_mode user at.entry) entry) entry
+      ∙ run-unless (nat_eq (shut_mode user at.entry) at.entry.mode) _ entry
+      ∙ skipped (nat_eq (shut_mode user at.entry) at.entry.mode) (with_mode_of (shut_mode user at.entry) entry) entry
     where
       skipped : (test : Bool) (new entry : Entry) → cond test entry (cond (is_it at.len at.name) new entry) ≡ entry
       skipped test new entry = ap (λ b. cond test entry (cond b new entry)) other ∙ same_either test entry
 
-  pub leaves-all : (user : Identity) (ats : List GuardedEntry) → AllByRecursion (λ at. is_it at.len at.name ≡ false) ats → (entry : Entry) → run (flat_map (entry_mends user) ats) entry ≡ entry
+  pub leaves-all : (user : Identity) (ats : List GuardedEntry) → AllByRecursion (λ at. is_it at.len at.name ≡ false) ats → (entry : Entry)
+      → run (flat_map (entry_mends user) ats) entry ≡ entry
   leaves-all user [] others entry = refl
   leaves-all user (at ∷ ats) others entry =
       run-append (entry_mends user at) (flat_map (entry_mends user) ats) entry
@@ -134,7 +142,8 @@ module _ (st : State) (user : Identity) (subtree path : Names) (name : EntryName
       cond (nat_eq (shut_mode user e) e.mode) chowned (cond b (with_mode_of (shut_mode user e) chowned) chowned)
 
   -- the changes of the entry itself give it
-  gives : (at : GuardedEntry) → is_it subtree path name at.len at.name ≡ true → at.entry ≡ entry → (given : Bool) → run subtree path name (entry_mends user at) (before given) ≡ mended user entry
+  gives : (at : GuardedEntry) → is_it subtree path name at.len at.name ≡ true → at.entry ≡ entry → (given : Bool)
+      → run subtree path name (entry_mends user at) (before given) ≡ mended user entry
   gives at here same given =
       run-append subtree path name (chown_of user at) (chmod_of user at) (before given)
       ∙ ap (run subtree path name (chmod_of user at)) (run-unless subtree path name (not (owns user at.entry)) (Chown at.len at.name (given_uid user at.entry) at.entry.gid) (before given))
@@ -143,7 +152,9 @@ module _ (st : State) (user : Identity) (subtree path : Names) (name : EntryName
       ∙ ap (step given true) same
       ∙ settled (owns user entry) given (nat_eq (shut_mode user entry) entry.mode) entry.uid entry.gid entry.mode (shut_mode user entry) (eqb-true (shut_mode user entry) entry.mode)
 
-  turn : (guarded : Guarded) (given : Bool) → run subtree path name (flat_map (entry_mends user) (reached_of st user subtree guarded)) (either given) ≡ cond (is_on subtree path name guarded) (spared user entry) (either given)
+  turn : (guarded : Guarded) (given : Bool)
+      → run subtree path name (flat_map (entry_mends user) (reached_of st user subtree guarded)) (either given)
+      ≡ cond (is_on subtree path name guarded) (spared user entry) (either given)
   turn guarded given =
       elim (is_on subtree path name guarded) as (λ b. is_on subtree path name guarded ≡ b → run subtree path name (flat_map (entry_mends user) (reached_of st user subtree guarded)) (either given) ≡ cond b (spared user entry) (either given)) [
         | true ↦ λ here.
@@ -165,7 +176,9 @@ module _ (st : State) (user : Identity) (subtree path : Names) (name : EntryName
             ]
       ] refl
 
-  walk : (gs : List Guarded) (given : Bool) → run subtree path name (flat_map (entry_mends user) (flat_map (reached_of st user subtree) gs)) (either given) ≡ cond (list_any (is_on subtree path name) gs) (spared user entry) (either given)
+  walk : (gs : List Guarded) (given : Bool)
+      → run subtree path name (flat_map (entry_mends user) (flat_map (reached_of st user subtree) gs)) (either given)
+      ≡ cond (list_any (is_on subtree path name) gs) (spared user entry) (either given)
   walk [] given = refl
   walk (guarded ∷ gs) given =
       ap (λ mends. run subtree path name mends (either given)) (flat_map-append (entry_mends user) (reached_of st user subtree guarded) (flat_map (reached_of st user subtree) gs))
@@ -213,16 +226,22 @@ module _ (subtree path : Names) (file : LimitFile) where
   hold [] limit = limit
   hold (mend ∷ mends) limit = hold mends (hold_one mend limit)
 
-  value_at-made_one : (mend : Mend) (st : State) → value_at (made_one subtree mend st) path file ≡ option_map (hold_one mend) (value_at st path file)
-  value_at-made_one (Chown len name uid gid) st = value_at-with_owner st (take len subtree) name uid gid path file ∙ sym (map_same (value_at st path file))
-  value_at-made_one (Chmod len name mode) st = value_at-with_mode st (take len subtree) name mode path file ∙ sym (map_same (value_at st path file))
+  value_at-made_one : (mend : Mend) (st : State)
+      → value_at (made_one subtree mend st) path file ≡ option_map (hold_one mend) (value_at st path file)
+  value_at-made_one (Chown len name uid gid) st = value_at-with_owner st (take len subtree) name uid gid path file
+      ∙ sym (map_same (value_at st path file))
+  value_at-made_one (Chmod len name mode) st = value_at-with_mode st (take len subtree) name mode path file
+      ∙ sym (map_same (value_at st path file))
   value_at-made_one (Set len other value) st =
-      value_at-with_value st (take len subtree) other value path file ∙ cond_map (same_path (take len subtree) path && same_file other file) (λ _. value) (value_at st path file)
+      value_at-with_value st (take len subtree) other value path file
+      ∙ cond_map (same_path (take len subtree) path && same_file other file) (λ _. value) (value_at st path file)
 
-  value_at-made : (mends : List Mend) (st : State) → value_at (made subtree mends st) path file ≡ option_map (hold mends) (value_at st path file)
+  value_at-made : (mends : List Mend) (st : State)
+      → value_at (made subtree mends st) path file ≡ option_map (hold mends) (value_at st path file)
   value_at-made [] st = sym (map_same (value_at st path file))
   value_at-made (mend ∷ mends) st =
-      value_at-made mends (made_one subtree mend st) ∙ ap (option_map (hold mends)) (value_at-made_one mend st) ∙ map_map (hold_one mend) (hold mends) (value_at st path file)
+      value_at-made mends (made_one subtree mend st) ∙ ap (option_map (hold mends)) (value_at-made_one mend st)
+      ∙ map_map (hold_one mend) (hold mends) (value_at st path file)
 
   hold-append : (xs ys : List Mend) (limit : Limit) → hold (xs ++ ys) limit ≡ hold ys (hold xs limit)
   hold-append [] ys limit = refl
@@ -241,12 +260,14 @@ module _ (subtree path : Names) (file : LimitFile) where
   hold-entry user at limit =
       hold-append (chown_of user at) (chmod_of user at) limit
       ∙ ap (hold (chmod_of user at)) (hold-unless (not (owns user at.entry)) _ limit ∙ same_limit (not (owns user at.entry)) limit)
-      ∙ hold-unless (nat_eq (shut_mode user at.entry) at.entry.mode) _ limit ∙ same_limit (nat_eq (shut_mode user at.entry) at.entry.mode) limit
+      ∙ hold-unless (nat_eq (shut_mode user at.entry) at.entry.mode) _ limit
+      ∙ same_limit (nat_eq (shut_mode user at.entry) at.entry.mode) limit
 
   hold-entries : (user : Identity) (ats : List GuardedEntry) (limit : Limit) → hold (flat_map (entry_mends user) ats) limit ≡ limit
   hold-entries user [] limit = refl
   hold-entries user (at ∷ ats) limit =
-      hold-append (entry_mends user at) (flat_map (entry_mends user) ats) limit ∙ ap (hold (flat_map (entry_mends user) ats)) (hold-entry user at limit) ∙ hold-entries user ats limit
+      hold-append (entry_mends user at) (flat_map (entry_mends user) ats) limit
+      ∙ ap (hold (flat_map (entry_mends user) ats)) (hold-entry user at limit) ∙ hold-entries user ats limit
 
 -- a limit by whether the two fit
 abbrev raise : Bool → Bool → ℕ → ℕ → LimitFile → Limit → Limit
@@ -254,7 +275,9 @@ raise fits_d fits_h count depth MaxDescendants limit = cond fits_d limit (At cou
 raise fits_d fits_h count depth MaxDepth limit = cond fits_h limit (At depth)
 raise fits_d fits_h count depth file limit = limit
 
-raise-is : (st : State) (subtree : Names) (file : LimitFile) → raise (fits_descendants st subtree) (fits_depth st subtree) (count_below st subtree) (depth_below st subtree) file ≡ raised st subtree file
+raise-is : (st : State) (subtree : Names) (file : LimitFile)
+    → raise (fits_descendants st subtree) (fits_depth st subtree) (count_below st subtree) (depth_below st subtree) file
+    ≡ raised st subtree file
 raise-is st subtree MaxDescendants = refl
 raise-is st subtree file = refl
 
@@ -275,7 +298,8 @@ both_set true false true count depth file limit = refl
 both_set true false false count depth MaxDescendants limit = refl
 both_set true false false count depth file limit = refl
 
-hold-limits : (st : State) (subtree path : Names) (file : LimitFile) (limit : Limit) → hold subtree path file (limit_mends st subtree) limit ≡ cond (same_path subtree path) (raised st subtree file limit) limit
+hold-limits : (st : State) (subtree path : Names) (file : LimitFile) (limit : Limit)
+    → hold subtree path file (limit_mends st subtree) limit ≡ cond (same_path subtree path) (raised st subtree file limit) limit
 hold-limits st subtree path file limit =
     let whole : take (length subtree) subtree ≡ subtree = take_all (length subtree) subtree (omega arith) in
     hold-append subtree path file (descendants_of st subtree) (depth_of st subtree) limit
@@ -294,14 +318,16 @@ value_at-advised st user subtree path file =
     ∙ ap (λ f. option_map f (value_at st path file)) (λ i limit. all_held limit i)
     ∙ sym (cond_map (same_path subtree path) (raised st subtree file) (value_at st path file))
   where
-    all_held : (limit : Limit) → hold subtree path file (mends st user subtree) limit ≡ cond (same_path subtree path) (raised st subtree file limit) limit
+    all_held : (limit : Limit)
+        → hold subtree path file (mends st user subtree) limit ≡ cond (same_path subtree path) (raised st subtree file limit) limit
     all_held limit =
         hold-append subtree path file (flat_map (entry_mends user) (reached st user subtree)) (limit_mends st subtree) limit
         ∙ ap (hold subtree path file (limit_mends st subtree)) (hold-entries subtree path file user (reached st user subtree) limit)
         ∙ hold-limits st subtree path file limit
 
 -- without the changes of the limits each stays
-pub value_at-entries : (st : State) (user : Identity) (subtree path : Names) (file : LimitFile) → value_at (all_but_limits st user subtree) path file ≡ value_at st path file
+pub value_at-entries : (st : State) (user : Identity) (subtree path : Names) (file : LimitFile)
+    → value_at (all_but_limits st user subtree) path file ≡ value_at st path file
 value_at-entries st user subtree path file =
     value_at-made subtree path file (flat_map (entry_mends user) (reached st user subtree)) st
     ∙ ap (λ f. option_map f (value_at st path file)) (λ i limit. hold-entries subtree path file user (reached st user subtree) limit i)

@@ -39,7 +39,8 @@ nobodys user is =
 
 module _ (user : Identity) (entry : Entry) where
   -- whoever didn't own it doesn't, and no user does who is the one that it is taken from
-  not_owned : (other : Identity) → IsUser other → (owns user entry ≡ false → owns other entry ≡ false) → owns other (mended user entry) ≡ false
+  not_owned : (other : Identity) → IsUser other → (owns user entry ≡ false → owns other entry ≡ false)
+      → owns other (mended user entry) ≡ false
   not_owned other is kept =
       elim (owns user entry) as (λ b. (b ≡ false → owns other entry ≡ false) → nat_eq (cond b 0 entry.uid) other.uid ≡ false) [
         | true ↦ λ _. nobodys other is
@@ -54,27 +55,33 @@ module _ (user : Identity) (entry : Entry) where
       ]
 
   -- a bit of the group or of others that isn't there isn't afterwards
-  shut_stays : (member : Bool) → cond member (has_bit entry.mode 16) (has_bit entry.mode 2) ≡ false → cond member (has_bit (shut_mode user entry) 16) (has_bit (shut_mode user entry) 2) ≡ false
+  shut_stays : (member : Bool) → cond member (has_bit entry.mode 16) (has_bit entry.mode 2) ≡ false
+      → cond member (has_bit (shut_mode user entry) 16) (has_bit (shut_mode user entry) 2) ≡ false
   shut_stays true off =
       elim (in_group user entry.gid) as (λ b. has_bit (bit_and entry.mode (cond b 495 509)) 16 ≡ false) [ true ↦ group_off entry.mode | false ↦ group_kept entry.mode ∙ off ]
   shut_stays false off =
       elim (in_group user entry.gid) as (λ b. has_bit (bit_and entry.mode (cond b 495 509)) 2 ≡ false) [ true ↦ others_kept entry.mode ∙ off | false ↦ others_off entry.mode ]
 
 -- who doesn't own it and whose class doesn't write doesn't reach it
-not_reaching : (user : Identity) (entry : Entry) → owns user entry ≡ false → cond (in_group user entry.gid) (has_bit entry.mode 16) (has_bit entry.mode 2) ≡ false → reaches user entry ≡ false
+not_reaching : (user : Identity) (entry : Entry) → owns user entry ≡ false
+    → cond (in_group user entry.gid) (has_bit entry.mode 16) (has_bit entry.mode 2) ≡ false → reaches user entry ≡ false
 unfolding writes
 not_reaching user entry stranger shut =
-    ap (λ b. cond b (has_bit entry.mode 128) (cond (in_group user entry.gid) (has_bit entry.mode 16) (has_bit entry.mode 2)) || b) stranger ∙ ap (λ b. b || false) shut
+    ap (λ b. cond b (has_bit entry.mode 128) (cond (in_group user entry.gid) (has_bit entry.mode 16) (has_bit entry.mode 2)) || b) stranger
+    ∙ ap (λ b. b || false) shut
 
-not_writing : (user : Identity) (entry : Entry) → writes user entry ≡ false → owns user entry ≡ false → cond (in_group user entry.gid) (has_bit entry.mode 16) (has_bit entry.mode 2) ≡ false
+not_writing : (user : Identity) (entry : Entry) → writes user entry ≡ false → owns user entry ≡ false
+    → cond (in_group user entry.gid) (has_bit entry.mode 16) (has_bit entry.mode 2) ≡ false
 unfolding writes
 not_writing user entry off stranger =
-    sym (ap (λ b. cond b (has_bit entry.mode 128) (cond (in_group user entry.gid) (has_bit entry.mode 16) (has_bit entry.mode 2))) stranger) ∙ off
+    sym (ap (λ b. cond b (has_bit entry.mode 128) (cond (in_group user entry.gid) (has_bit entry.mode 16) (has_bit entry.mode 2))) stranger)
+    ∙ off
 
 off-mended : (user : Identity) (entry : Entry) → IsUser user → reaches user (mended user entry) ≡ false
 off-mended user entry is = not_reaching user (mended user entry) (not_owned user entry user is (λ stranger. stranger)) (shut_to_user user entry)
 
-less-mended : (user other : Identity) (entry : Entry) → IsUser other → reaches other entry ≡ false → reaches other (mended user entry) ≡ false
+less-mended : (user other : Identity) (entry : Entry) → IsUser other → reaches other entry ≡ false
+    → reaches other (mended user entry) ≡ false
 less-mended user other entry is off =
     let parts = or_parts (writes other entry) (owns other entry) off in
     not_reaching other (mended user entry) (not_owned user entry other is (λ _. parts.1)) (shut_stays user entry (in_group other entry.gid) (not_writing other entry parts.0 parts.1))
@@ -88,7 +95,8 @@ off-spared user entry is =
     ] refl
 
 -- and nobody reaches it who didn't
-pub less-spared : (user other : Identity) (entry : Entry) → IsUser other → reaches other entry ≡ false → reaches other (spared user entry) ≡ false
+pub less-spared : (user other : Identity) (entry : Entry) → IsUser other → reaches other entry ≡ false
+    → reaches other (spared user entry) ≡ false
 less-spared user other entry is off =
     elim (reaches user entry) as (λ b. reaches other (cond b (mended user entry) entry) ≡ false) [
       | true ↦ less-mended user other entry is off

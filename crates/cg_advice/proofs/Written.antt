@@ -40,7 +40,8 @@ module _ (st : State) (user : Identity) (subtree : Names) (place : ℕ) where
       → text ++ flat_map (reached_lines user subtree) (left (place + 1)) ≡ text ++ flat_map (reached_lines user subtree) (left place)
   none_turn text is = ap (λ rest. text ++ flat_map (reached_lines user subtree) rest) (sym (walk_turn st subtree (if_reached user) (guarded_entries subtree) place None is))
 
-  pub entry_turn : (at : GuardedEntry) (text new : List ℕ) → Some at ≡ option_and_then (standing st subtree) (slice_get (guarded_entries subtree) place)
+  pub entry_turn : (at : GuardedEntry) (text new : List ℕ)
+      → Some at ≡ option_and_then (standing st subtree) (slice_get (guarded_entries subtree) place)
       → new ≡ text ++ flat_map (reached_lines user subtree) (if_reached user at)
       → new ++ flat_map (reached_lines user subtree) (left (place + 1)) ≡ text ++ flat_map (reached_lines user subtree) (left place)
   entry_turn at text new is written =
@@ -51,13 +52,16 @@ module _ (st : State) (user : Identity) (subtree : Names) (place : ℕ) where
 
 -- ---- limits
 
-pub descendants_set : (st : State) (subtree : Names) (len count : ℕ) → len ≡ length subtree → count ≡ count_below st (take len subtree) → fits_descendants st subtree ≡ false
+pub descendants_set : (st : State) (subtree : Names) (len count : ℕ) → len ≡ length subtree → count ≡ count_below st (take len subtree)
+    → fits_descendants st subtree ≡ false
     → Set len MaxDescendants (At count) ∷ [] ≡ descendants_of st subtree
 descendants_set st subtree len count level counted over =
     let whole = counted ∙ ap (count_below st) (take_all len subtree (omega (arith, level))) in
-    (λ i. Set (level i) MaxDescendants (At (whole i)) ∷ []) ∙ ap (λ fits. unless fits (Set (length subtree) MaxDescendants (At (count_below st subtree)))) (sym over)
+    (λ i. Set (level i) MaxDescendants (At (whole i)) ∷ [])
+    ∙ ap (λ fits. unless fits (Set (length subtree) MaxDescendants (At (count_below st subtree)))) (sym over)
 
-pub over_written : (st : State) (subtree : Names) (text told one all : List ℕ) (descendants depth : List Mend) → not (fits_descendants st subtree && fits_depth st subtree) ≡ true
+pub over_written : (st : State) (subtree : Names) (text told one all : List ℕ) (descendants depth : List Mend)
+    → not (fits_descendants st subtree && fits_depth st subtree) ≡ true
     → told ≡ text ++ over_line subtree → one ≡ told ++ mend_lines subtree descendants → all ≡ one ++ mend_lines subtree depth
     → descendants ≡ descendants_of st subtree → depth ≡ depth_of st subtree → all ≡ text ++ over_lines st subtree
 over_written st subtree text told one all descendants depth over is_told is_one is_all d h =

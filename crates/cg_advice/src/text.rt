@@ -14,7 +14,7 @@ use cg_cgroup::files::{Limit, LimitFile};
 use cg_cgroup::memory::NoMemory;
 use cg_cgroup::path::Path;
 use cg_cgroup::user::User;
-use cg_guards::failed::{failed_guard, fits_depth, fits_descendants, is_over, reaches};
+use cg_guards::failed::{failed_guard, fits_depth, fits_descendants, is_over};
 use cg_guards::table::{guarded_count, guarded_entry};
 use cg_lines::lines::op_text;
 use cg_model::guard::{Guard, GuardedEntry};
@@ -78,7 +78,7 @@ fn push_entry(
     requires { IsShown subtree.now at.now }
     ensures { OnOk result (text.new.items ≡ text.old.items ++ flat_map (reached_lines user.now subtree.now) (if_reached user.now at.now)) }
 {
-    if !reaches(user, &at.entry) {
+    if !user.reaches(&at.entry) {
         return Ok(());
     }
     let line = fails_line(alloc, user, subtree, at)?.into_bytes();

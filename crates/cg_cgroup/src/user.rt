@@ -1,7 +1,7 @@
 //! Users, and who owns and writes an entry.
 ghost use Rattle.std.specs.Prelude.{◌≡◌, ◌≤◌, []};
 ghost use Rattle.cg_cgroup.specs.Numbers.{mode_of};
-ghost use Rattle.cg_cgroup.specs.Users.{IsUser, in_group, primary, owns, writes, user_of, entry_made_by};
+ghost use Rattle.cg_cgroup.specs.Users.{IsUser, in_group, primary, owns, writes, reaches, user_of, entry_made_by};
 
 use arrayvec::ArrayVec;
 use std::marker::Model;
@@ -159,5 +159,12 @@ impl User {
             0o002
         };
         entry.mode & bit == bit
+    }
+
+    /// Whether the user writes or owns an entry.
+    pub fn reaches(&self, entry: &Entry) -> bool
+        ensures { result ≡ reaches self.now entry.now }
+    {
+        self.may_write(entry) || self.owns(entry)
     }
 }

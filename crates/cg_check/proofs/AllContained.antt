@@ -37,7 +37,8 @@ IsOfPath RootSubtree = Unit {0}
 IsOfPath NoSuchSubtree = Unit {0}
 IsOfPath NoMemory = ⊥
 
-of_path : (st : State) (subtrees : List Names) (fault : CheckFault) → Some fault ≡ first (flat_map (subtree_faults st) subtrees) → IsOfPath fault
+of_path : (st : State) (subtrees : List Names) (fault : CheckFault) → Some fault ≡ first (flat_map (subtree_faults st) subtrees)
+    → IsOfPath fault
 of_path st [] fault h = cc
 of_path st (subtree ∷ subtrees) fault h =
     elim (is_root subtree) as (λ root. Some fault ≡ first ((unless (not root) RootSubtree ++ unless (has_row st subtree) NoSuchSubtree) ++ flat_map (subtree_faults st) subtrees) → IsOfPath fault) [
@@ -48,19 +49,22 @@ of_path st (subtree ∷ subtrees) fault h =
       ]
     ] h
 
-gives_fault : (stated : Result AllAnswer CheckFault) (fault : CheckFault) → IsOfPath fault → stated ≡ Err fault → Gives all_take_memory stated (Err fault)
+gives_fault : (stated : Result AllAnswer CheckFault) (fault : CheckFault) → IsOfPath fault → stated ≡ Err fault
+    → Gives all_take_memory stated (Err fault)
 gives_fault stated RootSubtree of is = is
 gives_fault stated NoSuchSubtree of is = is
 gives_fault stated NoMemory of is = absurd of
 
-pub fault-gives : (st : State) (users : List Identity) (subtrees : List Names) (fault : CheckFault) → Some fault ≡ first (flat_map (subtree_faults st) subtrees) → Gives all_take_memory (all_checked st users subtrees) (Err fault)
+pub fault-gives : (st : State) (users : List Identity) (subtrees : List Names) (fault : CheckFault)
+    → Some fault ≡ first (flat_map (subtree_faults st) subtrees) → Gives all_take_memory (all_checked st users subtrees) (Err fault)
 fault-gives st users subtrees fault is = gives_fault _ fault (of_path st subtrees fault is) (ap (λ found. unless_fault found (all_answers st users subtrees)) (sym is))
 
 faults_none : (st : State) (subtrees : List Names) → All (IsSubtree st) subtrees → flat_map (subtree_faults st) subtrees ≡ []
 faults_none st [] are = refl
 faults_none st (subtree ∷ subtrees) are =
     let here = are 0 subtree (omega arith) in
-    (λ i. (unless (not (here.1 i)) RootSubtree ++ unless (here.0 i) NoSuchSubtree) ++ flat_map (subtree_faults st) subtrees) ∙ faults_none st subtrees (λ k d within. are (suc k) d (omega (arith, within)))
+    (λ i. (unless (not (here.1 i)) RootSubtree ++ unless (here.0 i) NoSuchSubtree) ++ flat_map (subtree_faults st) subtrees)
+    ∙ faults_none st subtrees (λ k d within. are (suc k) d (omega (arith, within)))
 
 -- ---- pairs
 
@@ -70,10 +74,12 @@ IsPair all.Contained = ⊥
 IsPair (all.Pair user subtree answer) = Unit {0}
 
 -- where there is some pair, the answer takes memory
-pub pairs-memory : (st : State) (users : List Identity) (subtrees : List Names) (pair : AllAnswer) → first (flat_map (subtree_faults st) subtrees) ≡ None → Some pair ≡ first (pairs_from st 0 users subtrees) → IsPair pair
+pub pairs-memory : (st : State) (users : List Identity) (subtrees : List Names) (pair : AllAnswer)
+    → first (flat_map (subtree_faults st) subtrees) ≡ None → Some pair ≡ first (pairs_from st 0 users subtrees) → IsPair pair
     → all_take_memory (all_checked st users subtrees) ≡ true
 pairs-memory st users subtrees pair none some is =
-    ap (λ found. all_take_memory (unless_fault found (all_answers st users subtrees))) none ∙ ap (λ found. all_take_memory (Ok (unwrap_or found all.Contained))) (sym some) ∙ taken pair is
+    ap (λ found. all_take_memory (unless_fault found (all_answers st users subtrees))) none
+    ∙ ap (λ found. all_take_memory (Ok (unwrap_or found all.Contained))) (sym some) ∙ taken pair is
   where
     taken : (found : AllAnswer) → IsPair found → all_take_memory (Ok found) ≡ true
     taken all.Contained is = absurd is
@@ -84,25 +90,29 @@ no_pair place from Contained h = refl
 no_pair place from (Escapes ops) h = cc
 no_pair place from (Unsettled failed) h = cc
 
-none_of_user : (st : State) (place : ℕ) (user : Identity) (from : ℕ) (subtrees : List Names) → pairs_of st place user from subtrees ≡ [] → AllByRecursion (GuardsHold st user) subtrees
+none_of_user : (st : State) (place : ℕ) (user : Identity) (from : ℕ) (subtrees : List Names) → pairs_of st place user from subtrees ≡ []
+    → AllByRecursion (GuardsHold st user) subtrees
 none_of_user st place user from [] none = tt
 none_of_user st place user from (subtree ∷ subtrees) none =
     let parts = no_parts (pair_unless_contained place from (answer st user subtree)) _ none in
     (answer-guarded st user subtree (no_pair place from (answer st user subtree) parts.0), none_of_user st place user (suc from) subtrees parts.1)
 
-none_of_users : (st : State) (from : ℕ) (users : List Identity) (subtrees : List Names) → pairs_from st from users subtrees ≡ [] → AllByRecursion (λ user. AllByRecursion (GuardsHold st user) subtrees) users
+none_of_users : (st : State) (from : ℕ) (users : List Identity) (subtrees : List Names) → pairs_from st from users subtrees ≡ []
+    → AllByRecursion (λ user. AllByRecursion (GuardsHold st user) subtrees) users
 none_of_users st from [] subtrees none = tt
 none_of_users st from (user ∷ users) subtrees none =
     let parts = no_parts (pairs_of st from user 0 subtrees) _ none in
     (none_of_user st from user 0 subtrees parts.0, none_of_users st (suc from) users subtrees parts.1)
 
-user_none : (st : State) (place : ℕ) (user : Identity) (from : ℕ) (subtrees : List Names) → All (GuardsHold st user) subtrees → pairs_of st place user from subtrees ≡ []
+user_none : (st : State) (place : ℕ) (user : Identity) (from : ℕ) (subtrees : List Names) → All (GuardsHold st user) subtrees
+    → pairs_of st place user from subtrees ≡ []
 user_none st place user from [] hold = refl
 user_none st place user from (subtree ∷ subtrees) hold =
     ap (λ found. pair_unless_contained place from found ++ pairs_of st place user (suc from) subtrees) (guarded-answer st user subtree (hold 0 subtree (omega arith)))
     ∙ user_none st place user (suc from) subtrees (λ k d within. hold (suc k) d (omega (arith, within)))
 
-users_none : (st : State) (from : ℕ) (users : List Identity) (subtrees : List Names) → ((user : Identity) → Contains users user → All (GuardsHold st user) subtrees) → pairs_from st from users subtrees ≡ []
+users_none : (st : State) (from : ℕ) (users : List Identity) (subtrees : List Names)
+    → ((user : Identity) → Contains users user → All (GuardsHold st user) subtrees) → pairs_from st from users subtrees ≡ []
 users_none st from [] subtrees hold = refl
 users_none st from (user ∷ users) subtrees hold =
     (λ i. user_none st from user 0 subtrees (hold user (0, omega arith, refl)) i ++ pairs_from st (suc from) users subtrees)
@@ -143,11 +153,13 @@ module _ (st : State) (users : List Identity) (subtrees : List Names) (at : ℕ 
   faultless : checked st user subtree ≡ Ok (answer st user subtree)
   faultless = checked-answer st user subtree (sym (ap (λ path. first (subtree_faults st path)) other ∙ none-element (subtree_faults st) subtrees at.1 subtree found.1 none))
 
-  of_fault : (fault : CheckFault) → Gives takes_memory (checked st user subtree) (Err fault) → Gives all_take_memory (all_checked st users subtrees) (Err fault)
+  of_fault : (fault : CheckFault) → Gives takes_memory (checked st user subtree) (Err fault)
+      → Gives all_take_memory (all_checked st users subtrees) (Err fault)
   of_fault RootSubtree gives = let never : Ok (answer st user subtree) ≡ Err RootSubtree = sym faultless ∙ gives in cc
   of_fault NoSuchSubtree gives = let never : Ok (answer st user subtree) ≡ Err NoSuchSubtree = sym faultless ∙ gives in cc
   of_fault NoMemory gives = memory
 
-  pub err-gives : (fault : CheckFault) (result : Result AllAnswer CheckFault) → Gives takes_memory (checked st user subtree) (Err fault) → IsErr result × IsErrAnd result (λ found. found ≡ fault) → Gives all_take_memory (all_checked st users subtrees) result
+  pub err-gives : (fault : CheckFault) (result : Result AllAnswer CheckFault) → Gives takes_memory (checked st user subtree) (Err fault)
+      → IsErr result × IsErrAnd result (λ found. found ≡ fault) → Gives all_take_memory (all_checked st users subtrees) result
   err-gives fault (Ok found) gives is = absurd is.1
   err-gives fault (Err found) gives is = subst (λ f. Gives all_take_memory (all_checked st users subtrees) (Err f)) (sym is.1) (of_fault fault gives)

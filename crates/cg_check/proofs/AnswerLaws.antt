@@ -17,7 +17,8 @@ use Rattle.cg_model.specs.declared.answer.Answer.TheVariants.{Escapes}
 use Rattle.cg_steps.proofs.Lists.{find-passes}
 use Rattle.cg_check.proofs.Escaping.{escape-over}
 
-pub found-escape : (failed : List Failed) (found : Option (List Op)) (ops : List Op) → answer_from failed found ≡ Escapes ops → found ≡ Some ops
+pub found-escape : (failed : List Failed) (found : Option (List Op)) (ops : List Op) → answer_from failed found ≡ Escapes ops
+    → found ≡ Some ops
 found-escape [] found ops is = cc
 found-escape (one ∷ others) None ops is = cc
 found-escape (one ∷ others) (Some tried) ops is = let same : tried ≡ ops = cc in ap Some same
@@ -41,12 +42,15 @@ module _ (st : State) (user : Identity) (subtree : Names) (ops : List Op) (is : 
   escape-broken held = true≢false (sym (find-passes (breaks st user subtree) (tries st user subtree) ops found) ∙ ap (λ verdict. not (is_kept verdict)) held)
 
 -- where a guard fails and a try is found, it is the answer
-pub escape-answer : (failed : List Failed) (found : Option (List Op)) (ops : List Op) → (failed ≡ [] → ⊥) → found ≡ Some ops → answer_from failed found ≡ Escapes ops
+pub escape-answer : (failed : List Failed) (found : Option (List Op)) (ops : List Op) → (failed ≡ [] → ⊥) → found ≡ Some ops
+    → answer_from failed found ≡ Escapes ops
 escape-answer [] found ops some is = absurd (some refl)
 escape-answer (one ∷ others) found ops some is = ap (answer_from (one ∷ others)) is
 
-over-fails : (st : State) (user : Identity) (subtree : Names) → (fits_descendants st subtree && fits_depth st subtree) ≡ false → failures st user subtree ≡ [] → ⊥
+over-fails : (st : State) (user : Identity) (subtree : Names) → (fits_descendants st subtree && fits_depth st subtree) ≡ false
+    → failures st user subtree ≡ [] → ⊥
 over-fails st user subtree over none = true≢false (sym (no_unless _ _ (no_parts _ _ none).1) ∙ over)
 
-pub over-escapes : (st : State) (user : Identity) (subtree : Names) → (fits_descendants st subtree && fits_depth st subtree) ≡ false → answer st user subtree ≡ Escapes []
+pub over-escapes : (st : State) (user : Identity) (subtree : Names) → (fits_descendants st subtree && fits_depth st subtree) ≡ false
+    → answer st user subtree ≡ Escapes []
 over-escapes st user subtree over = escape-answer (failures st user subtree) (first_escape st user subtree) [] (over-fails st user subtree over) (escape-over st user subtree (ap not over))

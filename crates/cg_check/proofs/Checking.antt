@@ -55,14 +55,16 @@ module _ (st : State) (user : Identity) (subtree : Names) where
         | x ∷ others ↦ λ _. elim (first_escape st user subtree) as (λ found. takes_memory (Ok (answer_from (x ∷ others) found)) ≡ true) [ None ↦ refl | Some ops ↦ refl ]
       ] some
 
-  pub unguarded-gives : (failed : Failed) (result : Result Answer CheckFault) → None ≡ first (subtree_faults st subtree) → Some failed ≡ first (failures st user subtree)
+  pub unguarded-gives : (failed : Failed) (result : Result Answer CheckFault) → None ≡ first (subtree_faults st subtree)
+      → Some failed ≡ first (failures st user subtree)
       → IfOk result (λ found. found ≡ answer st user subtree) → IfErr result (λ fault. fault ≡ NoMemory) → Gives takes_memory (checked st user subtree) result
   unguarded-gives failed (Ok found) none some ok err = checked-answer none ∙ ap Ok (sym ok)
   unguarded-gives failed (Err RootSubtree) none some ok err = cc
   unguarded-gives failed (Err NoSuchSubtree) none some ok err = cc
   unguarded-gives failed (Err NoMemory) none some ok err = ap takes_memory (checked-answer none) ∙ fails-memory failed some
 
-  pub unguarded-uncontained : {P : Type 0} (failed : Failed) (result : Result Answer CheckFault) → Some failed ≡ first (failures st user subtree) → IfOk result (λ found. found ≡ answer st user subtree) → result ≡ Ok Contained → P
+  pub unguarded-uncontained : {P : Type 0} (failed : Failed) (result : Result Answer CheckFault)
+      → Some failed ≡ first (failures st user subtree) → IfOk result (λ found. found ≡ answer st user subtree) → result ≡ Ok Contained → P
   unguarded-uncontained failed (Ok found) some ok is =
       let same : found ≡ Contained = cc in
       let hold = answer-guarded (sym ok ∙ same) in

@@ -66,20 +66,26 @@ module _ (st : State) (user : Identity) (subtree : Names) where
   pub opening_begins : (chmods : List Op) → chmods ≡ [] → chmods ++ opening_from 0 ≡ opening st user subtree
   opening_begins chmods none = ap (λ ops. ops ++ opening st user subtree) none
 
-  pub opening_passes : (place : ℕ) (chmods : List Op) → None ≡ option_and_then (standing st subtree) (slice_get (guarded_entries subtree) place) → chmods ++ opening_from (place + 1) ≡ chmods ++ opening_from place
+  pub opening_passes : (place : ℕ) (chmods : List Op)
+      → None ≡ option_and_then (standing st subtree) (slice_get (guarded_entries subtree) place)
+      → chmods ++ opening_from (place + 1) ≡ chmods ++ opening_from place
   opening_passes place chmods is = ap (λ rest. chmods ++ rest) (sym (opening_turn place None is))
 
-  pub opening_grows : (place : ℕ) (at : GuardedEntry) (chmods more : List Op) → Some at ≡ option_and_then (standing st subtree) (slice_get (guarded_entries subtree) place)
+  pub opening_grows : (place : ℕ) (at : GuardedEntry) (chmods more : List Op)
+      → Some at ≡ option_and_then (standing st subtree) (slice_get (guarded_entries subtree) place)
       → more ≡ chmods ++ opening_chmod user subtree at → more ++ opening_from (place + 1) ≡ chmods ++ opening_from place
   opening_grows place at chmods more is added =
       ap (λ ops. ops ++ opening_from (place + 1)) added ∙ append_assoc chmods (opening_chmod user subtree at) (opening_from (place + 1))
       ∙ ap (λ rest. chmods ++ rest) (sym (opening_turn place (Some at) is))
 
-  pub opening_ends : (place : ℕ) (chmods : List Op) → length (guarded_entries subtree) ≤ place → chmods ++ opening_from place ≡ opening st user subtree → chmods ≡ opening st user subtree
+  pub opening_ends : (place : ℕ) (chmods : List Op) → length (guarded_entries subtree) ≤ place
+      → chmods ++ opening_from place ≡ opening st user subtree → chmods ≡ opening st user subtree
   opening_ends place chmods all whole =
-      sym (ap (λ rest. chmods ++ flat_map (opening_of st user subtree) rest) (drop_all (guarded_entries subtree) place all) ∙ append-nil chmods) ∙ whole
+      sym (ap (λ rest. chmods ++ flat_map (opening_of st user subtree) rest) (drop_all (guarded_entries subtree) place all) ∙ append-nil chmods)
+      ∙ whole
 
-pub opened-is : (st copy new : State) (user : Identity) (subtree : Names) (chmods carried : List Op) → new ≡ after_all copy (by_user user carried) → copy ≡ st → carried ≡ chmods → chmods ≡ opening st user subtree
+pub opened-is : (st copy new : State) (user : Identity) (subtree : Names) (chmods carried : List Op)
+    → new ≡ after_all copy (by_user user carried) → copy ≡ st → carried ≡ chmods → chmods ≡ opening st user subtree
     → new ≡ opened_state st user subtree
 opened-is st copy new user subtree chmods carried is copied all opens = is ∙ (λ i. after_all (copied i) (by_user user ((all ∙ opens) i)))
 
@@ -93,7 +99,8 @@ unopened : (xs : List (List Op)) → flat_map (with_opening []) xs ≡ xs
 unopened [] = refl
 unopened (ops ∷ others) = ap (λ rest. ops ∷ rest) (unopened others)
 
-pub escape-unopened : (st : State) (user : Identity) (subtree : Names) → opening st user subtree ≡ [] → first_escape st user subtree ≡ find (breaks st user subtree) (plain_tries st subtree)
+pub escape-unopened : (st : State) (user : Identity) (subtree : Names) → opening st user subtree ≡ []
+    → first_escape st user subtree ≡ find (breaks st user subtree) (plain_tries st subtree)
 escape-unopened st user subtree none =
     ap (λ chmods. find (breaks st user subtree) (flat_map (with_opening chmods) (plain_tries st subtree))) none
     ∙ ap (find (breaks st user subtree)) (unopened (plain_tries st subtree))
@@ -112,19 +119,23 @@ module _ (st : State) (user : Identity) (subtree : Names) (whole : IsUnbroken st
         first_escape-is st user subtree whole formed sub
         ∙ ap (option_map (λ ops. unless_free (is_free st user ops) (opening st user subtree) ops)) (sym (e ∙ ap (λ s. find (breaks s user subtree) (plain_tries s subtree)) is))
 
-    pub escape-free : (ops : List Op) → Some ops ≡ find (breaks new user subtree) (plain_tries new subtree) → is_free st user ops ≡ true → Some ops ≡ first_escape st user subtree
+    pub escape-free : (ops : List Op) → Some ops ≡ find (breaks new user subtree) (plain_tries new subtree) → is_free st user ops ≡ true
+        → Some ops ≡ first_escape st user subtree
     escape-free ops e free = sym (escape-found (Some ops) e ∙ ap (λ b. Some (unless_free b (opening st user subtree) ops)) free)
 
-    pub escape-none : (found : Option (List Op)) → found ≡ find (breaks new user subtree) (plain_tries new subtree) → ((ops : List Op) → found ≡ Some ops → ⊥) → None ≡ first_escape st user subtree
+    pub escape-none : (found : Option (List Op)) → found ≡ find (breaks new user subtree) (plain_tries new subtree)
+        → ((ops : List Op) → found ≡ Some ops → ⊥) → None ≡ first_escape st user subtree
     escape-none None e none = sym (escape-found None e)
     escape-none (Some ops) e none = absurd (none ops refl)
 
-    pub escape-joined : (ops : List Op) → Some ops ≡ find (breaks new user subtree) (plain_tries new subtree) → is_free st user ops ≡ false → Some (opening st user subtree ++ ops) ≡ first_escape st user subtree
+    pub escape-joined : (ops : List Op) → Some ops ≡ find (breaks new user subtree) (plain_tries new subtree) → is_free st user ops ≡ false
+        → Some (opening st user subtree ++ ops) ≡ first_escape st user subtree
     escape-joined ops e free = sym (escape-found (Some ops) e ∙ ap (λ b. Some (unless_free b (opening st user subtree) ops)) free)
 
 -- ---- over its limits
 
-pub unbroken-fits : (st : State) (subtree : Names) → IsSubtree st subtree → not (fits_descendants st subtree && fits_depth st subtree) ≡ false → IsUnbroken st subtree
+pub unbroken-fits : (st : State) (subtree : Names) → IsSubtree st subtree
+    → not (fits_descendants st subtree && fits_depth st subtree) ≡ false → IsUnbroken st subtree
 unbroken-fits st subtree sub fits =
     let parts = and_parts (fits_descendants st subtree) (fits_depth st subtree) (not_false _ fits) in
     whole-broken (limits st subtree) st st subtree (record { there = sub.0; edge = none-crosses-same st subtree; limits = refl; descendants = parts.0; depth = parts.1 })
@@ -133,11 +144,13 @@ unbroken-fits st subtree sub fits =
     not_false true h = refl
     not_false false h = sym h
 
-first_one : (p : List Op → Bool) (before : List Op) (xs : List (List Op)) → p [] ≡ true → find p (flat_map (with_opening before) ([] ∷ xs)) ≡ Some []
+first_one : (p : List Op → Bool) (before : List Op) (xs : List (List Op)) → p [] ≡ true
+    → find p (flat_map (with_opening before) ([] ∷ xs)) ≡ Some []
 first_one p [] xs h = ap (λ b. cond b (Some []) (find p (flat_map (with_opening []) xs))) h
 first_one p (op ∷ before) xs h = ap (λ b. cond b (Some []) (find p (((op ∷ before) ++ []) ∷ flat_map (with_opening (op ∷ before)) xs))) h
 
-pub escape-over : (st : State) (user : Identity) (subtree : Names) → not (fits_descendants st subtree && fits_depth st subtree) ≡ true → first_escape st user subtree ≡ Some []
+pub escape-over : (st : State) (user : Identity) (subtree : Names) → not (fits_descendants st subtree && fits_depth st subtree) ≡ true
+    → first_escape st user subtree ≡ Some []
 escape-over st user subtree over = first_one (breaks st user subtree) (opening st user subtree) _ (breaks-run st user subtree [] ∙ ap (λ b. not (b && true)) broken_before)
   where
     broken_before : is_empty (broken st st st subtree) ≡ false

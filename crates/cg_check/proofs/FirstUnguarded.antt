@@ -38,7 +38,8 @@ module _ (st : State) (place from : ℕ) (user : Identity) (subtree : Names) whe
   unguarded_some : is_guarded st subtree user ≡ false → first pair ≡ Some (Pair place from (answer st user subtree))
   unguarded_some fails = pair-some place from (answer st user subtree) (by_failures (failures st user subtree) refl fails)
     where
-      by_failures : (failed : List Failed) → failures st user subtree ≡ failed → is_none (first failed) ≡ false → takes_memory (Ok (answer st user subtree)) ≡ true
+      by_failures : (failed : List Failed) → failures st user subtree ≡ failed → is_none (first failed) ≡ false
+          → takes_memory (Ok (answer st user subtree)) ≡ true
       by_failures [] is h = cc
       by_failures (x ∷ xs) is h = fails-memory st user subtree x (sym (ap first is))
 
@@ -48,19 +49,23 @@ module _ (st : State) (place from : ℕ) (user : Identity) (subtree : Names) whe
 abbrev pub HoldsAt : State → Identity → List Names → ℕ → Type 0
 HoldsAt st user subtrees j = (e : Names) → is_guarded st (get_or subtrees j e) user ≡ true
 
-user_clear : (st : State) (place from : ℕ) (user : Identity) (subtrees : List Names) → ((j : ℕ) → j < length subtrees → HoldsAt st user subtrees j) → pairs_of st place user from subtrees ≡ []
+user_clear : (st : State) (place from : ℕ) (user : Identity) (subtrees : List Names)
+    → ((j : ℕ) → j < length subtrees → HoldsAt st user subtrees j) → pairs_of st place user from subtrees ≡ []
 user_clear st place from user [] hold = refl
 user_clear st place from user (subtree ∷ subtrees) hold =
     (λ i. guarded_none st place from user subtree (hold 0 (omega arith) subtree) i ++ pairs_of st place user (suc from) subtrees)
     ∙ user_clear st place (suc from) user subtrees (λ j within e. hold (suc j) (omega (arith, within)) e)
 
-users_clear : (st : State) (from : ℕ) (users : List Identity) (subtrees : List Names) → ((k : ℕ) (d : Identity) → k < length users → (j : ℕ) → j < length subtrees → HoldsAt st (get_or users k d) subtrees j) → pairs_from st from users subtrees ≡ []
+users_clear : (st : State) (from : ℕ) (users : List Identity) (subtrees : List Names)
+    → ((k : ℕ) (d : Identity) → k < length users → (j : ℕ) → j < length subtrees → HoldsAt st (get_or users k d) subtrees j)
+    → pairs_from st from users subtrees ≡ []
 users_clear st from [] subtrees hold = refl
 users_clear st from (user ∷ users) subtrees hold =
     (λ i. user_clear st from 0 user subtrees (hold 0 user (omega arith)) i ++ pairs_from st (suc from) users subtrees)
     ∙ users_clear st (suc from) users subtrees (λ k d within. hold (suc k) d (omega (arith, within)))
 
-user_first : (st : State) (place from : ℕ) (user : Identity) (subtrees : List Names) (j : ℕ) (e : Names) → j < length subtrees → ((i : ℕ) → i < j → HoldsAt st user subtrees i) → is_guarded st (get_or subtrees j e) user ≡ false
+user_first : (st : State) (place from : ℕ) (user : Identity) (subtrees : List Names) (j : ℕ) (e : Names) → j < length subtrees
+    → ((i : ℕ) → i < j → HoldsAt st user subtrees i) → is_guarded st (get_or subtrees j e) user ≡ false
     → first (pairs_of st place user from subtrees) ≡ Some (Pair place (from + j) (answer st user (get_or subtrees j e)))
 user_first st place from user [] j e within hold fails = absurd (omega (arith, within))
 user_first st place from user (subtree ∷ subtrees) zero e within hold fails =
@@ -73,14 +78,16 @@ user_first st place from user (subtree ∷ subtrees) (suc j) e within hold fails
     ∙ ap (λ n. Some (Pair place n (answer st user (get_or subtrees j e)))) same
 
 module _ (st : State) (subtrees : List Names) (j : ℕ) (e : Names) (within : j < length subtrees) where
-  users_first : (from : ℕ) (users : List Identity) (k : ℕ) (d : Identity) → k < length users → ((l : ℕ) → l < k → (i : ℕ) → i < length subtrees → HoldsAt st (get_or users l d) subtrees i)
+  users_first : (from : ℕ) (users : List Identity) (k : ℕ) (d : Identity) → k < length users
+      → ((l : ℕ) → l < k → (i : ℕ) → i < length subtrees → HoldsAt st (get_or users l d) subtrees i)
       → ((i : ℕ) → i < j → HoldsAt st (get_or users k d) subtrees i) → is_guarded st (get_or subtrees j e) (get_or users k d) ≡ false
       → first (pairs_from st from users subtrees) ≡ Some (Pair (from + k) j (answer st (get_or users k d) (get_or subtrees j e)))
   users_first from [] k d inside before hold fails = absurd (omega (arith, inside))
   users_first from (user ∷ users) zero d inside before hold fails =
       let same : from ≡ from + 0 = omega arith in
       let whole : 0 + j ≡ j = omega arith in
-      first_some _ _ _ (user_first st from 0 user subtrees j e within hold fails ∙ ap (λ n. Some (Pair from n (answer st user (get_or subtrees j e)))) whole) ∙ ap (λ n. Some (Pair n j (answer st user (get_or subtrees j e)))) same
+      first_some _ _ _ (user_first st from 0 user subtrees j e within hold fails ∙ ap (λ n. Some (Pair from n (answer st user (get_or subtrees j e)))) whole)
+      ∙ ap (λ n. Some (Pair n j (answer st user (get_or subtrees j e)))) same
   users_first from (user ∷ users) (suc k) d inside before hold fails =
       let same : suc from + k ≡ from + suc k = omega arith in
       first_none _ _ (ap first (user_clear st from 0 user subtrees (before 0 (omega arith))))
@@ -114,7 +121,8 @@ below_start st users subtrees = record {
   first = refl;
 }
 
-pub below_end : (st : State) (users : List Identity) (subtrees : List Names) (n : ℕ) (left : List Identity) (found : Option (ℕ × ℕ)) → n ≤ length subtrees → length subtrees ≤ n → IsBelow st users subtrees n left found → IsFirstUnguarded st users subtrees found
+pub below_end : (st : State) (users : List Identity) (subtrees : List Names) (n : ℕ) (left : List Identity) (found : Option (ℕ × ℕ))
+    → n ≤ length subtrees → length subtrees ≤ n → IsBelow st users subtrees n left found → IsFirstUnguarded st users subtrees found
 below_end st users subtrees n left None most all below =
     let whole = below.first in
     ap first (users_clear st 0 users subtrees (λ k d within j low. below.hold k d (omega (arith, within, whole)) j (omega (arith, low, all))))
@@ -146,7 +154,8 @@ other_default (x ∷ xs) zero d e within = refl
 other_default (x ∷ xs) (suc i) d e within = other_default xs i d e (omega (arith, within))
 
 -- as many of the first are all
-pub all_left : (p : Identity → Bool) (before : Option Entry) (left next : List Identity) → next ≡ take_while p left → length next ≡ length left → AreSpared before next → AreSpared before left
+pub all_left : (p : Identity → Bool) (before : Option Entry) (left next : List Identity) → next ≡ take_while p left
+    → length next ≡ length left → AreSpared before next → AreSpared before left
 all_left p before left next is same =
     subst (AreSpared before) (is ∙ take_all (prefix_len p left) left (omega (arith, ap length is ∙ length-prefix_len p left, same)))
 
@@ -160,7 +169,8 @@ module _ (st : State) (users : List Identity) (subtrees : List Names) (n : ℕ) 
   fewer : length next ≤ length left
   fewer = let least = prefix_len-le-length (is_guarded st subtree) left in omega (arith, many, least)
 
-  at_place : (k : ℕ) (d : Identity) (e : Names) → k < length left → is_guarded st (get_or subtrees n e) (get_or users k d) ≡ is_guarded st subtree (get_or left k d)
+  at_place : (k : ℕ) (d : Identity) (e : Names) → k < length left
+      → is_guarded st (get_or subtrees n e) (get_or users k d) ≡ is_guarded st subtree (get_or left k d)
   at_place k d e inside =
       ap (λ path. is_guarded st path (get_or users k d)) (other_default subtrees n e subtree within ∙ sym at)
       ∙ ap (is_guarded st subtree) (sym (ap (λ xs. get_or xs k d) below.front ∙ get_or-take (length left) users k d inside))
@@ -171,7 +181,8 @@ module _ (st : State) (users : List Identity) (subtrees : List Names) (n : ℕ) 
       (λ e. at_place k d e (omega (arith, inside, fewer)) ∙ prefix_len_passes (is_guarded st subtree) left k d (omega (arith, inside, many)))
 
   front_of_next : next ≡ take (length next) users
-  front_of_next = is ∙ ap (λ n. take n left) (sym many) ∙ ap (take (length next)) below.front ∙ take_take (length next) (length left) users fewer
+  front_of_next = is ∙ ap (λ n. take n left) (sym many) ∙ ap (take (length next)) below.front
+      ∙ take_take (length next) (length left) users fewer
 
   pub below_found : length next ≢ length left → IsBelow st users subtrees (n + 1) next (Some (length next, n))
   below_found other = record {
@@ -193,6 +204,7 @@ module _ (st : State) (users : List Identity) (subtrees : List Names) (n : ℕ) 
     first = later found below.first;
   }
     where
-      later : (at : Option (ℕ × ℕ)) → IsFoundBelow st users subtrees n (length left) at → IsFoundBelow st users subtrees (n + 1) (length left) at
+      later : (at : Option (ℕ × ℕ)) → IsFoundBelow st users subtrees n (length left) at
+          → IsFoundBelow st users subtrees (n + 1) (length left) at
       later None is = is
       later (Some at) is = (is.0, is.1, omega (arith, is.2), is.3, is.4)

@@ -61,7 +61,8 @@ all-right : {A : Type 0} (P : A → Type 0) (xs ys : List A) → AllByRecursion 
 all-right P [] ys all = all
 all-right P (x ∷ xs) ys all = all-right P xs ys all.1
 
-all-unflat : {A B : Type 0} (P : B → Type 0) (g : A → List B) (xs : List A) → AllByRecursion P (flat_map g xs) → AllByRecursion (λ x. AllByRecursion P (g x)) xs
+all-unflat : {A B : Type 0} (P : B → Type 0) (g : A → List B) (xs : List A) → AllByRecursion P (flat_map g xs)
+    → AllByRecursion (λ x. AllByRecursion P (g x)) xs
 all-unflat P g [] all = tt
 all-unflat P g (x ∷ xs) all = (all-left P (g x) (flat_map g xs) all, all-unflat P g xs (all-right P (g x) (flat_map g xs) all))
 
@@ -109,10 +110,12 @@ module _ (st : State) (user : Identity) (at : Names) (name : EntryName) (entry :
 
   chmod-opens : (mode : ℕ) → entry_at (after st user (Chmod at name mode)) at name ≡ Some (with_mode_of mode entry)
   chmod-opens mode =
-      ap (λ s. entry_at s at name) (after-allowed st user (Chmod at name mode) (chmod-free mode)) ∙ entry_at-with_mode st at name mode at name
+      ap (λ s. entry_at s at name) (after-allowed st user (Chmod at name mode) (chmod-free mode))
+      ∙ entry_at-with_mode st at name mode at name
       ∙ (λ i. cond (same_path_refl at i && same_entry-refl name i) (option_map (with_mode_of mode) (is i)) (entry_at st at name))
 
-after-append : (user : Identity) (st : State) (xs ys : List Op) → after_all st (by_user user (xs ++ ys)) ≡ after_all (after_all st (by_user user xs)) (by_user user ys)
+after-append : (user : Identity) (st : State) (xs ys : List Op)
+    → after_all st (by_user user (xs ++ ys)) ≡ after_all (after_all st (by_user user xs)) (by_user user ys)
 after-append user st [] ys = refl
 after-append user st (x ∷ xs) ys = after-append user (after st user x) xs ys
 
@@ -124,7 +127,8 @@ module _ (st : State) (user : Identity) (subtree : Names) where
   abbrev Opens : State → Guarded → Type 0
   Opens new guarded = (entry : Entry) → guarded_entry st subtree guarded ≡ Some entry → owns user entry ≡ true → writes user entry ≡ false → IsOpen new guarded
 
-  one-opens : (new : State) → IsWider user st new → (guarded : Guarded) (entry : Entry) → guarded_entry st subtree guarded ≡ Some entry → owns user entry ≡ true → writes user entry ≡ false
+  one-opens : (new : State) → IsWider user st new → (guarded : Guarded) (entry : Entry) → guarded_entry st subtree guarded ≡ Some entry
+      → owns user entry ≡ true → writes user entry ≡ false
       → IsOpen (after_all new (by_user user (opening_of st user subtree guarded))) guarded
   one-opens new wider guarded entry is owned shut =
       let this : opening_of st user subtree guarded ≡ Chmod (take guarded.len subtree) guarded.name (opened entry.mode) ∷ [] =
@@ -138,11 +142,13 @@ module _ (st : State) (user : Identity) (subtree : Names) where
         writes-bit user kept.now (opened entry.mode) (opened-bit entry.mode) now,
       )
 
-  still-open : (new : State) (ops : List Op) → AllByRecursion IsOpening ops → (guarded : Guarded) → IsOpen new guarded → IsOpen (after_all new (by_user user ops)) guarded
+  still-open : (new : State) (ops : List Op) → AllByRecursion IsOpening ops → (guarded : Guarded) → IsOpen new guarded
+      → IsOpen (after_all new (by_user user ops)) guarded
   still-open new ops all guarded is =
       let kept = (wider-all user new new ops (wider-itself user new) all).stays (take guarded.len subtree) guarded.name is.0 is.1 in (kept.now, kept.is, kept.written is.2)
 
-  all-opens : (entries : List Guarded) (new : State) → IsWider user st new → AllByRecursion (Opens (after_all new (by_user user (flat_map (opening_of st user subtree) entries)))) entries
+  all-opens : (entries : List Guarded) (new : State) → IsWider user st new
+      → AllByRecursion (Opens (after_all new (by_user user (flat_map (opening_of st user subtree) entries)))) entries
   all-opens [] new wider = tt
   all-opens (guarded ∷ entries) new wider =
       let first = opening_of st user subtree guarded in
@@ -154,7 +160,8 @@ module _ (st : State) (user : Identity) (subtree : Names) where
       )
 
   -- a limit file that he reaches is written in the opened tree
-  file-open : (file : LimitFile) (entry : Entry) → entry_at st subtree (File file) ≡ Some entry → reaches user entry ≡ true → (now : Entry) × (entry_at (opened_state st user subtree) subtree (File file) ≡ Some now) × (writes user now ≡ true)
+  file-open : (file : LimitFile) (entry : Entry) → entry_at st subtree (File file) ≡ Some entry → reaches user entry ≡ true
+      → (now : Entry) × (entry_at (opened_state st user subtree) subtree (File file) ≡ Some now) × (writes user now ≡ true)
   file-open file entry is reached =
       elim (writes user entry) as (λ b. writes user entry ≡ b → (b || owns user entry) ≡ true → (now : Entry) × (entry_at (opened_state st user subtree) subtree (File file) ≡ Some now) × (writes user now ≡ true)) [
         | true ↦ λ can _. let kept = (wider-opened st user subtree).stays subtree (File file) entry is in (kept.now, kept.is, kept.written can)
@@ -216,7 +223,8 @@ with-opening P [] ops all = all.0
 with-opening P (op ∷ before) ops all = all.1.0
 
 module _ (st : State) (user : Identity) (subtree : Names) (file : LimitFile) (entry : Entry) (is : entry_at st subtree (File file) ≡ Some entry) (reached : reaches user entry ≡ true) where
-  opened-set : (value : Limit) → limits st subtree file ≡ Some value → breaks st user subtree (opening st user subtree ++ Set subtree file (other_value file value) ∷ []) ≡ true
+  opened-set : (value : Limit) → limits st subtree file ≡ Some value
+      → breaks st user subtree (opening st user subtree ++ Set subtree file (other_value file value) ∷ []) ≡ true
   opened-set value has =
       let new = opened_state st user subtree in
       let now = file-open st user subtree file entry is reached in
@@ -245,11 +253,13 @@ each-none : {A B : Type 0} (g : A → List B) (xs : List A) → flat_map g xs �
 each-none g [] none = tt
 each-none g (x ∷ xs) none = let parts = no_parts (g x) (flat_map g xs) none in (parts.0, each-none g xs parts.1)
 
-all-flat : {A B : Type 0} (P : B → Type 0) (g : A → List B) (xs : List A) → AllByRecursion (λ x. AllByRecursion P (g x)) xs → AllByRecursion P (flat_map g xs)
+all-flat : {A B : Type 0} (P : B → Type 0) (g : A → List B) (xs : List A) → AllByRecursion (λ x. AllByRecursion P (g x)) xs
+    → AllByRecursion P (flat_map g xs)
 all-flat P g [] all = tt
 all-flat P g (x ∷ xs) all = all-append P (g x) (flat_map g xs) all.0 (all-flat P g xs all.1)
 
-file-fails : (st : State) (user : Identity) (subtree : Names) (file : LimitFile) (entry : Entry) → entry_at st subtree (File file) ≡ Some entry → reaches user entry ≡ true → failures st user subtree ≡ [] → ⊥
+file-fails : (st : State) (user : Identity) (subtree : Names) (file : LimitFile) (entry : Entry)
+    → entry_at st subtree (File file) ≡ Some entry → reaches user entry ≡ true → failures st user subtree ≡ [] → ⊥
 file-fails st user subtree file entry is reached none =
     let empty : Guarded → Type 0 = λ guarded. entry_failures st user subtree guarded ≡ [] in
     let all = each-none (entry_failures st user subtree) (guarded_entries subtree) (no_parts _ _ none).0 in
@@ -257,14 +267,16 @@ file-fails st user subtree file entry is reached none =
     let one = each_file (λ f. empty (limit_file (length subtree) f)) (all-unmap empty (limit_file (length subtree)) all_files files) file in
     true≢false (sym (no_unless _ _ (no_present _ _ one entry (ap (λ path. entry_at st path (File file)) (take-length subtree) ∙ is))) ∙ ap not reached)
 
-pub file-escapes : (st : State) (user : Identity) (subtree : Names) (file : LimitFile) (entry : Entry) → entry_at st subtree (File file) ≡ Some entry → reaches user entry ≡ true → (ops : List Op) × (answer st user subtree ≡ Escapes ops)
+pub file-escapes : (st : State) (user : Identity) (subtree : Names) (file : LimitFile) (entry : Entry)
+    → entry_at st subtree (File file) ≡ Some entry → reaches user entry ≡ true → (ops : List Op) × (answer st user subtree ≡ Escapes ops)
 file-escapes st user subtree file entry is reached =
     elim (first_escape st user subtree) as (λ found. first_escape st user subtree ≡ found → (ops : List Op) × (answer st user subtree ≡ Escapes ops)) [
       | None ↦ λ none. absurd (file-escape st user subtree file entry is reached none)
       | Some ops ↦ λ found. (ops, escape-answer (failures st user subtree) (first_escape st user subtree) ops (file-fails st user subtree file entry is reached) found)
     ] refl
 
-unsettled-by : (all : List Failed) (found : Option (List Op)) (failed : Failed) → answer_from all found ≡ Unsettled failed → ((rest : List Failed) × (all ≡ failed ∷ rest)) × (found ≡ None)
+unsettled-by : (all : List Failed) (found : Option (List Op)) (failed : Failed) → answer_from all found ≡ Unsettled failed
+    → ((rest : List Failed) × (all ≡ failed ∷ rest)) × (found ≡ None)
 unsettled-by [] found failed is = cc
 unsettled-by (one ∷ rest) (Some ops) failed is = cc
 unsettled-by (one ∷ rest) None failed is = let same : one ≡ failed = cc in ((rest, ap (λ first. first ∷ rest) same), refl)
@@ -313,7 +325,8 @@ module _ (st : State) (user : Identity) (subtree : Names) (none : first_escape s
       (may (parent_control subtree) tt, (may (parent_dir subtree) tt, tt))))
       may-over
 
-pub unsettled-guard : (st : State) (user : Identity) (subtree : Names) (failed : Failed) → answer st user subtree ≡ Unsettled failed → MayBeUnsettled failed.guard
+pub unsettled-guard : (st : State) (user : Identity) (subtree : Names) (failed : Failed) → answer st user subtree ≡ Unsettled failed
+    → MayBeUnsettled failed.guard
 unsettled-guard st user subtree failed is =
     let by = unsettled-by (failures st user subtree) (first_escape st user subtree) failed is in
     (subst (AllByRecursion (λ (f : Failed). MayBeUnsettled f.guard)) by.0.1 (may-all st user subtree by.1)).0

@@ -40,7 +40,8 @@ module _ (st : State) (subtrees : List Names) where
   abbrev holds : Identity → Bool
   holds = is_guarded_of_all st subtrees
 
-  pub guarded_turn : (i : ℕ) (subtree : Names) (left next : List Identity) → i < length subtrees → subtree ≡ get_or subtrees i subtree → next ≡ take_while (is_guarded st subtree) left
+  pub guarded_turn : (i : ℕ) (subtree : Names) (left next : List Identity) → i < length subtrees → subtree ≡ get_or subtrees i subtree
+      → next ≡ take_while (is_guarded st subtree) left
       → take_while (is_guarded_of_all st (drop (i + 1) subtrees)) next ≡ take_while (is_guarded_of_all st (drop i subtrees)) left
   guarded_turn i subtree left next within at is =
       let here : drop i subtrees ≡ subtree ∷ drop (i + 1) subtrees = drop-cons subtrees i subtree within ∙ (λ j. sym at j ∷ drop (sym (add-one i) j) subtrees) in
@@ -48,7 +49,8 @@ module _ (st : State) (subtrees : List Names) where
       ∙ while_both (is_guarded st subtree) (is_guarded_of_all st (drop (i + 1) subtrees)) left
       ∙ sym (ap (λ rest. take_while (is_guarded_of_all st rest) left) here)
 
-  pub guarded_end : (i : ℕ) (users : List Identity) → length subtrees ≤ i → users ≡ take_while (is_guarded_of_all st (drop i subtrees)) users
+  pub guarded_end : (i : ℕ) (users : List Identity) → length subtrees ≤ i
+      → users ≡ take_while (is_guarded_of_all st (drop i subtrees)) users
   guarded_end i users all =
       sym (ap (λ rest. take_while (is_guarded_of_all st rest) users) (drop_all subtrees i all) ∙ while_all (is_guarded_of_all st []) users (λ user. refl))
 
@@ -85,7 +87,8 @@ module _ (st : State) where
       ] refl
 
   -- those before the first who has a pair have none
-  pub listed_past : (subtrees : List Names) (users left : List Identity) → left ≡ drop (prefix_len (is_guarded_of_all st subtrees) users) users → listed st left subtrees ≡ listed st users subtrees
+  pub listed_past : (subtrees : List Names) (users left : List Identity)
+      → left ≡ drop (prefix_len (is_guarded_of_all st subtrees) users) users → listed st left subtrees ≡ listed st users subtrees
   listed_past subtrees users left is =
       let n = prefix_len (is_guarded_of_all st subtrees) users in
       ap (λ rest. listed st rest subtrees) is
@@ -105,14 +108,16 @@ module _ (st : State) (subtree : Names) where
         | Unsettled failed ↦ λ is. no_pair from users
       ] refl
 
-  pub unlisted-contained : (users : List Identity) → IsWellFormed st → IsSubtree st subtree → unlisted st users subtree ≢ [] → AreContained st (unlisted st users subtree) (subtree ∷ [])
+  pub unlisted-contained : (users : List Identity) → IsWellFormed st → IsSubtree st subtree → unlisted st users subtree ≢ []
+      → AreContained st (unlisted st users subtree) (subtree ∷ [])
   unlisted-contained users formed is some =
       are-contained st (unlisted st users subtree) (subtree ∷ [])
       (λ i. first ((unless (not (is.1 i)) RootSubtree ++ unless (is.0 i) NoSuchSubtree) ++ []))
       (λ _. formed) (ap first (no_pair 0 users)) some
 
 -- of a whole list
-pub all-unlisted : (st : State) (users : List Identity) (subtrees : List Names) → first (flat_map (subtree_faults st) subtrees) ≡ None → (subtrees ≢ [] → IsWellFormed st)
+pub all-unlisted : (st : State) (users : List Identity) (subtrees : List Names) → first (flat_map (subtree_faults st) subtrees) ≡ None
+    → (subtrees ≢ [] → IsWellFormed st)
     → All (λ subtree. unlisted st users subtree ≢ [] → AreContained st (unlisted st users subtree) (subtree ∷ [])) subtrees
 all-unlisted st users subtrees none formed k d within =
     unlisted-contained st (get_or subtrees k d) users (formed (not-none subtrees k within))

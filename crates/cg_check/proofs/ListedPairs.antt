@@ -19,11 +19,13 @@ at_front : {A : Type 0} (front : List A) (x : A) (others : List A) → slice_get
 at_front [] x others = refl
 at_front (y ∷ front) x others = at_front front x others
 
-stands : {A : Type 0} (front : List A) (x : A) (others all : List A) (place : ℕ) → front ++ x ∷ others ≡ all → length front ≡ place → slice_get all place ≡ Some x
+stands : {A : Type 0} (front : List A) (x : A) (others all : List A) (place : ℕ) → front ++ x ∷ others ≡ all → length front ≡ place
+    → slice_get all place ≡ Some x
 stands front x others all place whole count = sym (λ i. slice_get (whole i) (count i)) ∙ at_front front x others
 
 module _ (st : State) (users : List Identity) (subtrees : List Names) where
-  one_listed : (place from : ℕ) (user : Identity) (subtree : Names) (found : Answer) → slice_get users place ≡ Some user → slice_get subtrees from ≡ Some subtree
+  one_listed : (place from : ℕ) (user : Identity) (subtree : Names) (found : Answer) → slice_get users place ≡ Some user
+      → slice_get subtrees from ≡ Some subtree
       → flat_map (listed_at users subtrees) (pair_unless_contained place from found) ≡ listed_unless_contained user subtree found
   one_listed place from user subtree Contained at_user at_subtree = refl
   one_listed place from user subtree (Escapes ops) at_user at_subtree =
@@ -32,7 +34,8 @@ module _ (st : State) (users : List Identity) (subtrees : List Names) where
       λ i. present (at_user i) (λ who. present (at_subtree i) (λ path. record { user = who; subtree = path; found = Unsettled failed } ∷ [])) ++ []
 
   -- the pairs of a user with the subtrees behind a front
-  of_user_listed : (place : ℕ) (user : Identity) (front rest : List Names) (from : ℕ) → slice_get users place ≡ Some user → front ++ rest ≡ subtrees → length front ≡ from
+  of_user_listed : (place : ℕ) (user : Identity) (front rest : List Names) (from : ℕ) → slice_get users place ≡ Some user
+      → front ++ rest ≡ subtrees → length front ≡ from
       → flat_map (listed_at users subtrees) (pairs_of st place user from rest) ≡ listed_of st rest user
   of_user_listed place user front [] from at_user whole count = refl
   of_user_listed place user front (subtree ∷ rest) from at_user whole count =
@@ -58,19 +61,22 @@ module _ (st : State) (users : List Identity) (subtrees : List Names) where
 -- ---- as many
 
 module _ (st : State) where
-  one_count : (place from : ℕ) (user : Identity) (subtree : Names) (found : Answer) → length (listed_unless_contained user subtree found) ≡ length (pair_unless_contained place from found)
+  one_count : (place from : ℕ) (user : Identity) (subtree : Names) (found : Answer)
+      → length (listed_unless_contained user subtree found) ≡ length (pair_unless_contained place from found)
   one_count place from user subtree Contained = refl
   one_count place from user subtree (Escapes ops) = refl
   one_count place from user subtree (Unsettled failed) = refl
 
-  of_user_count : (place from : ℕ) (user : Identity) (subtrees : List Names) → length (listed_of st subtrees user) ≡ length (pairs_of st place user from subtrees)
+  of_user_count : (place from : ℕ) (user : Identity) (subtrees : List Names)
+      → length (listed_of st subtrees user) ≡ length (pairs_of st place user from subtrees)
   of_user_count place from user [] = refl
   of_user_count place from user (subtree ∷ subtrees) =
       length-append (listed_unless_contained user subtree (answer st user subtree)) (listed_of st subtrees user)
       ∙ (λ i. one_count place from user subtree (answer st user subtree) i + of_user_count place (suc from) user subtrees i)
       ∙ sym (length-append (pair_unless_contained place from (answer st user subtree)) (pairs_of st place user (suc from) subtrees))
 
-  pub pairs-count : (from : ℕ) (users : List Identity) (subtrees : List Names) → length (listed st users subtrees) ≡ length (pairs_from st from users subtrees)
+  pub pairs-count : (from : ℕ) (users : List Identity) (subtrees : List Names)
+      → length (listed st users subtrees) ≡ length (pairs_from st from users subtrees)
   pairs-count from [] subtrees = refl
   pairs-count from (user ∷ users) subtrees =
       length-append (listed_of st subtrees user) (listed st users subtrees)

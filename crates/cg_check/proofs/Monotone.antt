@@ -32,7 +32,7 @@ use Rattle.cg_model.specs.declared.operation.Op.TheVariants.{Move, Control, Mkdi
 use Rattle.cg_model.specs.declared.outcome.Refusal.{Refusal}
 use Rattle.cg_model.specs.declared.outcome.Refusal.TheVariants.{NoSuchCgroup, NoAccess, NoSuchProcess, InternalProcess, NotAvailable, ChildUses, Exists, DescendantLimit, DepthLimit, HasChildren, HasProcesses, NoSuchFile, BadValue}
 use Rattle.cg_steps.proofs.ClauseLaws.{no_parts, no_unless, no_absent, no_present}
-use Rattle.cg_tries.specs.Finding.{passes_at}
+use Rattle.cg_ops.specs.Moves.{passes_at}
 use Rattle.cg_check.proofs.Wider.{IsWider}
 
 -- ---- lists of clauses
@@ -47,7 +47,8 @@ absent_by : {A R : Type 0} (found : Option A) (r : R) → absent found r ≡ unl
 absent_by None r = refl
 absent_by (Some x) r = refl
 
-present_none : {A R : Type 0} (found : Option A) (clauses : A → List R) → ((x : A) → found ≡ Some x → clauses x ≡ []) → present found clauses ≡ []
+present_none : {A R : Type 0} (found : Option A) (clauses : A → List R) → ((x : A) → found ≡ Some x → clauses x ≡ [])
+    → present found clauses ≡ []
 present_none None clauses each = refl
 present_none (Some x) clauses each = each x refl
 
@@ -61,7 +62,8 @@ same_bool false true f g = g refl
 same_bool false false f g = refl
 
 -- the limits of a level, by the values that they have
-level_same : (found was : Option Cgroup) → is_some found ≡ is_some was → option_and_then (λ row. value_in row MaxDescendants) found ≡ option_and_then (λ row. value_in row MaxDescendants) was
+level_same : (found was : Option Cgroup) → is_some found ≡ is_some was
+    → option_and_then (λ row. value_in row MaxDescendants) found ≡ option_and_then (λ row. value_in row MaxDescendants) was
     → option_and_then (λ row. value_in row MaxDepth) found ≡ option_and_then (λ row. value_in row MaxDepth) was
     → (count depth len : ℕ) → present found (λ row. unless (is_under count row.max_descendants.value) (DescendantLimit len) ++ unless (is_under depth row.max_depth.value) (DepthLimit len))
     ≡ present was (λ row. unless (is_under count row.max_descendants.value) (DescendantLimit len) ++ unless (is_under depth row.max_depth.value) (DepthLimit len))
@@ -72,7 +74,8 @@ level_same (Some row) (Some was) here many deep count depth len =
     λ i. unless (is_under count (same_some row.max_descendants.value was.max_descendants.value many i)) (DescendantLimit len)
     ++ unless (is_under depth (same_some row.max_depth.value was.max_depth.value deep i)) (DepthLimit len)
 
-child_still : (st new : State) → ((path : Names) → has_row new path ≡ has_row st path) → ((path : Names) → enabled_at new path ≡ enabled_at st path)
+child_still : (st new : State) → ((path : Names) → has_row new path ≡ has_row st path)
+    → ((path : Names) → enabled_at new path ≡ enabled_at st path)
     → (path : Names) (controller : Controller) → child_enables st path controller ≡ true → child_enables new path controller ≡ true
 child_still st new here enabled path controller h =
     let child = child_enables-row st path controller h in
@@ -97,14 +100,16 @@ module _ (user : Identity) (st new : State) (wider : IsWider user st new) where
   enabled-was path was row before now = sym (enabled_at-row new path row now) ∙ wider.enabled path ∙ enabled_at-row st path was before
 
   -- an entry that each cgroup has
-  writes-stays : (path : Names) (name : EntryName) (entry : Cgroup → Entry) → ((row : Cgroup) → entry_in row name ≡ Some (entry row)) → (was row : Cgroup) → row_at st path ≡ Some was → row_at new path ≡ Some row
+  writes-stays : (path : Names) (name : EntryName) (entry : Cgroup → Entry) → ((row : Cgroup) → entry_in row name ≡ Some (entry row))
+      → (was row : Cgroup) → row_at st path ≡ Some was → row_at new path ≡ Some row
       → writes user (entry was) ≡ true → writes user (entry row) ≡ true
   writes-stays path name entry named was row before now can =
       let kept = wider.stays path name (entry was) (ap (option_and_then (λ r. entry_in r name)) before ∙ named was) in
       let same : kept.now ≡ entry row = same_some kept.now (entry row) (sym kept.is ∙ ap (option_and_then (λ r. entry_in r name)) now ∙ named row) in
       ap (writes user) (sym same) ∙ kept.written can
 
-  access-stays : (path : Names) (name : EntryName) (entry : Cgroup → Entry) → ((row : Cgroup) → entry_in row name ≡ Some (entry row)) → (r : Refusal)
+  access-stays : (path : Names) (name : EntryName) (entry : Cgroup → Entry) → ((row : Cgroup) → entry_in row name ≡ Some (entry row))
+      → (r : Refusal)
       → present (row_at st path) (λ row. unless (writes user (entry row)) r) ≡ [] → present (row_at new path) (λ row. unless (writes user (entry row)) r) ≡ []
   access-stays path name entry named r free =
       present_none (row_at new path) (λ row. unless (writes user (entry row)) r) (λ row now.
@@ -112,7 +117,8 @@ module _ (user : Identity) (st new : State) (wider : IsWider user st new) where
       unless_none _ r (writes-stays path name entry named was.0 row was.1 now (no_unless _ r (no_present (row_at st path) _ free was.0 was.1))))
 
   -- clauses on what a cgroup enables
-  enabled-stays : (path : Names) (clauses : State → ControllerSet → List Refusal) → ((enabled : ControllerSet) → clauses new enabled ≡ clauses st enabled)
+  enabled-stays : (path : Names) (clauses : State → ControllerSet → List Refusal)
+      → ((enabled : ControllerSet) → clauses new enabled ≡ clauses st enabled)
       → present (row_at st path) (λ row. clauses st row.enabled) ≡ [] → present (row_at new path) (λ row. clauses new row.enabled) ≡ []
   enabled-stays path clauses same free =
       present_none (row_at new path) (λ row. clauses new row.enabled) (λ row now.
@@ -137,12 +143,14 @@ module _ (user : Identity) (st new : State) (wider : IsWider user st new) where
             writes-stays path name entry named was.0 row was.1 now (sym (ap (written_if_there user entry) was.1) ∙ can)
       ] refl
 
-  as_written : (found : Option Cgroup) → elim found as (λ _. Bool) [ None ↦ true | Some row ↦ writes user row.procs ] ≡ written_if_there user (λ row. row.procs) found
+  as_written : (found : Option Cgroup)
+      → elim found as (λ _. Bool) [ None ↦ true | Some row ↦ writes user row.procs ] ≡ written_if_there user (λ row. row.procs) found
   as_written None = refl
   as_written (Some row) = refl
 
   pub passes_at-stays : (path : Names) → passes_at st user path ≡ true → passes_at new user path ≡ true
-  passes_at-stays path can = as_written (row_at new path) ∙ written-stays path Procs (λ row. row.procs) (λ _. refl) (sym (as_written (row_at st path)) ∙ can)
+  passes_at-stays path can = as_written (row_at new path)
+      ∙ written-stays path Procs (λ row. row.procs) (λ _. refl) (sym (as_written (row_at st path)) ∙ can)
 
   pub move-stays : (pid : ℕ) (to : Names) → bars st user (Move pid to) ≡ [] → bars new user (Move pid to) ≡ []
   move-stays pid to free =
@@ -214,7 +222,8 @@ module _ (user : Identity) (st new : State) (wider : IsWider user st new) where
 
   -- ---- setting
 
-  pub set-stays : (at : Names) (file : LimitFile) (value : Limit) → bars st user (Set at file value) ≡ [] → bars new user (Set at file value) ≡ []
+  pub set-stays : (at : Names) (file : LimitFile) (value : Limit) → bars st user (Set at file value) ≡ []
+      → bars new user (Set at file value) ≡ []
   set-stays at file value free =
       let f3 = no_parts _ _ free in
       let f2 = no_parts _ _ f3.0 in
@@ -235,7 +244,8 @@ module _ (user : Identity) (st new : State) (wider : IsWider user st new) where
     where
       same_file_there : is_some (file_at new at file) ≡ is_some (file_at st at file)
       same_file_there =
-          sym (is_some-mapped (λ f. f.value) (file_at new at file)) ∙ ap is_some (sym (value_at-file new at file) ∙ wider.values at file ∙ value_at-file st at file)
+          sym (is_some-mapped (λ f. f.value) (file_at new at file))
+          ∙ ap is_some (sym (value_at-file new at file) ∙ wider.values at file ∙ value_at-file st at file)
           ∙ is_some-mapped (λ f. f.value) (file_at st at file)
 
   -- ---- controlling
@@ -247,7 +257,8 @@ module _ (user : Identity) (st new : State) (wider : IsWider user st new) where
   available-wider : (path : Names) → available_at new path ≡ available_at st path
   available-wider path = λ i. cond (is_root path) (wider.controllers i) (wider.enabled (parent path) i)
 
-  pub control-stays : (at : Names) (changes : List Change) → bars st user (Control at changes) ≡ [] → bars new user (Control at changes) ≡ []
+  pub control-stays : (at : Names) (changes : List Change) → bars st user (Control at changes) ≡ []
+      → bars new user (Control at changes) ≡ []
   control-stays at changes free =
       let f2 = no_parts _ _ free in
       let f1 = no_parts _ _ f2.0 in
@@ -258,7 +269,8 @@ module _ (user : Identity) (st new : State) (wider : IsWider user st new) where
       let was = row-was at row now in
       changes-wider row was.0 (enabled-was at was.0 row was.1 now) ∙ no_present (row_at st at) (changes_bars st at changes) f2.1 was.0 was.1))
     where
-      change-wider : (row was : Cgroup) → row.enabled ≡ was.enabled → (controller : Controller) (change : Option Bool) → change_bars new at row controller change ≡ change_bars st at was controller change
+      change-wider : (row was : Cgroup) → row.enabled ≡ was.enabled → (controller : Controller) (change : Option Bool)
+          → change_bars new at row controller change ≡ change_bars st at was controller change
       change-wider row was same controller None = refl
       change-wider row was same controller (Some true) = ap (λ set. unless (enables set controller) (NotAvailable controller)) (available-wider at)
       change-wider row was same controller (Some false) = λ i. unless (not (enables (same i) controller && child_enables-wider at controller i)) (ChildUses controller)

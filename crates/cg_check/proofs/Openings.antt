@@ -61,7 +61,8 @@ all-opening st user subtree P each =
 pub opened-bit : (mode : ℕ) → has_bit (opened mode) 128 ≡ true
 opened-bit mode = eq-eqb _ _ (and_or_self 128 mode)
 
-pub opening-of_one : (st : State) (user : Identity) (subtree : Names) (guarded : Guarded) → AllByRecursion IsOpening (opening_of st user subtree guarded)
+pub opening-of_one : (st : State) (user : Identity) (subtree : Names) (guarded : Guarded)
+    → AllByRecursion IsOpening (opening_of st user subtree guarded)
 opening-of_one st user subtree guarded =
     all-present IsOpening (guarded_entry st subtree guarded) _ (λ entry is.
     elim (owns user entry && not (writes user entry)) as (λ b. AllByRecursion IsOpening (cond b (Chmod (take guarded.len subtree) guarded.name (opened entry.mode) ∷ []) [])) [
@@ -100,7 +101,8 @@ module _ (st : State) (user : Identity) (subtree : Names) where
   subtree-opened sub = (wider-opened.here subtree ∙ sub.0, sub.1)
 
   -- the opening in front is another start
-  pub opened-breaks : (ops : List Op) → breaks st user subtree (opening st user subtree ++ ops) ≡ breaks (opened_state st user subtree) user subtree ops
+  pub opened-breaks : (ops : List Op)
+      → breaks st user subtree (opening st user subtree ++ ops) ≡ breaks (opened_state st user subtree) user subtree ops
   opened-breaks ops = breaks-opening st user subtree (opening st user subtree) ops opening-opens
 
 -- ---- a wider state has the same tries
@@ -159,7 +161,8 @@ module _ (user : Identity) (st new : State) (wider : IsWider user st new) where
 -- ---- the doubled list
 
 -- where what passes passes with the opening before it too
-find-doubled : (p : List Op → Bool) (before : List Op) (xs : List (List Op)) → AllByRecursion (λ ops. p ops ≡ true → p (before ++ ops) ≡ true) xs
+find-doubled : (p : List Op → Bool) (before : List Op) (xs : List (List Op))
+    → AllByRecursion (λ ops. p ops ≡ true → p (before ++ ops) ≡ true) xs
     → find p (flat_map (with_opening before) xs) ≡ option_map (λ ops. unless_free (p ops) before ops) (find (λ ops. p (before ++ ops)) xs)
 find-doubled p before [] all = refl
 find-doubled p [] (ops ∷ others) all =
@@ -187,7 +190,8 @@ record IsPlain (st new : State) (user : Identity) (subtree : Names) (ops : List 
   pub still : breaks st user subtree ops ≡ true → breaks new user subtree ops ≡ true
   pub by_free : breaks new user subtree ops ≡ true → breaks st user subtree ops ≡ is_free st user ops
 
-plain-wider : (st new : State) (user : Identity) (subtree : Names) → IsWider user st new → (ops : List Op) → IsExact st user subtree ops → IsExact new user subtree ops → IsPlain st new user subtree ops
+plain-wider : (st new : State) (user : Identity) (subtree : Names) → IsWider user st new → (ops : List Op) → IsExact st user subtree ops
+    → IsExact new user subtree ops → IsPlain st new user subtree ops
 plain-wider st new user subtree wider ops here there = record {
   still = λ h.
       let parts = and_parts (is_free st user ops) (has_effect st ops) (sym here.exact ∙ h) in

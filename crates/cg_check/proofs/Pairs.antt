@@ -27,7 +27,8 @@ module _ {A R : Type 0} (f : A → List R) (xs : List A) (i : ℕ) (x : A) (with
   some-here r some = sym (ap first from_here ∙ first_some _ _ r (sym some))
 
 -- where there is none of the whole list, there is none of an element
-pub none-element : {A R : Type 0} (f : A → List R) (xs : List A) (i : ℕ) (d : A) → i < length xs → first (flat_map f xs) ≡ None → first (f (get_or xs i d)) ≡ None
+pub none-element : {A R : Type 0} (f : A → List R) (xs : List A) (i : ℕ) (d : A) → i < length xs → first (flat_map f xs) ≡ None
+    → first (f (get_or xs i d)) ≡ None
 none-element f [] i d within none = absurd (omega (arith, within))
 none-element f (x ∷ xs) zero d within none = ap first (no_parts (f x) (flat_map f xs) (none_of_first _ none)).0
 none-element f (x ∷ xs) (suc i) d within none = none-element f xs i d (omega (arith, within)) (ap first (no_parts (f x) (flat_map f xs) (none_of_first _ none)).1)
@@ -42,11 +43,13 @@ not-none (x ∷ xs) i within none = cc
 
 -- ---- pairs
 
-pub pair-some : (place from : ℕ) (found : Answer) → takes_memory (Ok found) ≡ true → first (pair_unless_contained place from found) ≡ Some (all.Pair place from found)
+pub pair-some : (place from : ℕ) (found : Answer) → takes_memory (Ok found) ≡ true
+    → first (pair_unless_contained place from found) ≡ Some (all.Pair place from found)
 pair-some place from Contained h = cc
 pair-some place from (Escapes ops) h = refl
 pair-some place from (Unsettled failed) h = refl
 
-pub subtree_at : (st : State) (subtrees : List Names) (i : ℕ) (subtree : Names) → i < length subtrees → subtree ≡ get_or subtrees i subtree → first (flat_map (subtree_faults st) subtrees) ≡ None → IsSubtree st subtree
+pub subtree_at : (st : State) (subtrees : List Names) (i : ℕ) (subtree : Names) → i < length subtrees → subtree ≡ get_or subtrees i subtree
+    → first (flat_map (subtree_faults st) subtrees) ≡ None → IsSubtree st subtree
 subtree_at st subtrees i subtree within at none =
     no_fault st subtree (sym (ap (λ path. first (subtree_faults st path)) at ∙ none-element (subtree_faults st) subtrees i subtree within none))

@@ -17,7 +17,8 @@ use Rattle.cg_model.specs.Guards.{IsSubtree}
 use Rattle.cg_model.specs.Tries.{other_value, set_tries, change_of, control_tries, across, move_tries, probe, numbers_from, free_probe, is_inside, probe_tries_at, probe_tries, plain_tries}
 use Rattle.cg_model.specs.Escapes.{breaks}
 use Rattle.cg_tries.specs.Escapes.{IsUnbroken}
-use Rattle.cg_tries.specs.Finding.{allowed, passes_at}
+use Rattle.cg_ops.specs.Moves.{passes_at}
+use Rattle.cg_tries.specs.Finding.{allowed}
 use Rattle.cg_tries.proofs.Seen.{is_empty, breaks-run}
 use Rattle.cg_tries.proofs.Single.{set_try, rmdir_try, move_try}
 use Rattle.cg_tries.proofs.Controls.{changes_enabled, control_try}
@@ -78,7 +79,8 @@ module _ (st : State) (user : Identity) (subtree : Names) (whole : IsUnbroken st
       all-map_filter Exact (λ path. Move pid path ∷ []) (λ path. cond (inside subtree place) (not (inside subtree path)) (inside subtree path)) (paths_of st) (λ path over.
       record { exact = with_true _ _ (move_try st user subtree pid place path whole at over); tried = tt })))
 
-  is_inside-place : (pid : ℕ) → is_inside st subtree pid ≡ true → (place : Names) × (place_at st pid ≡ Some place) × (inside subtree place ≡ true)
+  is_inside-place : (pid : ℕ) → is_inside st subtree pid ≡ true
+      → (place : Names) × (place_at st pid ≡ Some place) × (inside subtree place ≡ true)
   is_inside-place pid is =
       elim (place_at st pid) as (λ found. elim found as (λ _. Bool) [ None ↦ false | Some place ↦ inside subtree place ] ≡ true → (place : Names) × (found ≡ Some place) × (inside subtree place ≡ true)) [
         | None ↦ λ h. absurd (true≢false (sym h))
@@ -89,7 +91,8 @@ module _ (st : State) (user : Identity) (subtree : Names) (whole : IsUnbroken st
   not-false true h = sym h
   not-false false h = refl
 
-  exact-probe : (len : ℕ) → len < length subtree → (number : ℕ) → free_probe st (take len subtree) ≡ Some number → (pid : ℕ) → is_inside st subtree pid ≡ true
+  exact-probe : (len : ℕ) → len < length subtree → (number : ℕ) → free_probe st (take len subtree) ≡ Some number → (pid : ℕ)
+      → is_inside st subtree pid ≡ true
       → Exact (Mkdir (probe (take len subtree) number) ∷ Move pid (probe (take len subtree) number) ∷ [])
   exact-probe len within number first pid is =
       let free = not-false _ (find-passes (λ n. not (has_row st (probe (take len subtree) n))) (numbers_from 0 (length (paths_of st) + 1)) number first) in

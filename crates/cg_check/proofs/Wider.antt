@@ -44,7 +44,8 @@ pub record IsWider (user : Identity) (st new : State) : Type 0 where
   pub here : (path : Names) → has_row new path ≡ has_row st path
   pub values : (path : Names) (file : LimitFile) → value_at new path file ≡ value_at st path file
   pub enabled : (path : Names) → enabled_at new path ≡ enabled_at st path
-  pub stays : (path : Names) (name : EntryName) (entry : Entry) → entry_at st path name ≡ Some entry → Stays user entry (entry_at new path name)
+  pub stays : (path : Names) (name : EntryName) (entry : Entry) → entry_at st path name ≡ Some entry
+      → Stays user entry (entry_at new path name)
 
 pub wider-itself : (user : Identity) (st : State) → IsWider user st st
 wider-itself user st = record {
@@ -63,12 +64,14 @@ abbrev pub IsOpening : Op → Type 0
 IsOpening (Chmod at name mode) = has_bit mode 128 ≡ true
 IsOpening op = ⊥
 
-pub writes-bit : (user : Identity) (entry : Entry) (mode : ℕ) → has_bit mode 128 ≡ true → owns user entry ≡ true → writes user (with_mode_of mode entry) ≡ true
+pub writes-bit : (user : Identity) (entry : Entry) (mode : ℕ) → has_bit mode 128 ≡ true → owns user entry ≡ true
+    → writes user (with_mode_of mode entry) ≡ true
 unfolding writes
 writes-bit user entry mode bit owned = rw owned bit
 
 module _ (user : Identity) (st new : State) (wider : IsWider user st new) (at : Names) (name : EntryName) (mode : ℕ) (bit : has_bit mode 128 ≡ true) where
-  stays-free : bars new user (Chmod at name mode) ≡ [] → (path : Names) (other : EntryName) (entry : Entry) → Stays user entry (entry_at new path other) → (same : Bool) → (same_path at path && same_entry name other) ≡ same
+  stays-free : bars new user (Chmod at name mode) ≡ [] → (path : Names) (other : EntryName) (entry : Entry)
+      → Stays user entry (entry_at new path other) → (same : Bool) → (same_path at path && same_entry name other) ≡ same
       → Stays user entry (cond same (option_map (with_mode_of mode) (entry_at new path other)) (entry_at new path other))
   stays-free free path other entry kept false is = kept
   stays-free free path other entry kept true is =
@@ -101,7 +104,8 @@ pub wider-step : (user : Identity) (st new : State) (op : Op) → IsWider user s
 wider-step user st new (Chmod at name mode) wider bit = wider-chmod user st new wider at name mode bit
 wider-step user st new op wider other = absurd other
 
-pub wider-all : (user : Identity) (st new : State) (ops : List Op) → IsWider user st new → AllByRecursion IsOpening ops → IsWider user st (after_all new (by_user user ops))
+pub wider-all : (user : Identity) (st new : State) (ops : List Op) → IsWider user st new → AllByRecursion IsOpening ops
+    → IsWider user st (after_all new (by_user user ops))
 wider-all user st new [] wider all = wider
 wider-all user st new (op ∷ ops) wider all = wider-all user st (after new user op) ops (wider-step user st new op wider all.0) all.1
 

@@ -8,7 +8,8 @@ use Rattle.cg_model.specs.States.{State}
 use Rattle.cg_model.specs.declared.operation.Op.{Op}
 use Rattle.cg_model.specs.declared.operation.Op.TheVariants.{Chmod, Mkdir}
 use Rattle.cg_model.specs.declared.guard.GuardedEntry.{GuardedEntry}
-use Rattle.cg_tries.specs.Finding.{allowed, passes_at}
+use Rattle.cg_ops.specs.Moves.{passes_at}
+use Rattle.cg_tries.specs.Finding.{allowed}
 
 -- a try begins with an operation that nothing bars, and a process may pass to a cgroup that it makes
 abbrev pub is_free : State → Identity → List Op → Bool

@@ -8,7 +8,7 @@ ghost use Rattle.cg_model.specs.Escapes.{first_escape};
 ghost use Rattle.cg_tries.specs.Escapes.{IsUnbroken};
 ghost use Rattle.cg_check.specs.Opened.{is_free};
 ghost use Rattle.cg_cgroup.specs.Paths.{is_root, parent};
-ghost use Rattle.cg_tries.specs.Finding.{passes_at};
+ghost use Rattle.cg_ops.specs.Moves.{passes_at};
 
 use crate::copies::copied;
 use crate::opening::opening;

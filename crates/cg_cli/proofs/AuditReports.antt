@@ -6,6 +6,8 @@ use Rattle.cg_cgroup.specs.Users.{user_of}
 use Rattle.cg_cgroup.specs.Identity.{Identity}
 use Rattle.cg_model.specs.States.{State}
 use Rattle.cg_text.specs.TreeTexts.{tree_of}
+use Rattle.cg_text.specs.TextOf.{IsTextOf}
+use Rattle.cg_text.proofs.TextFaultLaws.{text_is_read}
 use Rattle.cg_text.specs.declared.tree.fault.TreeFault.{TreeFault}
 use Rattle.cg_text.specs.declared.tree.fault.TreeFault.TheVariants.{NoMemory as TreeNoMemory}
 use Rattle.cg_model.specs.declared.fault.CheckFault.{CheckFault}
@@ -134,9 +136,9 @@ module _ (text : List ℕ) (given : List (ℕ × List ℕ)) (texts : List (List 
           failed_write_reports part = subst (λ (r : Report). Reports r known new (Err Write)) (sym (of_kept ∙ is)) part
 
         pub contained_means : (kept_users ≢ [] → AreContained st kept_users kept_subtrees)
-            → (start : State) (who : List Identity) (paths : List Names) → tree_of text ≡ Ok start → users_read given ≡ Ok who → paths_read texts ≡ Ok paths → who ≢ [] → AreContained start who paths
-        contained_means law start who paths is_start is_who are_paths some =
-            subst (λ (s : State). AreContained s who paths) (same_start (sym of_text ∙ is_start))
+            → (start : State) (who : List Identity) (paths : List Names) → IsTextOf start text → users_read given ≡ Ok who → paths_read texts ≡ Ok paths → who ≢ [] → AreContained start who paths
+        contained_means law start who paths is_text is_who are_paths some =
+            subst (λ (s : State). AreContained s who paths) (same_start (sym of_text ∙ text_is_read text start is_text))
             (subst (λ l. AreContained st l paths) whose
             (subst (λ l. AreContained st users l) (same_Ok (sym of_paths ∙ are_paths))
             (contained_once users subtrees st

@@ -9,7 +9,7 @@ use Rattle.cg_steps.specs.Outcomes.{RefusedBy}
 use Rattle.cg_model.specs.declared.operation.Op.{Op}
 use Rattle.cg_model.specs.declared.outcome.Outcome.{Outcome}
 use Rattle.cg_model.specs.declared.outcome.Outcome.TheVariants.{Done, Refused}
-use Rattle.cg_lines.specs.OperationLines.{spelling, IsHeld}
+use Rattle.cg_lines.specs.OperationLines.{spelling, IsInRange}
 use Rattle.cg_lines.specs.LineReading.{operation_at}
 use Rattle.cg_lines.specs.declared.lines.fault.LineFault.TheVariants.{TooLong, BadWord}
 use Rattle.cg_lines.proofs.LineLaws.{line_again, nothing_read}
@@ -18,14 +18,14 @@ use Rattle.cg_cli.specs.declared.fault.CliFault.TheVariants.{Line}
 
 -- ---- what is read
 
-pub operation_read_ok : (done : ℕ) (line : List ℕ) (op : Op) → done < 65536 → length line ≤ 8192 → line ≡ spelling op → IsHeld op → operation_read done line ≡ Ok op
+pub operation_read_ok : (done : ℕ) (line : List ℕ) (op : Op) → done < 65536 → length line ≤ 8192 → line ≡ spelling op → IsInRange op → operation_read done line ≡ Ok op
 operation_read_ok done line op few short spelled held =
     let a : nat_lt done 65536 ≡ true = grind (arith, nat_tests) in
     let b : nat_lt 8192 (length line) ≡ false = grind (arith, nat_tests) in
     let e : operation_at line ≡ Some op = ap operation_at spelled ∙ line_again op held in
     rw (a, b, e) refl
 
-pub operation_read_bad : (done : ℕ) (line : List ℕ) → done < 65536 → length line ≤ 8192 → ((op : Op) → IsHeld op → line ≢ spelling op) → operation_read done line ≡ Err (Line (done + 1) BadWord)
+pub operation_read_bad : (done : ℕ) (line : List ℕ) → done < 65536 → length line ≤ 8192 → ((op : Op) → IsInRange op → line ≢ spelling op) → operation_read done line ≡ Err (Line (done + 1) BadWord)
 operation_read_bad done line few short none =
     let a : nat_lt done 65536 ≡ true = grind (arith, nat_tests) in
     let b : nat_lt 8192 (length line) ≡ false = grind (arith, nat_tests) in

@@ -8,12 +8,12 @@ use Rattle.cg_print.specs.Carried.{IsCarried}
 use Rattle.cg_print.proofs.ReadCarried.{read_carried}
 use Rattle.cg_cli.specs.Faults.{lifted}
 use Rattle.cg_cli.specs.Reports.{Report, Reports, report_on}
-use Rattle.cg_cli.specs.Upgrades.{upgrade_report, IsTextOf, Upgrades}
+use Rattle.cg_cli.specs.Upgrades.{upgrade_report, IsNewText, Upgrades}
 use Rattle.cg_cli.specs.Written.{AppendsPart}
 use Rattle.cg_cli.specs.declared.fault.CliFault.{CliFault}
 use Rattle.cg_cli.specs.declared.fault.CliFault.TheVariants.{Write}
 
-module _ (tree text : List ℕ) (st : State) (read : tree_of tree ≡ Ok st) (written : IsCarried st → IsTextOf st text)
+module _ (tree text : List ℕ) (st : State) (read : tree_of tree ≡ Ok st) (written : IsCarried st → IsNewText st text)
     (old new : Option (List ℕ)) where
   same : (other : State) → tree_of tree ≡ Ok other → st ≡ other
   same other is = cc
@@ -21,7 +21,7 @@ module _ (tree text : List ℕ) (st : State) (read : tree_of tree ≡ Ok st) (wr
   upgrades : (result : Result ℕ CliFault) → Reports (upgrade_report tree text) old new result → Upgrades tree old new result
   upgrades result reports = record {
     text = text;
-    written = λ other is given. subst (λ (found : State). IsTextOf found text) (same other is) (written (read_carried tree st read));
+    written = λ other is given. subst (λ (found : State). IsNewText found text) (same other is) (written (read_carried tree st read));
     reports = reports;
   }
 

@@ -14,7 +14,7 @@ abbrev pub upgrade_report : List ℕ → List ℕ → Report
 upgrade_report tree text = report_on (tree_read tree) (λ st. record { text = text; ending = Ok 0 })
 
 -- The text is that of the state's document, as `toml` spells it. Unless it is too long for a tree text it has the state.
-pub record IsTextOf (st : State) (text : List ℕ) : Type 0 where
+pub record IsNewText (st : State) (text : List ℕ) : Type 0 where
   pub document : document_of text ≡ Some (tree_document st)
   pub spelled : IsSpelled st text
   pub state : length text ≤ longest_text → HasState text st
@@ -22,5 +22,5 @@ pub record IsTextOf (st : State) (text : List ℕ) : Type 0 where
 -- The text of the state that came is the report. Want of memory may come before there is one.
 pub record Upgrades (tree : List ℕ) (old new : Option (List ℕ)) (result : Result ℕ CliFault) : Type 0 where
   pub text : List ℕ
-  pub written : (st : State) → tree_of tree ≡ Ok st → result ≢ Err NoMemory → IsTextOf st text
+  pub written : (st : State) → tree_of tree ≡ Ok st → result ≢ Err NoMemory → IsNewText st text
   pub reports : Reports (upgrade_report tree text) old new result

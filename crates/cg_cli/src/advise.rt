@@ -11,6 +11,7 @@ ghost use Rattle.cg_cli.specs.Reports.{Reports};
 
 use crate::arguments::{UserIds, read_path, read_user};
 use crate::fault::CliFault;
+use crate::reading::read_tree;
 use crate::write::write_whole;
 use cg_advice::text::advice_lines;
 use cg_cgroup::memory::NoMemory;
@@ -18,7 +19,6 @@ use cg_cgroup::path::Path;
 use cg_cgroup::user::User;
 use cg_check::fault_of;
 use cg_model::fault::CheckFault;
-use cg_text::tree::read_tree;
 use cg_tree::hierarchy::Hierarchy;
 use std::alloc::Global;
 use std::io::Write;

@@ -3,7 +3,7 @@ ghost use Rattle.std.specs.Prelude.{◌≡◌, ◌≢◌, List, [], map, Ok, Err
 ghost use Rattle.cg_cgroup.specs.Identity.{Identity};
 ghost use Rattle.cg_cgroup.specs.Paths.{Names};
 ghost use Rattle.cg_model.specs.States.{State};
-ghost use Rattle.cg_text.specs.TreeTexts.{tree_of};
+ghost use Rattle.cg_text.specs.TextOf.{IsTextOf};
 ghost use Rattle.cg_model.specs.Checks.{all_checked};
 ghost use Rattle.cg_model.specs.Several.{AreContained};
 ghost use Rattle.cg_cli.specs.Audits.{users_read, paths_read, audit_status, pairs_report, audit_report};
@@ -13,6 +13,7 @@ use crate::arguments::UserIds;
 use crate::check::status;
 use crate::fault::CliFault;
 use crate::named::{paths_once, users_once};
+use crate::reading::read_tree;
 use crate::write::write_whole;
 use cg_cgroup::memory::NoMemory;
 use cg_cgroup::path::Path;
@@ -21,7 +22,6 @@ use cg_check::check_all;
 use cg_model::answer::AllAnswer;
 use cg_model::fault::CheckFault;
 use cg_report::audit::audit_text;
-use cg_text::tree::read_tree;
 use cg_tree::hierarchy::Hierarchy;
 use std::alloc::Global;
 use std::io::Write;
@@ -44,7 +44,7 @@ pub fn audit_bytes<W: Write>(
         (audit_report tree.now (map (λ user. (user.uid, user.gids.now)) users.now) (map (λ subtree. subtree.now) subtrees.now))
         (W.contents out.old) (W.contents out.new) result }
     ensures contained { result ≡ Ok 0 → (st : State) (who : List Identity) (paths : List Names)
-        → tree_of tree.now ≡ Ok st → users_read (map (λ user. (user.uid, user.gids.now)) users.now) ≡ Ok who
+        → IsTextOf st tree.now → users_read (map (λ user. (user.uid, user.gids.now)) users.now) ≡ Ok who
         → paths_read (map (λ subtree. subtree.now) subtrees.now) ≡ Ok paths → who ≢ [] → AreContained st who paths }
 {
     let users = users_once(alloc, users)?;

@@ -4,7 +4,7 @@ ghost use Rattle.cg_cgroup.specs.Identity.{Identity};
 ghost use Rattle.cg_cgroup.specs.Paths.{Names, path_at};
 ghost use Rattle.cg_cgroup.specs.Users.{user_of};
 ghost use Rattle.cg_model.specs.States.{State};
-ghost use Rattle.cg_text.specs.TreeTexts.{tree_of};
+ghost use Rattle.cg_text.specs.TextOf.{IsTextOf};
 ghost use Rattle.cg_model.specs.Held.{IsContained};
 ghost use Rattle.cg_model.specs.Checks.{checked};
 ghost use Rattle.cg_cli.specs.Containment.{answer_status, check_report, subtree_report};
@@ -12,6 +12,7 @@ ghost use Rattle.cg_cli.specs.Reports.{Reports};
 
 use crate::arguments::{UserIds, read_path, read_user};
 use crate::fault::CliFault;
+use crate::reading::read_tree;
 use crate::write::write_whole;
 use cg_cgroup::memory::NoMemory;
 use cg_cgroup::path::Path;
@@ -20,7 +21,6 @@ use cg_check::check;
 use cg_model::answer::Answer;
 use cg_model::fault::CheckFault;
 use cg_report::answer::answer_text;
-use cg_text::tree::read_tree;
 use cg_tree::hierarchy::Hierarchy;
 use std::alloc::Global;
 use std::io::Write;
@@ -41,7 +41,7 @@ pub fn check_bytes<W: Write>(
     ensures report { Reports (check_report tree.now user.entry.uid user.entry.gids.now subtree.now)
         (W.contents out.old) (W.contents out.new) result }
     ensures contained { result ≡ Ok 0 → (st : State) (who : Identity) (path : Names)
-        → tree_of tree.now ≡ Ok st → user_of user.entry.uid user.entry.gids.now ≡ Some who → path_at subtree.now ≡ Some path
+        → IsTextOf st tree.now → user_of user.entry.uid user.entry.gids.now ≡ Some who → path_at subtree.now ≡ Some path
         → IsContained st who path }
 {
     let user = read_user(user)?;

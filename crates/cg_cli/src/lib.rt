@@ -11,6 +11,7 @@ pub mod input;
 pub mod laws;
 pub mod may;
 mod named;
+mod reading;
 pub mod replay;
 pub mod upgrade;
 pub mod write;

@@ -7,6 +7,7 @@ ghost use Rattle.cg_cli.specs.Reports.{Reports};
 
 use crate::arguments::{UserIds, read_path, read_pid, read_user};
 use crate::fault::CliFault;
+use crate::reading::read_tree;
 use crate::write::write_whole;
 use cg_cgroup::memory::NoMemory;
 use cg_cgroup::user::User;
@@ -14,7 +15,6 @@ use cg_lines::outcome::outcome_text;
 use cg_model::operation::Op;
 use cg_model::outcome::Outcome;
 use cg_ops::refusal;
-use cg_text::tree::read_tree;
 use cg_tree::hierarchy::Hierarchy;
 use std::alloc::Global;
 use std::io::Write;

@@ -8,11 +8,11 @@ ghost use Rattle.cg_cli.specs.Replaying.{coming, whole, IsWaiting, Replays};
 
 use crate::arguments::{UserIds, read_path, read_user};
 use crate::fault::CliFault;
+use crate::reading::read_tree;
 use crate::write::write_whole;
 use cg_cgroup::user::User;
 use cg_indexed::indexed::Indexed;
 use cg_runs::replay::Replay;
-use cg_text::tree::read_tree;
 use course::{OnCourse, Unwatched};
 use run::Run;
 use std::alloc::Global;

@@ -2,9 +2,9 @@
 ghost use Rattle.cg_cli.specs.Upgrades.{Upgrades};
 
 use crate::fault::CliFault;
+use crate::reading::read_tree;
 use crate::write::write_whole;
 use cg_print::tree::tree_text;
-use cg_text::tree::read_tree;
 use std::alloc::Global;
 use std::io::Write;
 

@@ -41,7 +41,7 @@ use Rattle.cg_model.specs.Answers.{answer}
 use Rattle.cg_model.specs.declared.answer.Answer.TheVariants.{Escapes}
 use Rattle.cg_steps.proofs.Lists.{all-append, all-flat_map, all-present, all-each, find-all}
 use Rattle.cg_check.proofs.AnswerLaws.{found-escape}
-use Rattle.cg_lines.specs.OperationLines.{IsHeld, IsHeldLimit}
+use Rattle.cg_lines.specs.OperationLines.{IsInRange, IsLimitInRange}
 use Rattle.cg_lines.specs.LineLengths.{HasFewChanges}
 use Rattle.cg_lines.proofs.LineLengths.{line_length}
 use Rattle.cg_report.proofs.Shown.{all_flat}
@@ -79,15 +79,15 @@ flat_map-short f each (x ∷ xs) =
 
 -- an operation that can be written
 abbrev IsWritten : Op → Type 0
-IsWritten op = IsHeld op × HasFewChanges op
+IsWritten op = IsInRange op × HasFewChanges op
 
 -- a few of them
 abbrev AreWritten : List Op → Type 0
 AreWritten ops = AllByRecursion IsWritten ops × (length ops ≤ 2)
 
-other_held : (file : LimitFile) (value : Limit) → IsHeldLimit (other_value file value)
+other_held : (file : LimitFile) (value : Limit) → IsLimitInRange (other_value file value)
 other_held CpuWeight Max = omega arith
-other_held CpuWeight (At value) = elim (nat_eq value 100) as (λ b. IsHeldLimit (cond b (At 1) (At 100))) [ true ↦ omega arith | false ↦ omega arith ]
+other_held CpuWeight (At value) = elim (nat_eq value 100) as (λ b. IsLimitInRange (cond b (At 1) (At 100))) [ true ↦ omega arith | false ↦ omega arith ]
 other_held file Max = omega arith
 other_held file (At value) = tt
 

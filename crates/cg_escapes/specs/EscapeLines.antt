@@ -6,7 +6,7 @@ use Rattle.cg_cgroup.specs.Numbers.{is_pid}
 use Rattle.cg_model.specs.States.{State, process_at}
 use Rattle.cg_model.specs.WellFormed.{has_row}
 use Rattle.cg_model.specs.declared.operation.Op.{Op}
-use Rattle.cg_lines.specs.OperationLines.{spelling, IsHeld}
+use Rattle.cg_lines.specs.OperationLines.{spelling, IsInRange}
 
 -- each cgroup stands at a path, and each live process has a PID
 pub record IsNamed (st : State) : Type 0 where
@@ -15,7 +15,7 @@ pub record IsNamed (st : State) : Type 0 where
 
 -- the operation can be held, and its line isn't too long
 abbrev pub HasLine : Op → Type 0
-HasLine op = IsHeld op × (length (spelling op) ≤ 8192)
+HasLine op = IsInRange op × (length (spelling op) ≤ 8192)
 
 -- Each operation has a line, and there are fewer than a replay takes.
 abbrev pub HaveLines : List Op → Type 0

@@ -23,7 +23,9 @@ module _ (st : State) (user : Identity) (subtree : Names) where
   of_standing : (guarded : Guarded) → entry_failures st user subtree guarded ≡ of_guarded st subtree failing guarded
   of_standing guarded = by_entry (guarded_entry st subtree guarded)
     where
-      by_entry : (there : Option Entry) → present there (λ entry. unless (not (reaches user entry)) (record { guard = guarded.guard; len = guarded.len })) ≡ present (option_map (found guarded) there) failing
+      by_entry : (there : Option Entry)
+          → present there (λ entry. unless (not (reaches user entry)) (record { guard = guarded.guard; len = guarded.len }))
+          ≡ present (option_map (found guarded) there) failing
       by_entry None = refl
       by_entry (Some entry) = refl
 
@@ -38,7 +40,8 @@ module _ (st : State) (user : Identity) (subtree : Names) where
         ∙ walk_turn st subtree failing (guarded_entries subtree) place here is
         ∙ ap (λ each. present here failing ++ flat_map each (drop (place + 1) (guarded_entries subtree))) (λ i guarded. sym (of_standing guarded) i)
 
-  pub none_fails : (place : ℕ) → None ≡ option_and_then (standing st subtree) (slice_get (guarded_entries subtree) place) → first (failures_from (place + 1)) ≡ first (failures_from place)
+  pub none_fails : (place : ℕ) → None ≡ option_and_then (standing st subtree) (slice_get (guarded_entries subtree) place)
+      → first (failures_from (place + 1)) ≡ first (failures_from place)
   none_fails place is = ap first (sym (failures_turn place None is))
 
   module _ (place : ℕ) (at : GuardedEntry) (is : Some at ≡ option_and_then (standing st subtree) (slice_get (guarded_entries subtree) place)) where
@@ -53,7 +56,8 @@ module _ (st : State) (user : Identity) (subtree : Names) where
 
 -- ---- counts, of a cgroup that is there
 
-pub descendants_row : (st : State) (path : Names) (row : Cgroup) (len count : ℕ) → row_at st path ≡ Some row → len ≡ length path → count ≡ count_below st (take len path)
+pub descendants_row : (st : State) (path : Names) (row : Cgroup) (len count : ℕ) → row_at st path ≡ Some row → len ≡ length path
+    → count ≡ count_below st (take len path)
     → is_within_limit count row.max_descendants.value ≡ fits_descendants st path
 descendants_row st path row len count is level counted =
     let whole : take len path ≡ path = take_all len path (omega arith) in

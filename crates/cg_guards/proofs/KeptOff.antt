@@ -23,7 +23,8 @@ use Rattle.cg_guards.proofs.TableWalk.{drop_all}
 
 pub while_all : {A : Type 0} (p : A → Bool) (xs : List A) → ((x : A) → p x ≡ true) → take_while p xs ≡ xs
 while_all p [] all = refl
-while_all p (x ∷ xs) all = take_while-cons p x xs ∙ ap (λ b. cond b (x ∷ take_while p xs) []) (all x) ∙ ap (λ rest. x ∷ rest) (while_all p xs all)
+while_all p (x ∷ xs) all = take_while-cons p x xs ∙ ap (λ b. cond b (x ∷ take_while p xs) []) (all x)
+    ∙ ap (λ rest. x ∷ rest) (while_all p xs all)
 
 while_none : {A : Type 0} (p : A → Bool) (xs : List A) → ((x : A) → p x ≡ false) → take_while p xs ≡ []
 while_none p [] none = refl
@@ -44,7 +45,8 @@ module _ {A : Type 0} (p : A → Bool) (xs : List A) (i : ℕ) (x : A) (within :
   here = ap (prefix_len p) (drop-cons xs i x within) ∙ (λ j. cond (p (sym at j)) (1 + prefix_len p (drop (sym (add-one i) j) xs)) 0)
 
   pub one_passes : prefix_len p xs ≡ i + prefix_len p (drop i xs) → p x ≡ true → prefix_len p xs ≡ i + 1 + prefix_len p (drop (i + 1) xs)
-  one_passes far passes = let e : prefix_len p (drop i xs) ≡ 1 + prefix_len p (drop (i + 1) xs) = here ∙ ap (λ b. cond b (1 + prefix_len p (drop (i + 1) xs)) 0) passes in omega (arith, far, e)
+  one_passes far passes = let e : prefix_len p (drop i xs) ≡ 1 + prefix_len p (drop (i + 1) xs) = here
+      ∙ ap (λ b. cond b (1 + prefix_len p (drop (i + 1) xs)) 0) passes in omega (arith, far, e)
 
   pub one_stops : prefix_len p xs ≡ i + prefix_len p (drop i xs) → p x ≡ false → take i xs ≡ take_while p xs
   one_stops far stops =
@@ -52,7 +54,8 @@ module _ {A : Type 0} (p : A → Bool) (xs : List A) (i : ℕ) (x : A) (within :
       let same : i ≡ prefix_len p xs = omega (arith, far, e) in
       ap (λ n. take n xs) same
 
-pub none_stops : {A : Type 0} (p : A → Bool) (xs : List A) (i : ℕ) → prefix_len p xs ≡ i + prefix_len p (drop i xs) → length xs ≤ i → xs ≡ take_while p xs
+pub none_stops : {A : Type 0} (p : A → Bool) (xs : List A) (i : ℕ) → prefix_len p xs ≡ i + prefix_len p (drop i xs) → length xs ≤ i
+    → xs ≡ take_while p xs
 none_stops p xs i far all = sym (take_all (prefix_len p xs) xs (omega (arith, far, all)))
 
 -- ---- entries that the same users reach
@@ -61,7 +64,8 @@ none_stops p xs i far all = sym (take_all (prefix_len p xs) xs (omega (arith, fa
 abbrev reach : Bool → Bool → Bool → Bool → Bool → Bool
 reach owner member of_owner of_group of_others = cond owner of_owner (cond member of_group of_others) || owner
 
-any_owner : (owner member of_owner other of_group of_others : Bool) → reach owner member of_owner of_group of_others ≡ reach owner member other of_group of_others
+any_owner : (owner member of_owner other of_group of_others : Bool)
+    → reach owner member of_owner of_group of_others ≡ reach owner member other of_group of_others
 any_owner true member true true of_group of_others = refl
 any_owner true member true false of_group of_others = refl
 any_owner true member false true of_group of_others = refl
@@ -93,16 +97,20 @@ alike-reached user entry other is =
     bits : bit_and entry.mode 18 ≡ bit_and other.mode 18
     bits = eqb-true (bit_and entry.mode 18) (bit_and other.mode 18) parts.1
 
-    same_bit : (bit : ℕ) → bit_and (bit_and entry.mode 18) bit ≡ bit_and entry.mode bit → bit_and (bit_and other.mode 18) bit ≡ bit_and other.mode bit → has_bit entry.mode bit ≡ has_bit other.mode bit
+    same_bit : (bit : ℕ) → bit_and (bit_and entry.mode 18) bit ≡ bit_and entry.mode bit
+        → bit_and (bit_and other.mode 18) bit ≡ bit_and other.mode bit → has_bit entry.mode bit ≡ has_bit other.mode bit
     same_bit bit one two = ap (λ n. nat_eq n bit) (sym one ∙ ap (λ n. bit_and n bit) bits ∙ two)
 
-pub asked_spares : (before : Option Entry) (entry : Entry) (users : List Identity) → is_asked before entry ≡ true → AreSpared before users → users ≡ take_while (is_spared (Some entry)) users
+pub asked_spares : (before : Option Entry) (entry : Entry) (users : List Identity) → is_asked before entry ≡ true → AreSpared before users
+    → users ≡ take_while (is_spared (Some entry)) users
 asked_spares None entry users is spared = let never : ⊥ = cc in absurd never
-asked_spares (Some before) entry users is spared = sym spared ∙ ap (λ p. take_while p users) (λ i user. not (alike-reached user before entry is i))
+asked_spares (Some before) entry users is spared = sym spared
+    ∙ ap (λ p. take_while p users) (λ i user. not (alike-reached user before entry is i))
 
 pub spared_again : (entry : Option Entry) (users next : List Identity) → next ≡ take_while (is_spared entry) users → AreSpared entry next
 spared_again entry users next is =
-    ap (take_while (is_spared entry)) is ∙ while_both (is_spared entry) (is_spared entry) users ∙ ap (λ p. take_while p users) (λ i user. twice (is_spared entry user) i) ∙ sym is
+    ap (take_while (is_spared entry)) is ∙ while_both (is_spared entry) (is_spared entry) users
+    ∙ ap (λ p. take_while p users) (λ i user. twice (is_spared entry user) i) ∙ sym is
   where
     twice : (b : Bool) → b && b ≡ b
     twice true = refl
@@ -122,11 +130,15 @@ module _ (st : State) (subtree : Names) where
   abbrev pub kept_from : ℕ → List Identity → List Identity
   kept_from place users = kept_off st subtree (drop place (guarded_entries subtree)) users
 
-  pub absent_turn : (place : ℕ) (users : List Identity) → None ≡ option_and_then (standing st subtree) (slice_get (guarded_entries subtree) place) → kept_from (place + 1) users ≡ kept_from place users
+  pub absent_turn : (place : ℕ) (users : List Identity)
+      → None ≡ option_and_then (standing st subtree) (slice_get (guarded_entries subtree) place)
+      → kept_from (place + 1) users ≡ kept_from place users
   absent_turn place users is = ap (λ p. take_while p users) (λ i user. is_none (first (sym (failures_turn st user subtree place None is) i)))
 
   module _ (place : ℕ) (at : GuardedEntry) (is : Some at ≡ option_and_then (standing st subtree) (slice_get (guarded_entries subtree) place)) where
-    one_more : (user : Identity) → is_kept_off st subtree (drop place (guarded_entries subtree)) user ≡ is_spared (Some at.entry) user && is_kept_off st subtree (drop (place + 1) (guarded_entries subtree)) user
+    one_more : (user : Identity)
+        → is_kept_off st subtree (drop place (guarded_entries subtree)) user
+        ≡ is_spared (Some at.entry) user && is_kept_off st subtree (drop (place + 1) (guarded_entries subtree)) user
     one_more user =
         ap (λ failed. is_none (first failed)) (failures_turn st user subtree place (Some at) is)
         ∙ none_of_both (failing st user subtree at) (failures_from st user subtree (place + 1))
@@ -136,7 +148,8 @@ module _ (st : State) (subtree : Names) where
         by_reach failed true = refl
         by_reach failed false = refl
 
-    pub entry_turn : (users next : List Identity) → next ≡ take_while (is_spared (Some at.entry)) users → kept_from (place + 1) next ≡ kept_from place users
+    pub entry_turn : (users next : List Identity) → next ≡ take_while (is_spared (Some at.entry)) users
+        → kept_from (place + 1) next ≡ kept_from place users
     entry_turn users next turned =
         ap (kept_from (place + 1)) turned
         ∙ while_both (is_spared (Some at.entry)) (is_kept_off st subtree (drop (place + 1) (guarded_entries subtree))) users
@@ -170,7 +183,8 @@ module _ (st : State) (subtree : Names) where
       and_false true = refl
       and_false false = refl
 
-  pub within_guards : (users : List Identity) → not fits ≡ false → kept_off st subtree (guarded_entries subtree) users ≡ take_while (is_guarded st subtree) users
+  pub within_guards : (users : List Identity) → not fits ≡ false
+      → kept_off st subtree (guarded_entries subtree) users ≡ take_while (is_guarded st subtree) users
   within_guards users within = ap (λ p. take_while p users) (λ i user. sym (by_fit user ∙ ap (λ b. is_kept_off st subtree (guarded_entries subtree) user && b) (is_true fits within) ∙ and_true _) i)
     where
       is_true : (b : Bool) → not b ≡ false → b ≡ true

@@ -58,7 +58,8 @@ module _ (subtree : Names) (place : ℕ) where
   last_two = parent_control subtree ∷ parent_dir subtree ∷ []
 
   above-length : length above ≡ length subtree + length all_files
-  above-length = length-append (ancestors (length subtree)) (limit_files (length subtree)) ∙ ap (λ n. n + length all_files) (length-ancestors (length subtree))
+  above-length = length-append (ancestors (length subtree)) (limit_files (length subtree))
+      ∙ ap (λ n. n + length all_files) (length-ancestors (length subtree))
 
   module _ (depth : ℕ) (level : depth ≡ length subtree) where
     pub ancestor_at : place < depth → Some (ancestor (depth - 1 - place)) ≡ slice_get (guarded_entries subtree) place
@@ -70,7 +71,8 @@ module _ (subtree : Names) (place : ℕ) where
         ∙ get_front (ancestors (length subtree)) (limit_files (length subtree)) place (omega (arith, e, level, h))
         ∙ get-ancestors (length subtree) place (omega (arith, level, h)))
 
-    pub file_at : (d : LimitFile) → depth ≤ place → place - depth < length all_files → Some (limit_file depth (get_or all_files (place - depth) d)) ≡ slice_get (guarded_entries subtree) place
+    pub file_at : (d : LimitFile) → depth ≤ place → place - depth < length all_files
+        → Some (limit_file depth (get_or all_files (place - depth) d)) ≡ slice_get (guarded_entries subtree) place
     file_at d low high =
         let e = length-ancestors (length subtree) in
         let f = above-length in
@@ -81,7 +83,8 @@ module _ (subtree : Names) (place : ℕ) where
         ∙ slice_get-map (limit_file (length subtree)) all_files (place - length subtree)
         ∙ ap (option_map (limit_file (length subtree))) (slice_get-get_or all_files (place - length subtree) d (omega (arith, level, low, high))))
 
-    pub parent_at : depth ≤ place → length all_files ≤ place - depth → slice_get (parent_guards (depth - 1)) (place - depth - length all_files) ≡ slice_get (guarded_entries subtree) place
+    pub parent_at : depth ≤ place → length all_files ≤ place - depth
+        → slice_get (parent_guards (depth - 1)) (place - depth - length all_files) ≡ slice_get (guarded_entries subtree) place
     parent_at low high =
         let f = above-length in
         let g : place - length above ≡ place - length subtree - length all_files = omega (arith, f) in
@@ -89,7 +92,8 @@ module _ (subtree : Names) (place : ℕ) where
         ∙ sym (get_back above last_two place (omega (arith, f, level, low, high)) ∙ ap (slice_get last_two) g)
 
 -- an entry of a well-formed tree has a mode
-pub guarded_mode : (st : State) (path : Names) (row : Cgroup) (name : EntryName) (entry : Entry) → IsWellFormed st → Some row ≡ row_at st path → Some entry ≡ entry_in row name → entry.mode ≤ 511
+pub guarded_mode : (st : State) (path : Names) (row : Cgroup) (name : EntryName) (entry : Entry) → IsWellFormed st
+    → Some row ≡ row_at st path → Some entry ≡ entry_in row name → entry.mode ≤ 511
 guarded_mode st path row name entry formed is held = (formed.rows path row (sym is)).modes name entry (sym held)
 
 -- ---- a path has no more names than bytes
@@ -114,7 +118,8 @@ module _ {A : Type 0} (st : State) (subtree : Names) (each : GuardedEntry → Li
   of_guarded guarded = present (standing st subtree guarded) each
 
   -- what is left at a place is what stands there, and what is left behind it
-  pub walk_turn : (gs : List Guarded) (place : ℕ) (here : Option GuardedEntry) → here ≡ option_and_then (standing st subtree) (slice_get gs place)
+  pub walk_turn : (gs : List Guarded) (place : ℕ) (here : Option GuardedEntry)
+      → here ≡ option_and_then (standing st subtree) (slice_get gs place)
       → flat_map of_guarded (drop place gs) ≡ present here each ++ flat_map of_guarded (drop (place + 1) gs)
   walk_turn [] zero here is = sym (ap (λ o. present o each ++ []) is)
   walk_turn [] (suc place) here is = let e : suc place + 1 ≡ suc (place + 1) = omega arith in rw e (sym (ap (λ o. present o each ++ []) is))

@@ -3,7 +3,6 @@
 ghost use Rattle.std.specs.Prelude.{◌≡◌, true, false, ◌&&◌, not};
 ghost use Rattle.std.specs.List.{flat_map};
 ghost use Rattle.cg_cgroup.specs.Paths.{is_root};
-ghost use Rattle.cg_cgroup.specs.Users.{reaches};
 ghost use Rattle.cg_model.specs.States.{row_at};
 ghost use Rattle.cg_model.specs.WellFormed.{has_row};
 ghost use Rattle.cg_model.specs.Clauses.{first};
@@ -14,7 +13,7 @@ use crate::table::{guarded_count, guarded_entry};
 use cg_cgroup::cgroup::Cgroup;
 use cg_cgroup::files::Limit;
 use cg_cgroup::path::Path;
-use cg_cgroup::user::{Entry, User};
+use cg_cgroup::user::User;
 use cg_model::guard::{Failed, Guard};
 use cg_tree::hierarchy::Hierarchy;
 
@@ -74,7 +73,7 @@ pub fn failed_entry<H: Hierarchy>(tree: &H, user: &User, subtree: &Path) -> Opti
         let Some(at) = guarded_entry(tree, subtree, place) else {
             continue;
         };
-        if reaches(user, &at.entry) {
+        if user.reaches(&at.entry) {
             return Some(Failed {
                 guard: at.guard,
                 len: at.len,
@@ -82,13 +81,6 @@ pub fn failed_entry<H: Hierarchy>(tree: &H, user: &User, subtree: &Path) -> Opti
         }
     }
     None
-}
-
-/// Whether a user writes or owns an entry.
-pub fn reaches(user: &User, entry: &Entry) -> bool
-    ensures { result ≡ reaches user.now entry.now }
-{
-    user.may_write(entry) || user.owns(entry)
 }
 
 /// Whether so many are within a limit.

@@ -6,7 +6,7 @@ ghost use Rattle.cg_cgroup.specs.Paths.{is_root};
 ghost use Rattle.cg_model.specs.Guards.{guarded_entries, IsSubtree, is_guarded};
 ghost use Rattle.cg_guards.specs.GuardedUsers.{is_spared, is_alike, is_asked, AreSpared, kept_off};
 
-use crate::failed::{is_over, reaches};
+use crate::failed::is_over;
 use crate::table::{guarded_count, guarded_entry};
 use cg_cgroup::path::Path;
 use cg_cgroup::user::{Entry, User};
@@ -83,7 +83,7 @@ fn off_entry<'a>(users: &'a [User], entry: &Entry) -> &'a [User]
     ensures { result.now ≡ take_while (is_spared (Some entry.now)) users.now }
 {
     for (place, user) in users.iter().enumerate() {
-        if reaches(user, entry) {
+        if user.reaches(entry) {
             return &users[..place];
         }
     }

@@ -71,7 +71,7 @@ module _ (places : FinMap path_cmp ℕ) (nodes : List Node) (m : FinMap path_cmp
         let p = take k path in
         let row = row_is p ∙ ap (option_map (λ i. (node_at nodes i).cgroup)) is in
         (λ t. is_full_link (record { above = 0; below = count_is p at is t; max_descendants = kept.descendants p at is t; max_depth = kept.depths p at is t }) (len - k))
-        ∙ ap (λ o. elim o as (λ _. Bool) [ None ↦ false | Some r ↦ bars_child r (count_below (tree_of m) p) (len - k) ]) (sym row)
+        ∙ ap (λ o. elim o as (λ _. Bool) [ None ↦ false | Some r ↦ bars_child (count_below (tree_of m) p) r.max_descendants.value (len - k) r.max_depth.value ]) (sym row)
 
 -- the place that a look-up by the whole path finds
 pub whole_place : (places : FinMap path_cmp ℕ) (q : Names) (len place : ℕ) → len ≡ length q → Some place ≡ map.get places (take len q) → map.get places q ≡ Some place

@@ -3,7 +3,7 @@
 use Rattle.std.specs.Prelude.{◌≡◌, ℕ, zero, suc, ◌+◌, ◌-◌, ◌<◌, min, Bool, not, ◌&&◌, cond, nat_lt, Option, List, [], ◌∷◌, ◌++◌, length, get_or, Some, None, slice_set}
 use Rattle.std.specs.FinMap as map
 use Rattle.cg_cgroup.specs.Paths.{Names, path_cmp, parent}
-use Rattle.cg_model.specs.Limits.{is_under}
+use Rattle.cg_tree.specs.Limits.{bars_child}
 use Rattle.cg_cgroup.specs.declared.files.Limit.TheVariants.{Max}
 use Rattle.cg_cgroup.specs.declared.cgroup.Cgroup.{Cgroup}
 use Rattle.cg_indexed.specs.declared.links.Link.{Link}
@@ -66,7 +66,7 @@ lowered = changed_up one_less
 
 -- whether a cgroup bars a child of one so many levels below it
 abbrev pub is_full_link : Link → ℕ → Bool
-is_full_link link levels = not (is_under link.below link.max_descendants && is_under levels link.max_depth)
+is_full_link link levels = bars_child link.below link.max_descendants levels link.max_depth
 
 -- the nearest of a place and those above it that does, by the number of places above it
 abbrev pub climbed : List Link → ℕ → ℕ → ℕ → Option ℕ

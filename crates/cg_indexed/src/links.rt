@@ -5,7 +5,7 @@ ghost use Rattle.cg_indexed.specs.Links.{link_at, new_link, with_limits, to_nowh
 
 use cg_cgroup::cgroup::Cgroup;
 use cg_cgroup::files::Limit;
-use cg_tree::limits::is_under;
+use cg_tree::limits::bars_child;
 
 /// Where the link of a place leads that is no cgroup's: there is no such place.
 const NOWHERE: usize = usize::MAX;
@@ -40,7 +40,7 @@ impl Link {
     fn is_full(&self, levels: u64) -> bool
         ensures { result ≡ is_full_link self.now levels }
     {
-        !(is_under(self.below, self.max_descendants) && is_under(levels, self.max_depth))
+        bars_child(self.below, self.max_descendants, levels, self.max_depth)
     }
 }
 

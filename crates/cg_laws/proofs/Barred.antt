@@ -39,7 +39,8 @@ module _ (st : State) (user : Identity) (subtree : Names) (sound : IsSound st) (
   row_above = some_value (row_at st (parent subtree)) (sound.parents subtree sub.0)
 
   -- a control is at another cgroup than the parent
-  pub control-other : (at : Names) (changes : List Change) → AreUnreached st user subtree (parent_control subtree ∷ []) → control_bars st user at changes ≡ [] → is_child at subtree ≡ false
+  pub control-other : (at : Names) (changes : List Change) → AreUnreached st user subtree (parent_control subtree ∷ [])
+      → control_bars st user at changes ≡ [] → is_child at subtree ≡ false
   control-other at changes unreached free = false_from_ne_true (is_child at subtree) (λ child.
       let row = row_above in
       let asked = (no_parts _ _ (no_parts _ _ free).0).1 in
@@ -47,7 +48,8 @@ module _ (st : State) (user : Identity) (subtree : Names) (sound : IsSound st) (
       never_written st user subtree (parent_control subtree ∷ []) unreached (parent_control subtree) (contains-alone (parent_control subtree)) row.0.subtree_control (ap (option_and_then (λ r. entry_in r SubtreeControl)) row.1) can)
 
   -- an rmdir is of another cgroup
-  pub rmdir-other : (path : Names) → AreUnreached st user subtree (parent_dir subtree ∷ []) → rmdir_bars st user path ≡ [] → same_path path subtree ≡ false
+  pub rmdir-other : (path : Names) → AreUnreached st user subtree (parent_dir subtree ∷ []) → rmdir_bars st user path ≡ []
+      → same_path path subtree ≡ false
   rmdir-other path unreached free = false_from_ne_true (same_path path subtree) (λ same.
       let row = row_above in
       let asked = no_unless _ _ (no_parts _ _ (no_parts _ _ (no_parts _ _ free).0).0).1 in
@@ -58,7 +60,8 @@ module _ (st : State) (user : Identity) (subtree : Names) (sound : IsSound st) (
       never_written st user subtree (parent_dir subtree ∷ []) unreached (parent_dir subtree) (contains-alone (parent_dir subtree)) row.0.dir (ap (option_and_then (λ r. entry_in r Dir)) row.1) can)
 
   -- a set is at another cgroup
-  pub set-other : (at : Names) (file : LimitFile) (value : Limit) → AreUnreached st user subtree (limit_files (length subtree)) → set_bars st user at file value ≡ [] → same_path at subtree ≡ false
+  pub set-other : (at : Names) (file : LimitFile) (value : Limit) → AreUnreached st user subtree (limit_files (length subtree))
+      → set_bars st user at file value ≡ [] → same_path at subtree ≡ false
   set-other at file value unreached free = false_from_ne_true (same_path at subtree) (λ same.
       let row = row_here in
       let whole : take (length subtree) subtree ≡ subtree = take_all (length subtree) subtree (omega arith) in
@@ -80,7 +83,8 @@ entry-there row SubtreeControl h = refl
 entry-there row (File file) h = let held = some_value (file_of row file) (no_absent (file_of row file) (NoSuchFile file) h) in ap (λ f. is_some (option_map (λ f. f.entry) f)) held.1
 
 -- the entry that a chmod sets is there, and is the user's own
-pub chmod-owned : (st : State) (user : Identity) (at : Names) (name : EntryName) → chmod_bars st user at name ≡ [] → (entry : Entry) × (entry_at st at name ≡ Some entry) × (owns user entry ≡ true)
+pub chmod-owned : (st : State) (user : Identity) (at : Names) (name : EntryName) → chmod_bars st user at name ≡ []
+    → (entry : Entry) × (entry_at st at name ≡ Some entry) × (owns user entry ≡ true)
 chmod-owned st user at name free =
     let parts = no_parts _ _ free in
     let there = no_parts _ _ parts.0 in
@@ -90,7 +94,9 @@ chmod-owned st user at name free =
     (entry.0, is, no_unless _ _ (no_present (entry_at st at name) (λ e. unless (owns user e) (NotOwner name)) parts.1 entry.0 is))
 
 -- a chmod is of no guarded entry
-pub chmod-other : (st : State) (user : Identity) (subtree at : Names) (name : EntryName) (mode : ℕ) → AreUnreached st user subtree (guarded_entries subtree) → chmod_bars st user at name ≡ [] → sets_guarded_mode subtree (Chmod at name mode) ≡ false
+pub chmod-other : (st : State) (user : Identity) (subtree at : Names) (name : EntryName) (mode : ℕ)
+    → AreUnreached st user subtree (guarded_entries subtree) → chmod_bars st user at name ≡ []
+    → sets_guarded_mode subtree (Chmod at name mode) ≡ false
 chmod-other st user subtree at name mode unreached free =
     list_any_none (is_chmod_of subtree (Chmod at name mode)) (guarded_entries subtree) (λ k d within.
     let guarded = get_or (guarded_entries subtree) k d in

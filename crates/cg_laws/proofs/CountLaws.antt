@@ -30,7 +30,8 @@ counts_first [] = false
 counts_first (clause ∷ clauses) = is_count clause
 
 -- where the counts fit if nothing else is broken, none of them comes first
-no_count : (there : Bool) (crossed : List ℕ) (same descendants depth : Bool) → (same ≡ true → (descendants ≡ true) × (depth ≡ true)) → counts_first (clauses_of there crossed same descendants depth) ≡ false
+no_count : (there : Bool) (crossed : List ℕ) (same descendants depth : Bool) → (same ≡ true → (descendants ≡ true) × (depth ≡ true))
+    → counts_first (clauses_of there crossed same descendants depth) ≡ false
 no_count false crossed same descendants depth fits = refl
 no_count true (pid ∷ pids) same descendants depth fits = refl
 no_count true [] false descendants depth fits = refl
@@ -39,7 +40,8 @@ no_count true [] true descendants depth fits = let both = fits refl in λ i. cou
 -- ---- a step
 
 module _ (start st before : State) (user : Identity) (op : Op) (subtree : Names) (whole : IsWhole (limits start subtree) before st subtree) where
-  fits-step : limits (after st user op) subtree ≡ limits st subtree → (fits_descendants (after st user op) subtree ≡ true) × (fits_depth (after st user op) subtree ≡ true)
+  fits-step : limits (after st user op) subtree ≡ limits st subtree
+      → (fits_descendants (after st user op) subtree ≡ true) × (fits_depth (after st user op) subtree ≡ true)
   fits-step same =
       elim (bars st user op) as (λ found. bars st user op ≡ found → (fits_descendants (after st user op) subtree ≡ true) × (fits_depth (after st user op) subtree ≡ true)) [
         | [] ↦ λ free. fits-after st user subtree op whole.there free same whole.descendants whole.depth
@@ -60,7 +62,8 @@ same_break steps other clause found h = (cc, cc)
 
 module _ (start : State) (subtree : Names) where
   -- what a later step breaks is no count, and comes later
-  later-break : (made : ℕ) (before st : State) → IsWhole (limits start subtree) before st subtree → (deeds : List Deed) (steps : ℕ) (clause : Clause) → verdict_from start made st deeds subtree ≡ Broken steps clause
+  later-break : (made : ℕ) (before st : State) → IsWhole (limits start subtree) before st subtree
+      → (deeds : List Deed) (steps : ℕ) (clause : Clause) → verdict_from start made st deeds subtree ≡ Broken steps clause
       → (is_count clause ≡ false) × (made < steps)
   later-break made before st whole [] steps clause h = cc
   later-break made before st whole (deed ∷ deeds) steps clause h =
@@ -73,19 +76,22 @@ module _ (start : State) (subtree : Names) where
       ] refl h
 
   -- a count is broken at the start, and there nothing else is
-  count-start : (deeds : List Deed) (steps : ℕ) (clause : Clause) → is_count clause ≡ true → verdict start deeds subtree ≡ Broken steps clause → steps ≡ 0
+  count-start : (deeds : List Deed) (steps : ℕ) (clause : Clause) → is_count clause ≡ true
+      → verdict start deeds subtree ≡ Broken steps clause → steps ≡ 0
   count-start deeds steps clause is_one h =
       elim (broken start start start subtree) as (λ found. broken start start start subtree ≡ found → or_later found 0 (verdict_from start 0 start deeds subtree) ≡ Broken steps clause → steps ≡ 0) [
         | [] ↦ λ none more. absurd (true≢false (sym is_one ∙ (later-break 0 start start (broken-whole (limits start subtree) start start subtree none) deeds steps clause more).0))
         | found ∷ others ↦ λ _ more. sym (same_break 0 steps found clause more).0
       ] refl h
 
-  first_count : (descendants depth : Bool) (found : Clause) (others : List Clause) → clauses_of true [] true descendants depth ≡ found ∷ others → (found ≡ Descendants) ⊎ (found ≡ Depth)
+  first_count : (descendants depth : Bool) (found : Clause) (others : List Clause)
+      → clauses_of true [] true descendants depth ≡ found ∷ others → (found ≡ Descendants) ⊎ (found ≡ Depth)
   first_count false depth found others h = inl cc
   first_count true false found others h = inr cc
   first_count true true found others h = cc
 
-  pub start-count : (deeds : List Deed) (clause : Clause) → has_row start subtree ≡ true → verdict start deeds subtree ≡ Broken 0 clause → (clause ≡ Descendants) ⊎ (clause ≡ Depth)
+  pub start-count : (deeds : List Deed) (clause : Clause) → has_row start subtree ≡ true → verdict start deeds subtree ≡ Broken 0 clause
+      → (clause ≡ Descendants) ⊎ (clause ≡ Depth)
   start-count deeds clause there h =
       elim (broken start start start subtree) as (λ found. broken start start start subtree ≡ found → or_later found 0 (verdict_from start 0 start deeds subtree) ≡ Broken 0 clause → (clause ≡ Descendants) ⊎ (clause ≡ Depth)) [
         | [] ↦ λ none more. absurd (omega (arith, (later-break 0 start start (broken-whole (limits start subtree) start start subtree none) deeds 0 clause more).1))

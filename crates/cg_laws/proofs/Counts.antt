@@ -37,7 +37,8 @@ fits_in count (Some limit) = is_within_limit count limit
 abbrev FitIn : State → Names → Limits → Type 0
 FitIn st subtree values = (fits_in (count_below st subtree) (values MaxDescendants) ≡ true) × (fits_in (depth_below st subtree) (values MaxDepth) ≡ true)
 
-descendants-limit : (st : State) (subtree : Names) → fits_descendants st subtree ≡ fits_in (count_below st subtree) (limits st subtree MaxDescendants)
+descendants-limit : (st : State) (subtree : Names)
+    → fits_descendants st subtree ≡ fits_in (count_below st subtree) (limits st subtree MaxDescendants)
 descendants-limit st subtree =
     elim (row_at st subtree) as (λ found. elim found [ None ↦ true | Some row ↦ is_within_limit (count_below st subtree) row.max_descendants.value ] ≡ fits_in (count_below st subtree) (option_and_then (λ row. value_in row MaxDescendants) found)) [ None ↦ refl | Some row ↦ refl ]
 
@@ -55,10 +56,12 @@ most-in count (Some (At most)) within = le-leb count most (within most refl)
 
 -- a count fits exactly where it is no more than a limit that is a number
 module _ (st : State) (subtree : Names) where
-  pub descendants-most : fits_descendants st subtree ≡ true → (most : ℕ) → limits st subtree MaxDescendants ≡ Some (At most) → count_below st subtree ≤ most
+  pub descendants-most : fits_descendants st subtree ≡ true → (most : ℕ) → limits st subtree MaxDescendants ≡ Some (At most)
+      → count_below st subtree ≤ most
   descendants-most h = in-most (count_below st subtree) (limits st subtree MaxDescendants) (sym (descendants-limit st subtree) ∙ h)
 
-  pub most-descendants : ((most : ℕ) → limits st subtree MaxDescendants ≡ Some (At most) → count_below st subtree ≤ most) → fits_descendants st subtree ≡ true
+  pub most-descendants : ((most : ℕ) → limits st subtree MaxDescendants ≡ Some (At most) → count_below st subtree ≤ most)
+      → fits_descendants st subtree ≡ true
   most-descendants within = descendants-limit st subtree ∙ most-in (count_below st subtree) (limits st subtree MaxDescendants) within
 
   pub depth-most : fits_depth st subtree ≡ true → (most : ℕ) → limits st subtree MaxDepth ≡ Some (At most) → depth_below st subtree ≤ most
@@ -76,7 +79,8 @@ one_more : (count : ℕ) (limit : Limit) → is_under count limit ≡ true → f
 one_more count Max h = refl
 one_more count (At most) h = let under = ltb-true count most h in le-leb (1 + count) most (omega arith)
 
-greater : (count other : ℕ) (limit : Option Limit) → fits_in count limit ≡ true → fits_in other limit ≡ true → fits_in (max count other) limit ≡ true
+greater : (count other : ℕ) (limit : Option Limit) → fits_in count limit ≡ true → fits_in other limit ≡ true
+    → fits_in (max count other) limit ≡ true
 greater count other None h k = refl
 greater count other (Some Max) h k = refl
 greater count other (Some (At most)) h k = let first = leb-true count most h in let second = leb-true other most k in le-leb (max count other) most (omega arith)
@@ -132,7 +136,8 @@ module _ (st : State) (user : Identity) (subtree path : Names) (there : has_row 
 
 -- ---- an rmdir
 
-fits-without_row : (st : State) (subtree path : Names) (values : Limits) → has_row st path ≡ true → FitIn st subtree values → FitIn (without_row st path) subtree values
+fits-without_row : (st : State) (subtree path : Names) (values : Limits) → has_row st path ≡ true → FitIn st subtree values
+    → FitIn (without_row st path) subtree values
 fits-without_row st subtree path values there fits =
     let row = some_value (row_at st path) there in (
       fewer (count_below (without_row st path) subtree) (count_below st subtree) (values MaxDescendants) (lower_count _ _ (below subtree path) (count_below-without_row st path row.0 row.1 subtree)) fits.0,
@@ -167,7 +172,8 @@ module _ (st : State) (user : Identity) (subtree : Names) (fits : FitIn st subtr
   fits-next (Chmod at name mode) there free = same_paths (next st user (Chmod at name mode)) (paths_of-with_mode st at name mode)
 
 -- where nothing bars it and the limits stay
-pub fits-after : (st : State) (user : Identity) (subtree : Names) (op : Op) → has_row st subtree ≡ true → bars st user op ≡ [] → limits (after st user op) subtree ≡ limits st subtree
+pub fits-after : (st : State) (user : Identity) (subtree : Names) (op : Op) → has_row st subtree ≡ true → bars st user op ≡ []
+    → limits (after st user op) subtree ≡ limits st subtree
     → fits_descendants st subtree ≡ true → fits_depth st subtree ≡ true → (fits_descendants (after st user op) subtree ≡ true) × (fits_depth (after st user op) subtree ≡ true)
 fits-after st user subtree op there free same descendants depth =
     let new = after st user op in

@@ -38,7 +38,8 @@ use Rattle.cg_steps.proofs.Edges.{stays-there, none-crosses, none-crosses-same}
 -- ---- paths
 
 -- of a place inside and one outside the common ancestor is a proper ancestor of the subtree
-common-above : (subtree from to : Names) → inside subtree from ≡ true → inside subtree to ≡ false → (length (common from to) < length subtree) × (common from to ≡ take (length (common from to)) subtree)
+common-above : (subtree from to : Names) → inside subtree from ≡ true → inside subtree to ≡ false
+    → (length (common from to) < length subtree) × (common from to ≡ take (length (common from to)) subtree)
 common-above subtree from to within without =
     let top = common from to in
     let at = inside-is subtree from within in
@@ -56,11 +57,15 @@ ends : (subtree : Names) (place : Option Names) → is_crossed subtree place Non
 ends subtree None = refl
 ends subtree (Some place) = refl
 
-one_side : (subtree : Names) (place : Option Names) (to : Names) → ((from : Names) → place ≡ Some from → inside subtree from ≡ inside subtree to) → is_crossed subtree place (option_map (λ _. to) place) ≡ false
+one_side : (subtree : Names) (place : Option Names) (to : Names)
+    → ((from : Names) → place ≡ Some from → inside subtree from ≡ inside subtree to)
+    → is_crossed subtree place (option_map (λ _. to) place) ≡ false
 one_side subtree None to same = refl
-one_side subtree (Some from) to same = ap (λ b. cond b (not (inside subtree to)) (inside subtree to)) (same from refl) ∙ stays-there subtree (Some to)
+one_side subtree (Some from) to same = ap (λ b. cond b (not (inside subtree to)) (inside subtree to)) (same from refl)
+    ∙ stays-there subtree (Some to)
 
-placed : (to : Names) (process : Option Process) → option_map (λ p. p.place) (option_map (placed_at to) process) ≡ option_map (λ _. to) (option_map (λ p. p.place) process)
+placed : (to : Names) (process : Option Process)
+    → option_map (λ p. p.place) (option_map (placed_at to) process) ≡ option_map (λ _. to) (option_map (λ p. p.place) process)
 placed to None = refl
 placed to (Some process) = refl
 
@@ -68,10 +73,12 @@ placed to (Some process) = refl
 
 module _ (st : State) (user : Identity) (subtree : Names) where
   pub kept : (op : Op) (q : ℕ) → alters_process op q ≡ false → is_crossed subtree (place_at st q) (place_at (after st user op) q) ≡ false
-  kept op q same = ap (λ process. is_crossed subtree (place_at st q) (option_map (λ p. p.place) process)) (process_at-after st user op q same) ∙ stays-there subtree (place_at st q)
+  kept op q same = ap (λ process. is_crossed subtree (place_at st q) (option_map (λ p. p.place) process)) (process_at-after st user op q same)
+      ∙ stays-there subtree (place_at st q)
 
   -- a process that is made was nowhere
-  pub fork-crosses : IsSound st → (parent child q : ℕ) → bars st user (Fork parent child) ≡ [] → is_crossed subtree (place_at st q) (place_at (after st user (Fork parent child)) q) ≡ false
+  pub fork-crosses : IsSound st → (parent child q : ℕ) → bars st user (Fork parent child) ≡ []
+      → is_crossed subtree (place_at st q) (place_at (after st user (Fork parent child)) q) ≡ false
   fork-crosses sound parent child q free =
       elim (nat_eq child q) as (λ b. nat_eq child q ≡ b → is_crossed subtree (place_at st q) (place_at (after st user (Fork parent child)) q) ≡ false) [
         | true ↦ λ same.
@@ -90,7 +97,8 @@ module _ (st : State) (user : Identity) (subtree : Names) where
 
 module _ (st : State) (user : Identity) (subtree : Names) (sound : IsSound st) (sub : IsSubtree st subtree) where
   module _ (unreached : AreUnreached st user subtree (ancestors (length subtree))) where
-    never_passes : {P : Type 0} → (from to : Names) → inside subtree from ≡ true → inside subtree to ≡ false → (at : Names) → at ≡ common from to → elim (row_at st at) [ None ↦ true | Some row ↦ writes user row.procs ] ≡ true → P
+    never_passes : {P : Type 0} → (from to : Names) → inside subtree from ≡ true → inside subtree to ≡ false → (at : Names)
+        → at ≡ common from to → elim (row_at st at) [ None ↦ true | Some row ↦ writes user row.procs ] ≡ true → P
     never_passes from to within without at is can =
         let above = common-above subtree from to within without in
         let level = length (common from to) in
@@ -99,7 +107,8 @@ module _ (st : State) (user : Identity) (subtree : Names) (sound : IsSound st) (
         never_written st user subtree (ancestors (length subtree)) unreached (ancestor level) (ancestors-has (length subtree) level above.0) row.0.procs
         (ap (option_and_then (λ r. entry_in r Procs)) row.1) (sym (ap (λ r. elim r [ None ↦ true | Some row ↦ writes user row.procs ]) same) ∙ can)
 
-    move-inside : (pid : ℕ) (from to : Names) → move_bars st user pid to ≡ [] → place_at st pid ≡ Some from → inside subtree from ≡ inside subtree to
+    move-inside : (pid : ℕ) (from to : Names) → move_bars st user pid to ≡ [] → place_at st pid ≡ Some from
+        → inside subtree from ≡ inside subtree to
     move-inside pid from to free is =
         let asked = (no_parts _ _ (no_parts _ _ free).0).1 in
         let can = no_unless _ _ (no_present (place_at st pid) (λ place. unless (passes st user place to) (NoAccess (length (common place to)) Procs)) asked from is) in
@@ -108,7 +117,8 @@ module _ (st : State) (user : Identity) (subtree : Names) (sound : IsSound st) (
           | false ↦ λ without. sym (false_from_ne_true (inside subtree to) (λ within. never_passes to from within without (common from to) (common_comm from to) can))
         ] refl
 
-    move-crosses : (pid : ℕ) (to : Names) → move_bars st user pid to ≡ [] → (q : ℕ) → is_crossed subtree (place_at st q) (place_at (with_place st pid to) q) ≡ false
+    move-crosses : (pid : ℕ) (to : Names) → move_bars st user pid to ≡ [] → (q : ℕ)
+        → is_crossed subtree (place_at st q) (place_at (with_place st pid to) q) ≡ false
     move-crosses pid to free q =
         ap (λ process. is_crossed subtree (place_at st q) (option_map (λ p. p.place) process)) (process_at-with_place st pid to q)
         ∙ elim (nat_eq pid q) as (λ b. nat_eq pid q ≡ b → is_crossed subtree (place_at st q) (option_map (λ p. p.place) (cond b (option_map (placed_at to) (process_at st q)) (process_at st q))) ≡ false) [
@@ -118,14 +128,17 @@ module _ (st : State) (user : Identity) (subtree : Names) (sound : IsSound st) (
         ] refl
 
   -- where nothing bars it
-  pub crosses : (op : Op) → AreUnreached st user subtree (ancestors (length subtree)) → bars st user op ≡ [] → (q : ℕ) → is_crossed subtree (place_at st q) (place_at (after st user op) q) ≡ false
-  crosses (Move pid to) unreached free q = ap (λ new. is_crossed subtree (place_at st q) (place_at new q)) (after-allowed st user (Move pid to) free) ∙ move-crosses unreached pid to free q
+  pub crosses : (op : Op) → AreUnreached st user subtree (ancestors (length subtree)) → bars st user op ≡ [] → (q : ℕ)
+      → is_crossed subtree (place_at st q) (place_at (after st user op) q) ≡ false
+  crosses (Move pid to) unreached free q = ap (λ new. is_crossed subtree (place_at st q) (place_at new q)) (after-allowed st user (Move pid to) free)
+      ∙ move-crosses unreached pid to free q
   crosses (Control at changes) unreached free q = kept st user subtree (Control at changes) q refl
   crosses (Mkdir path) unreached free q = kept st user subtree (Mkdir path) q refl
   crosses (Rmdir path) unreached free q = kept st user subtree (Rmdir path) q refl
   crosses (Set at file value) unreached free q = kept st user subtree (Set at file value) q refl
   crosses (Fork parent child) unreached free q = fork-crosses st user subtree sound parent child q free
-  crosses (Exit pid) unreached free q = ap (λ new. is_crossed subtree (place_at st q) (place_at new q)) (after-allowed st user (Exit pid) free) ∙ exit-crosses st user subtree pid q
+  crosses (Exit pid) unreached free q = ap (λ new. is_crossed subtree (place_at st q) (place_at new q)) (after-allowed st user (Exit pid) free)
+      ∙ exit-crosses st user subtree pid q
   crosses (Chmod at name mode) unreached free q = kept st user subtree (Chmod at name mode) q refl
 
 -- ---- what no crossing says

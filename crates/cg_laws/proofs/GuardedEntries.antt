@@ -13,7 +13,7 @@ use Rattle.cg_cgroup.specs.declared.files.LimitFile.{LimitFile}
 use Rattle.cg_cgroup.proofs.AllFiles.{each_file}
 use Rattle.cg_model.specs.States.{State}
 use Rattle.cg_model.specs.Clauses.{unless, present}
-use Rattle.cg_steps.proofs.ClauseLaws.{no_parts, no_unless, no_present}
+use Rattle.cg_steps.proofs.ClauseLaws.{no_parts, no_unless, no_present, none_each, each_none}
 use Rattle.cg_model.specs.Limits.{fits_descendants, fits_depth}
 use Rattle.cg_model.specs.Guards.{Guarded, ancestor, ancestors, limit_file, limit_files, parent_control, parent_dir, guarded_entries, guarded_entry, entry_failures, over_failures, GuardsHold}
 use Rattle.cg_laws.specs.Guarding.{AreUnreached, AreUntouched}
@@ -40,7 +40,8 @@ module _ (subtree : Names) (P : Guarded → Type 0) where
   all_ancestors zero each = tt
   all_ancestors (suc m) each = (each m, all_ancestors m each)
 
-  pub all_guarded : ((n : ℕ) → P (ancestor n)) → ((file : LimitFile) → P (limit_file (length subtree) file)) → P (parent_control subtree) → P (parent_dir subtree) → All P (guarded_entries subtree)
+  pub all_guarded : ((n : ℕ) → P (ancestor n)) → ((file : LimitFile) → P (limit_file (length subtree) file)) → P (parent_control subtree)
+      → P (parent_dir subtree) → All P (guarded_entries subtree)
   all_guarded ancestor file control dir =
       All-append P (ancestors (length subtree) ++ limit_files (length subtree)) (parent_control subtree ∷ parent_dir subtree ∷ [])
       (All-append P (ancestors (length subtree)) (limit_files (length subtree))
@@ -49,14 +50,6 @@ module _ (subtree : Names) (P : Guarded → Type 0) where
       (All-from_recursion P (parent_control subtree ∷ parent_dir subtree ∷ []) (control, (dir, tt)))
 
 -- ---- entries that a user doesn't reach
-
-none_each : {A R : Type 0} (f : A → List R) (xs : List A) → flat_map f xs ≡ [] → AllByRecursion (λ x. f x ≡ []) xs
-none_each f [] h = tt
-none_each f (x ∷ xs) h = let parts = no_parts (f x) (flat_map f xs) h in (parts.0, none_each f xs parts.1)
-
-each_none : {A R : Type 0} (f : A → List R) (xs : List A) → AllByRecursion (λ x. f x ≡ []) xs → flat_map f xs ≡ []
-each_none f [] h = refl
-each_none f (x ∷ xs) h = λ i. h.0 i ++ each_none f xs h.1 i
 
 module _ (st : State) (user : Identity) (subtree : Names) (entries : List Guarded) (unreached : AreUnreached st user subtree entries) (guarded : Guarded) (listed : Contains entries guarded) (entry : Entry) (is : guarded_entry st subtree guarded ≡ Some entry) where
   not_reached : reaches user entry ≡ false
@@ -101,7 +94,8 @@ holding st user subtree hold =
     }
 
 -- they hold again where the guarded entries are untouched and the counts fit
-pub hold-untouched : (st new : State) (user : Identity) (subtree : Names) → GuardsHold st user subtree → AreUntouched st new subtree → over_failures new subtree ≡ [] → GuardsHold new user subtree
+pub hold-untouched : (st new : State) (user : Identity) (subtree : Names) → GuardsHold st user subtree → AreUntouched st new subtree
+    → over_failures new subtree ≡ [] → GuardsHold new user subtree
 hold-untouched st new user subtree hold untouched fits = λ i.
     each_none (entry_failures new user subtree) (guarded_entries subtree)
     (each (guarded_entries subtree) (recursion_from_All (λ guarded. guarded_entry new subtree guarded ≡ guarded_entry st subtree guarded) (guarded_entries subtree) untouched)

@@ -88,7 +88,8 @@ module _ (st : State) (user : Identity) (subtree : Names) (sound : IsSound st) (
           guards = hold-untouched st (after st user op) user subtree hold untouched (over (after st user op) subtree fits.0 fits.1);
         }
 
-pub kept-after : (st : State) (user : Identity) (subtree : Names) (op : Op) → IsSound st → IsSubtree st subtree → GuardsHold st user subtree → IsKept st (after st user op) user subtree
+pub kept-after : (st : State) (user : Identity) (subtree : Names) (op : Op) → IsSound st → IsSubtree st subtree → GuardsHold st user subtree
+    → IsKept st (after st user op) user subtree
 kept-after st user subtree op sound sub hold =
     let held = holding st user subtree hold in
     after-cases st user op (λ new. IsKept st new user subtree) (λ free. kept st user subtree sound sub held op free hold)
@@ -101,12 +102,14 @@ kept-after st user subtree op sound sub hold =
       guards = hold;
     })
 
-pub untouched-guarded : (st : State) (user : Identity) (subtree : Names) (op : Op) → IsSound st → IsSubtree st subtree → GuardsHold st user subtree → AreUntouched st (after st user op) subtree
+pub untouched-guarded : (st : State) (user : Identity) (subtree : Names) (op : Op) → IsSound st → IsSubtree st subtree
+    → GuardsHold st user subtree → AreUntouched st (after st user op) subtree
 untouched-guarded st user subtree op sound sub hold =
     after-cases st user op (λ new. AreUntouched st new subtree) (untouched st user subtree sound sub (holding st user subtree hold) op) (λ k d _. refl)
 
 -- the guards against a user, once anyone has made a step
-pub hold-unopened : (st : State) (user other : Identity) (subtree : Names) (op : Op) → IsSound st → IsSubtree st subtree → GuardsHold st user subtree → has_row (after st other op) subtree ≡ true
+pub hold-unopened : (st : State) (user other : Identity) (subtree : Names) (op : Op) → IsSound st → IsSubtree st subtree
+    → GuardsHold st user subtree → has_row (after st other op) subtree ≡ true
     → limits (after st other op) subtree ≡ limits st subtree → ¬ (OpensGuarded st other op subtree) → GuardsHold (after st other op) user subtree
 hold-unopened st user other subtree op sound sub hold there same shut =
     let held = holding st user subtree hold in

@@ -31,12 +31,14 @@ pub record IsGuarded (users : List Identity) (start st : State) (subtree : Names
   pub limits : limits st subtree ≡ limits start subtree
   pub guards : GuardsHoldForAll st users subtree
 
-pub guarded-start : (users : List Identity) (st : State) (subtree : Names) → IsWellFormed st → IsSubtree st subtree → GuardsHoldForAll st users subtree → IsGuarded users st st subtree
+pub guarded-start : (users : List Identity) (st : State) (subtree : Names) → IsWellFormed st → IsSubtree st subtree
+    → GuardsHoldForAll st users subtree → IsGuarded users st st subtree
 guarded-start users st subtree formed is guards = record { sound = sound-formed st formed; is = is; limits = refl; guards = guards }
 
 module _ (users : List Identity) (start : State) (subtree : Names) where
   -- a step that touches no guarded entry and breaks nothing, whoever makes it
-  pub guarded-on : (st : State) → IsGuarded users start st subtree → (user : Identity) (op : Op) → AreUntouched st (after st user op) subtree → IsWhole (limits start subtree) st (after st user op) subtree
+  pub guarded-on : (st : State) → IsGuarded users start st subtree → (user : Identity) (op : Op)
+      → AreUntouched st (after st user op) subtree → IsWhole (limits start subtree) st (after st user op) subtree
       → IsGuarded users start (after st user op) subtree
   guarded-on st at user op untouched whole =
       let fits : over_failures (after st user op) subtree ≡ [] = unless-so _ _ (and_from _ _ whole.descendants whole.depth) in
@@ -48,31 +50,37 @@ module _ (users : List Identity) (start : State) (subtree : Names) where
       }
 
   -- a refused step
-  pub guarded-barred : (st : State) → IsGuarded users start st subtree → (user : Identity) (op : Op) (bar : Refusal) (others : List Refusal) → bars st user op ≡ bar ∷ others → IsGuarded users start (after st user op) subtree
+  pub guarded-barred : (st : State) → IsGuarded users start st subtree → (user : Identity) (op : Op) (bar : Refusal) (others : List Refusal)
+      → bars st user op ≡ bar ∷ others → IsGuarded users start (after st user op) subtree
   guarded-barred st at user op bar others is = subst (λ s. IsGuarded users start s subtree) (sym (after-barred st user op bar others is)) at
 
   -- a step of one of the users breaks nothing
-  pub whole-own : (st : State) → IsGuarded users start st subtree → (user : Identity) → Contains users user → (op : Op) → IsWhole (limits start subtree) st (after st user op) subtree
+  pub whole-own : (st : State) → IsGuarded users start st subtree → (user : Identity) → Contains users user → (op : Op)
+      → IsWhole (limits start subtree) st (after st user op) subtree
   whole-own st at user named op =
       let kept = kept-after st user subtree op at.sound at.is (at.guards user named) in
       record { there = kept.there; edge = kept.edge; limits = kept.limits ∙ at.limits; descendants = kept.descendants; depth = kept.depth }
 
   -- and leaves the guards of all of them
-  pub guarded-own : (st : State) → IsGuarded users start st subtree → (user : Identity) → Contains users user → (op : Op) → IsGuarded users start (after st user op) subtree
+  pub guarded-own : (st : State) → IsGuarded users start st subtree → (user : Identity) → Contains users user → (op : Op)
+      → IsGuarded users start (after st user op) subtree
   guarded-own st at user named op =
       guarded-on st at user op (untouched-guarded st user subtree op at.sound at.is (at.guards user named)) (whole-own st at user named op)
 
-  pub guarded-after_all : (st : State) → IsGuarded users start st subtree → (deeds : List Deed) → AreBy users deeds → IsGuarded users start (after_all st deeds) subtree
+  pub guarded-after_all : (st : State) → IsGuarded users start st subtree → (deeds : List Deed) → AreBy users deeds
+      → IsGuarded users start (after_all st deeds) subtree
   guarded-after_all st at [] all = at
   guarded-after_all st at (deed ∷ deeds) all = guarded-after_all (after st deed.0 deed.1) (guarded-own st at deed.0 all.0 deed.1) deeds all.1
 
   -- where nothing moves, nothing is broken
-  pub whole-still : (st : State) → IsGuarded users start st subtree → (user : Identity) → Contains users user → IsWhole (limits start subtree) st st subtree
+  pub whole-still : (st : State) → IsGuarded users start st subtree → (user : Identity) → Contains users user
+      → IsWhole (limits start subtree) st st subtree
   whole-still st at user named =
       let fits = and_parts _ _ (no_unless (fits_descendants st subtree && fits_depth st subtree) _ (no_parts _ _ (at.guards user named)).1) in
       record { there = at.is.0; edge = none-crosses-same st subtree; limits = at.limits; descendants = fits.0; depth = fits.1 }
 
-  kept-from : (steps : ℕ) (st : State) → IsGuarded users start st subtree → (deeds : List Deed) → AreBy users deeds → verdict_from start steps st deeds subtree ≡ Kept
+  kept-from : (steps : ℕ) (st : State) → IsGuarded users start st subtree → (deeds : List Deed) → AreBy users deeds
+      → verdict_from start steps st deeds subtree ≡ Kept
   kept-from steps st at [] all = refl
   kept-from steps st at (deed ∷ deeds) all =
       let next = after st deed.0 deed.1 in
@@ -86,16 +94,19 @@ pub a_member : (users : List Identity) → users ≢ [] → (user : Identity) ×
 a_member [] some = absurd (some refl)
 a_member (user ∷ users) some = (user, (0, omega arith, refl))
 
-pub held-by : (users : List Identity) (st : State) (subtree : Names) → users ≢ [] → IsGuarded users st st subtree → (deeds : List Deed) → AreBy users deeds → IsHeld st deeds subtree
+pub held-by : (users : List Identity) (st : State) (subtree : Names) → users ≢ [] → IsGuarded users st st subtree → (deeds : List Deed)
+    → AreBy users deeds → IsHeld st deeds subtree
 held-by users st subtree some at deeds all =
     let one = a_member users some in
     ap (λ clauses. or_later clauses 0 (verdict_from st 0 st deeds subtree)) (whole-broken (limits st subtree) st st subtree (whole-still users st subtree st at one.0 one.1))
     ∙ kept-from users st subtree 0 st at deeds all
 
-pub held-guarded : (st : State) (users : List Identity) (subtree : Names) (deeds : List Deed) → IsWellFormed st → IsSubtree st subtree → users ≢ [] → GuardsHoldForAll st users subtree → AreBy users deeds → IsHeld st deeds subtree
+pub held-guarded : (st : State) (users : List Identity) (subtree : Names) (deeds : List Deed) → IsWellFormed st → IsSubtree st subtree
+    → users ≢ [] → GuardsHoldForAll st users subtree → AreBy users deeds → IsHeld st deeds subtree
 held-guarded st users subtree deeds formed is some guards all = held-by users st subtree some (guarded-start users st subtree formed is guards) deeds all
 
-pub guarded-again : (st : State) (users : List Identity) (subtree : Names) (deeds : List Deed) → IsWellFormed st → IsSubtree st subtree → GuardsHoldForAll st users subtree → AreBy users deeds
+pub guarded-again : (st : State) (users : List Identity) (subtree : Names) (deeds : List Deed) → IsWellFormed st → IsSubtree st subtree
+    → GuardsHoldForAll st users subtree → AreBy users deeds
     → IsSubtree (after_all st deeds) subtree × GuardsHoldForAll (after_all st deeds) users subtree
 guarded-again st users subtree deeds formed is guards all =
     let end = guarded-after_all users st subtree st (guarded-start users st subtree formed is guards) deeds all in (end.is, end.guards)
@@ -113,6 +124,7 @@ all-own : (user : Identity) (ops : List Op) → AreBy (user ∷ []) (by_user use
 all-own user [] = tt
 all-own user (op ∷ ops) = ((0, omega arith, refl), all-own user ops)
 
-pub contained-guarded : (st : State) (user : Identity) (subtree : Names) → IsWellFormed st → IsSubtree st subtree → GuardsHold st user subtree → IsContained st user subtree
+pub contained-guarded : (st : State) (user : Identity) (subtree : Names) → IsWellFormed st → IsSubtree st subtree
+    → GuardsHold st user subtree → IsContained st user subtree
 contained-guarded st user subtree formed is held ops =
     held-by (user ∷ []) st subtree (some-one user) (guarded-start (user ∷ []) st subtree formed is (λ other c. subst (λ u. GuardsHold st u subtree) (alone user other c) held)) (by_user user ops) (all-own user ops)

@@ -40,7 +40,8 @@ some_either : {A : Type 0} (b : Bool) (x : A) (o : Option A) → is_some o ≡ t
 some_either true x o h = refl
 some_either false x o h = h
 
-parents-with_row : (st : State) (path : Names) (row : Cgroup) → has_row st (parent path) ≡ true → HasParents st → HasParents (with_row st path row)
+parents-with_row : (st : State) (path : Names) (row : Cgroup) → has_row st (parent path) ≡ true → HasParents st
+    → HasParents (with_row st path row)
 parents-with_row st path row above parents q there =
     elim (same_path path q) as (λ b. same_path path q ≡ b → is_some (cond b (Some row) (row_at st q)) ≡ true → has_row (with_row st path row) (parent q) ≡ true) [
       | true ↦ λ same _. stays (parent q) (ap (λ p. has_row st (parent p)) (sym (same_path-is path q same)) ∙ above)
@@ -69,7 +70,8 @@ parents-without_row st path childless parents q there =
         let child = subst (λ p. is_child p q ≡ true) (sym (same_path-is path (parent q) same)) (is_child-parent q below) in
         true≢false (sym (row-has_child st path q row.0 row.1 child) ∙ childless))
 
-parents_stay : (st : State) (user : Identity) (op : Op) → ((q : Names) → alters_row op q ≡ false) → HasParents st → HasParents (after st user op)
+parents_stay : (st : State) (user : Identity) (op : Op) → ((q : Names) → alters_row op q ≡ false) → HasParents st
+    → HasParents (after st user op)
 parents_stay st user op kept parents path there =
     has_row-after st user op (parent path) (kept (parent path)) ∙ parents path (sym (has_row-after st user op path (kept path)) ∙ there)
 

@@ -32,7 +32,8 @@ same_steps steps other clause found h = cc
 
 module _ (users : List Identity) (start : State) (subtree : Names) where
   -- a step that breaks nothing leaves the guards, where only these users open them
-  guarded-any : (st : State) → IsGuarded users start st subtree → (user : Identity) (op : Op) → (OpensGuarded st user op subtree → Contains users user)
+  guarded-any : (st : State) → IsGuarded users start st subtree → (user : Identity) (op : Op)
+      → (OpensGuarded st user op subtree → Contains users user)
       → IsWhole (limits start subtree) st (after st user op) subtree → IsGuarded users start (after st user op) subtree
   guarded-any st at user op opens whole =
       elim (bars st user op) as (λ found. bars st user op ≡ found → IsGuarded users start (after st user op) subtree) [
@@ -43,10 +44,12 @@ module _ (users : List Identity) (start : State) (subtree : Names) where
         | bar ∷ others ↦ λ is. guarded-barred users start subtree st at user op bar others is
       ] refl
 
-  later : (deed : Deed) (deeds : List Deed) (made steps : ℕ) → IsOfStrangerAfter users deeds (suc made) steps → IsOfStrangerAfter users (deed ∷ deeds) made steps
+  later : (deed : Deed) (deeds : List Deed) (made steps : ℕ) → IsOfStrangerAfter users deeds (suc made) steps
+      → IsOfStrangerAfter users (deed ∷ deeds) made steps
   later deed deeds made steps found = (suc found.0, found.1, omega (arith, found.2), found.3, found.4)
 
-  of_stranger-from : (made : ℕ) (st : State) → IsGuarded users start st subtree → (deeds : List Deed) → OnlyTheseOpen users st deeds subtree → (steps : ℕ) (clause : Clause)
+  of_stranger-from : (made : ℕ) (st : State) → IsGuarded users start st subtree → (deeds : List Deed) → OnlyTheseOpen users st deeds subtree
+      → (steps : ℕ) (clause : Clause)
       → verdict_from start made st deeds subtree ≡ Broken steps clause → IsOfStrangerAfter users deeds made steps
   of_stranger-from made st at [] opens steps clause h = cc
   of_stranger-from made st at (deed ∷ deeds) opens steps clause h =
@@ -58,7 +61,8 @@ module _ (users : List Identity) (start : State) (subtree : Names) where
             (0, deed, omega (arith, same_steps _ _ _ _ h), refl, λ named. not_empty found others (sym is ∙ whole-broken (limits start subtree) st new subtree (whole-own users start subtree st at deed.0 named deed.1)))
       ] refl h
 
-pub broken-of_stranger : (st : State) (users : List Identity) (subtree : Names) (deeds : List Deed) (steps : ℕ) (clause : Clause) → IsWellFormed st → IsSubtree st subtree → users ≢ [] → GuardsHoldForAll st users subtree
+pub broken-of_stranger : (st : State) (users : List Identity) (subtree : Names) (deeds : List Deed) (steps : ℕ) (clause : Clause)
+    → IsWellFormed st → IsSubtree st subtree → users ≢ [] → GuardsHoldForAll st users subtree
     → OnlyTheseOpen users st deeds subtree → verdict st deeds subtree ≡ Broken steps clause → IsOfStranger users deeds steps
 broken-of_stranger st users subtree deeds steps clause formed is some guards opens h =
     let at = guarded-start users st subtree formed is guards in

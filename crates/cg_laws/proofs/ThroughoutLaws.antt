@@ -48,10 +48,12 @@ module _ (st new : State) (subtree : Names) where
   each-none : NoneCrosses st new subtree → crossing st new subtree ≡ []
   each-none each = none-crosses st new subtree (λ pid. by_places pid (place_at st pid) (place_at new pid) refl refl)
     where
-      by_places : (pid : ℕ) (before later : Option Names) → place_at st pid ≡ before → place_at new pid ≡ later → is_crossed subtree (place_at st pid) (place_at new pid) ≡ false
+      by_places : (pid : ℕ) (before later : Option Names) → place_at st pid ≡ before → place_at new pid ≡ later
+          → is_crossed subtree (place_at st pid) (place_at new pid) ≡ false
       by_places pid None later was is = ap (λ place. is_crossed subtree place (place_at new pid)) was
       by_places pid (Some before) None was is = λ i. is_crossed subtree (was i) (is i)
-      by_places pid (Some before) (Some later) was is = (λ i. is_crossed subtree (was i) (is i)) ∙ one_side (inside subtree before) (inside subtree later) (each pid before later was is)
+      by_places pid (Some before) (Some later) was is = (λ i. is_crossed subtree (was i) (is i))
+          ∙ one_side (inside subtree before) (inside subtree later) (each pid before later was is)
 
 -- ---- one step
 
@@ -124,6 +126,7 @@ module _ (start : State) (subtree : Names) where
 pub held-is_throughout : (st : State) (deeds : List Deed) (subtree : Names) → IsHeld st deeds subtree ↔ IsHeldThroughout st deeds subtree
 held-is_throughout st deeds subtree = (held-throughout st subtree deeds, throughout-held st subtree deeds)
 
-pub contained-is_throughout : (st : State) (user : Identity) (subtree : Names) → IsContained st user subtree ↔ ((ops : List Op) → IsHeldThroughout st (by_user user ops) subtree)
+pub contained-is_throughout : (st : State) (user : Identity) (subtree : Names)
+    → IsContained st user subtree ↔ ((ops : List Op) → IsHeldThroughout st (by_user user ops) subtree)
 contained-is_throughout st user subtree =
     (λ contained ops. held-throughout st subtree (by_user user ops) (contained ops), λ throughout ops. throughout-held st subtree (by_user user ops) (throughout ops))

@@ -35,7 +35,8 @@ use Rattle.cg_laws.proofs.Sound.{sound-after, take-there}
 use Rattle.cg_laws.proofs.GuardedEntries.{all_guarded}
 
 -- a step, by what holds where nothing bars it
-pub after-cases : (st : State) (user : Identity) (op : Op) (P : State → Type 0) → (bars st user op ≡ [] → P (after st user op)) → P st → P (after st user op)
+pub after-cases : (st : State) (user : Identity) (op : Op) (P : State → Type 0) → (bars st user op ≡ [] → P (after st user op)) → P st
+    → P (after st user op)
 after-cases st user op P moved stayed = after-by st user op P (λ free. subst P (after-allowed st user op free) (moved free)) stayed
 
 -- a cgroup that is there is another than one that isn't
@@ -46,7 +47,8 @@ stays : (st : State) (subtree : Names) → AreUntouched st st subtree
 stays st subtree k d _ = refl
 
 -- where the operation alters none of them
-by_alters : (st : State) (user : Identity) (subtree : Names) (op : Op) → ((guarded : Guarded) → alters_entry op (take guarded.len subtree) guarded.name ≡ false) → AreUntouched st (after st user op) subtree
+by_alters : (st : State) (user : Identity) (subtree : Names) (op : Op)
+    → ((guarded : Guarded) → alters_entry op (take guarded.len subtree) guarded.name ≡ false) → AreUntouched st (after st user op) subtree
 by_alters st user subtree op kept k d _ =
     let guarded = get_or (guarded_entries subtree) k d in
     entry_at-after st user op (take guarded.len subtree) guarded.name (kept guarded)
@@ -54,10 +56,12 @@ by_alters st user subtree op kept k d _ =
 -- ---- a control
 
 -- a file that has its value still has neither gone nor come
-refitted-same : (enabled : ControllerSet) (user : Identity) (file : LimitFile) (had : Option LimitEntry) → option_map (λ f. f.value) (refitted enabled user file had) ≡ option_map (λ f. f.value) had → refitted enabled user file had ≡ had
+refitted-same : (enabled : ControllerSet) (user : Identity) (file : LimitFile) (had : Option LimitEntry)
+    → option_map (λ f. f.value) (refitted enabled user file had) ≡ option_map (λ f. f.value) had → refitted enabled user file had ≡ had
 refitted-same enabled user file had = by_cases (stands_under enabled file) had
   where
-    by_cases : (stands : Bool) (had : Option LimitEntry) → option_map (λ f. f.value) (cond stands (Some (unwrap_or had (file_made_by user file))) None) ≡ option_map (λ f. f.value) had
+    by_cases : (stands : Bool) (had : Option LimitEntry)
+        → option_map (λ f. f.value) (cond stands (Some (unwrap_or had (file_made_by user file))) None) ≡ option_map (λ f. f.value) had
         → cond stands (Some (unwrap_or had (file_made_by user file))) None ≡ had
     by_cases true None h = absurd (true≢false (ap is_some h))
     by_cases true (Some held) h = refl
@@ -65,20 +69,23 @@ refitted-same enabled user file had = by_cases (stands_under enabled file) had
     by_cases false (Some held) h = absurd (true≢false (sym (ap is_some h)))
 
 module _ (st : State) (at : Names) (enabled : ControllerSet) (user : Identity) (subtree : Names) (there : has_row st subtree ≡ true) where
-  file-with_enabled : (file : LimitFile) → value_at (with_enabled st at enabled user) subtree file ≡ value_at st subtree file → file_at (with_enabled st at enabled user) subtree file ≡ file_at st subtree file
+  file-with_enabled : (file : LimitFile) → value_at (with_enabled st at enabled user) subtree file ≡ value_at st subtree file
+      → file_at (with_enabled st at enabled user) subtree file ≡ file_at st subtree file
   file-with_enabled file same =
       elim (is_child at subtree) as (λ b. is_child at subtree ≡ b → file_at (with_enabled st at enabled user) subtree file ≡ file_at st subtree file) [
         | true ↦ λ child.
             let row = some_value (row_at st subtree) there in
             let was : file_at st subtree file ≡ file_of row.0 file = ap (option_and_then (λ row. file_of row file)) row.1 in
             let now : file_at (with_enabled st at enabled user) subtree file ≡ refitted enabled user file (file_of row.0 file) =
-            file_at-with_enabled-child st at enabled user subtree child file ∙ ap (option_and_then (λ row. refitted enabled user file (file_of row file))) row.1 in
+            file_at-with_enabled-child st at enabled user subtree child file
+            ∙ ap (option_and_then (λ row. refitted enabled user file (file_of row file))) row.1 in
             let values = ap (option_map (λ f. f.value)) (sym now) ∙ sym (value_at-file (with_enabled st at enabled user) subtree file) ∙ same ∙ value_at-file st subtree file ∙ ap (option_map (λ f. f.value)) was in
             now ∙ refitted-same enabled user file (file_of row.0 file) values ∙ sym was
         | false ↦ λ other. file_at-with_enabled-other st at enabled user subtree other file
       ] refl
 
-  untouched-with_enabled : limits (with_enabled st at enabled user) subtree ≡ limits st subtree → AreUntouched st (with_enabled st at enabled user) subtree
+  untouched-with_enabled : limits (with_enabled st at enabled user) subtree ≡ limits st subtree
+      → AreUntouched st (with_enabled st at enabled user) subtree
   untouched-with_enabled same =
       all_guarded subtree (λ guarded. guarded_entry (with_enabled st at enabled user) subtree guarded ≡ guarded_entry st subtree guarded)
       (λ n. entry_at-with_enabled-procs st at enabled user (take n subtree))
@@ -93,7 +100,8 @@ any_none : {A : Type 0} (test : A → Bool) (xs : List A) → list_any test xs �
 any_none test [] h = tt
 any_none test (x ∷ xs) h = let parts = or_parts (test x) (list_any test xs) h in (parts.0, any_none test xs parts.1)
 
-pub untouched-after : (st : State) (user : Identity) (subtree : Names) (op : Op) → IsSound st → IsSubtree st subtree → has_row (after st user op) subtree ≡ true
+pub untouched-after : (st : State) (user : Identity) (subtree : Names) (op : Op) → IsSound st → IsSubtree st subtree
+    → has_row (after st user op) subtree ≡ true
     → limits (after st user op) subtree ≡ limits st subtree → sets_guarded_mode subtree op ≡ false → AreUntouched st (after st user op) subtree
 untouched-after st user subtree (Move pid to) sound sub there same shut = by_alters st user subtree (Move pid to) (λ guarded. refl)
 untouched-after st user subtree (Control at changes) sound sub there same shut =
@@ -121,7 +129,8 @@ untouched-after st user subtree (Chmod at name mode) sound sub there same shut =
     (λ guarded other. entry_at-after st user (Chmod at name mode) (take guarded.len subtree) guarded.name other) (guarded_entries subtree) others
 
 -- the same where a chmod of a guarded entry may be refused
-pub untouched-unopened : (st : State) (user : Identity) (subtree : Names) (op : Op) → IsSound st → IsSubtree st subtree → has_row (after st user op) subtree ≡ true
+pub untouched-unopened : (st : State) (user : Identity) (subtree : Names) (op : Op) → IsSound st → IsSubtree st subtree
+    → has_row (after st user op) subtree ≡ true
     → limits (after st user op) subtree ≡ limits st subtree → ¬ (OpensGuarded st user op subtree) → AreUntouched st (after st user op) subtree
 untouched-unopened st user subtree op sound sub there same shut =
     after-cases st user op (λ new. AreUntouched st new subtree)

@@ -23,7 +23,8 @@ abbrev pub with_front : List Change → Option (List Change) → Option (List Ch
 with_front front read = option_map (λ others. front ++ others) read
 
 -- a text with a space has its first word, and the words behind the space
-pub split_cut : (text : List ℕ) (words : List ℕ × List ℕ) → cut text ≡ Some words → slice_split is_space text ≡ words.0 ∷ slice_split is_space words.1
+pub split_cut : (text : List ℕ) (words : List ℕ × List ℕ) → cut text ≡ Some words
+    → slice_split is_space text ≡ words.0 ∷ slice_split is_space words.1
 split_cut text words h =
     let at = position_or_len is_space text in
     let p = cond_some (nat_lt at (length text)) (before_first is_space text, after_first is_space text) words h in
@@ -41,7 +42,9 @@ split_whole text h =
     slice_split_none is_space text (λ k d s. fails_before_first is_space text k d (omega (arith, l)))
 
 -- a step of the loop over the words
-pub changes_more : (front : List Change) (text : List ℕ) (words : List ℕ × List ℕ) (change : Change) (read : Option (List Change)) → cut text ≡ Some words → change_at words.0 ≡ Some change → with_front front (changes_at (slice_split is_space text)) ≡ read → with_front (front ++ (change ∷ [])) (changes_at (slice_split is_space words.1)) ≡ read
+pub changes_more : (front : List Change) (text : List ℕ) (words : List ℕ × List ℕ) (change : Change) (read : Option (List Change))
+    → cut text ≡ Some words → change_at words.0 ≡ Some change → with_front front (changes_at (slice_split is_space text)) ≡ read
+    → with_front (front ++ (change ∷ [])) (changes_at (slice_split is_space words.1)) ≡ read
 changes_more front text words change read e f h =
     elim (changes_at (slice_split is_space words.1)) as (λ rest. with_front (front ++ (change ∷ [])) rest ≡ with_front front (rest >>= λ others. Some (change ∷ others))) [
       | None ↦ refl
@@ -52,20 +55,23 @@ changes_more front text words change read e f h =
     ∙ h
 
 -- the last word
-pub changes_last : (front : List Change) (text : List ℕ) (change : Change) (read : Option (List Change)) → cut text ≡ None → change_at text ≡ Some change → with_front front (changes_at (slice_split is_space text)) ≡ read → read ≡ Some (front ++ (change ∷ []))
+pub changes_last : (front : List Change) (text : List ℕ) (change : Change) (read : Option (List Change)) → cut text ≡ None
+    → change_at text ≡ Some change → with_front front (changes_at (slice_split is_space text)) ≡ read → read ≡ Some (front ++ (change ∷ []))
 changes_last front text change read e f h =
     sym h
     ∙ ap (λ (ws : List (List ℕ)). with_front front (changes_at ws)) (split_whole text e)
     ∙ ap (λ (first : Option Change). with_front front (first >>= λ c. Some (c ∷ []))) f
 
 -- a word that is no change
-pub changes_bad : (front : List Change) (text : List ℕ) (words : List ℕ × List ℕ) (read : Option (List Change)) → cut text ≡ Some words → change_at words.0 ≡ None → with_front front (changes_at (slice_split is_space text)) ≡ read → read ≡ None
+pub changes_bad : (front : List Change) (text : List ℕ) (words : List ℕ × List ℕ) (read : Option (List Change)) → cut text ≡ Some words
+    → change_at words.0 ≡ None → with_front front (changes_at (slice_split is_space text)) ≡ read → read ≡ None
 changes_bad front text words read e f h =
     sym h
     ∙ ap (λ (ws : List (List ℕ)). with_front front (changes_at ws)) (split_cut text words e)
     ∙ ap (λ (first : Option Change). with_front front (first >>= λ c. changes_at (slice_split is_space words.1) >>= λ others. Some (c ∷ others))) f
 
-pub changes_last_bad : (front : List Change) (text : List ℕ) (read : Option (List Change)) → cut text ≡ None → change_at text ≡ None → with_front front (changes_at (slice_split is_space text)) ≡ read → read ≡ None
+pub changes_last_bad : (front : List Change) (text : List ℕ) (read : Option (List Change)) → cut text ≡ None → change_at text ≡ None
+    → with_front front (changes_at (slice_split is_space text)) ≡ read → read ≡ None
 changes_last_bad front text read e f h =
     sym h
     ∙ ap (λ (ws : List (List ℕ)). with_front front (changes_at ws)) (split_whole text e)

@@ -20,8 +20,8 @@ use Rattle.cg_cgroup.proofs.NameLaws.{file_names, entry_names}
 use Rattle.cg_model.specs.declared.changes.Change.{Change}
 use Rattle.cg_model.specs.declared.operation.Op.{Op}
 use Rattle.cg_model.specs.declared.operation.Op.TheVariants.{Move, Control, Mkdir, Rmdir, Set, Fork, Exit, Chmod}
-use Rattle.cg_lines.specs.OperationLines.{change_word, limit_word, mode_word, words, spelling, IsHeld, IsHeldLimit}
-use Rattle.cg_lines.specs.LineReading.{is_space, cut, pid_at, limit_at, mode_at, changes_at, move_at, control_from, control_at, mkdir_at, rmdir_at, set_at, fork_at, exit_at, chmod_at, operation_named, operation_at, Gives}
+use Rattle.cg_lines.specs.OperationLines.{change_word, limit_word, mode_word, words, spelling, IsInRange, IsLimitInRange}
+use Rattle.cg_lines.specs.LineReading.{is_space, cut, pid_at, limit_at, mode_at, changes_at, move_at, control_from, control_at, mkdir_at, rmdir_at, set_at, fork_at, exit_at, chmod_at, operation_named, operation_at, ReadsAs}
 use Rattle.cg_cgroup.specs.Options.{◌>>=◌}
 use Rattle.cg_lines.specs.declared.lines.fault.LineFault.{LineFault}
 use Rattle.cg_lines.specs.declared.lines.fault.LineFault.TheVariants.{BadWord}
@@ -32,15 +32,17 @@ use Rattle.cg_lines.proofs.LineSpelled.{bind_some, bind_at, chosen, decimal_word
 
 -- an operation whose line is a name, a space and a text
 abbrev Takes : List ℕ → List ℕ → Op → Type 0
-Takes name text op = IsHeld op × (name ++ (32 ∷ text) ≡ spelling op)
+Takes name text op = IsInRange op × (name ++ (32 ∷ text) ≡ spelling op)
 
 -- two words with a space between them
-joined : (text : List ℕ) (words : List ℕ × List ℕ) (first second : List ℕ) → cut text ≡ Some words → words.0 ≡ first → words.1 ≡ second → text ≡ first ++ (32 ∷ second)
+joined : (text : List ℕ) (words : List ℕ × List ℕ) (first second : List ℕ) → cut text ≡ Some words → words.0 ≡ first → words.1 ≡ second
+    → text ≡ first ++ (32 ∷ second)
 joined text words first second h e f =
     cut_parts text words h ∙ ap (λ (w : List ℕ). w ++ (32 ∷ words.1)) e ∙ ap (λ (w : List ℕ). first ++ (32 ∷ w)) f
 
 -- three of them
-joined_three : (text : List ℕ) (words others : List ℕ × List ℕ) (first second third : List ℕ) → cut text ≡ Some words → cut words.1 ≡ Some others → words.0 ≡ first → others.0 ≡ second → others.1 ≡ third → text ≡ first ++ (32 ∷ (second ++ (32 ∷ third)))
+joined_three : (text : List ℕ) (words others : List ℕ × List ℕ) (first second third : List ℕ) → cut text ≡ Some words
+    → cut words.1 ≡ Some others → words.0 ≡ first → others.0 ≡ second → others.1 ≡ third → text ≡ first ++ (32 ∷ (second ++ (32 ∷ third)))
 joined_three text words others first second third h k e f g =
     joined text words first (second ++ (32 ∷ third)) h e (joined words.1 others second third k f g)
 
@@ -62,7 +64,9 @@ move_takes text op h =
     ((p.0, q.0), behind (codes "move") text (decimal pid.0 ++ (32 ∷ path_text to.0)) (joined text w.0 (decimal pid.0) (path_text to.0) w.1 p.1 (sym q.1)))
 
 -- the words of one change or more are joined to the text that was split
-control_text : (at : Names) (words : List ℕ × List ℕ) (changes : List Change) → path_text at ≡ words.0 → changes_at (slice_split is_space words.1) ≡ Some changes → words.0 ++ (32 ∷ words.1) ≡ join_with_byte 32 (path_text at ∷ map change_word changes)
+control_text : (at : Names) (words : List ℕ × List ℕ) (changes : List Change) → path_text at ≡ words.0
+    → changes_at (slice_split is_space words.1) ≡ Some changes
+    → words.0 ++ (32 ∷ words.1) ≡ join_with_byte 32 (path_text at ∷ map change_word changes)
 control_text at words [] e h =
     let split = changes_takes (slice_split is_space words.1) [] h in
     let some : 0 ≡ _ = ap length (sym split) ∙ length-slice_split is_space words.1 in
@@ -72,7 +76,8 @@ control_text at words (change ∷ changes) e h =
     ap (λ (w : List ℕ). w ++ (32 ∷ words.1)) (sym e)
     ∙ ap (λ (t : List ℕ). path_text at ++ (32 ∷ t)) (sym (join_with_byte-slice_split 32 words.1) ∙ ap (join_with_byte 32) split)
 
-control_from_takes : (text : List ℕ) (parts : Option (List ℕ × List ℕ)) (op : Op) → cut text ≡ parts → control_from text parts ≡ Some op → Takes (codes "control") text op
+control_from_takes : (text : List ℕ) (parts : Option (List ℕ × List ℕ)) (op : Op) → cut text ≡ parts → control_from text parts ≡ Some op
+    → Takes (codes "control") text op
 control_from_takes text None op e h =
     let at = bind_some (path_at text) (λ at. Some (Control at [])) op h in
     let q = path_at-is text at.0 at.1 in
@@ -153,7 +158,8 @@ chmod_takes text op h =
     )
 
 -- the operation of one name, or that of the others
-takes_named : (name word text : List ℕ) (op : Op) (read others : Option Op) → cond (same_name name word) read others ≡ Some op → (read ≡ Some op → Takes word text op) → (others ≡ Some op → Takes name text op) → Takes name text op
+takes_named : (name word text : List ℕ) (op : Op) (read others : Option Op) → cond (same_name name word) read others ≡ Some op
+    → (read ≡ Some op → Takes word text op) → (others ≡ Some op → Takes name text op) → Takes name text op
 takes_named name word text op read others h here there =
     elim (chosen (same_name name word) read others (Some op) h) [
       | inl p ↦ subst (λ (n : List ℕ). Takes n text op) (sym ((bytes_decides name word).0 p.0)) (here p.1)
@@ -173,7 +179,7 @@ named_takes name text op h =
     takes_named name (codes "chmod") text op (chmod_at text) None h (chmod_takes text op) (λ h. absurd (none-some op h)))))))))
 
 -- What is read of a line is an operation that can be held, and the line is its line.
-pub line_takes : (line : List ℕ) (op : Op) → operation_at line ≡ Some op → IsHeld op × (line ≡ spelling op)
+pub line_takes : (line : List ℕ) (op : Op) → operation_at line ≡ Some op → IsInRange op × (line ≡ spelling op)
 unfolding operation_at
 line_takes line op h =
     let w = bind_some (cut line) (λ words. operation_named words.0 words.1) op h in
@@ -183,7 +189,7 @@ line_takes line op h =
 -- ---- what is spelled
 
 -- Its words are printable and hold no space.
-pub line_words : (op : Op) → IsHeld op → are_words (words op) ≡ true
+pub line_words : (op : Op) → IsInRange op → are_words (words op) ≡ true
 line_words (Move pid to) h = and_from (is_word (decimal pid)) _ (decimal_word pid (small_pid pid h.0)) (and_from (is_word (path_text to)) true (path_word to h.1) refl)
 line_words (Control at changes) h = and_from (is_word (path_text at)) (are_words (map change_word changes)) (path_word at h) (changes_words changes)
 line_words (Mkdir path) h = and_from (is_word (path_text path)) true (path_word path h) refl
@@ -194,7 +200,7 @@ line_words (Exit pid) h = and_from (is_word (decimal pid)) true (decimal_word pi
 line_words (Chmod at entry mode) h = and_from (is_word (path_text at)) _ (path_word at h.0) (and_from (is_word (entry_text entry)) _ (entry_word entry) (and_from (is_word (mode_word mode)) true (mode_is_word mode h.1) refl))
 
 -- so its line is text
-pub line_utf8 : (op : Op) → IsHeld op → IsUtf8 (spelling op)
+pub line_utf8 : (op : Op) → IsInRange op → IsUtf8 (spelling op)
 line_utf8 op h = IsUtf8-from_ascii (spelling op) (IsAscii-joined (words op) (line_words op h))
 
 move_again : (pid : ℕ) (to : Names) → is_pid pid ≡ true → IsPath to → move_at (decimal pid ++ (32 ∷ path_text to)) ≡ Some (Move pid to)
@@ -204,7 +210,8 @@ move_again pid to h k =
     (bind_at (pid_at (decimal pid)) pid (λ pid. path_at (path_text to) >>= λ to. Some (Move pid to)) (Some (Move pid to)) (pid_again pid h)
     (ap (λ (o : Option Names). o >>= λ to. Some (Move pid to)) (path_at-text to k)))
 
-control_again : (at : Names) (changes : List Change) → IsPath at → control_at (join_with_byte 32 (path_text at ∷ map change_word changes)) ≡ Some (Control at changes)
+control_again : (at : Names) (changes : List Change) → IsPath at
+    → control_at (join_with_byte 32 (path_text at ∷ map change_word changes)) ≡ Some (Control at changes)
 unfolding control_at
 control_again at [] h =
     ap (control_from (path_text at)) (cut_none (path_text at) (path_word at h))
@@ -224,7 +231,8 @@ rmdir_again : (path : Names) → IsPath path → rmdir_at (path_text path) ≡ S
 unfolding rmdir_at
 rmdir_again path h = ap (λ (o : Option Names). o >>= λ path. Some (Rmdir path)) (path_at-text path h)
 
-set_again : (at : Names) (file : LimitFile) (value : Limit) → IsPath at → IsHeldLimit value → set_at (path_text at ++ (32 ∷ (file_name file ++ (32 ∷ limit_word value)))) ≡ Some (Set at file value)
+set_again : (at : Names) (file : LimitFile) (value : Limit) → IsPath at → IsLimitInRange value
+    → set_at (path_text at ++ (32 ∷ (file_name file ++ (32 ∷ limit_word value)))) ≡ Some (Set at file value)
 unfolding set_at
 set_again at file value h k =
     let rest = file_name file ++ (32 ∷ limit_word value) in
@@ -235,7 +243,8 @@ set_again at file value h k =
     (bind_at (file_named (file_name file)) file (λ file. limit_at (limit_word value) >>= λ value. Some (Set at file value)) made (file_names.found file)
     (ap (λ (o : Option Limit). o >>= λ value. Some (Set at file value)) (limit_again value k)))))
 
-fork_again : (parent child : ℕ) → is_pid parent ≡ true → is_pid child ≡ true → fork_at (decimal parent ++ (32 ∷ decimal child)) ≡ Some (Fork parent child)
+fork_again : (parent child : ℕ) → is_pid parent ≡ true → is_pid child ≡ true
+    → fork_at (decimal parent ++ (32 ∷ decimal child)) ≡ Some (Fork parent child)
 unfolding fork_at
 fork_again parent child h k =
     bind_at (cut (decimal parent ++ (32 ∷ decimal child))) (decimal parent, decimal child) (λ words. pid_at words.0 >>= λ parent. pid_at words.1 >>= λ child. Some (Fork parent child)) (Some (Fork parent child)) (cut_word (decimal parent) (decimal child) (decimal_word parent (small_pid parent h)))
@@ -246,7 +255,8 @@ exit_again : (pid : ℕ) → is_pid pid ≡ true → exit_at (decimal pid) ≡ S
 unfolding exit_at
 exit_again pid h = ap (λ (o : Option ℕ). o >>= λ pid. Some (Exit pid)) (pid_again pid h)
 
-chmod_again : (at : Names) (entry : EntryName) (mode : ℕ) → IsPath at → is_mode mode ≡ true → chmod_at (path_text at ++ (32 ∷ (entry_text entry ++ (32 ∷ mode_word mode)))) ≡ Some (Chmod at entry mode)
+chmod_again : (at : Names) (entry : EntryName) (mode : ℕ) → IsPath at → is_mode mode ≡ true
+    → chmod_at (path_text at ++ (32 ∷ (entry_text entry ++ (32 ∷ mode_word mode)))) ≡ Some (Chmod at entry mode)
 unfolding chmod_at
 chmod_again at entry mode h k =
     let rest = entry_text entry ++ (32 ∷ mode_word mode) in
@@ -258,13 +268,14 @@ chmod_again at entry mode h k =
     (ap (λ (o : Option ℕ). o >>= λ mode. Some (Chmod at entry mode)) (mode_again mode k)))))
 
 -- a name, a space and what the operation of that name reads
-named_again : (name text : List ℕ) (op : Op) → is_word name ≡ true → operation_named name text ≡ Some op → operation_at (name ++ (32 ∷ text)) ≡ Some op
+named_again : (name text : List ℕ) (op : Op) → is_word name ≡ true → operation_named name text ≡ Some op
+    → operation_at (name ++ (32 ∷ text)) ≡ Some op
 unfolding operation_at
 named_again name text op w h =
     bind_at (cut (name ++ (32 ∷ text))) (name, text) (λ words. operation_named words.0 words.1) (Some op) (cut_word name text w) h
 
 -- The line of an operation that can be held is read as that operation.
-pub line_again : (op : Op) → IsHeld op → operation_at (spelling op) ≡ Some op
+pub line_again : (op : Op) → IsInRange op → operation_at (spelling op) ≡ Some op
 unfolding operation_named
 line_again (Move pid to) h = named_again (codes "move") (decimal pid ++ (32 ∷ path_text to)) (Move pid to) refl (move_again pid to h.0 h.1)
 line_again (Control at changes) h = named_again (codes "control") (join_with_byte 32 (path_text at ∷ map change_word changes)) (Control at changes) refl (control_again at changes h)
@@ -278,23 +289,25 @@ line_again (Chmod at entry mode) h = named_again (codes "chmod") (path_text at +
 -- ---- both
 
 -- No two operations that can be held have one line.
-pub one_operation : (one other : Op) → IsHeld one → IsHeld other → spelling one ≡ spelling other → one ≡ other
+pub one_operation : (one other : Op) → IsInRange one → IsInRange other → spelling one ≡ spelling other → one ≡ other
 one_operation one other h k e = same_Some one other (sym (line_again one h) ∙ ap operation_at e ∙ line_again other k)
 
 -- what a reader of lines answers
-pub read_ok : (line : List ℕ) (r : Result Op LineFault) (most : ℕ) → Gives r (operation_at line) → length line ≤ most → IfOk r (λ op. (line ≡ spelling op) × (length line ≤ most) × IsHeld op)
+pub read_ok : (line : List ℕ) (r : Result Op LineFault) (most : ℕ) → ReadsAs r (operation_at line) → length line ≤ most
+    → IfOk r (λ op. (line ≡ spelling op) × (length line ≤ most) × IsInRange op)
 read_ok line (Ok op) most h l = let p = line_takes line op h in (p.1, l, p.0)
 read_ok line (Err fault) most h l = tt
 
-pub read_bad : (line : List ℕ) (r : Result Op LineFault) → Gives r (operation_at line) → r ≡ Err BadWord → (op : Op) → IsHeld op → line ≢ spelling op
+pub read_bad : (line : List ℕ) (r : Result Op LineFault) → ReadsAs r (operation_at line) → r ≡ Err BadWord → (op : Op) → IsInRange op
+    → line ≢ spelling op
 read_bad line r h e op k spelled =
-    let none : operation_at line ≡ None = subst (λ (q : Result Op LineFault). Gives q (operation_at line)) e h in
+    let none : operation_at line ≡ None = subst (λ (q : Result Op LineFault). ReadsAs q (operation_at line)) e h in
     none-some op (sym none ∙ (ap operation_at spelled ∙ line_again op k))
 
 -- A line that is no operation's is read as none.
-nothing_in : (line : List ℕ) (read : Option Op) → operation_at line ≡ read → ((op : Op) → IsHeld op → line ≢ spelling op) → read ≡ None
+nothing_in : (line : List ℕ) (read : Option Op) → operation_at line ≡ read → ((op : Op) → IsInRange op → line ≢ spelling op) → read ≡ None
 nothing_in line None e none = refl
 nothing_in line (Some op) e none = let p = line_takes line op e in absurd (none op p.0 p.1)
 
-pub nothing_read : (line : List ℕ) → ((op : Op) → IsHeld op → line ≢ spelling op) → operation_at line ≡ None
+pub nothing_read : (line : List ℕ) → ((op : Op) → IsInRange op → line ≢ spelling op) → operation_at line ≡ None
 nothing_read line none = nothing_in line (operation_at line) refl none

@@ -21,7 +21,7 @@ use Rattle.cg_cgroup.specs.Numbers.{is_pid}
 use Rattle.cg_model.specs.declared.changes.Change.{Change}
 use Rattle.cg_model.specs.declared.operation.Op.{Op}
 use Rattle.cg_model.specs.declared.operation.Op.TheVariants.{Move, Control, Mkdir, Rmdir, Set, Fork, Exit, Chmod}
-use Rattle.cg_lines.specs.OperationLines.{change_word, limit_word, mode_word, words, spelling, IsHeld, IsHeldLimit}
+use Rattle.cg_lines.specs.OperationLines.{change_word, limit_word, mode_word, words, spelling, IsInRange, IsLimitInRange}
 use Rattle.cg_lines.specs.LineLengths.{HasFewChanges}
 use Rattle.cg_lines.proofs.LineWords.{is_graphic, is_word, are_words}
 use Rattle.cg_lines.proofs.LineSpelled.{small_pid}
@@ -49,7 +49,7 @@ entry_length Procs = omega arith
 entry_length SubtreeControl = omega arith
 entry_length (File file) = file_length file
 
-limit_length : (value : Limit) → IsHeldLimit value → length (limit_word value) ≤ 20
+limit_length : (value : Limit) → IsLimitInRange value → length (limit_word value) ≤ 20
 limit_length Max h = omega arith
 limit_length (At value) h = number_length value h
 
@@ -61,7 +61,8 @@ controller_length controller = omega arith
 between : (first second : List ℕ) → length (first ++ (32 ∷ second)) ≡ length first + 1 + length second
 between first second = let l = length-append first (32 ∷ second) in omega (arith, l)
 
-changes_length : (word : List ℕ) (changes : List Change) → length (join_with_byte 32 (word ∷ map change_word changes)) ≤ length word + 8 * length changes
+changes_length : (word : List ℕ) (changes : List Change)
+    → length (join_with_byte 32 (word ∷ map change_word changes)) ≤ length word + 8 * length changes
 changes_length word [] = omega arith
 changes_length word (change ∷ changes) =
     let rest = changes_length (change_word change) changes in
@@ -70,7 +71,7 @@ changes_length word (change ∷ changes) =
     omega (arith, rest, one, l)
 
 -- The line of an operation that can be held isn't too long.
-pub line_length : (op : Op) → IsHeld op → HasFewChanges op → length (spelling op) ≤ 8192
+pub line_length : (op : Op) → IsInRange op → HasFewChanges op → length (spelling op) ≤ 8192
 line_length (Move pid to) h few =
     let a = pid_length pid h.0 in
     let b = path_length to h.1 in
@@ -142,5 +143,5 @@ words_line (word ∷ next ∷ words) h =
     word_line word (32 ∷ rest) p.0 (All-cons IsNoNewline 32 rest refl (words_line (next ∷ words) p.1))
 
 -- No newline stands in it.
-pub one_line : (op : Op) → IsHeld op → All IsNoNewline (spelling op)
+pub one_line : (op : Op) → IsInRange op → All IsNoNewline (spelling op)
 one_line op h = words_line (words op) (line_words op h)

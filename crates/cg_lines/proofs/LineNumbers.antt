@@ -45,7 +45,8 @@ unfolding number_at
 number_is word n v l e =
     let small : nat_lt (digits_value 10 word) (2 ^ 64) ≡ true = lt-ltb (digits_value 10 word) (2 ^ 64) (subst (λ (m : ℕ). m < 2 ^ 64) (sym v) l) in
     let spelled : same_name word (decimal (digits_value 10 word)) ≡ true = (bytes_decides word (decimal (digits_value 10 word))).1 (e ∙ ap decimal (sym v)) in
-    ap (λ (b : Bool). cond b (Some (digits_value 10 word)) None) (and_from (nat_lt (digits_value 10 word) (2 ^ 64)) (same_name word (decimal (digits_value 10 word))) small spelled) ∙ ap (λ (m : ℕ). Some m) v
+    ap (λ (b : Bool). cond b (Some (digits_value 10 word)) None) (and_from (nat_lt (digits_value 10 word) (2 ^ 64)) (same_name word (decimal (digits_value 10 word))) small spelled)
+    ∙ ap (λ (m : ℕ). Some m) v
 
 -- what is spelled so is read
 pub number_again : (n : ℕ) → n < 2 ^ 64 → number_at (decimal n) ≡ Some n
@@ -74,7 +75,8 @@ number_zero word h long = number_none word (λ n l e.
     ])
 
 -- a word that begins with neither is read as its number, where it is one
-pub number_parsed : {E : Type 0} (word : List ℕ) (r : Result ℕ E) → get_or word 0 0 ≢ 43 → (get_or word 0 0 ≡ 48 → length word ≤ 1) → ParsesUnsigned 64 10 word r → result_ok r ≡ number_at word
+pub number_parsed : {E : Type 0} (word : List ℕ) (r : Result ℕ E) → get_or word 0 0 ≢ 43 → (get_or word 0 0 ≡ 48 → length word ≤ 1)
+    → ParsesUnsigned 64 10 word r → result_ok r ≡ number_at word
 number_parsed word (Ok n) plus zero h =
     let same = without_leading_plus_none word plus in
     let digits : IsNumeral 10 word = subst (IsNumeral 10) same h.0.0 in

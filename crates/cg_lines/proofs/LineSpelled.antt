@@ -26,7 +26,7 @@ use Rattle.cg_cgroup.specs.declared.files.EntryName.TheVariants.{Dir, Procs, Sub
 use Rattle.cg_cgroup.proofs.PathEnds.{path_names, is_name-bytes}
 use Rattle.cg_cgroup.proofs.NameLaws.{controller_names}
 use Rattle.cg_model.specs.declared.changes.Change.{Change}
-use Rattle.cg_lines.specs.OperationLines.{change_word, limit_word, mode_word, IsHeldLimit}
+use Rattle.cg_lines.specs.OperationLines.{change_word, limit_word, mode_word, IsLimitInRange}
 use Rattle.cg_lines.specs.LineReading.{number_at, pid_at, limit_at, octal_at, mode_at, sign_at, change_at, changes_at}
 use Rattle.cg_cgroup.specs.Options.{◌>>=◌}
 use Rattle.cg_lines.proofs.LineWords.{is_graphic, is_word, are_words}
@@ -88,14 +88,15 @@ changes_words [] = refl
 changes_words (change ∷ changes) =
     and_from (is_word (change_word change)) (are_words (map change_word changes)) (sign_word change.on change.controller) (changes_words changes)
 
-pub limit_is_word : (value : Limit) → IsHeldLimit value → is_word (limit_word value) ≡ true
+pub limit_is_word : (value : Limit) → IsLimitInRange value → is_word (limit_word value) ≡ true
 limit_is_word Max h = refl
 limit_is_word (At value) h = decimal_word value h
 
 octal_digit : (n : ℕ) → n ≤ 7 → is_graphic (48 + n) ≡ true
 octal_digit n h = graphic (48 + n) (omega (arith, h)) (omega (arith, h))
 
-mode_parts : (mode : ℕ) → is_mode mode ≡ true → (mode / 64 ≤ 7) × (mode / 8 % 8 ≤ 7) × (mode % 8 ≤ 7) × (mode / 64 * 64 + mode / 8 % 8 * 8 + mode % 8 ≡ mode)
+mode_parts : (mode : ℕ) → is_mode mode ≡ true
+    → (mode / 64 ≤ 7) × (mode / 8 % 8 ≤ 7) × (mode % 8 ≤ 7) × (mode / 64 * 64 + mode / 8 % 8 * 8 + mode % 8 ≡ mode)
 mode_parts mode h =
     let l = leb-true mode 511 h in
     (omega (arith, l), omega arith, omega arith, omega arith)
@@ -153,21 +154,22 @@ not_max value l = false_from_ne_true (same_name (decimal value) (codes "max")) (
     let d = decimal_byte value 0 l (decimal_is_IsNumeral value l).0.0 in
     omega (arith, d, first))
 
-pub limit_takes : (word : List ℕ) (value : Limit) → limit_at word ≡ Some value → IsHeldLimit value × (word ≡ limit_word value)
+pub limit_takes : (word : List ℕ) (value : Limit) → limit_at word ≡ Some value → IsLimitInRange value × (word ≡ limit_word value)
 unfolding limit_at
 limit_takes word value h =
     elim (chosen (same_name word (codes "max")) (Some Max) (option_map At (number_at word)) (Some value) h) [
-      | inl p ↦ subst (λ (v : Limit). IsHeldLimit v × (word ≡ limit_word v)) (same_Some Max value p.1) (tt, (bytes_decides word (codes "max")).0 p.0)
+      | inl p ↦ subst (λ (v : Limit). IsLimitInRange v × (word ≡ limit_word v)) (same_Some Max value p.1) (tt, (bytes_decides word (codes "max")).0 p.0)
       | inr p ↦
           let n = map_some At (number_at word) value p.1 in
-          subst (λ (v : Limit). IsHeldLimit v × (word ≡ limit_word v)) n.2 (number_takes word n.0 n.1)
+          subst (λ (v : Limit). IsLimitInRange v × (word ≡ limit_word v)) n.2 (number_takes word n.0 n.1)
     ]
 
-pub limit_again : (value : Limit) → IsHeldLimit value → limit_at (limit_word value) ≡ Some value
+pub limit_again : (value : Limit) → IsLimitInRange value → limit_at (limit_word value) ≡ Some value
 unfolding limit_at
 limit_again Max h = refl
 limit_again (At value) h =
-    ap (λ (b : Bool). cond b (Some Max) (option_map At (number_at (decimal value)))) (not_max value h) ∙ ap (option_map At) (number_again value h)
+    ap (λ (b : Bool). cond b (Some Max) (option_map At (number_at (decimal value)))) (not_max value h)
+    ∙ ap (option_map At) (number_again value h)
 
 -- ---- modes
 
@@ -186,7 +188,8 @@ octal_again n h =
     let value : 48 + n - 48 ≡ n = omega arith in
     ap (λ (b : Bool). cond b (Some (48 + n - 48)) None) test ∙ ap (λ (m : ℕ). Some m) value
 
-spelled_mode : (a b c x y z : ℕ) → (x ≤ 7) × (a ≡ 48 + x) → (y ≤ 7) × (b ≡ 48 + y) → (z ≤ 7) × (c ≡ 48 + z) → (a ∷ b ∷ c ∷ []) ≡ mode_word (x * 64 + y * 8 + z)
+spelled_mode : (a b c x y z : ℕ) → (x ≤ 7) × (a ≡ 48 + x) → (y ≤ 7) × (b ≡ 48 + y) → (z ≤ 7) × (c ≡ 48 + z)
+    → (a ∷ b ∷ c ∷ []) ≡ mode_word (x * 64 + y * 8 + z)
 spelled_mode a b c x y z h k l =
     let first : a ≡ 48 + (x * 64 + y * 8 + z) / 64 = omega (arith, h, k, l) in
     let second : b ≡ 48 + (x * 64 + y * 8 + z) / 8 % 8 = omega (arith, h, k, l) in
@@ -234,7 +237,8 @@ change_takes (sign ∷ name) change h =
     ∙ ap (λ (n : List ℕ). cond on.0 43 45 ∷ n) (controller_names.named name controller.0 controller.1)
     ∙ ap change_word same
 
-change_again : (on : Bool) (controller : Controller) → change_at (cond on 43 45 ∷ controller_name controller) ≡ Some (record { on = on; controller = controller })
+change_again : (on : Bool) (controller : Controller)
+    → change_at (cond on 43 45 ∷ controller_name controller) ≡ Some (record { on = on; controller = controller })
 unfolding change_at
 change_again true Cpu = refl
 change_again true controller = refl
@@ -257,7 +261,8 @@ changes_again (change ∷ changes) =
     (ap (λ (o : Option (List Change)). o >>= λ others. Some (change ∷ others)) (changes_again changes))
 
 -- three digits that are written one by one, behind two words and before a newline
-pub written_mode : (at entry : List ℕ) (mode : ℕ) → mode ≤ 511 → at ++ (32 ∷ (entry ++ (32 ∷ (decimal (mode / 64) ++ (decimal (mode / 8 % 8) ++ (decimal (mode % 8) ++ (10 ∷ []))))))) ≡ (at ++ (32 ∷ (entry ++ (32 ∷ mode_word mode)))) ++ (10 ∷ [])
+pub written_mode : (at entry : List ℕ) (mode : ℕ) → mode ≤ 511
+    → at ++ (32 ∷ (entry ++ (32 ∷ (decimal (mode / 64) ++ (decimal (mode / 8 % 8) ++ (decimal (mode % 8) ++ (10 ∷ []))))))) ≡ (at ++ (32 ∷ (entry ++ (32 ∷ mode_word mode)))) ++ (10 ∷ [])
 written_mode at entry mode l =
     let owner = decimal_digit (mode / 64) (omega (arith, l)) in
     let group = decimal_digit (mode / 8 % 8) (omega arith) in
@@ -265,6 +270,7 @@ written_mode at entry mode l =
     rw (owner, group, others) (simp append_assoc)
 
 -- changes that are written one by one behind a word
-pub written_changes : (word : List ℕ) (changes : List Change) → join_with_byte 32 (word ∷ map change_word changes) ≡ word ++ flat_map (λ (change : Change). 32 ∷ change_word change) changes
+pub written_changes : (word : List ℕ) (changes : List Change)
+    → join_with_byte 32 (word ∷ map change_word changes) ≡ word ++ flat_map (λ (change : Change). 32 ∷ change_word change) changes
 written_changes word [] = sym (append-nil word)
 written_changes word (change ∷ changes) = ap (λ (text : List ℕ). word ++ (32 ∷ text)) (written_changes (change_word change) changes)

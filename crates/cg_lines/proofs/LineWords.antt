@@ -52,9 +52,11 @@ cut_word word rest h =
     let l : nat_lt (length word) (length text) ≡ true = lt-ltb (length word) (length text) (omega (arith, length-append word (32 ∷ rest))) in
     let front : take (length word) text ≡ word = take_at word (32 ∷ rest) (length word) refl in
     let back : drop (length word + 1) text ≡ rest =
-    ap (drop (length word + 1)) (sym (append_assoc word (32 ∷ []) rest)) ∙ drop_at (word ++ (32 ∷ [])) rest (length word + 1) (length-append word (32 ∷ [])) in
+    ap (drop (length word + 1)) (sym (append_assoc word (32 ∷ []) rest))
+    ∙ drop_at (word ++ (32 ∷ [])) rest (length word + 1) (length-append word (32 ∷ [])) in
     let f = λ (n : ℕ). cond (nat_lt n (length text)) (Some (take n text, drop (n + 1) text)) None in
-    ap f e ∙ ap (λ (b : Bool). cond b (Some (take (length word) text, drop (length word + 1) text)) None) l ∙ ap (λ (w : List ℕ). Some (w, drop (length word + 1) text)) front ∙ ap (λ (r : List ℕ). Some (word, r)) back
+    ap f e ∙ ap (λ (b : Bool). cond b (Some (take (length word) text, drop (length word + 1) text)) None) l
+    ∙ ap (λ (w : List ℕ). Some (w, drop (length word + 1) text)) front ∙ ap (λ (r : List ℕ). Some (word, r)) back
 
 -- a word alone is not cut
 pub cut_none : (word : List ℕ) → is_word word ≡ true → cut word ≡ None
@@ -70,7 +72,8 @@ cut_parts text words h =
     let p = cond_some (nat_lt at (length text)) (before_first is_space text, after_first is_space text) words h in
     let l = ltb-true at (length text) p.0 in
     let b = eqb-true (get_or text at 0) 32 (passes_at_first is_space text 0 l) in
-    split_at_first is_space text 0 l ∙ ap (λ (c : ℕ). before_first is_space text ++ (c ∷ after_first is_space text)) b ∙ ap (λ (w : List ℕ × List ℕ). w.0 ++ (32 ∷ w.1)) p.1
+    split_at_first is_space text 0 l ∙ ap (λ (c : ℕ). before_first is_space text ++ (c ∷ after_first is_space text)) b
+    ∙ ap (λ (w : List ℕ × List ℕ). w.0 ++ (32 ∷ w.1)) p.1
 
 fails_of : (word : List ℕ) → is_word word ≡ true → All (λ (b : ℕ). is_space b ≡ false) word
 fails_of [] h = All-nil (λ (b : ℕ). is_space b ≡ false)
@@ -79,7 +82,8 @@ fails_of (b ∷ word) h =
     All-cons (λ (b : ℕ). is_space b ≡ false) b word (not_space b p.0) (fails_of word p.1)
 
 -- words that are joined by spaces are split there
-pub split_joined : (word : List ℕ) (words : List (List ℕ)) → are_words (word ∷ words) ≡ true → slice_split is_space (join_with_byte 32 (word ∷ words)) ≡ word ∷ words
+pub split_joined : (word : List ℕ) (words : List (List ℕ)) → are_words (word ∷ words) ≡ true
+    → slice_split is_space (join_with_byte 32 (word ∷ words)) ≡ word ∷ words
 split_joined word [] h =
     let p = and_parts (is_word word) true h in
     slice_split_none is_space word (fails_of word p.0)

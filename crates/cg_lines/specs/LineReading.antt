@@ -22,9 +22,9 @@ Fails faults.BadWord read = read ≡ None
 Fails faults.NoMemory read = Unit {0}
 Fails other read = ⊥
 
-abbrev pub Gives : {Y : Type 0} → Result Y LineFault → Option Y → Type 0
-Gives (Ok x) read = read ≡ Some x
-Gives (Err fault) read = Fails fault read
+abbrev pub ReadsAs : {Y : Type 0} → Result Y LineFault → Option Y → Type 0
+ReadsAs (Ok x) read = read ≡ Some x
+ReadsAs (Err fault) read = Fails fault read
 
 abbrev pub is_space : ℕ → Bool
 is_space b = b == 32

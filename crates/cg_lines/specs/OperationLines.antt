@@ -38,17 +38,17 @@ words (Chmod at entry mode) = codes "chmod" ∷ path_text at ∷ entry_text entr
 abbrev pub spelling : Op → List ℕ
 spelling op = join_with_byte 32 (words op)
 
-abbrev pub IsHeldLimit : Limit → Type 0
-IsHeldLimit Max = Unit {0}
-IsHeldLimit (At value) = value < 2 ^ 64
+abbrev pub IsLimitInRange : Limit → Type 0
+IsLimitInRange Max = Unit {0}
+IsLimitInRange (At value) = value < 2 ^ 64
 
 -- What an operation of the program can hold: paths that are paths, PIDs and modes in their ranges, values below 2 ^ 64.
-abbrev pub IsHeld : Op → Type 0
-IsHeld (Move pid to) = (is_pid pid ≡ true) × IsPath to
-IsHeld (Control at changes) = IsPath at
-IsHeld (Mkdir path) = IsPath path
-IsHeld (Rmdir path) = IsPath path
-IsHeld (Set at file value) = IsPath at × IsHeldLimit value
-IsHeld (Fork parent child) = (is_pid parent ≡ true) × (is_pid child ≡ true)
-IsHeld (Exit pid) = is_pid pid ≡ true
-IsHeld (Chmod at entry mode) = IsPath at × (is_mode mode ≡ true)
+abbrev pub IsInRange : Op → Type 0
+IsInRange (Move pid to) = (is_pid pid ≡ true) × IsPath to
+IsInRange (Control at changes) = IsPath at
+IsInRange (Mkdir path) = IsPath path
+IsInRange (Rmdir path) = IsPath path
+IsInRange (Set at file value) = IsPath at × IsLimitInRange value
+IsInRange (Fork parent child) = (is_pid parent ≡ true) × (is_pid child ≡ true)
+IsInRange (Exit pid) = is_pid pid ≡ true
+IsInRange (Chmod at entry mode) = IsPath at × (is_mode mode ≡ true)

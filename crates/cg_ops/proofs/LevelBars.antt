@@ -31,7 +31,7 @@ module _ (st : State) (path : Names) where
   -- a level that isn't full bars nothing
   level_free : (k : ℕ) → is_full st path top k ≡ false → first (level_bars st path k) ≡ None
   level_free k free =
-      elim (row_at st (take k path)) as (λ r. elim r as (λ _. Bool) [ None ↦ false | Some row ↦ bars_child row (count k) (top - k) ] ≡ false
+      elim (row_at st (take k path)) as (λ r. elim r as (λ _. Bool) [ None ↦ false | Some row ↦ bars_child (count k) row.max_descendants.value (top - k) row.max_depth.value ] ≡ false
       → first (present r (λ row. unless (is_under (count k) row.max_descendants.value) (DescendantLimit k) ++ unless (is_under (top - k) row.max_depth.value) (DepthLimit k))) ≡ None) [
         | None ↦ λ h. refl
         | Some row ↦ λ h. both_pass (is_under (count k) row.max_descendants.value) (is_under (top - k) row.max_depth.value) (DescendantLimit k) (DepthLimit k) h
@@ -40,7 +40,7 @@ module _ (st : State) (path : Names) where
   -- and a full one does
   level_full : (k : ℕ) → is_full st path top k ≡ true → (r : Refusal) × (first (level_bars st path k) ≡ Some r)
   level_full k full =
-      elim (row_at st (take k path)) as (λ r. elim r as (λ _. Bool) [ None ↦ false | Some row ↦ bars_child row (count k) (top - k) ] ≡ true
+      elim (row_at st (take k path)) as (λ r. elim r as (λ _. Bool) [ None ↦ false | Some row ↦ bars_child (count k) row.max_descendants.value (top - k) row.max_depth.value ] ≡ true
       → (refusal : Refusal) × (first (present r (λ row. unless (is_under (count k) row.max_descendants.value) (DescendantLimit k) ++ unless (is_under (top - k) row.max_depth.value) (DepthLimit k))) ≡ Some refusal)) [
         | None ↦ λ h. absurd (true≢false (sym h))
         | Some row ↦ λ h. one_fails (is_under (count k) row.max_descendants.value) (is_under (top - k) row.max_depth.value) (DescendantLimit k) (DepthLimit k) h

@@ -11,6 +11,7 @@ ghost use Rattle.cg_steps.specs.Outcomes.{IsRefused, RefusedBy};
 mod limits;
 mod make_remove;
 mod modes;
+pub mod moves;
 mod process_events;
 mod procs_rule;
 mod subtree_control;

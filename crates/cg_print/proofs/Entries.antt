@@ -1,6 +1,5 @@
 -- The entries of a map in turn: each is found by its key, and by none before it.
-use Rattle.std.proofs.Common.{◌≡◌, ℕ, ◌+◌, ◌<◌, ◌≤◌, Bool, true, false, cond, T, zero, suc, List, [], ◌∷◌, ◌++◌, length, get_or, take, map as map_list, Some, None, is_some, option_map, subst, Ordering, Less, Equal, Greater, is_eq, refl, sym, ap, ◌∙◌, arith}
-use Rattle.std.specs.Prelude.{◌&&◌}
+use Rattle.std.proofs.Common.{◌≡◌, ℕ, ◌+◌, ◌<◌, ◌≤◌, true, cond, T, zero, suc, List, [], ◌∷◌, ◌++◌, length, get_or, take, map as map_list, Some, None, is_some, option_map, subst, Ordering, Greater, is_eq, refl, sym, ap, ◌∙◌, arith}
 use Rattle.std.proofs.lemmas.List.{take_more, take_all, map-append, get_or-map, length-map}
 use Rattle.std.specs.List.{AllByRecursion}
 use Rattle.std.specs.Ordering.{is_lt, ordering_reverse}
@@ -12,19 +11,7 @@ use Rattle.toml.specs.Data.{Data}
 use Rattle.toml.specs.View.{view}
 use Rattle.toml.specs.declared.value.Value.{Value}
 use Rattle.cg_cgroup.proofs.Options.{same_some}
-
-first_of_both : (a b : Bool) → T (a && b) → T a
-first_of_both true b h = tt
-first_of_both false b h = h
-
-second_of_both : (a b : Bool) → T (a && b) → T b
-second_of_both true b h = h
-second_of_both false b h = absurd h
-
-is_less : (r : Ordering) → T (is_lt r) → r ≡ Less
-is_less Less h = refl
-is_less Equal h = absurd h
-is_less Greater h = absurd h
+use Rattle.cg_steps.proofs.MapLaws.{first_of_both, second_of_both, is_less}
 
 module _ {K X : Type 0} (R : K → K → Ordering) (o : IsTotalOrder R) where
   -- a key that is below all is none of them

@@ -2,11 +2,14 @@
 use Rattle.std.proofs.Common.{◌≡◌, ◌≢◌, ℕ, ◌≤◌, ◌<◌, true, false, nat_le, List, length, Some, Result, Ok, Err, MatchResult, refl, sym, subst, arith}
 use Rattle.std.proofs.lemmas.Bool.Decides.{nat_tests}
 use Rattle.cg_model.specs.States.{State}
-use Rattle.cg_text.specs.TreeTexts.{longest_text, document_of, tree_of}
+use Rattle.cg_text.specs.TreeTexts.{longest_text, document_of}
 use Rattle.cg_text.specs.Faults.{Reads}
 use Rattle.cg_text.specs.declared.tree.fault.TreeFault.{TreeFault}
 use Rattle.cg_text.specs.declared.tree.fault.TreeFault.TheVariants.{TooLong, NoMemory}
-use Rattle.cg_text.proofs.TextLaws.{state_is_read}
+use Rattle.cg_model.specs.Clauses.{first}
+use Rattle.cg_text.specs.TextOf.{IsTextOf}
+use Rattle.cg_text.specs.TextFaults.{text_faults}
+use Rattle.cg_text.proofs.TextFaultLaws.{text_is_read, text_reads}
 use Rattle.cg_text.specs.HasState.{HasState}
 use Rattle.cg_print.specs.Documents.{tree_document, IsSpelled}
 use Rattle.cg_print.specs.Carried.{IsKept, IsCarried, IsTooLong}
@@ -37,10 +40,10 @@ by_read : (st : State) (result : Result State TreeFault) → Reads (λ rows. row
 by_read st (Ok rows) reads = let same : st ≡ rows = cc in sym same
 by_read st (Err fault) reads = λ other. let never : Ok st ≡ Err fault = reads other in absurd (cc)
 
-pub read_again : (bytes : List ℕ) (st : State) (result : Result State TreeFault) → IsSpelled st bytes → (length bytes ≤ longest_text → HasState bytes st) → (longest_text < length bytes → result ≡ Err TooLong)
-    → Reads (λ rows. rows) result (tree_of bytes) → IsAnswer st result
-read_again bytes st result spelled state too_long reads =
+pub read_again : (bytes : List ℕ) (st : State) (result : Result State TreeFault) → IsSpelled st bytes → (length bytes ≤ longest_text → IsTextOf st bytes) → (longest_text < length bytes → result ≡ Err TooLong)
+    → MatchResult result (λ rows. IsTextOf rows bytes) (λ fault. fault ≢ NoMemory → first (text_faults bytes) ≡ Some fault) → IsAnswer st result
+read_again bytes st result spelled state too_long read =
     elim (nat_le (length bytes) longest_text) as (λ b. nat_le (length bytes) longest_text ≡ b → IsAnswer st result) [
-      | true ↦ λ is. by_read st result (subst (Reads (λ rows. rows) result) (state_is_read bytes st (state (fits (length bytes) longest_text is))) reads)
+      | true ↦ λ is. by_read st result (subst (Reads (λ rows. rows) result) (text_is_read bytes st (state (fits (length bytes) longest_text is))) (text_reads bytes result read))
       | false ↦ λ is. subst (IsAnswer st) (sym (too_long (passes (length bytes) longest_text is))) (λ _. (refl, (bytes, spelled, passes (length bytes) longest_text is)))
     ] refl

@@ -1,7 +1,8 @@
 //! What holds of every tree that is written.
-ghost use Rattle.std.specs.Prelude.{◌≡◌, ◌≢◌, ◌≤◌, ℕ, List, length, Some, Ok, MatchResult};
+ghost use Rattle.std.specs.Prelude.{◌≡◌, ◌≢◌, ◌≤◌, ℕ, List, length, Some, MatchResult};
 ghost use Rattle.cg_model.specs.States.{State};
-ghost use Rattle.cg_text.specs.TreeTexts.{longest_text, document_of, tree_of};
+ghost use Rattle.cg_text.specs.TreeTexts.{longest_text, document_of};
+ghost use Rattle.cg_text.specs.TextOf.{IsTextOf};
 ghost use Rattle.cg_text.specs.declared.tree.fault.TreeFault.TheVariants.{NoMemory as MemoryFault, TooLong};
 ghost use Rattle.cg_print.specs.Carried.{IsKept, IsCarried, IsTooLong};
 ghost use Rattle.cg_print.specs.Documents.{tree_document, IsSpelled};
@@ -34,11 +35,11 @@ pub fn texts_are_one()
 /// A text of the document of a tree that is kept has that tree's state, where a text can carry it and isn't too long.
 pub fn texts_are_of_their_trees()
     ensures { (text : List ℕ) (st : State) → document_of text ≡ Some (tree_document st) → IsKept st → IsCarried st
-        → length text ≤ longest_text → tree_of text ≡ Ok st }
+        → length text ≤ longest_text → IsTextOf st text }
 {}
 
 /// What a text says can be carried by a text: no more cgroups and processes than that may have, and no PID was used but those of
 /// its processes.
 pub fn read_trees_are_carried()
-    ensures { (text : List ℕ) (st : State) → tree_of text ≡ Ok st → IsCarried st }
+    ensures { (text : List ℕ) (st : State) → IsTextOf st text → IsCarried st }
 {}

@@ -2,7 +2,7 @@
 ghost use Rattle.std.specs.Prelude.{◌≡◌, ◌≤◌, length, Some, IfOk};
 ghost use Rattle.toml.specs.View.{table_view};
 ghost use Rattle.cg_text.specs.TreeTexts.{longest_text, document_of};
-ghost use Rattle.cg_text.specs.HasState.{HasState};
+ghost use Rattle.cg_text.specs.TextOf.{IsTextOf};
 ghost use Rattle.cg_print.specs.Carried.{IsKept, IsCarried};
 ghost use Rattle.cg_print.specs.Documents.{tree_document, IsSpelled};
 
@@ -42,7 +42,7 @@ pub fn tree_text<H: Hierarchy>(alloc: Global, tree: &H) -> Result<Vec<u8>, NoMem
     ensures document { IfOk result (λ text. document_of text.items ≡ Some (tree_document (H.state tree.now))) }
     ensures spelled { IfOk result (λ text. IsSpelled (H.state tree.now) text.items) }
     ensures state { IfOk result (λ text. IsCarried (H.state tree.now) → length text.items ≤ longest_text
-        → HasState text.items (H.state tree.now)) }
+        → IsTextOf (H.state tree.now) text.items) }
 {
     let document = document_of(alloc, tree)?;
     match toml::table_to_string(alloc, &document) {

@@ -16,7 +16,7 @@ use cg_cgroup::path::Path;
 use cg_cgroup::process::{Pid, Process};
 use cg_cgroup::user::{Mode, User};
 use cg_tree::hierarchy::Hierarchy;
-use cg_tree::limits::is_under;
+use cg_tree::limits::bars_child;
 use std::alloc::Global;
 use std::marker::Model;
 
@@ -112,8 +112,12 @@ impl Rows {
         let Some(cgroup) = self.get(path, at) else {
             return false;
         };
-        !(is_under(self.count_below(path, at), cgroup.max_descendants.value)
-            && is_under((len - at) as u64, cgroup.max_depth.value))
+        bars_child(
+            self.count_below(path, at),
+            cgroup.max_descendants.value,
+            (len - at) as u64,
+            cgroup.max_depth.value,
+        )
     }
 }
 

@@ -24,14 +24,17 @@ there_above : (root : Bool) (above : Option Cgroup) → is_some (cond root None 
 there_above true above h = absurd (true≢false (sym h))
 there_above false above h = (refl, h)
 
-pub allowed_mkdir : (st : State) (user : Identity) (path : Names) → mkdir_bars st user path ≡ [] → (has_row st path ≡ false) × (is_root path ≡ false) × (has_row st (parent path) ≡ true)
+pub allowed_mkdir : (st : State) (user : Identity) (path : Names) → mkdir_bars st user path ≡ []
+    → (has_row st path ≡ false) × (is_root path ≡ false) × (has_row st (parent path) ≡ true)
 allowed_mkdir st user path h =
     let parts = no_parts _ _ (no_parts _ _ (no_parts _ _ h).0).0 in
     let above = there_above (is_root path) (row_at st (parent path)) (no_absent (row_above st path) _ parts.1) in
     (ap is_some (none_present (row_at st path) _ parts.0), above.0, above.1)
 
 -- the tree with a cgroup that a user makes, where nothing bars it
-pub formed_mkdir : (st : State) (user : Identity) (path : Names) (len : ℕ) (row made : Cgroup) → mkdir_bars st user path ≡ [] → IsWellFormed st → len + 1 ≡ length path → row_at st (take len path) ≡ Some row → made ≡ cgroup_made_by user row.enabled → IsWellFormed (with_row st path made)
+pub formed_mkdir : (st : State) (user : Identity) (path : Names) (len : ℕ) (row made : Cgroup) → mkdir_bars st user path ≡ []
+    → IsWellFormed st → len + 1 ≡ length path → row_at st (take len path) ≡ Some row → made ≡ cgroup_made_by user row.enabled
+    → IsWellFormed (with_row st path made)
 formed_mkdir st user path len row made h whole at is is_made =
     let allowed = allowed_mkdir st user path h in
     let above : row_at st (parent path) ≡ Some row = ap (row_at st) (sym (take_parent path len at)) ∙ is in
@@ -41,7 +44,8 @@ formed_mkdir st user path len row made h whole at is is_made =
 -- ---- the others
 
 -- a row that is there and passes a test
-held_by : (found : Option Cgroup) (test : Cgroup → Bool) (gone failed : Refusal) → absent found gone ≡ [] → present found (λ row. unless (test row) failed) ≡ [] → elim found [ None ↦ false | Some row ↦ test row ] ≡ true
+held_by : (found : Option Cgroup) (test : Cgroup → Bool) (gone failed : Refusal) → absent found gone ≡ []
+    → present found (λ row. unless (test row) failed) ≡ [] → elim found [ None ↦ false | Some row ↦ test row ] ≡ true
 held_by None test gone failed there passed = cc
 held_by (Some row) test gone failed there passed = no_unless (test row) failed passed
 
@@ -56,7 +60,8 @@ not_false true h = sym h
 not_false false h = refl
 
 -- where a row is there, a test on its path
-passed : {A : Type 0} (found : Option A) (there : Bool) (r : Refusal) → is_some found ≡ true → present found (λ x. unless (not there) r) ≡ [] → there ≡ false
+passed : {A : Type 0} (found : Option A) (there : Bool) (r : Refusal) → is_some found ≡ true
+    → present found (λ x. unless (not there) r) ≡ [] → there ≡ false
 passed None there r some h = absurd (true≢false (sym some))
 passed (Some x) there r some h = not_false there (no_unless (not there) r h)
 
@@ -80,7 +85,8 @@ allowed_rmdir st user path h =
       no_process = passed (row_at st path) (has_live st path) HasProcesses there live.1;
     }
 
-accepted : (found : Option Cgroup) (file : LimitFile) (ok : Bool) (gone missing bad : Refusal) → absent found gone ≡ [] → present found (λ row. absent (file_of row file) missing) ≡ []
+accepted : (found : Option Cgroup) (file : LimitFile) (ok : Bool) (gone missing bad : Refusal) → absent found gone ≡ []
+    → present found (λ row. absent (file_of row file) missing) ≡ []
     → present (option_and_then (λ row. file_of row file) found) (λ held. unless ok bad) ≡ [] → ok ≡ true
 accepted None file ok gone missing bad there stands h = cc
 accepted (Some row) file ok gone missing bad there stands h =
@@ -89,7 +95,8 @@ accepted (Some row) file ok gone missing bad there stands h =
       | Some held ↦ λ stands h. no_unless ok bad h
     ] stands h
 
-pub allowed_set : (st : State) (user : Identity) (at : Names) (file : LimitFile) (value : Limit) → set_bars st user at file value ≡ [] → accepts file value ≡ true
+pub allowed_set : (st : State) (user : Identity) (at : Names) (file : LimitFile) (value : Limit) → set_bars st user at file value ≡ []
+    → accepts file value ≡ true
 allowed_set st user at file value h =
     let value_part = no_parts _ _ h in
     let access = no_parts _ _ value_part.0 in
@@ -99,9 +106,12 @@ allowed_set st user at file value h =
 pub allowed_fork : (st : State) (user : Identity) (parent child : ℕ) → fork_bars st user parent child ≡ [] → is_used st child ≡ false
 allowed_fork st user parent child h = not_false (is_used st child) (no_unless _ _ (no_parts _ _ h).1)
 
-pub live_fork : (st : State) (user : Identity) (parent child : ℕ) → fork_bars st user parent child ≡ [] → is_some (process_at st parent) ≡ true
+pub live_fork : (st : State) (user : Identity) (parent child : ℕ) → fork_bars st user parent child ≡ []
+    → is_some (process_at st parent) ≡ true
 live_fork st user parent child h =
-    sym (is_some-mapped (λ process. process.uid) (process_at st parent)) ∙ no_absent (owner_at st parent) (NoSuchProcess parent) (no_parts _ _ (no_parts _ _ h).0).0
+    sym (is_some-mapped (λ process. process.uid) (process_at st parent))
+    ∙ no_absent (owner_at st parent) (NoSuchProcess parent) (no_parts _ _ (no_parts _ _ h).0).0
 
-pub there_control : (st : State) (user : Identity) (at : Names) (changes : List Change) → control_bars st user at changes ≡ [] → has_row st at ≡ true
+pub there_control : (st : State) (user : Identity) (at : Names) (changes : List Change) → control_bars st user at changes ≡ []
+    → has_row st at ≡ true
 there_control st user at changes h = no_absent (row_at st at) (NoSuchCgroup (length at)) (no_parts _ _ (no_parts _ _ h).0).0

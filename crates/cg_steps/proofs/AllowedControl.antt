@@ -20,13 +20,15 @@ use Rattle.cg_model.specs.Bars.{change_bars, changes_bars, control_bars}
 use Rattle.cg_model.specs.declared.changes.Change.{Change}
 use Rattle.cg_steps.proofs.ClauseLaws.{no_parts, no_unless, no_present}
 
-enables-enabled_after : (enabled : ControllerSet) (changes : List Change) (controller : Controller) → enables (enabled_after enabled changes) controller ≡ unwrap_or (effective changes controller) (enables enabled controller)
+enables-enabled_after : (enabled : ControllerSet) (changes : List Change) (controller : Controller)
+    → enables (enabled_after enabled changes) controller ≡ unwrap_or (effective changes controller) (enables enabled controller)
 enables-enabled_after enabled changes Cpu = refl
 enables-enabled_after enabled changes Memory = refl
 enables-enabled_after enabled changes Pids = refl
 
 -- what a child enables, its parent does
-child_enables-parent : (st : State) (path : Names) (row : Cgroup) (controller : Controller) → IsWellFormed st → row_at st path ≡ Some row → child_enables st path controller ≡ true → enables row.enabled controller ≡ true
+child_enables-parent : (st : State) (path : Names) (row : Cgroup) (controller : Controller) → IsWellFormed st → row_at st path ≡ Some row
+    → child_enables st path controller ≡ true → enables row.enabled controller ≡ true
 child_enables-parent st path row controller whole is h =
     let found = child_enables-row st path controller h in
     let below : available_at st found.0 ≡ enabled_at st (parent found.0) = simp (is_root-is_child path found.0 found.3) in
@@ -34,7 +36,8 @@ child_enables-parent st path row controller whole is h =
     is_within-enables found.1.enabled row.enabled (subst (λ set. is_within found.1.enabled set ≡ true) within (whole.top_down found.0 found.1 found.2)) controller found.4
 
 module _ (st : State) (path : Names) (row : Cgroup) (controller : Controller) where
-  on_available : (change : Option Bool) → change_bars st path row controller change ≡ [] → (enables row.enabled controller ≡ true → enables (available_at st path) controller ≡ true)
+  on_available : (change : Option Bool) → change_bars st path row controller change ≡ []
+      → (enables row.enabled controller ≡ true → enables (available_at st path) controller ≡ true)
       → unwrap_or change (enables row.enabled controller) ≡ true → enables (available_at st path) controller ≡ true
   on_available None h before on = before on
   on_available (Some true) h before on = no_unless _ _ h
@@ -45,14 +48,16 @@ module _ (st : State) (path : Names) (row : Cgroup) (controller : Controller) wh
   used_below true false h e c = c
   used_below false child h e c = e
 
-  on_children : (change : Option Bool) → change_bars st path row controller change ≡ [] → (child_enables st path controller ≡ true → enables row.enabled controller ≡ true)
+  on_children : (change : Option Bool) → change_bars st path row controller change ≡ []
+      → (child_enables st path controller ≡ true → enables row.enabled controller ≡ true)
       → child_enables st path controller ≡ true → unwrap_or change (enables row.enabled controller) ≡ true
   on_children None h before child = before child
   on_children (Some true) h before child = refl
   on_children (Some false) h before child = used_below _ _ (no_unless _ _ h) (before child) child
 
 -- a cgroup other than the root that has a process enables nothing
-live-enables_nothing : (st : State) (path : Names) (row : Cgroup) → IsWellFormed st → row_at st path ≡ Some row → has_live st path ≡ true → (is_root path || enables_nothing row.enabled) ≡ true
+live-enables_nothing : (st : State) (path : Names) (row : Cgroup) → IsWellFormed st → row_at st path ≡ Some row → has_live st path ≡ true
+    → (is_root path || enables_nothing row.enabled) ≡ true
 live-enables_nothing st path row whole is live =
     let found = has_live-process st path live in
     let at : found.1.place ≡ path = same_path-is _ _ found.3 in
@@ -64,14 +69,16 @@ within-nothing : (set other : ControllerSet) → is_within set other ≡ true �
 within-nothing set other within nothing =
     enables_nothing-none set (λ controller. false_from_ne_true _ (λ on. true≢false (sym (is_within-enables set other within controller on) ∙ enables_nothing-enables other nothing controller)))
 
-no_internal_cases : (root within nothing live before : Bool) → (root || (within || not live)) ≡ true → (live ≡ true → (root || before) ≡ true) → (within ≡ true → before ≡ true → nothing ≡ true) → (root || (nothing || not live)) ≡ true
+no_internal_cases : (root within nothing live before : Bool) → (root || (within || not live)) ≡ true
+    → (live ≡ true → (root || before) ≡ true) → (within ≡ true → before ≡ true → nothing ≡ true) → (root || (nothing || not live)) ≡ true
 no_internal_cases true within nothing live before h held kept = refl
 no_internal_cases false within true live before h held kept = refl
 no_internal_cases false within false false before h held kept = refl
 no_internal_cases false true false true before h held kept = kept refl (held refl)
 no_internal_cases false false false true before h held kept = h
 
-each_change : (st : State) (path : Names) (changes : List Change) (row : Cgroup) → changes_bars st path changes row ≡ [] → (controller : Controller) → change_bars st path row controller (effective changes controller) ≡ []
+each_change : (st : State) (path : Names) (changes : List Change) (row : Cgroup) → changes_bars st path changes row ≡ []
+    → (controller : Controller) → change_bars st path row controller (effective changes controller) ≡ []
 each_change st path changes row h Cpu = (no_parts _ _ (no_parts _ _ h).0).0
 each_change st path changes row h Memory = (no_parts _ _ (no_parts _ _ (no_parts _ _ h).0).1).0
 each_change st path changes row h Pids = (no_parts _ _ (no_parts _ _ (no_parts _ _ (no_parts _ _ h).0).1).1).0
@@ -90,5 +97,7 @@ module _ (st : State) (path : Names) (changes : List Change) (row : Cgroup) (who
   }
 
 -- where nothing bars a control
-pub allowed_control : (st : State) (user : Identity) (path : Names) (changes : List Change) (row : Cgroup) → control_bars st user path changes ≡ [] → IsWellFormed st → row_at st path ≡ Some row → MayEnable st path (enabled_after row.enabled changes)
+pub allowed_control : (st : State) (user : Identity) (path : Names) (changes : List Change) (row : Cgroup)
+    → control_bars st user path changes ≡ [] → IsWellFormed st → row_at st path ≡ Some row
+    → MayEnable st path (enabled_after row.enabled changes)
 allowed_control st user path changes row h whole is = may_enable st path changes row whole is (no_present _ _ (no_parts _ _ h).1 row is)

@@ -30,7 +30,8 @@ abbrev pub clauses_of : Bool → List ℕ → Bool → Bool → Bool → List Cl
 clauses_of there crossed same descendants depth =
     unless there Gone ++ map Crossed crossed ++ unless same Limits ++ unless descendants Descendants ++ unless depth Depth
 
-pub start-broken : (st : State) (subtree : Names) (descendants depth : Bool) → has_row st subtree ≡ true → descendants ≡ fits_descendants st subtree → depth ≡ fits_depth st subtree
+pub start-broken : (st : State) (subtree : Names) (descendants depth : Bool) → has_row st subtree ≡ true
+    → descendants ≡ fits_descendants st subtree → depth ≡ fits_depth st subtree
     → first (clauses_of true [] true descendants depth) ≡ first (broken st st st subtree)
 start-broken st subtree descendants depth there fits fits_too =
     sym (λ i. first (clauses_of (there i) (none-crosses-same st subtree i) (same_limits-itself (limits st subtree) i) (sym fits i) (sym fits_too i)))

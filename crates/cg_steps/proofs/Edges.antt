@@ -16,7 +16,8 @@ filter_none : {A : Type 0} (test : A → Bool) (xs : List A) → ((x : A) → te
 filter_none test [] h = refl
 filter_none test (x ∷ xs) h = ap (λ b. cond b (x ∷ filter test xs) (filter test xs)) (h x) ∙ filter_none test xs h
 
-pub none-crosses : (st new : State) (subtree : Names) → ((q : ℕ) → is_crossed subtree (place_at st q) (place_at new q) ≡ false) → crossing st new subtree ≡ []
+pub none-crosses : (st new : State) (subtree : Names) → ((q : ℕ) → is_crossed subtree (place_at st q) (place_at new q) ≡ false)
+    → crossing st new subtree ≡ []
 none-crosses st new subtree = filter_none (λ pid. is_crossed subtree (place_at st pid) (place_at new pid)) (pids_of st)
 
 pub none-crosses-same : (st : State) (subtree : Names) → crossing st st subtree ≡ []
@@ -38,6 +39,7 @@ not_filtered p (first ∷ pids) pid h passed none =
     filtered_some x xs e = cc
 
 -- a live process on the other side of the edge crosses it
-pub crosses-some : (st new : State) (subtree : Names) (pid : ℕ) → is_some (process_at st pid) ≡ true → is_crossed subtree (place_at st pid) (place_at new pid) ≡ true → crossing st new subtree ≢ []
+pub crosses-some : (st new : State) (subtree : Names) (pid : ℕ) → is_some (process_at st pid) ≡ true
+    → is_crossed subtree (place_at st pid) (place_at new pid) ≡ true → crossing st new subtree ≢ []
 crosses-some st new subtree pid live crossed =
     not_filtered (λ p. is_crossed subtree (place_at st p) (place_at new p)) (pids_of st) pid (sym (contains_key-keys st.live pid) ∙ live) crossed

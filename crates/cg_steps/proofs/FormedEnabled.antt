@@ -49,7 +49,8 @@ module _ (path : Names) (enabled : ControllerSet) (user : Identity) where
 
 module _ (st : State) (path : Names) (enabled : ControllerSet) (user : Identity) where
   pub has_row-with_enabled : (q : Names) → has_row (with_enabled st path enabled user) q ≡ has_row st q
-  has_row-with_enabled q = ap is_some (row_at-with_enabled st path enabled user q) ∙ is_some-mapped (enabling path enabled user q) (row_at st q)
+  has_row-with_enabled q = ap is_some (row_at-with_enabled st path enabled user q)
+      ∙ is_some-mapped (enabling path enabled user q) (row_at st q)
 
   pub enabled_at-with_enabled-same : has_row st path ≡ true → enabled_at (with_enabled st path enabled user) path ≡ enabled
   enabled_at-with_enabled-same there =
@@ -57,7 +58,8 @@ module _ (st : State) (path : Names) (enabled : ControllerSet) (user : Identity)
       ap (λ r. elim r [ None ↦ no_controllers | Some row ↦ row.enabled ]) (row_at-with_enabled st path enabled user path ∙ ap (option_map (enabling path enabled user path)) row.1)
       ∙ enabled-enabling-same path enabled user row.0
 
-  pub enabled_at-with_enabled-other : (q : Names) → same_path path q ≡ false → enabled_at (with_enabled st path enabled user) q ≡ enabled_at st q
+  pub enabled_at-with_enabled-other : (q : Names) → same_path path q ≡ false
+      → enabled_at (with_enabled st path enabled user) q ≡ enabled_at st q
   enabled_at-with_enabled-other q apart =
       ap (λ r. elim r [ None ↦ no_controllers | Some row ↦ row.enabled ]) (row_at-with_enabled st path enabled user q)
       ∙ elim (row_at st q) as (λ r. elim (option_map (enabling path enabled user q) r) [ None ↦ no_controllers | Some row ↦ row.enabled ] ≡ elim r [ None ↦ no_controllers | Some row ↦ row.enabled ]) [
@@ -66,12 +68,15 @@ module _ (st : State) (path : Names) (enabled : ControllerSet) (user : Identity)
       ]
 
   -- what is above a child of the path, and above any other path
-  above_child : has_row st path ≡ true → (default : ControllerSet) (q : Names) → is_child path q ≡ true → cond (is_root q) default (enabled_at (with_enabled st path enabled user) (parent q)) ≡ enabled
+  above_child : has_row st path ≡ true → (default : ControllerSet) (q : Names) → is_child path q ≡ true
+      → cond (is_root q) default (enabled_at (with_enabled st path enabled user) (parent q)) ≡ enabled
   above_child there default q child =
       ap (λ b. cond b default (enabled_at (with_enabled st path enabled user) (parent q))) (is_root-is_child path q child)
       ∙ ap (enabled_at (with_enabled st path enabled user)) (parent-is_child path q child) ∙ enabled_at-with_enabled-same there
 
-  above_other : (default : ControllerSet) (q : Names) → is_child path q ≡ false → cond (is_root q) default (enabled_at (with_enabled st path enabled user) (parent q)) ≡ cond (is_root q) default (enabled_at st (parent q))
+  above_other : (default : ControllerSet) (q : Names) → is_child path q ≡ false
+      → cond (is_root q) default (enabled_at (with_enabled st path enabled user) (parent q))
+      ≡ cond (is_root q) default (enabled_at st (parent q))
   above_other default q other =
       elim (is_root q) as (λ b. is_root q ≡ b → cond b default (enabled_at (with_enabled st path enabled user) (parent q)) ≡ cond b default (enabled_at st (parent q))) [
         | true ↦ λ _. refl
@@ -79,18 +84,22 @@ module _ (st : State) (path : Names) (enabled : ControllerSet) (user : Identity)
             true≢false (sym (subst (λ p. is_child p q ≡ true) (sym (same_path-is path (parent q) same)) (is_child-parent q below_root)) ∙ other)))
       ] refl
 
-  above_same : (default : ControllerSet) (q : Names) → same_path path q ≡ true → cond (is_root q) default (enabled_at (with_enabled st path enabled user) (parent q)) ≡ cond (is_root q) default (enabled_at st (parent q))
+  above_same : (default : ControllerSet) (q : Names) → same_path path q ≡ true
+      → cond (is_root q) default (enabled_at (with_enabled st path enabled user) (parent q))
+      ≡ cond (is_root q) default (enabled_at st (parent q))
   above_same default q same = above_other default q (ap (is_child path) (sym (same_path-is path q same)) ∙ is_child-itself path)
 
   module _ (there : has_row st path ≡ true) (may : MayEnable st path enabled) (whole : IsWellFormed st) where
     -- what each changed row has to be, by the row before
-    each_row : (P : Names → Cgroup → Type 0) → ((q : Names) (row : Cgroup) → row_at st q ≡ Some row → P q (enabling path enabled user q row))
+    each_row : (P : Names → Cgroup → Type 0)
+        → ((q : Names) (row : Cgroup) → row_at st q ≡ Some row → P q (enabling path enabled user q row))
         → (q : Names) (row : Cgroup) → row_at (with_enabled st path enabled user) q ≡ Some row → P q row
     each_row P each q row is =
         let old = mapped_from (enabling path enabled user q) (row_at st q) row (sym (row_at-with_enabled st path enabled user q) ∙ is) in
         subst (P q) old.2 (each q old.0 old.1)
 
-    stays_top_down : (q : Names) (row : Cgroup) → row_at st q ≡ Some row → is_within (enabling path enabled user q row).enabled (available_at (with_enabled st path enabled user) q) ≡ true
+    stays_top_down : (q : Names) (row : Cgroup) → row_at st q ≡ Some row
+        → is_within (enabling path enabled user q row).enabled (available_at (with_enabled st path enabled user) q) ≡ true
     stays_top_down q row is =
         enabling-by path enabled user (λ r. is_within r.enabled (available_at (with_enabled st path enabled user) q) ≡ true) q row
         (λ same. ap (is_within enabled) (above_same st.controllers q same ∙ ap (available_at st) (sym (same_path-is path q same))) ∙ may.available)
@@ -101,7 +110,8 @@ module _ (st : State) (path : Names) (enabled : ControllerSet) (user : Identity)
     enabling_row : (above : ControllerSet) (row : Cgroup) → IsFormedRow above row → IsFormedRow above (enabling_these enabled row)
     enabling_row above row formed = record { files = formed.files; values = formed.values; modes = formed.modes }
 
-    stays_formed : (q : Names) (row : Cgroup) → row_at st q ≡ Some row → IsFormedRow (enabled_above (with_enabled st path enabled user) q) (enabling path enabled user q row)
+    stays_formed : (q : Names) (row : Cgroup) → row_at st q ≡ Some row
+        → IsFormedRow (enabled_above (with_enabled st path enabled user) q) (enabling path enabled user q row)
     stays_formed q row is =
         let formed = whole.rows q row is in
         enabling-by path enabled user (IsFormedRow (enabled_above (with_enabled st path enabled user) q)) q row
@@ -110,7 +120,8 @@ module _ (st : State) (path : Names) (enabled : ControllerSet) (user : Identity)
         (λ _ other. subst (λ set. IsFormedRow set row) (sym (above_other no_controllers q other)) formed)
 
     -- where a process is, nothing is enabled, or it is the root
-    held_here : (pid : ℕ) (process : Process) → process_at st pid ≡ Some process → same_path path process.place ≡ true → (is_root process.place || enables_nothing enabled) ≡ true
+    held_here : (pid : ℕ) (process : Process) → process_at st pid ≡ Some process → same_path path process.place ≡ true
+        → (is_root process.place || enables_nothing enabled) ≡ true
     held_here pid process is same =
         let live = process-has_live st path pid process is (same_path_comm process.place path ∙ same) in
         ap (λ p. is_root p || enables_nothing enabled) (sym (same_path-is path process.place same))
@@ -121,7 +132,8 @@ module _ (st : State) (path : Names) (enabled : ControllerSet) (user : Identity)
         drop_false false true c on h = refl
         drop_false false false c on h = ap not (sym on) ∙ h
 
-    stays_held : (pid : ℕ) (process : Process) → process_at st pid ≡ Some process → may_hold (with_enabled st path enabled user) process.place ≡ true
+    stays_held : (pid : ℕ) (process : Process) → process_at st pid ≡ Some process
+        → may_hold (with_enabled st path enabled user) process.place ≡ true
     stays_held pid process is =
         let held = may_hold-row st process.place (whole.places pid process is) in
         row-may_hold (with_enabled st path enabled user) process.place (enabling path enabled user process.place held.0)

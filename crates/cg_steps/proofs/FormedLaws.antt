@@ -10,19 +10,20 @@ use Rattle.std.proofs.Math.Bool.{or-true}
 use Rattle.cg_cgroup.specs.Paths.{Names, same_path}
 use Rattle.cg_cgroup.specs.Files.{accepts}
 use Rattle.cg_cgroup.specs.Cgroups.{with_value_in, with_mode_in}
-use Rattle.cg_model.specs.States.{State, row_at, process_at, is_used, with_value, with_mode, placed_at, with_place, with_process, without_process}
+use Rattle.cg_model.specs.States.{State, row_at, process_at, is_used, change_at, with_value, with_mode, placed_at, with_place, with_process, without_process}
 use Rattle.cg_model.specs.WellFormed.{may_hold, IsFormedRow, IsWellFormed}
 use Rattle.cg_cgroup.specs.declared.files.Limit.{Limit}
+use Rattle.cg_cgroup.specs.declared.files.ControllerSet.{ControllerSet}
 use Rattle.cg_cgroup.specs.declared.files.LimitFile.{LimitFile}
 use Rattle.cg_cgroup.specs.declared.files.EntryName.{EntryName}
 use Rattle.cg_cgroup.specs.declared.cgroup.Cgroup.{Cgroup}
 use Rattle.cg_cgroup.specs.declared.process.Process.{Process}
-use Rattle.cg_steps.proofs.StateLaws.{row_at-with_value, row_at-with_mode, process_at-with_place, process_at-with_process, process_at-without_process, is_used-with_process}
+use Rattle.cg_steps.proofs.StateLaws.{row_at-change_at, process_at-with_place, process_at-with_process, process_at-without_process, is_used-with_process}
 use Rattle.cg_cgroup.proofs.CgroupLaws.{enabled-with_value_in, enabled-with_mode_in}
 use Rattle.cg_steps.proofs.FormedRows.{formed_row-with_value_in, formed_row-with_mode_in}
 use Rattle.cg_steps.proofs.FormedReshaped.{formed-reshaped}
 
--- ---- a value and a mode
+-- ---- a row
 
 -- the rows with the one at a path changed
 at_path : Names → (Cgroup → Cgroup) → Names → Cgroup → Cgroup
@@ -37,21 +38,28 @@ cond_kept : {A : Type 0} (P : A → Type 0) (b : Bool) (x y : A) → P x → P y
 cond_kept P true x y p q = p
 cond_kept P false x y p q = q
 
-pub formed-with_value : (st : State) (path : Names) (file : LimitFile) (value : Limit) → accepts file value ≡ true → IsWellFormed st → IsWellFormed (with_value st path file value)
+-- one row changed, that enables what it enabled
+pub formed-change_at : (st : State) (path : Names) (g : Cgroup → Cgroup) → ((row : Cgroup) → (g row).enabled ≡ row.enabled)
+    → ((above : ControllerSet) (row : Cgroup) → IsFormedRow above row → IsFormedRow above (g row))
+    → IsWellFormed st → IsWellFormed (change_at path g st)
 unfolding at_path
-formed-with_value st path file value accepted =
-    formed-reshaped st (with_value st path file value).rows (at_path path (with_value_in file value))
-    (λ q. row_at-with_value st path file value q ∙ cond_map (same_path path q) (with_value_in file value) (row_at st q))
-    (λ q row. cond_kept (λ (r : Cgroup). r.enabled ≡ row.enabled) (same_path path q) _ row (enabled-with_value_in file value row) refl)
-    (λ above q row formed. cond_kept (IsFormedRow above) (same_path path q) _ row (formed_row-with_value_in above file value row accepted formed) formed)
+formed-change_at st path g same keeps =
+    formed-reshaped st (change_at path g st).rows (at_path path g)
+    (λ q. row_at-change_at path g st q ∙ cond_map (same_path path q) g (row_at st q))
+    (λ q row. cond_kept (λ (r : Cgroup). r.enabled ≡ row.enabled) (same_path path q) (g row) row (same row) refl)
+    (λ above q row formed. cond_kept (IsFormedRow above) (same_path path q) (g row) row (keeps above row formed) formed)
 
-pub formed-with_mode : (st : State) (path : Names) (name : EntryName) (mode : ℕ) → mode ≤ 511 → IsWellFormed st → IsWellFormed (with_mode st path name mode)
-unfolding at_path
+pub formed-with_value : (st : State) (path : Names) (file : LimitFile) (value : Limit) → accepts file value ≡ true → IsWellFormed st
+    → IsWellFormed (with_value st path file value)
+formed-with_value st path file value accepted =
+    formed-change_at st path (with_value_in file value) (λ row. enabled-with_value_in file value row)
+    (λ above row formed. formed_row-with_value_in above file value row accepted formed)
+
+pub formed-with_mode : (st : State) (path : Names) (name : EntryName) (mode : ℕ) → mode ≤ 511 → IsWellFormed st
+    → IsWellFormed (with_mode st path name mode)
 formed-with_mode st path name mode small =
-    formed-reshaped st (with_mode st path name mode).rows (at_path path (with_mode_in name mode))
-    (λ q. row_at-with_mode st path name mode q ∙ cond_map (same_path path q) (with_mode_in name mode) (row_at st q))
-    (λ q row. cond_kept (λ (r : Cgroup). r.enabled ≡ row.enabled) (same_path path q) _ row (enabled-with_mode_in name mode row) refl)
-    (λ above q row formed. cond_kept (IsFormedRow above) (same_path path q) _ row (formed_row-with_mode_in above name mode row small formed) formed)
+    formed-change_at st path (with_mode_in name mode) (λ row. enabled-with_mode_in name mode row)
+    (λ above row formed. formed_row-with_mode_in above name mode row small formed)
 
 -- ---- processes
 
@@ -70,7 +78,8 @@ with_live st live used places used_too formed = record {
 }
 
 -- one process is changed or new, and holds what each did
-one_process : (b : Bool) (x : Option Process) (o : Option Process) (P : Process → Type 0) → ((process : Process) → b ≡ true → x ≡ Some process → P process) → ((process : Process) → o ≡ Some process → P process)
+one_process : (b : Bool) (x : Option Process) (o : Option Process) (P : Process → Type 0)
+    → ((process : Process) → b ≡ true → x ≡ Some process → P process) → ((process : Process) → o ≡ Some process → P process)
     → (process : Process) → cond b x o ≡ Some process → P process
 one_process true x o P changed kept process is = changed process refl is
 one_process false x o P changed kept process is = kept process is
@@ -81,7 +90,8 @@ formed-without_process st pid formed =
     one_process (nat_eq pid q) None (process_at st q) (λ process. process_at st q ≡ Some process) (λ process _ none. absurd (true≢false (sym (ap is_some none)))) (λ process is. is) process (sym (process_at-without_process st pid q) ∙ is) in
     with_live st (without_process st pid).live st.used (λ q process is. formed.places q process (left q process is)) (λ q process is. formed.used q process (left q process is)) formed
 
-pub formed-with_place : (st : State) (pid : ℕ) (path : Names) → may_hold st path ≡ true → IsWellFormed st → IsWellFormed (with_place st pid path)
+pub formed-with_place : (st : State) (pid : ℕ) (path : Names) → may_hold st path ≡ true → IsWellFormed st
+    → IsWellFormed (with_place st pid path)
 formed-with_place st pid path hold formed =
     with_live st (with_place st pid path).live st.used
     (λ q process is.
@@ -96,7 +106,8 @@ formed-with_place st pid path hold formed =
     process (sym (process_at-with_place st pid path q) ∙ is))
     formed
 
-pub formed-with_process : (st : State) (pid uid : ℕ) (path : Names) → may_hold st path ≡ true → IsWellFormed st → IsWellFormed (with_process st pid uid path)
+pub formed-with_process : (st : State) (pid uid : ℕ) (path : Names) → may_hold st path ≡ true → IsWellFormed st
+    → IsWellFormed (with_process st pid uid path)
 formed-with_process st pid uid path hold formed =
     with_live st (with_process st pid uid path).live (with_process st pid uid path).used
     (λ q process is.

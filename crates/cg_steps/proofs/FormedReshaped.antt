@@ -24,7 +24,8 @@ module _ (st : State) (m : finite.FinMap path_cmp Cgroup) (f : Names → Cgroup 
       ap (λ r. elim r [ None ↦ no_controllers | Some row ↦ row.enabled ]) (rows q)
       ∙ elim (row_at st q) as (λ r. elim (option_map (f q) r) [ None ↦ no_controllers | Some row ↦ row.enabled ] ≡ elim r [ None ↦ no_controllers | Some row ↦ row.enabled ]) [ None ↦ refl | Some row ↦ enables_same q row ]
 
-  same_above : (default : ControllerSet) (q : Names) → cond (is_root q) default (enabled_at (with_rows st m) (parent q)) ≡ cond (is_root q) default (enabled_at st (parent q))
+  same_above : (default : ControllerSet) (q : Names)
+      → cond (is_root q) default (enabled_at (with_rows st m) (parent q)) ≡ cond (is_root q) default (enabled_at st (parent q))
   same_above default q = ap (cond (is_root q) default) (same_enabled (parent q))
 
   same_hold : (q : Names) → may_hold st q ≡ true → may_hold (with_rows st m) q ≡ true
@@ -32,7 +33,8 @@ module _ (st : State) (m : finite.FinMap path_cmp Cgroup) (f : Names → Cgroup 
       let held = may_hold-row st q h in
       row-may_hold (with_rows st m) q (f q held.0) (rows q ∙ ap (option_map (f q)) held.1) (ap (λ set. is_root q || enables_nothing set) (enables_same q held.0) ∙ held.2)
 
-  pub formed-reshaped : ((above : ControllerSet) (q : Names) (row : Cgroup) → IsFormedRow above row → IsFormedRow above (f q row)) → IsWellFormed st → IsWellFormed (with_rows st m)
+  pub formed-reshaped : ((above : ControllerSet) (q : Names) (row : Cgroup) → IsFormedRow above row → IsFormedRow above (f q row))
+      → IsWellFormed st → IsWellFormed (with_rows st m)
   formed-reshaped keeps formed = record {
     root = same_row [] ∙ formed.root;
     parents = λ q h. same_row (parent q) ∙ formed.parents q (sym (same_row q) ∙ h);

@@ -21,16 +21,19 @@ is_some-changed true g o = is_some-mapped g o
 is_some-changed false g o = refl
 
 -- what holds of a value and of the changed one
-of_changed : {A : Type 0} (P : A → Type 0) (b : Bool) (g : A → A) (o : Option A) → ((x : A) → b ≡ true → o ≡ Some x → P (g x)) → ((x : A) → o ≡ Some x → P x)
+of_changed : {A : Type 0} (P : A → Type 0) (b : Bool) (g : A → A) (o : Option A) → ((x : A) → b ≡ true → o ≡ Some x → P (g x))
+    → ((x : A) → o ≡ Some x → P x)
     → (y : A) → cond b (option_map g o) o ≡ Some y → P y
 of_changed P true g o changed kept y is = let from = mapped_from g o y is in subst P from.2 (changed from.0 refl from.1)
 of_changed P false g o changed kept y is = kept y is
 
 -- ---- a value
 
-pub formed_row-with_value_in : (above : ControllerSet) (file : LimitFile) (value : Limit) (row : Cgroup) → accepts file value ≡ true → IsFormedRow above row → IsFormedRow above (with_value_in file value row)
+pub formed_row-with_value_in : (above : ControllerSet) (file : LimitFile) (value : Limit) (row : Cgroup) → accepts file value ≡ true
+    → IsFormedRow above row → IsFormedRow above (with_value_in file value row)
 formed_row-with_value_in above file value row accepted formed = record {
-  files = λ other. ap is_some (file_of-with_value_in file value row other) ∙ is_some-changed (same_file file other) (with_value_of value) (file_of row other) ∙ formed.files other;
+  files = λ other. ap is_some (file_of-with_value_in file value row other)
+      ∙ is_some-changed (same_file file other) (with_value_of value) (file_of row other) ∙ formed.files other;
   values = λ other held is.
       of_changed (λ (x : LimitEntry). accepts other x.value ≡ true) (same_file file other) (with_value_of value) (file_of row other)
       (λ x same _. ap (λ f. accepts f value) (sym (same_file-true file other same)) ∙ accepted) (formed.values other) held (sym (file_of-with_value_in file value row other) ∙ is);
@@ -39,9 +42,11 @@ formed_row-with_value_in above file value row accepted formed = record {
 
 -- ---- a mode
 
-pub formed_row-with_mode_in : (above : ControllerSet) (name : EntryName) (mode : ℕ) (row : Cgroup) → mode ≤ 511 → IsFormedRow above row → IsFormedRow above (with_mode_in name mode row)
+pub formed_row-with_mode_in : (above : ControllerSet) (name : EntryName) (mode : ℕ) (row : Cgroup) → mode ≤ 511 → IsFormedRow above row
+    → IsFormedRow above (with_mode_in name mode row)
 formed_row-with_mode_in above name mode row small formed = record {
-  files = λ file. ap is_some (file_of-with_mode_in name mode row file) ∙ is_some-changed (same_entry name (File file)) (with_file_mode_of mode) (file_of row file) ∙ formed.files file;
+  files = λ file. ap is_some (file_of-with_mode_in name mode row file)
+      ∙ is_some-changed (same_entry name (File file)) (with_file_mode_of mode) (file_of row file) ∙ formed.files file;
   values = λ file held is.
       of_changed (λ (x : LimitEntry). accepts file x.value ≡ true) (same_entry name (File file)) (with_file_mode_of mode) (file_of row file)
       (λ x _. formed.values file x) (formed.values file) held (sym (file_of-with_mode_in name mode row file) ∙ is);
@@ -55,15 +60,18 @@ formed_row-with_mode_in above name mode row small formed = record {
 abbrev HasMode : LimitEntry → Type 0
 HasMode held = held.entry.mode ≤ 511
 
-file_modes : {above : ControllerSet} {row : Cgroup} → IsFormedRow above row → (file : LimitFile) (held : LimitEntry) → file_of row file ≡ Some held → HasMode held
+file_modes : {above : ControllerSet} {row : Cgroup} → IsFormedRow above row → (file : LimitFile) (held : LimitEntry)
+    → file_of row file ≡ Some held → HasMode held
 file_modes formed file held is = formed.modes (File file) held.entry (ap (option_map (λ f. f.entry)) is)
 
 -- the entry of a limit file has its mode
-modes_file : (o : Option LimitEntry) → ((held : LimitEntry) → o ≡ Some held → HasMode held) → (entry : Entry) → option_map (λ f. f.entry) o ≡ Some entry → entry.mode ≤ 511
+modes_file : (o : Option LimitEntry) → ((held : LimitEntry) → o ≡ Some held → HasMode held) → (entry : Entry)
+    → option_map (λ f. f.entry) o ≡ Some entry → entry.mode ≤ 511
 modes_file o each entry is = let from = mapped_from (λ f. f.entry) o entry is in subst (λ (e : Entry). e.mode ≤ 511) from.2 (each from.0 from.1)
 
 -- a file that stays is as before, and a new one is made
-of_refitted : (P : LimitEntry → Type 0) (b : Bool) (had : Option LimitEntry) (made : LimitEntry) → P made → ((held : LimitEntry) → had ≡ Some held → P held)
+of_refitted : (P : LimitEntry → Type 0) (b : Bool) (had : Option LimitEntry) (made : LimitEntry) → P made
+    → ((held : LimitEntry) → had ≡ Some held → P held)
     → (held : LimitEntry) → cond b (Some (unwrap_or had made)) None ≡ Some held → P held
 of_refitted P false had made new kept held is = absurd (true≢false (sym (ap is_some is)))
 of_refitted P true None made new kept held is = subst P (same_some made held is) new
@@ -78,7 +86,8 @@ modes-with_files_of above enabled user row formed Dir entry is = formed.modes Di
 modes-with_files_of above enabled user row formed Procs entry is = formed.modes Procs entry is
 modes-with_files_of above enabled user row formed SubtreeControl entry is = formed.modes SubtreeControl entry is
 
-pub formed_row-with_files_of : (above enabled : ControllerSet) (user : Identity) (row : Cgroup) → IsFormedRow above row → IsFormedRow enabled (with_files_of enabled user row)
+pub formed_row-with_files_of : (above enabled : ControllerSet) (user : Identity) (row : Cgroup) → IsFormedRow above row
+    → IsFormedRow enabled (with_files_of enabled user row)
 formed_row-with_files_of above enabled user row formed = record {
   files = stands-with_files_of enabled user row;
   values = λ file held is.
@@ -96,7 +105,8 @@ of_made P user enabled file made held is =
 made_mode : (user : Identity) (mode : ℕ) → mode ≤ 511 → (entry : Entry) → Some (entry_made_by user mode) ≡ Some entry → entry.mode ≤ 511
 made_mode user mode small entry is = subst (λ (e : Entry). e.mode ≤ 511) (same_some _ entry is) small
 
-modes-cgroup_made_by : (user : Identity) (enabled : ControllerSet) (name : EntryName) (entry : Entry) → entry_in (cgroup_made_by user enabled) name ≡ Some entry → entry.mode ≤ 511
+modes-cgroup_made_by : (user : Identity) (enabled : ControllerSet) (name : EntryName) (entry : Entry)
+    → entry_in (cgroup_made_by user enabled) name ≡ Some entry → entry.mode ≤ 511
 modes-cgroup_made_by user enabled Dir entry is = made_mode user 493 (omega arith) entry is
 modes-cgroup_made_by user enabled Procs entry is = made_mode user 420 (omega arith) entry is
 modes-cgroup_made_by user enabled SubtreeControl entry is = made_mode user 420 (omega arith) entry is

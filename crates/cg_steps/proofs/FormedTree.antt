@@ -22,7 +22,8 @@ pub parent-there : (st : State) → IsWellFormed st → (q : Names) → is_root 
 parent-there st formed q root = ap (has_row st) (is_root-is q root) ∙ formed.root
 
 -- two states that agree at the parent of a path, unless that is the root
-same_above : (st new : State) (default : ControllerSet) (q : Names) → (is_root q ≡ false → row_at new (parent q) ≡ row_at st (parent q)) → cond (is_root q) default (enabled_at new (parent q)) ≡ cond (is_root q) default (enabled_at st (parent q))
+same_above : (st new : State) (default : ControllerSet) (q : Names) → (is_root q ≡ false → row_at new (parent q) ≡ row_at st (parent q))
+    → cond (is_root q) default (enabled_at new (parent q)) ≡ cond (is_root q) default (enabled_at st (parent q))
 same_above st new default q same =
     elim (is_root q) as (λ b. is_root q ≡ b → cond b default (enabled_at new (parent q)) ≡ cond b default (enabled_at st (parent q))) [
       | true ↦ λ _. refl
@@ -49,16 +50,19 @@ module _ (st : State) (path : Names) (row : Cgroup) (new_row : IsNewRow st path 
   kept_row q there = row_at-with_row-other path st row q (not_there q there)
 
   -- a row is the new one, or was there
-  one_row : (P : Names → Cgroup → Type 0) → P path row → ((q : Names) (r : Cgroup) → row_at st q ≡ Some r → P q r) → (q : Names) (r : Cgroup) → row_at (with_row st path row) q ≡ Some r → P q r
+  one_row : (P : Names → Cgroup → Type 0) → P path row → ((q : Names) (r : Cgroup) → row_at st q ≡ Some r → P q r)
+      → (q : Names) (r : Cgroup) → row_at (with_row st path row) q ≡ Some r → P q r
   one_row P here kept q r is =
       elim (same_path path q) as (λ b. same_path path q ≡ b → cond b (Some row) (row_at st q) ≡ Some r → P q r) [
         | true ↦ λ same is. subst (λ p. P p r) (same_path-is path q same) (subst (P path) (ap (λ o. unwrap_or o row) is) here)
         | false ↦ λ _ is. kept q r is
       ] refl (sym (row_at-with_row st path row q) ∙ is)
 
-  above_new : (default : ControllerSet) → cond (is_root path) default (enabled_at (with_row st path row) (parent path)) ≡ enabled_at st (parent path)
+  above_new : (default : ControllerSet)
+      → cond (is_root path) default (enabled_at (with_row st path row) (parent path)) ≡ enabled_at st (parent path)
   above_new default =
-      ap (λ b. cond b default (enabled_at (with_row st path row) (parent path))) not_root ∙ ap (λ r. elim r [ None ↦ no_controllers | Some row ↦ row.enabled ]) (kept_row (parent path) new_row.parent_there)
+      ap (λ b. cond b default (enabled_at (with_row st path row) (parent path))) not_root
+      ∙ ap (λ r. elim r [ None ↦ no_controllers | Some row ↦ row.enabled ]) (kept_row (parent path) new_row.parent_there)
 
   above_kept : (default : ControllerSet) (q : Names) (r : Cgroup) → row_at st q ≡ Some r
       → cond (is_root q) default (enabled_at (with_row st path row) (parent q)) ≡ cond (is_root q) default (enabled_at st (parent q))
@@ -85,7 +89,8 @@ module _ (st : State) (path : Names) (row : Cgroup) (new_row : IsNewRow st path 
     used = whole.used;
   }
 
-pub new_row-cgroup_made_by : (st : State) (path : Names) (user : Identity) → has_row st path ≡ false → has_row st (parent path) ≡ true → IsNewRow st path (cgroup_made_by user (enabled_at st (parent path)))
+pub new_row-cgroup_made_by : (st : State) (path : Names) (user : Identity) → has_row st path ≡ false → has_row st (parent path) ≡ true
+    → IsNewRow st path (cgroup_made_by user (enabled_at st (parent path)))
 new_row-cgroup_made_by st path user absent there = record {
   absent = absent;
   parent_there = there;
@@ -94,7 +99,8 @@ new_row-cgroup_made_by st path user absent there = record {
 }
 
 -- Making a directory makes a child.
-pub formed-with_made_row : (st : State) (path : Names) (user : Identity) → has_row st path ≡ false → has_row st (parent path) ≡ true → IsWellFormed st → IsWellFormed (with_row st path (cgroup_made_by user (enabled_at st (parent path))))
+pub formed-with_made_row : (st : State) (path : Names) (user : Identity) → has_row st path ≡ false → has_row st (parent path) ≡ true
+    → IsWellFormed st → IsWellFormed (with_row st path (cgroup_made_by user (enabled_at st (parent path))))
 formed-with_made_row st path user absent there whole = formed-with_row st path _ (new_row-cgroup_made_by st path user absent there) whole
 
 -- ---- a row that goes
@@ -131,7 +137,8 @@ module _ (st : State) (path : Names) (not_root : is_root path ≡ false) (no_chi
           | true ↦ λ root. ap (has_row (without_row st path)) (parent-root q root) ∙ h
           | false ↦ λ below_root. ap is_some (row_at-without_row-other path st (parent q) (parent_other q found.0 left.1 below_root)) ∙ whole.parents q (ap is_some left.1)
         ] refl;
-    top_down = λ q r is. let left = left_row q r is in ap (is_within r.enabled) (above_left st.controllers q r left.1) ∙ whole.top_down q r left.1;
+    top_down = λ q r is. let left = left_row q r is in ap (is_within r.enabled) (above_left st.controllers q r left.1)
+        ∙ whole.top_down q r left.1;
     rows = λ q r is. let left = left_row q r is in subst (λ set. IsFormedRow set r) (sym (above_left no_controllers q r left.1)) (whole.rows q r left.1);
     places = λ pid process is.
         let held = may_hold-row st process.place (whole.places pid process is) in

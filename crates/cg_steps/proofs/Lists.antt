@@ -7,15 +7,18 @@ pub all-append : {A : Type 0} (P : A → Type 0) (xs ys : List A) → AllByRecur
 all-append P [] ys here there = there
 all-append P (x ∷ xs) ys here there = (here.0, all-append P xs ys here.1 there)
 
-pub all-flat_map : {A B : Type 0} (P : B → Type 0) (g : A → List B) (xs : List A) → ((x : A) → AllByRecursion P (g x)) → AllByRecursion P (flat_map g xs)
+pub all-flat_map : {A B : Type 0} (P : B → Type 0) (g : A → List B) (xs : List A) → ((x : A) → AllByRecursion P (g x))
+    → AllByRecursion P (flat_map g xs)
 all-flat_map P g [] each = tt
 all-flat_map P g (x ∷ xs) each = all-append P (g x) (flat_map g xs) (each x) (all-flat_map P g xs each)
 
-pub all-present : {A B : Type 0} (P : B → Type 0) (found : Option A) (g : A → List B) → ((x : A) → found ≡ Some x → AllByRecursion P (g x)) → AllByRecursion P (present found g)
+pub all-present : {A B : Type 0} (P : B → Type 0) (found : Option A) (g : A → List B) → ((x : A) → found ≡ Some x → AllByRecursion P (g x))
+    → AllByRecursion P (present found g)
 all-present P None g each = tt
 all-present P (Some x) g each = each x refl
 
-pub all-map_filter : {A B : Type 0} (P : B → Type 0) (g : A → B) (test : A → Bool) (xs : List A) → ((x : A) → test x ≡ true → P (g x)) → AllByRecursion P (map g (filter test xs))
+pub all-map_filter : {A B : Type 0} (P : B → Type 0) (g : A → B) (test : A → Bool) (xs : List A) → ((x : A) → test x ≡ true → P (g x))
+    → AllByRecursion P (map g (filter test xs))
 all-map_filter P g test [] each = tt
 all-map_filter P g test (x ∷ xs) each =
     elim (test x) as (λ b. test x ≡ b → AllByRecursion P (map g (cond b (x ∷ filter test xs) (filter test xs)))) [
@@ -23,7 +26,8 @@ all-map_filter P g test (x ∷ xs) each =
       | false ↦ λ e. all-map_filter P g test xs each
     ] refl
 
-pub all-both : {A : Type 0} (P Q R : A → Type 0) → ((x : A) → P x → Q x → R x) → (xs : List A) → AllByRecursion P xs → AllByRecursion Q xs → AllByRecursion R xs
+pub all-both : {A : Type 0} (P Q R : A → Type 0) → ((x : A) → P x → Q x → R x) → (xs : List A) → AllByRecursion P xs → AllByRecursion Q xs
+    → AllByRecursion R xs
 all-both P Q R both [] ps qs = tt
 all-both P Q R both (x ∷ xs) ps qs = (both x ps.0 qs.0, all-both P Q R both xs ps.1 qs.1)
 

@@ -15,7 +15,8 @@ abbrev pub Commutes : {A B : Type 0} → (A → B → B) → Type 0
 Commutes {A} {B} step = (x y : A) (b : B) → step x (step y b) ≡ step y (step x b)
 
 module _ {K X B : Type 0} (R : K → K → Ordering) (step : K × X → B → B) (start : B) where
-  gathered-put : Commutes step → (k : K) (v : X) (es : List (K × X)) → find R k es ≡ None → gathered step start (put R k v es) ≡ step (k, v) (gathered step start es)
+  gathered-put : Commutes step → (k : K) (v : X) (es : List (K × X)) → find R k es ≡ None
+      → gathered step start (put R k v es) ≡ step (k, v) (gathered step start es)
   gathered-put swaps k v [] none = refl
   gathered-put swaps k v (e ∷ es) none =
       elim (R k e.0) as (λ r. cond (is_eq r) (Some e.1) (find R k es) ≡ None
@@ -29,7 +30,8 @@ module _ {K X : Type 0} {R : K → K → Ordering} (o : IsTotalOrder R) where
   pub gathered-insert : {B : Type 0} (step : K × X → B → B) (start : B) → Commutes step → (m : FinMap R X) (k : K) (v : X) → get m k ≡ None
       → gathered step start (entries (insert m k v)) ≡ step (k, v) (gathered step start (entries m))
   gathered-insert step start swaps m k v none =
-      ap (gathered step start) (finite.entries-insert o m k v) ∙ gathered-put R step start swaps k v (entries m) (sym (finite.get-entries m k) ∙ none)
+      ap (gathered step start) (finite.entries-insert o m k v)
+      ∙ gathered-put R step start swaps k v (entries m) (sym (finite.get-entries m k) ∙ none)
 
   pub get-remove-same : (m : FinMap R X) (k : K) → get (remove m k) k ≡ None
   get-remove-same m k = finite.get-remove o m k k ∙ ap (λ b. cond b None (get m k)) ((eq_by_cmp_equiv o).refl k)
@@ -51,7 +53,9 @@ module _ {K X : Type 0} {R : K → K → Ordering} (o : IsTotalOrder R) where
         | false ↦ λ _. refl
       ] refl)
 
-  pub gathered-remove : {B : Type 0} (step : K × X → B → B) (start : B) → Commutes step → IsAntisymmetric R → (m : FinMap R X) (k : K) (v : X) → get m k ≡ Some v
+  pub gathered-remove : {B : Type 0} (step : K × X → B → B) (start : B) → Commutes step → IsAntisymmetric R
+      → (m : FinMap R X) (k : K) (v : X) → get m k ≡ Some v
       → gathered step start (entries m) ≡ step (k, v) (gathered step start (entries (remove m k)))
   gathered-remove step start swaps same m k v is =
-      ap (λ n. gathered step start (entries n)) (sym (insert-remove same m k v ∙ insert_again same m k v is)) ∙ gathered-insert step start swaps (remove m k) k v (get-remove-same m k)
+      ap (λ n. gathered step start (entries n)) (sym (insert-remove same m k v ∙ insert_again same m k v is))
+      ∙ gathered-insert step start swaps (remove m k) k v (get-remove-same m k)

@@ -7,15 +7,15 @@ use Rattle.std.specs.FinMap as finite
 use Rattle.std.specs.FinMap.{FinMap, IsAntisymmetric, get, insert, entries}
 use Rattle.std.specs.FinMap.Entries.{find, put, by_order, is_sorted, below_all}
 
-first_of_both : (a b : Bool) → T (a && b) → T a
+pub first_of_both : (a b : Bool) → T (a && b) → T a
 first_of_both true b h = tt
 first_of_both false b h = h
 
-second_of_both : (a b : Bool) → T (a && b) → T b
+pub second_of_both : (a b : Bool) → T (a && b) → T b
 second_of_both true b h = h
 second_of_both false b h = absurd h
 
-is_less : (r : Ordering) → T (is_lt r) → r ≡ Less
+pub is_less : (r : Ordering) → T (is_lt r) → r ≡ Less
 is_less Less h = refl
 is_less Equal h = absurd h
 is_less Greater h = absurd h
@@ -37,7 +37,8 @@ module _ {K X : Type 0} (R : K → K → Ordering) where
   is_sorted-change_entries f [] = refl
   is_sorted-change_entries f (e ∷ es) = λ i. below_all-change_entries f e.0 es i && is_sorted-change_entries f es i
 
-  find-change_entries : IsAntisymmetric R → (f : K → X → X) (q : K) (es : List (K × X)) → find R q (change_entries f es) ≡ option_map (f q) (find R q es)
+  find-change_entries : IsAntisymmetric R → (f : K → X → X) (q : K) (es : List (K × X))
+      → find R q (change_entries f es) ≡ option_map (f q) (find R q es)
   find-change_entries same f q [] = refl
   find-change_entries same f q (e ∷ es) =
       elim (eq_by_cmp R q e.0) as (λ b. eq_by_cmp R q e.0 ≡ b → cond b (Some (f e.0 e.1)) (find R q (change_entries f es)) ≡ option_map (f q) (cond b (Some e.1) (find R q es))) [
@@ -49,14 +50,17 @@ module _ {K X : Type 0} (R : K → K → Ordering) where
   find_below : IsTotalOrder R → (q top : K) (es : List (K × X)) → R q top ≡ Equal → T (below_all R top es) → find R q es ≡ None
   find_below o q top [] tied h = refl
   find_below o q top (e ∷ es) tied h =
-      ap (λ r. cond (is_eq r) (Some e.1) (find R q es)) (o.congr q top e.0 tied ∙ is_less _ (first_of_both _ _ h)) ∙ find_below o q top es tied (second_of_both _ _ h)
+      ap (λ r. cond (is_eq r) (Some e.1) (find R q es)) (o.congr q top e.0 tied ∙ is_less _ (first_of_both _ _ h))
+      ∙ find_below o q top es tied (second_of_both _ _ h)
 
   find_above : IsTotalOrder R → (q top : K) (es : List (K × X)) → R q top ≡ Less → T (below_all R top es) → find R q es ≡ None
   find_above o q top [] before h = refl
   find_above o q top (e ∷ es) before h =
-      ap (λ r. cond (is_eq r) (Some e.1) (find R q es)) (o.trans q top e.0 before (is_less _ (first_of_both _ _ h))) ∙ find_above o q top es before (second_of_both _ _ h)
+      ap (λ r. cond (is_eq r) (Some e.1) (find R q es)) (o.trans q top e.0 before (is_less _ (first_of_both _ _ h)))
+      ∙ find_above o q top es before (second_of_both _ _ h)
 
-  any_found : IsTotalOrder R → (p : K × X → Bool) (es : List (K × X)) → T (is_sorted R es) → list_any p es ≡ true → (e : K × X) × (find R e.0 es ≡ Some e.1) × (p e ≡ true)
+  any_found : IsTotalOrder R → (p : K × X → Bool) (es : List (K × X)) → T (is_sorted R es) → list_any p es ≡ true
+      → (e : K × X) × (find R e.0 es ≡ Some e.1) × (p e ≡ true)
   any_found o p [] sorted one = absurd (true≢false (sym one))
   any_found o p (e ∷ es) sorted one =
       elim (p e) as (λ b. p e ≡ b → (b || list_any p es) ≡ true → (d : K × X) × (find R d.0 (e ∷ es) ≡ Some d.1) × (p d ≡ true)) [
@@ -72,7 +76,8 @@ module _ {K X : Type 0} (R : K → K → Ordering) where
             (d, ap (λ b. cond b (Some e.1) (find R d.0 es)) past ∙ later.1, later.2)
       ] refl one
 
-  found_any : IsAntisymmetric R → (p : K × X → Bool) (es : List (K × X)) (k : K) (x : X) → find R k es ≡ Some x → p (k, x) ≡ true → list_any p es ≡ true
+  found_any : IsAntisymmetric R → (p : K × X → Bool) (es : List (K × X)) (k : K) (x : X) → find R k es ≡ Some x → p (k, x) ≡ true
+      → list_any p es ≡ true
   found_any same p [] k x is one = absurd (true≢false (sym (ap is_some is)))
   found_any same p (e ∷ es) k x is one =
       elim (eq_by_cmp R k e.0) as (λ b. eq_by_cmp R k e.0 ≡ b → cond b (Some e.1) (find R k es) ≡ Some x → (p e || list_any p es) ≡ true) [
@@ -84,7 +89,8 @@ module _ {K X : Type 0} (R : K → K → Ordering) where
       ] refl is
 
   -- a put at a key that is there keeps the keys
-  keys-put : IsTotalOrder R → (k : K) (v x : X) (es : List (K × X)) → T (is_sorted R es) → find R k es ≡ Some x → map (λ e. e.0) (put R k v es) ≡ map (λ e. e.0) es
+  keys-put : IsTotalOrder R → (k : K) (v x : X) (es : List (K × X)) → T (is_sorted R es) → find R k es ≡ Some x
+      → map (λ e. e.0) (put R k v es) ≡ map (λ e. e.0) es
   keys-put o k v x [] sorted is = absurd (true≢false (sym (ap is_some is)))
   keys-put o k v x (e ∷ es) sorted is =
       elim (R k e.0) as (λ r. R k e.0 ≡ r → cond (is_eq r) (Some e.1) (find R k es) ≡ Some x → map (λ e. e.0) (by_order r ((k, v) ∷ e ∷ es) ((e.0, v) ∷ es) (e ∷ put R k v es)) ≡ e.0 ∷ map (λ e. e.0) es) [
@@ -94,14 +100,18 @@ module _ {K X : Type 0} (R : K → K → Ordering) where
       ] refl is
 
 module _ {K X : Type 0} {R : K → K → Ordering} where
-  pub entries-changed : (f : K → X → X) (m : FinMap R X) → entries (finite.from_sorted {R = R} (change_entries f (entries m))) ≡ change_entries f (entries m)
+  pub entries-changed : (f : K → X → X) (m : FinMap R X)
+      → entries (finite.from_sorted {R = R} (change_entries f (entries m))) ≡ change_entries f (entries m)
   entries-changed f m = finite.entries-from_sorted R _ (subst T (sym (is_sorted-change_entries R f (entries m))) (finite.entries_sorted m))
 
-  pub get-changed : IsAntisymmetric R → (f : K → X → X) (m : FinMap R X) (q : K) → get (finite.from_sorted {R = R} (change_entries f (entries m))) q ≡ option_map (f q) (get m q)
+  pub get-changed : IsAntisymmetric R → (f : K → X → X) (m : FinMap R X) (q : K)
+      → get (finite.from_sorted {R = R} (change_entries f (entries m))) q ≡ option_map (f q) (get m q)
   get-changed same f m q =
-      finite.get-entries _ q ∙ ap (find R q) (entries-changed f m) ∙ find-change_entries R same f q (entries m) ∙ ap (option_map (f q)) (sym (finite.get-entries m q))
+      finite.get-entries _ q ∙ ap (find R q) (entries-changed f m) ∙ find-change_entries R same f q (entries m)
+      ∙ ap (option_map (f q)) (sym (finite.get-entries m q))
 
-  pub keys-changed : (f : K → X → X) (m : FinMap R X) → finite.keys (finite.from_sorted {R = R} (change_entries f (entries m))) ≡ finite.keys m
+  pub keys-changed : (f : K → X → X) (m : FinMap R X)
+      → finite.keys (finite.from_sorted {R = R} (change_entries f (entries m))) ≡ finite.keys m
   keys-changed f m = ap (map (λ e. e.0)) (entries-changed f m) ∙ same_keys (entries m)
     where
       same_keys : (es : List (K × X)) → map (λ e. e.0) (change_entries f es) ≡ map (λ e. e.0) es
@@ -109,12 +119,14 @@ module _ {K X : Type 0} {R : K → K → Ordering} where
       same_keys (e ∷ es) = ap (λ ks. e.0 ∷ ks) (same_keys es)
 
   -- an entry that passes a test is there by its key, and the other way round
-  pub any_entry : IsTotalOrder R → (p : K × X → Bool) (m : FinMap R X) → list_any p (entries m) ≡ true → (k : K) × (x : X) × (get m k ≡ Some x) × (p (k, x) ≡ true)
+  pub any_entry : IsTotalOrder R → (p : K × X → Bool) (m : FinMap R X) → list_any p (entries m) ≡ true
+      → (k : K) × (x : X) × (get m k ≡ Some x) × (p (k, x) ≡ true)
   any_entry o p m one =
       let found = any_found R o p (entries m) (finite.entries_sorted m) one in
       (found.0.0, found.0.1, finite.get-entries m _ ∙ found.1, found.2)
 
-  pub entry_any : IsAntisymmetric R → (p : K × X → Bool) (m : FinMap R X) (k : K) (x : X) → get m k ≡ Some x → p (k, x) ≡ true → list_any p (entries m) ≡ true
+  pub entry_any : IsAntisymmetric R → (p : K × X → Bool) (m : FinMap R X) (k : K) (x : X) → get m k ≡ Some x → p (k, x) ≡ true
+      → list_any p (entries m) ≡ true
   entry_any same p m k x is one = found_any R same p (entries m) k x (sym (finite.get-entries m k) ∙ is) one
 
   -- the map with the value at a key changed, where the key is there
@@ -125,7 +137,8 @@ module _ {K X : Type 0} {R : K → K → Ordering} where
   change_value-there m k f x is = ap (λ r. elim r as (λ _. FinMap R X) [ None ↦ m | Some x ↦ insert m k (f x) ]) is
 
 module _ {K X : Type 0} {R : K → K → Ordering} (o : IsTotalOrder R) where
-  pub get-change_value : (m : FinMap R X) (k : K) (f : X → X) (q : K) → get (change_value m k f) q ≡ cond (eq_by_cmp R k q) (option_map f (get m q)) (get m q)
+  pub get-change_value : (m : FinMap R X) (k : K) (f : X → X) (q : K)
+      → get (change_value m k f) q ≡ cond (eq_by_cmp R k q) (option_map f (get m q)) (get m q)
   get-change_value m k f q =
       let tied : eq_by_cmp R k q ≡ true → get m q ≡ get m k = λ t. finite.get_tied o m k q ((Equal-is (R k q)).0 t) in
       elim (get m k) as (λ r. get m k ≡ r → get (elim r [ None ↦ m | Some x ↦ insert m k (f x) ]) q ≡ cond (eq_by_cmp R k q) (option_map f (get m q)) (get m q)) [
@@ -141,7 +154,8 @@ module _ {K X : Type 0} {R : K → K → Ordering} (o : IsTotalOrder R) where
       ] refl
 
   pub keys-insert-there : (m : FinMap R X) (k : K) (v x : X) → get m k ≡ Some x → finite.keys (insert m k v) ≡ finite.keys m
-  keys-insert-there m k v x is = ap (map (λ e. e.0)) (finite.entries-insert o m k v) ∙ keys-put R o k v x (entries m) (finite.entries_sorted m) (sym (finite.get-entries m k) ∙ is)
+  keys-insert-there m k v x is = ap (map (λ e. e.0)) (finite.entries-insert o m k v)
+      ∙ keys-put R o k v x (entries m) (finite.entries_sorted m) (sym (finite.get-entries m k) ∙ is)
 
   pub keys-change_value : (m : FinMap R X) (k : K) (f : X → X) → finite.keys (change_value m k f) ≡ finite.keys m
   keys-change_value m k f =

@@ -26,7 +26,8 @@ paths_of-with_value st p file value = keys-change_value path_cmp_total st.rows p
 pub paths_of-with_mode : (st : State) (p : Names) (name : EntryName) (mode : ℕ) → paths_of (with_mode st p name mode) ≡ paths_of st
 paths_of-with_mode st p name mode = keys-change_value path_cmp_total st.rows p (with_mode_in name mode)
 
-pub paths_of-with_enabled : (st : State) (p : Names) (enabled : ControllerSet) (user : Identity) → paths_of (with_enabled st p enabled user) ≡ paths_of st
+pub paths_of-with_enabled : (st : State) (p : Names) (enabled : ControllerSet) (user : Identity)
+    → paths_of (with_enabled st p enabled user) ≡ paths_of st
 paths_of-with_enabled st p enabled user = keys-changed (enabling p enabled user) st.rows
 
 -- what goes by the paths alone
@@ -42,7 +43,8 @@ module _ (st new : State) (same : paths_of new ≡ paths_of st) (q : Names) wher
 
 -- ---- counts from the front
 
-gathered-map : {A B C : Type 0} (step : B → C → C) (start : C) (g : A → B) (xs : List A) → gathered step start (map g xs) ≡ gathered (λ x. step (g x)) start xs
+gathered-map : {A B C : Type 0} (step : B → C → C) (start : C) (g : A → B) (xs : List A)
+    → gathered step start (map g xs) ≡ gathered (λ x. step (g x)) start xs
 gathered-map step start g [] = refl
 gathered-map step start g (x ∷ xs) = ap (step (g x)) (gathered-map step start g xs)
 
@@ -66,7 +68,9 @@ greater p f x n = cond (p x) (max n (f x)) n
 greater-Commutes : {A : Type 0} (p : A → Bool) (f : A → ℕ) → Commutes (greater p f)
 greater-Commutes p f x y n = swapped (p x) (p y)
   where
-    swapped : (a b : Bool) → cond a (max (cond b (max n (f y)) n) (f x)) (cond b (max n (f y)) n) ≡ cond b (max (cond a (max n (f x)) n) (f y)) (cond a (max n (f x)) n)
+    swapped : (a b : Bool)
+        → cond a (max (cond b (max n (f y)) n) (f x)) (cond b (max n (f y)) n)
+        ≡ cond b (max (cond a (max n (f x)) n) (f y)) (cond a (max n (f x)) n)
     swapped true true = omega arith
     swapped true false = refl
     swapped false true = refl
@@ -89,11 +93,14 @@ gathered-greater p f (x ∷ xs) =
 
 count_from_front : (st : State) (q : Names) → gathered (λ e. one_more (below q) e.0) 0 (finite.entries st.rows) ≡ count_below st q
 count_from_front st q =
-    sym (gathered-map (one_more (below q)) 0 (λ e. e.0) (finite.entries st.rows)) ∙ is_count_by (gathered (one_more (below q)) 0) (below q) refl (λ x xs. refl) (paths_of st)
+    sym (gathered-map (one_more (below q)) 0 (λ e. e.0) (finite.entries st.rows))
+    ∙ is_count_by (gathered (one_more (below q)) 0) (below q) refl (λ x xs. refl) (paths_of st)
 
-depth_from_front : (st : State) (q : Names) → gathered (λ e. greater (below q) (λ x. length x - length q) e.0) 0 (finite.entries st.rows) ≡ depth_below st q
+depth_from_front : (st : State) (q : Names)
+    → gathered (λ e. greater (below q) (λ x. length x - length q) e.0) 0 (finite.entries st.rows) ≡ depth_below st q
 depth_from_front st q =
-    sym (gathered-map (greater (below q) (λ x. length x - length q)) 0 (λ e. e.0) (finite.entries st.rows)) ∙ gathered-greater (below q) (λ x. length x - length q) (paths_of st)
+    sym (gathered-map (greater (below q) (λ x. length x - length q)) 0 (λ e. e.0) (finite.entries st.rows))
+    ∙ gathered-greater (below q) (λ x. length x - length q) (paths_of st)
 
 -- ---- making a cgroup adds one below each cgroup that it is below
 
@@ -101,9 +108,11 @@ module _ (st : State) (p : Names) (row : Cgroup) (absent : has_row st p ≡ fals
   pub count_below-with_row : (q : Names) → count_below (with_row st p row) q ≡ cond (below q p) (1 + count_below st q) (count_below st q)
   count_below-with_row q =
       sym (count_from_front (with_row st p row) q)
-      ∙ gathered-insert path_cmp_total (λ e. one_more (below q) e.0) 0 (λ x y. one_more-Commutes (below q) x.0 y.0) st.rows p row (none_value _ absent) ∙ ap (one_more (below q) p) (count_from_front st q)
+      ∙ gathered-insert path_cmp_total (λ e. one_more (below q) e.0) 0 (λ x y. one_more-Commutes (below q) x.0 y.0) st.rows p row (none_value _ absent)
+      ∙ ap (one_more (below q) p) (count_from_front st q)
 
-  pub depth_below-with_row : (q : Names) → depth_below (with_row st p row) q ≡ cond (below q p) (max (depth_below st q) (length p - length q)) (depth_below st q)
+  pub depth_below-with_row : (q : Names)
+      → depth_below (with_row st p row) q ≡ cond (below q p) (max (depth_below st q) (length p - length q)) (depth_below st q)
   depth_below-with_row q =
       sym (depth_from_front (with_row st p row) q)
       ∙ gathered-insert path_cmp_total (λ e. greater (below q) (λ x. length x - length q) e.0) 0 (λ x y. greater-Commutes (below q) (λ x. length x - length q) x.0 y.0) st.rows p row (none_value _ absent)
@@ -112,12 +121,16 @@ module _ (st : State) (p : Names) (row : Cgroup) (absent : has_row st p ≡ fals
 -- ---- removing one takes it
 
 module _ (st : State) (p : Names) (row : Cgroup) (there : row_at st p ≡ Some row) where
-  pub count_below-without_row : (q : Names) → count_below st q ≡ cond (below q p) (1 + count_below (without_row st p) q) (count_below (without_row st p) q)
+  pub count_below-without_row : (q : Names)
+      → count_below st q ≡ cond (below q p) (1 + count_below (without_row st p) q) (count_below (without_row st p) q)
   count_below-without_row q =
       sym (count_from_front st q)
-      ∙ gathered-remove path_cmp_total (λ e. one_more (below q) e.0) 0 (λ x y. one_more-Commutes (below q) x.0 y.0) path_cmp-IsAntisymmetric st.rows p row there ∙ ap (one_more (below q) p) (count_from_front (without_row st p) q)
+      ∙ gathered-remove path_cmp_total (λ e. one_more (below q) e.0) 0 (λ x y. one_more-Commutes (below q) x.0 y.0) path_cmp-IsAntisymmetric st.rows p row there
+      ∙ ap (one_more (below q) p) (count_from_front (without_row st p) q)
 
-  pub depth_below-without_row : (q : Names) → depth_below st q ≡ cond (below q p) (max (depth_below (without_row st p) q) (length p - length q)) (depth_below (without_row st p) q)
+  pub depth_below-without_row : (q : Names)
+      → depth_below st q
+      ≡ cond (below q p) (max (depth_below (without_row st p) q) (length p - length q)) (depth_below (without_row st p) q)
   depth_below-without_row q =
       sym (depth_from_front st q)
       ∙ gathered-remove path_cmp_total (λ e. greater (below q) (λ x. length x - length q) e.0) 0 (λ x y. greater-Commutes (below q) (λ x. length x - length q) x.0 y.0) path_cmp-IsAntisymmetric st.rows p row there

@@ -21,27 +21,30 @@ use Rattle.cg_steps.proofs.FormedEnabled.{enabling-by, is_child-itself}
 -- ---- readings of a row that is changed at one path
 
 module _ {A : Type 0} (read : Cgroup → Option A) (g : Cgroup → Cgroup) where
-  read_same : ((row : Cgroup) → read (g row) ≡ read row) → (b : Bool) (r : Option Cgroup) → option_and_then read (cond b (option_map g r) r) ≡ option_and_then read r
+  pub read_same : ((row : Cgroup) → read (g row) ≡ read row) → (b : Bool) (r : Option Cgroup)
+      → option_and_then read (cond b (option_map g r) r) ≡ option_and_then read r
   read_same same true None = refl
   read_same same true (Some row) = same row
   read_same same false r = refl
 
-  read_changed : (c : Bool) (h : A → A) → ((row : Cgroup) → read (g row) ≡ cond c (option_map h (read row)) (read row))
+  pub read_changed : (c : Bool) (h : A → A) → ((row : Cgroup) → read (g row) ≡ cond c (option_map h (read row)) (read row))
       → (b : Bool) (r : Option Cgroup) → option_and_then read (cond b (option_map g r) r) ≡ cond (b && c) (option_map h (option_and_then read r)) (option_and_then read r)
   read_changed true h changed true None = refl
   read_changed false h changed true None = refl
   read_changed c h changed true (Some row) = changed row
   read_changed c h changed false r = refl
 
-read_cond : {A : Type 0} (read : Cgroup → Option A) (b : Bool) (r s : Option Cgroup) → option_and_then read (cond b r s) ≡ cond b (option_and_then read r) (option_and_then read s)
+read_cond : {A : Type 0} (read : Cgroup → Option A) (b : Bool) (r s : Option Cgroup)
+    → option_and_then read (cond b r s) ≡ cond b (option_and_then read r) (option_and_then read s)
 read_cond read true r s = refl
 read_cond read false r s = refl
 
 -- what a row enables, if it is there
-abbrev enabled_of : Option Cgroup → ControllerSet
+abbrev pub enabled_of : Option Cgroup → ControllerSet
 enabled_of r = elim r [ None ↦ no_controllers | Some row ↦ row.enabled ]
 
-enabled_same : (g : Cgroup → Cgroup) → ((row : Cgroup) → (g row).enabled ≡ row.enabled) → (b : Bool) (r : Option Cgroup) → enabled_of (cond b (option_map g r) r) ≡ enabled_of r
+pub enabled_same : (g : Cgroup → Cgroup) → ((row : Cgroup) → (g row).enabled ≡ row.enabled) → (b : Bool) (r : Option Cgroup)
+    → enabled_of (cond b (option_map g r) r) ≡ enabled_of r
 enabled_same g same true None = refl
 enabled_same g same true (Some row) = same row
 enabled_same g same false r = refl
@@ -58,7 +61,9 @@ module _ (st : State) (p : Names) (file : LimitFile) (value : Limit) (q : Names)
       ap (option_and_then (λ row. entry_in row name)) (row_at-with_value st p file value q)
       ∙ read_same (λ row. entry_in row name) (with_value_in file value) (λ row. entry_in-with_value_in file value row name) (same_path p q) (row_at st q)
 
-  pub value_at-with_value : (other : LimitFile) → value_at (with_value st p file value) q other ≡ cond (same_path p q && same_file file other) (option_map (λ _. value) (value_at st q other)) (value_at st q other)
+  pub value_at-with_value : (other : LimitFile)
+      → value_at (with_value st p file value) q other
+      ≡ cond (same_path p q && same_file file other) (option_map (λ _. value) (value_at st q other)) (value_at st q other)
   value_at-with_value other =
       ap (option_and_then (λ row. value_in row other)) (row_at-with_value st p file value q)
       ∙ read_changed (λ row. value_in row other) (with_value_in file value) (same_file file other) (λ _. value)
@@ -69,12 +74,15 @@ module _ (st : State) (p : Names) (file : LimitFile) (value : Limit) (q : Names)
       set_twice (Some x) = refl
 
   pub enabled_at-with_value : enabled_at (with_value st p file value) q ≡ enabled_at st q
-  enabled_at-with_value = ap enabled_of (row_at-with_value st p file value q) ∙ enabled_same (with_value_in file value) (enabled-with_value_in file value) (same_path p q) (row_at st q)
+  enabled_at-with_value = ap enabled_of (row_at-with_value st p file value q)
+      ∙ enabled_same (with_value_in file value) (enabled-with_value_in file value) (same_path p q) (row_at st q)
 
 -- ---- a mode set
 
 module _ (st : State) (p : Names) (name : EntryName) (mode : ℕ) (q : Names) where
-  pub entry_at-with_mode : (other : EntryName) → entry_at (with_mode st p name mode) q other ≡ cond (same_path p q && same_entry name other) (option_map (with_mode_of mode) (entry_at st q other)) (entry_at st q other)
+  pub entry_at-with_mode : (other : EntryName)
+      → entry_at (with_mode st p name mode) q other
+      ≡ cond (same_path p q && same_entry name other) (option_map (with_mode_of mode) (entry_at st q other)) (entry_at st q other)
   entry_at-with_mode other =
       ap (option_and_then (λ row. entry_in row other)) (row_at-with_mode st p name mode q)
       ∙ read_changed (λ row. entry_in row other) (with_mode_in name mode) (same_entry name other) (with_mode_of mode) (λ row. entry_in-with_mode_in name mode row other) (same_path p q) (row_at st q)
@@ -85,26 +93,33 @@ module _ (st : State) (p : Names) (name : EntryName) (mode : ℕ) (q : Names) wh
       ∙ read_same (λ row. value_in row file) (with_mode_in name mode) (λ row. value_in-with_mode_in name mode row file) (same_path p q) (row_at st q)
 
   pub enabled_at-with_mode : enabled_at (with_mode st p name mode) q ≡ enabled_at st q
-  enabled_at-with_mode = ap enabled_of (row_at-with_mode st p name mode q) ∙ enabled_same (with_mode_in name mode) (enabled-with_mode_in name mode) (same_path p q) (row_at st q)
+  enabled_at-with_mode = ap enabled_of (row_at-with_mode st p name mode q)
+      ∙ enabled_same (with_mode_in name mode) (enabled-with_mode_in name mode) (same_path p q) (row_at st q)
 
 -- ---- a cgroup made and removed
 
 module _ (st : State) (p : Names) (row : Cgroup) (q : Names) where
-  pub entry_at-with_row : (name : EntryName) → entry_at (with_row st p row) q name ≡ cond (same_path p q) (entry_in row name) (entry_at st q name)
-  entry_at-with_row name = ap (option_and_then (λ row. entry_in row name)) (row_at-with_row st p row q) ∙ read_cond (λ row. entry_in row name) (same_path p q) (Some row) (row_at st q)
+  pub entry_at-with_row : (name : EntryName)
+      → entry_at (with_row st p row) q name ≡ cond (same_path p q) (entry_in row name) (entry_at st q name)
+  entry_at-with_row name = ap (option_and_then (λ row. entry_in row name)) (row_at-with_row st p row q)
+      ∙ read_cond (λ row. entry_in row name) (same_path p q) (Some row) (row_at st q)
 
-  pub value_at-with_row : (file : LimitFile) → value_at (with_row st p row) q file ≡ cond (same_path p q) (value_in row file) (value_at st q file)
-  value_at-with_row file = ap (option_and_then (λ row. value_in row file)) (row_at-with_row st p row q) ∙ read_cond (λ row. value_in row file) (same_path p q) (Some row) (row_at st q)
+  pub value_at-with_row : (file : LimitFile)
+      → value_at (with_row st p row) q file ≡ cond (same_path p q) (value_in row file) (value_at st q file)
+  value_at-with_row file = ap (option_and_then (λ row. value_in row file)) (row_at-with_row st p row q)
+      ∙ read_cond (λ row. value_in row file) (same_path p q) (Some row) (row_at st q)
 
   pub enabled_at-with_row : enabled_at (with_row st p row) q ≡ cond (same_path p q) row.enabled (enabled_at st q)
   enabled_at-with_row = ap enabled_of (row_at-with_row st p row q) ∙ enabled_cond (same_path p q) (Some row) (row_at st q)
 
 module _ (st : State) (p q : Names) where
   pub entry_at-without_row : (name : EntryName) → entry_at (without_row st p) q name ≡ cond (same_path p q) None (entry_at st q name)
-  entry_at-without_row name = ap (option_and_then (λ row. entry_in row name)) (row_at-without_row st p q) ∙ read_cond (λ row. entry_in row name) (same_path p q) None (row_at st q)
+  entry_at-without_row name = ap (option_and_then (λ row. entry_in row name)) (row_at-without_row st p q)
+      ∙ read_cond (λ row. entry_in row name) (same_path p q) None (row_at st q)
 
   pub value_at-without_row : (file : LimitFile) → value_at (without_row st p) q file ≡ cond (same_path p q) None (value_at st q file)
-  value_at-without_row file = ap (option_and_then (λ row. value_in row file)) (row_at-without_row st p q) ∙ read_cond (λ row. value_in row file) (same_path p q) None (row_at st q)
+  value_at-without_row file = ap (option_and_then (λ row. value_in row file)) (row_at-without_row st p q)
+      ∙ read_cond (λ row. value_in row file) (same_path p q) None (row_at st q)
 
   pub enabled_at-without_row : enabled_at (without_row st p) q ≡ cond (same_path p q) no_controllers (enabled_at st q)
   enabled_at-without_row = ap enabled_of (row_at-without_row st p q) ∙ enabled_cond (same_path p q) None (row_at st q)
@@ -120,7 +135,8 @@ value_at-file st q file = elim (row_at st q) as (λ r. option_and_then (λ row. 
 
 module _ (st : State) (p : Names) (enabled : ControllerSet) (user : Identity) (q : Names) where
   -- where a reading of each row is the same before and after
-  read_kept : {A : Type 0} (read : Cgroup → Option A) → ((row : Cgroup) → row_at st q ≡ Some row → read (enabling p enabled user q row) ≡ read row)
+  read_kept : {A : Type 0} (read : Cgroup → Option A)
+      → ((row : Cgroup) → row_at st q ≡ Some row → read (enabling p enabled user q row) ≡ read row)
       → option_and_then read (row_at (with_enabled st p enabled user) q) ≡ option_and_then read (row_at st q)
   read_kept read same =
       ap (option_and_then read) (row_at-with_enabled st p enabled user q)
@@ -144,19 +160,24 @@ module _ (st : State) (p : Names) (enabled : ControllerSet) (user : Identity) (q
   not_both same child = absurd (true≢false (sym child ∙ ap (is_child p) (sym (same_path-is p q same)) ∙ is_child-itself p))
 
   -- the files of a cgroup that is no child of it
-  pub file_at-with_enabled-other : is_child p q ≡ false → (file : LimitFile) → file_at (with_enabled st p enabled user) q file ≡ file_at st q file
+  pub file_at-with_enabled-other : is_child p q ≡ false → (file : LimitFile)
+      → file_at (with_enabled st p enabled user) q file ≡ file_at st q file
   file_at-with_enabled-other other file =
       read_kept (λ row. file_of row file) (λ row _. enabling-by p enabled user (λ r. file_of r file ≡ file_of row file) q row (λ _. refl) (λ child. absurd (true≢false (sym child ∙ other))) (λ _ _. refl))
 
   -- the files of a cgroup where they stand before and after, or neither
-  pub file_at-with_enabled-same : (file : LimitFile) → (is_some (row_at st q) ≡ true → is_some (file_at st q file) ≡ stands_under enabled file) → file_at (with_enabled st p enabled user) q file ≡ file_at st q file
+  pub file_at-with_enabled-same : (file : LimitFile)
+      → (is_some (row_at st q) ≡ true → is_some (file_at st q file) ≡ stands_under enabled file)
+      → file_at (with_enabled st p enabled user) q file ≡ file_at st q file
   file_at-with_enabled-same file stands =
       read_kept (λ row. file_of row file) (λ row is.
       enabling-by p enabled user (λ r. file_of r file ≡ file_of row file) q row (λ _. refl)
       (λ _. same-with_files_of enabled user row file (ap (λ r. is_some (option_and_then (λ row. file_of row file) r)) (sym is) ∙ stands (ap is_some is))) (λ _ _. refl))
 
   -- the files of a child: one that stays is kept as it is, and a new one is the user's
-  pub file_at-with_enabled-child : is_child p q ≡ true → (file : LimitFile) → file_at (with_enabled st p enabled user) q file ≡ option_and_then (λ row. refitted enabled user file (file_of row file)) (row_at st q)
+  pub file_at-with_enabled-child : is_child p q ≡ true → (file : LimitFile)
+      → file_at (with_enabled st p enabled user) q file
+      ≡ option_and_then (λ row. refitted enabled user file (file_of row file)) (row_at st q)
   file_at-with_enabled-child child file =
       ap (option_and_then (λ row. file_of row file)) (row_at-with_enabled st p enabled user q)
       ∙ elim (row_at st q) as (λ r. option_and_then (λ row. file_of row file) (option_map (enabling p enabled user q) r) ≡ option_and_then (λ row. refitted enabled user file (file_of row file)) r) [

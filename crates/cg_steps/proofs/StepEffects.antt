@@ -28,7 +28,8 @@ not_taken : {A : Type 0} (b : Bool) (x y : A) → b ≡ false → cond b x y ≡
 not_taken b x y h = ap (λ t. cond t x y) h
 
 -- a reading of the state after a fork, from what it is with a new process and without
-pub fork-by : (P : State → Type 0) (st : State) (child : ℕ) (found : Option Process) → P st → ((process : Process) → P (with_process st child process.uid process.place))
+pub fork-by : (P : State → Type 0) (st : State) (child : ℕ) (found : Option Process) → P st
+    → ((process : Process) → P (with_process st child process.uid process.place))
     → P (elim found [ None ↦ st | Some process ↦ with_process st child process.uid process.place ])
 fork-by P st child None same made = same
 fork-by P st child (Some process) same made = made process
@@ -53,13 +54,15 @@ has_row-next st user (Chmod at name mode) q h = ap is_some (row_at-with_mode st 
 -- ---- the files of a cgroup's children
 
 -- a file that no controller brings stands wherever there is a cgroup
-stands_everywhere : (enabled : ControllerSet) (file : LimitFile) (found : Option Cgroup) → is_some (controller_of file) ≡ false → is_some found ≡ true → is_some (option_and_then (λ row. file_of row file) found) ≡ stands_under enabled file
+stands_everywhere : (enabled : ControllerSet) (file : LimitFile) (found : Option Cgroup) → is_some (controller_of file) ≡ false
+    → is_some found ≡ true → is_some (option_and_then (λ row. file_of row file) found) ≡ stands_under enabled file
 stands_everywhere enabled file None free there = absurd (true≢false (sym there))
 stands_everywhere enabled MaxDescendants (Some row) free there = refl
 stands_everywhere enabled MaxDepth (Some row) free there = refl
 stands_everywhere enabled file (Some row) free there = absurd (true≢false free)
 
-file_at-with_enabled-kept : (st : State) (at : Names) (enabled : ControllerSet) (user : Identity) (q : Names) (file : LimitFile) → (is_child at q && is_some (controller_of file)) ≡ false → file_at (with_enabled st at enabled user) q file ≡ file_at st q file
+file_at-with_enabled-kept : (st : State) (at : Names) (enabled : ControllerSet) (user : Identity) (q : Names) (file : LimitFile)
+    → (is_child at q && is_some (controller_of file)) ≡ false → file_at (with_enabled st at enabled user) q file ≡ file_at st q file
 file_at-with_enabled-kept st at enabled user q file h =
     elim (is_child at q) as (λ b. is_child at q ≡ b → (b && is_some (controller_of file)) ≡ false → file_at (with_enabled st at enabled user) q file ≡ file_at st q file) [
       | true ↦ λ child free. file_at-with_enabled-same st at enabled user q file (λ there. stands_everywhere enabled file (row_at st q) free there)
@@ -68,14 +71,17 @@ file_at-with_enabled-kept st at enabled user q file h =
 
 -- ---- entries
 
-entry_at-with_enabled-kept : (st : State) (at : Names) (enabled : ControllerSet) (user : Identity) (q : Names) (name : EntryName) → alters_entry (Control at []) q name ≡ false → entry_at (with_enabled st at enabled user) q name ≡ entry_at st q name
+entry_at-with_enabled-kept : (st : State) (at : Names) (enabled : ControllerSet) (user : Identity) (q : Names) (name : EntryName)
+    → alters_entry (Control at []) q name ≡ false → entry_at (with_enabled st at enabled user) q name ≡ entry_at st q name
 entry_at-with_enabled-kept st at enabled user q Dir h = entry_at-with_enabled-dir st at enabled user q
 entry_at-with_enabled-kept st at enabled user q Procs h = entry_at-with_enabled-procs st at enabled user q
 entry_at-with_enabled-kept st at enabled user q SubtreeControl h = entry_at-with_enabled-subtree_control st at enabled user q
 entry_at-with_enabled-kept st at enabled user q (File file) h =
-    entry_at-file (with_enabled st at enabled user) q file ∙ ap (option_map (λ f. f.entry)) (file_at-with_enabled-kept st at enabled user q file h) ∙ sym (entry_at-file st q file)
+    entry_at-file (with_enabled st at enabled user) q file
+    ∙ ap (option_map (λ f. f.entry)) (file_at-with_enabled-kept st at enabled user q file h) ∙ sym (entry_at-file st q file)
 
-entry_at-next : (st : State) (user : Identity) (op : Op) (q : Names) (name : EntryName) → alters_entry op q name ≡ false → entry_at (next st user op) q name ≡ entry_at st q name
+entry_at-next : (st : State) (user : Identity) (op : Op) (q : Names) (name : EntryName) → alters_entry op q name ≡ false
+    → entry_at (next st user op) q name ≡ entry_at st q name
 entry_at-next st user (Move pid to) q name h = refl
 entry_at-next st user (Control at changes) q name h = entry_at-with_enabled-kept st at _ user q name h
 entry_at-next st user (Mkdir path) q name h = entry_at-with_row st path _ q name ∙ not_taken (same_path path q) _ _ h
@@ -83,28 +89,34 @@ entry_at-next st user (Rmdir path) q name h = entry_at-without_row st path q nam
 entry_at-next st user (Set at file value) q name h = entry_at-with_value st at file value q name
 entry_at-next st user (Fork parent child) q name h = fork-by (λ s. entry_at s q name ≡ entry_at st q name) st child (process_at st parent) refl (λ process. refl)
 entry_at-next st user (Exit pid) q name h = refl
-entry_at-next st user (Chmod at entry mode) q name h = entry_at-with_mode st at entry mode q name ∙ not_taken (same_path at q && same_entry entry name) _ _ h
+entry_at-next st user (Chmod at entry mode) q name h = entry_at-with_mode st at entry mode q name
+    ∙ not_taken (same_path at q && same_entry entry name) _ _ h
 
 -- ---- values
 
-value_at-next : (st : State) (user : Identity) (op : Op) (q : Names) (file : LimitFile) → alters_value op q file ≡ false → value_at (next st user op) q file ≡ value_at st q file
+value_at-next : (st : State) (user : Identity) (op : Op) (q : Names) (file : LimitFile) → alters_value op q file ≡ false
+    → value_at (next st user op) q file ≡ value_at st q file
 value_at-next st user (Move pid to) q file h = refl
 value_at-next st user (Control at changes) q file h =
     value_at-file (next st user (Control at changes)) q file
-    ∙ ap (option_map (λ f. f.value)) (file_at-with_enabled-kept st at (enabled_after (enabled_at st at) changes) user q file h) ∙ sym (value_at-file st q file)
+    ∙ ap (option_map (λ f. f.value)) (file_at-with_enabled-kept st at (enabled_after (enabled_at st at) changes) user q file h)
+    ∙ sym (value_at-file st q file)
 value_at-next st user (Mkdir path) q file h = value_at-with_row st path _ q file ∙ not_taken (same_path path q) _ _ h
 value_at-next st user (Rmdir path) q file h = value_at-without_row st path q file ∙ not_taken (same_path path q) _ _ h
-value_at-next st user (Set at written value) q file h = value_at-with_value st at written value q file ∙ not_taken (same_path at q && same_file written file) _ _ h
+value_at-next st user (Set at written value) q file h = value_at-with_value st at written value q file
+    ∙ not_taken (same_path at q && same_file written file) _ _ h
 value_at-next st user (Fork parent child) q file h = fork-by (λ s. value_at s q file ≡ value_at st q file) st child (process_at st parent) refl (λ process. refl)
 value_at-next st user (Exit pid) q file h = refl
 value_at-next st user (Chmod at entry mode) q file h = value_at-with_mode st at entry mode q file
 
 -- ---- controllers
 
-enabled_at-next : (st : State) (user : Identity) (op : Op) (q : Names) → alters_enabled op q ≡ false → enabled_at (next st user op) q ≡ enabled_at st q
+enabled_at-next : (st : State) (user : Identity) (op : Op) (q : Names) → alters_enabled op q ≡ false
+    → enabled_at (next st user op) q ≡ enabled_at st q
 enabled_at-next st user (Move pid to) q h = refl
 enabled_at-next st user (Control at changes) q h = enabled_at-with_enabled-other st at (enabled_after (enabled_at st at) changes) user q h
-enabled_at-next st user (Mkdir path) q h = enabled_at-with_row st path (cgroup_made_by user (enabled_at st (parent path))) q ∙ not_taken (same_path path q) _ _ h
+enabled_at-next st user (Mkdir path) q h = enabled_at-with_row st path (cgroup_made_by user (enabled_at st (parent path))) q
+    ∙ not_taken (same_path path q) _ _ h
 enabled_at-next st user (Rmdir path) q h = enabled_at-without_row st path q ∙ not_taken (same_path path q) _ _ h
 enabled_at-next st user (Set at file value) q h = enabled_at-with_value st at file value q
 enabled_at-next st user (Fork parent child) q h = fork-by (λ s. enabled_at s q ≡ enabled_at st q) st child (process_at st parent) refl (λ process. refl)
@@ -113,7 +125,8 @@ enabled_at-next st user (Chmod at entry mode) q h = enabled_at-with_mode st at e
 
 -- ---- processes and used PIDs
 
-process_at-next : (st : State) (user : Identity) (op : Op) (pid : ℕ) → alters_process op pid ≡ false → process_at (next st user op) pid ≡ process_at st pid
+process_at-next : (st : State) (user : Identity) (op : Op) (pid : ℕ) → alters_process op pid ≡ false
+    → process_at (next st user op) pid ≡ process_at st pid
 process_at-next st user (Move moved to) pid h = process_at-with_place-other st moved to pid h
 process_at-next st user (Control at changes) pid h = refl
 process_at-next st user (Mkdir path) pid h = refl
@@ -124,7 +137,8 @@ process_at-next st user (Fork parent child) pid h =
 process_at-next st user (Exit ended) pid h = process_at-without_process-other st ended pid h
 process_at-next st user (Chmod at entry mode) pid h = refl
 
-is_used-next : (st : State) (user : Identity) (op : Op) (pid : ℕ) → alters_used op pid ≡ false → is_used (next st user op) pid ≡ is_used st pid
+is_used-next : (st : State) (user : Identity) (op : Op) (pid : ℕ) → alters_used op pid ≡ false
+    → is_used (next st user op) pid ≡ is_used st pid
 is_used-next st user (Move moved to) pid h = refl
 is_used-next st user (Control at changes) pid h = refl
 is_used-next st user (Mkdir path) pid h = refl
@@ -168,10 +182,12 @@ module _ (st : State) (user : Identity) (op : Op) where
   pub has_row-after : (q : Names) → alters_row op q ≡ false → has_row (after st user op) q ≡ has_row st q
   has_row-after q h = after-by st user op (λ s. has_row s q ≡ has_row st q) (λ _. has_row-next st user op q h) refl
 
-  pub entry_at-after : (q : Names) (name : EntryName) → alters_entry op q name ≡ false → entry_at (after st user op) q name ≡ entry_at st q name
+  pub entry_at-after : (q : Names) (name : EntryName) → alters_entry op q name ≡ false
+      → entry_at (after st user op) q name ≡ entry_at st q name
   entry_at-after q name h = after-by st user op (λ s. entry_at s q name ≡ entry_at st q name) (λ _. entry_at-next st user op q name h) refl
 
-  pub value_at-after : (q : Names) (file : LimitFile) → alters_value op q file ≡ false → value_at (after st user op) q file ≡ value_at st q file
+  pub value_at-after : (q : Names) (file : LimitFile) → alters_value op q file ≡ false
+      → value_at (after st user op) q file ≡ value_at st q file
   value_at-after q file h = after-by st user op (λ s. value_at s q file ≡ value_at st q file) (λ _. value_at-next st user op q file h) refl
 
   pub enabled_at-after : (q : Names) → alters_enabled op q ≡ false → enabled_at (after st user op) q ≡ enabled_at st q

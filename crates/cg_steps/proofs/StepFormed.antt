@@ -38,20 +38,24 @@ module _ (st : State) (user : Identity) (op : Op) where
 
 -- ---- well-formedness
 
-formed_fork : (st : State) (child : ℕ) (found : Option Process) → ((process : Process) → found ≡ Some process → IsWellFormed (with_process st child process.uid process.place)) → IsWellFormed st
+formed_fork : (st : State) (child : ℕ) (found : Option Process)
+    → ((process : Process) → found ≡ Some process → IsWellFormed (with_process st child process.uid process.place)) → IsWellFormed st
     → IsWellFormed (elim found [ None ↦ st | Some process ↦ with_process st child process.uid process.place ])
 formed_fork st child None made whole = whole
 formed_fork st child (Some process) made whole = made process refl
 
-there_control : (st : State) (user : Identity) (at : Names) (changes : List Change) → control_bars st user at changes ≡ [] → has_row st at ≡ true
+there_control : (st : State) (user : Identity) (at : Names) (changes : List Change) → control_bars st user at changes ≡ []
+    → has_row st at ≡ true
 there_control st user at changes h = no_absent (row_at st at) _ (no_parts _ _ (no_parts _ _ h).0).0
 
-may_control : (st : State) (user : Identity) (at : Names) (changes : List Change) → control_bars st user at changes ≡ [] → IsWellFormed st → MayEnable st at (enabled_after (enabled_at st at) changes)
+may_control : (st : State) (user : Identity) (at : Names) (changes : List Change) → control_bars st user at changes ≡ [] → IsWellFormed st
+    → MayEnable st at (enabled_after (enabled_at st at) changes)
 may_control st user at changes h whole =
     let row = some_value (row_at st at) (there_control st user at changes h) in
     subst (λ enabled. MayEnable st at (enabled_after enabled changes)) (sym (enabled_at-row st at row.0 row.1)) (allowed_control st user at changes row.0 h whole row.1)
 
-pub formed-next : (st : State) (user : Identity) (op : Op) → IsWellFormed st → HasMode op → bars st user op ≡ [] → IsWellFormed (next st user op)
+pub formed-next : (st : State) (user : Identity) (op : Op) → IsWellFormed st → HasMode op → bars st user op ≡ []
+    → IsWellFormed (next st user op)
 formed-next st user (Move pid to) whole mode h = formed-with_place st pid to (allowed_move st user pid to h) whole
 formed-next st user (Control at changes) whole mode h =
     formed-with_enabled st at (enabled_after (enabled_at st at) changes) user (there_control st user at changes h) (may_control st user at changes h whole) whole

@@ -24,7 +24,8 @@ inside-parts top path h n long =
 module _ (st : State) (parents : (path : Names) → has_row st path ≡ true → has_row st (parent path) ≡ true) where
   above_there : (path : Names) (k n : ℕ) → n + k ≡ length path → has_row st path ≡ true → has_row st (take n path) ≡ true
   above_there path zero n e there = ap (has_row st) (take_all n path (omega arith)) ∙ there
-  above_there path (suc k) n e there = ap (has_row st) (sym (parent-take path n (omega arith))) ∙ parents (take (suc n) path) (above_there path k (suc n) (omega arith) there)
+  above_there path (suc k) n e there = ap (has_row st) (sym (parent-take path n (omega arith)))
+      ∙ parents (take (suc n) path) (above_there path k (suc n) (omega arith) there)
 
   pub take-there-by_parents : (path : Names) (n : ℕ) → has_row st path ≡ true → has_row st (take n path) ≡ true
   take-there-by_parents path n there =

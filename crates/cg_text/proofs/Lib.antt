@@ -10,3 +10,13 @@ pub mod TablesLaws
 pub mod TextLaws
 pub mod StateLaws
 pub mod NamedLaws
+pub mod FormLaws
+pub mod FormFaults
+pub mod RowSaid
+pub mod OnceLaws
+pub mod RowState
+pub mod TextOfLaws
+pub mod SaidFaults
+pub mod SaidTogether
+pub mod SaidProcesses
+pub mod TextFaultLaws

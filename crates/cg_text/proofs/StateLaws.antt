@@ -32,11 +32,11 @@ use Rattle.cg_text.proofs.SoundRows.{formed-tree, in_range-named}
 
 -- ---- from no fault to the state
 
-each : {A : Type 0} {P Q : A → Type 0} → ((x : A) → P x → Q x) → (xs : List A) → AllByRecursion P xs → AllByRecursion Q xs
+pub each : {A : Type 0} {P Q : A → Type 0} → ((x : A) → P x → Q x) → (xs : List A) → AllByRecursion P xs → AllByRecursion Q xs
 each weaker [] all = tt
 each weaker (x ∷ xs) all = (weaker x all.0, each weaker xs all.1)
 
-written_row : (format : Format) (row : CgroupRow) → (k : ℕ) × (row_fault format k row ≡ None) → IsWritten format row
+pub written_row : (format : Format) (row : CgroupRow) → (k : ℕ) × (row_fault format k row ≡ None) → IsWritten format row
 unfolding row_fault
 written_row format row none =
     let past_path = or_else_none (bad_path none.0 row) (or_else (bad_controller none.0 row) (or_else (bad_entry format none.0 row) (bad_value none.0 row))) none.1 in

@@ -1,10 +1,12 @@
 -- From a TOML document to plain records, or the first fault of its form. Own.
-use Rattle.std.specs.Prelude.{ℕ, ◌+◌, ◌≤◌, length, ℤ, pos, negsuc, Bool, true, false, ◌&&◌, ◌||◌, nat_le, ◌==◌, if◌then◌else◌, List, [], ◌∷◌, codes, Option, Some, None, option_and_then, Result, Ok, Err}
+use Rattle.std.specs.Prelude.{ℕ, ◌+◌, ◌≤◌, length, ℤ, Bool, true, ◌&&◌, ◌||◌, nat_le, if◌then◌else◌, List, [], ◌∷◌, codes, Option, Some, None, option_and_then, Result, Ok, Err}
 use Rattle.std.specs.Option.{option_map}
 use Rattle.cg_cgroup.specs.Paths.{same_name}
 use Rattle.cg_cgroup.specs.Texts as texts
 use Rattle.toml.specs.Data.{Data, string, integer, array, table, Items, no_items, item, Members, no_members, member, get_member, as_str, as_integer}
 use Rattle.cg_text.specs.Records.{Text, CgroupRow, ProcessRow, TreeRecords, no_entry, no_files}
+pub use Rattle.cg_text.specs.Form.{is_two, most_rows}
+pub use Rattle.cg_text.specs.Said.{format_of}
 use Rattle.cg_text.specs.Faults.{or_fault}
 use Rattle.cg_text.specs.Faults as fault
 use Rattle.cg_text.specs.declared.tree.fault.Place.{Place}
@@ -14,7 +16,6 @@ use Rattle.cg_text.specs.declared.tree.fault.TreeFault.TheVariants.{Shape, Forma
 use Rattle.cg_text.specs.declared.tree.document.TableKind.{TableKind}
 use Rattle.cg_text.specs.declared.tree.document.TableKind.TheVariants.{DocumentTable, CgroupTable, ProcessTable, FilesTable, EntryTable, FileTable}
 use Rattle.cg_text.specs.declared.tree.records.Format.{Format}
-use Rattle.cg_text.specs.declared.tree.records.Format.TheVariants.{One, Two}
 use Rattle.cg_text.specs.declared.tree.records.EntryRecord.{EntryRecord}
 use Rattle.cg_text.specs.declared.tree.records.ValueRecord.{ValueRecord}
 use Rattle.cg_text.specs.declared.tree.records.ValueRecord.TheVariants.{Number, Max, OtherText}
@@ -23,10 +24,6 @@ use Rattle.cg_text.specs.declared.tree.records.FilesRecord.{FilesRecord}
 use Rattle.cg_cgroup.specs.Options.{◌>>=◌}
 
 -- ---- keys. What is read of a table or a value is None where its form is wrong.
-
-abbrev pub is_two : Format → Bool
-is_two One = false
-is_two Two = true
 
 -- the keys that a table may have
 abbrev pub is_key : TableKind → Text → Bool
@@ -176,11 +173,6 @@ top_keys keys = do
 unfoldable pub top_of : Members → Option TopKeys
 top_of keys = if has_only DocumentTable keys then top_keys keys else None
 
--- 1 and 2
-abbrev pub format_of : ℤ → Option Format
-format_of (pos number) = if number == 1 then Some One else (if number == 2 then Some Two else None)
-format_of (negsuc number) = None
-
 abbrev pub count_of : Items → ℕ
 count_of no_items = 0
 count_of (item held rest) = count_of rest + 1
@@ -190,10 +182,6 @@ abbrev pub rows_from : {A : Type 0} → (Data → Option A) → (ℕ → Place) 
 rows_from read place i no_items = Ok []
 rows_from read place i (item held rest) =
     fault.bind (or_fault (read held) (Shape (place i))) (λ row. fault.bind (rows_from read place (i + 1) rest) (λ rows. Ok (row ∷ rows)))
-
--- the largest number of rows of an array
-abbrev pub most_rows : ℕ
-most_rows = 4096
 
 abbrev pub has_few_rows : TopKeys → Bool
 has_few_rows top = nat_le (count_of top.cgroups) most_rows && nat_le (count_of top.processes) most_rows

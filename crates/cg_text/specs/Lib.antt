@@ -1,9 +1,13 @@
 pub mod Faults
 pub mod Records
+pub mod Form
+pub mod Said
 pub mod Document
 pub mod TopView
 pub mod Tree
 pub mod Levels
 pub mod TreeTexts
+pub mod TextOf
+pub mod TextFaults
 pub mod Tables
 pub mod HasState

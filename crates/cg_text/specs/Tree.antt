@@ -1,15 +1,13 @@
 -- From plain records to the state of a tree, or the first fault. Own. Nothing here sees how the records were written.
-use Rattle.std.specs.Prelude.{ℕ, ◌+◌, ℤ, pos, negsuc, Bool, true, false, ◌&&◌, ◌||◌, not, nat_le, cond, List, [], ◌∷◌, map as map_list, take, Option, Some, None, is_some, option_and_then, unwrap_or, Result, Ok, Err}
+use Rattle.std.specs.Prelude.{ℕ, ◌+◌, pos, negsuc, Bool, true, false, ◌&&◌, ◌||◌, not, cond, List, [], ◌∷◌, map as map_list, take, Option, Some, None, is_some, option_and_then, unwrap_or, Result, Ok, Err}
 use Rattle.std.specs.Option.{option_map}
 use Rattle.std.specs.List.{list_all}
 use Rattle.std.specs.Ordering.{nat_cmp}
 use Rattle.std.specs.FinMap as map
 use Rattle.std.specs.FinSet as set
 use Rattle.cg_cgroup.specs.Paths.{Names, path_cmp, is_root, parent, path_at}
-use Rattle.cg_cgroup.specs.Numbers.{is_pid, is_mode}
 use Rattle.cg_cgroup.specs.Identity.{Identity}
-use Rattle.cg_cgroup.specs.Users.{has_bit}
-use Rattle.cg_cgroup.specs.Files.{all_files, controller_named, with_controller, no_controllers, enables_nothing, is_within, default_value, accepts, stands_under}
+use Rattle.cg_cgroup.specs.Files.{all_files, no_controllers, enables_nothing, is_within, default_value, stands_under}
 use Rattle.cg_cgroup.specs.Cgroups.{file_of, entry_made_by, file_made_by, with_files_of}
 use Rattle.cg_model.specs.States.{State}
 use Rattle.cg_cgroup.specs.declared.user.Entry.{Entry}
@@ -32,7 +30,7 @@ use Rattle.cg_text.specs.declared.tree.records.ValueRecord.TheVariants.{Number, 
 use Rattle.cg_text.specs.declared.tree.records.FileRecord.{FileRecord}
 use Rattle.cg_text.specs.declared.tree.records.FilesRecord.{FilesRecord}
 use Rattle.cg_text.specs.declared.tree.named.NamedRow.{NamedRow}
-use Rattle.cg_text.specs.Document.{is_two}
+pub use Rattle.cg_text.specs.Said.{number_or, passing, id_read, mode_read, accepted, controllers_from, controllers_read, pid_read}
 use Rattle.cg_cgroup.specs.Options.{◌>>=◌}
 
 -- ---- faults in order
@@ -54,33 +52,12 @@ first_row test i (row ∷ rows) = or_else (test i row) (first_row test (i + 1) r
 
 -- ---- owners, modes and values. What is read is None where it is out of range.
 
--- a number that is written, or what a missing one means
-abbrev pub number_or : ℕ → Option ℤ → Option ℕ
-number_or missing None = Some missing
-number_or missing (Some (pos number)) = Some number
-number_or missing (Some (negsuc number)) = None
-
--- the number where it passes a test
-abbrev pub passing : (ℕ → Bool) → Option ℕ → Option ℕ
-passing test found = option_and_then (λ number. cond (test number) (Some number) None) found
-
--- a uid or a gid: 0 to 4294967295, and 0 where it is missing
-abbrev pub id_read : Option ℤ → Option ℕ
-id_read written = passing (λ number. nat_le number 4294967295) (number_or 0 written)
-
--- a mode: 0 to 0o777, and in format 1 without the group's write bit 0o020
-abbrev pub mode_read : Format → ℕ → Option ℤ → Option ℕ
-mode_read format missing written = passing (λ number. is_mode number && (is_two format || not (has_bit number 16))) (number_or missing written)
-
 unfoldable pub entry_read : Format → ℕ → EntryRecord → Option Entry
 entry_read format missing written = do
   uid ← id_read written.uid
   gid ← id_read written.gid
   mode ← mode_read format missing written.mode
   Some (record { uid = uid; gid = gid; mode = mode })
-
-abbrev pub accepted : LimitFile → Limit → Option Limit
-accepted file value = cond (accepts file value) (Some value) None
 
 -- a value that its file accepts, and the file's default where it is missing
 abbrev pub value_read : LimitFile → Option ValueRecord → Option Limit
@@ -112,14 +89,6 @@ file_in files MemoryLow = files.memory_low
 file_in files MemoryHigh = files.memory_high
 file_in files MemoryMax = files.memory_max
 file_in files PidsMax = files.pids_max
-
--- the controllers that texts name, beside those of a set
-abbrev pub controllers_from : ControllerSet → List Text → Option ControllerSet
-controllers_from controllers [] = Some controllers
-controllers_from controllers (text ∷ texts) = option_and_then (λ controller. controllers_from (with_controller controllers controller true) texts) (controller_named text)
-
-abbrev pub controllers_read : List Text → Option ControllerSet
-controllers_read texts = controllers_from no_controllers texts
 
 abbrev pub passes_entry : Format → ℕ → EntryRecord → Bool
 passes_entry format missing written = is_some (entry_read format missing written)
@@ -248,9 +217,6 @@ abbrev pub fitted_under : NamedRow × ControllerSet → Names × Cgroup
 fitted_under p = (p.0.path, with_files_of p.1 superuser p.0.cgroup)
 
 -- ---- processes
-
-abbrev pub pid_read : ℤ → Option ℕ
-pid_read written = passing is_pid (number_or 0 (Some written))
 
 abbrev pub live_process : ProcessRow → ℕ × Process
 live_process row = (unwrap_or (pid_read row.pid) 0, record { uid = unwrap_or (id_read (Some row.uid)) 0; place = unwrap_or (path_at row.at) [] })

@@ -3,17 +3,20 @@
 use Rattle.std.specs.Prelude.{◌≡◌, ℕ, ◌-◌, ◌<◌, ◌≤◌, Bool, true, false, ◌&&◌, not, take, Some, None}
 use Rattle.cg_cgroup.specs.Paths.{Names}
 use Rattle.cg_model.specs.States.{State, row_at, count_below}
-use Rattle.cg_cgroup.specs.declared.cgroup.Cgroup.{Cgroup}
+use Rattle.cg_cgroup.specs.declared.files.Limit.{Limit}
 use Rattle.cg_model.specs.Limits.{is_under}
 
 -- Core Interface Files, cgroup.max.descendants and cgroup.max.depth: whether a cgroup with so many below it bars a child of
--- the cgroup so many levels below it.
-abbrev pub bars_child : Cgroup → ℕ → ℕ → Bool
-bars_child row count levels = not (is_under count row.max_descendants.value && is_under levels row.max_depth.value)
+-- the cgroup so many levels below it, by its two limits.
+abbrev pub bars_child : ℕ → Limit → ℕ → Limit → Bool
+bars_child count max_descendants levels max_depth = not (is_under count max_descendants && is_under levels max_depth)
 
 -- whether the cgroup of the first `at` names bars a child of that of the first `len` names
 abbrev pub is_full : State → Names → ℕ → ℕ → Bool
-is_full st path len at = elim (row_at st (take at path)) [ None ↦ false | Some row ↦ bars_child row (count_below st (take at path)) (len - at) ]
+is_full st path len at = elim (row_at st (take at path)) [
+  | None ↦ false
+  | Some row ↦ bars_child (count_below st (take at path)) row.max_descendants.value (len - at) row.max_depth.value
+]
 
 -- neither the cgroup of the first `len` names nor one above it bars a child of it
 abbrev pub NoneIsFull : State → Names → ℕ → Type 0

@@ -33,7 +33,8 @@ use Rattle.cg_tries.proofs.Seen.{seen, IsAlike, is_empty, step-alike}
 use Rattle.cg_tries.proofs.Single.{step_breaks, one_operation, limits_stay, nothing_bars, where_so}
 
 -- a limit file stands where the parent enables what brings it
-stands : (st : State) (path : Names) (file : LimitFile) → IsWellFormed st → has_row st path ≡ true → is_root path ≡ false → is_some (file_at st path file) ≡ stands_under (enabled_at st (parent path)) file
+stands : (st : State) (path : Names) (file : LimitFile) → IsWellFormed st → has_row st path ≡ true → is_root path ≡ false
+    → is_some (file_at st path file) ≡ stands_under (enabled_at st (parent path)) file
 stands st path file formed there not_root =
     let row = some_value (row_at st path) there in
     ap (λ r. is_some (option_and_then (λ row. file_of row file) r)) row.1
@@ -51,7 +52,8 @@ file_by Cpu = CpuWeight
 file_by Memory = MemoryMax
 file_by Pids = PidsMax
 
-stands-file_by : (enabled : ControllerSet) (controller : Controller) → stands_under enabled (file_by controller) ≡ enables enabled controller
+stands-file_by : (enabled : ControllerSet) (controller : Controller)
+    → stands_under enabled (file_by controller) ≡ enables enabled controller
 stands-file_by enabled Cpu = refl
 stands-file_by enabled Memory = refl
 stands-file_by enabled Pids = refl
@@ -73,7 +75,8 @@ abbrev pub changes_enabled : Bool → Controller → ControllerSet → Bool
 changes_enabled on controller enabled = cond on (not (enables enabled controller)) (enables enabled controller)
 
 -- a change without effect leaves what is enabled
-same_enabled : (on : Bool) (controller : Controller) (enabled : ControllerSet) → changes_enabled on controller enabled ≡ false → enabled_by on controller enabled ≡ enabled
+same_enabled : (on : Bool) (controller : Controller) (enabled : ControllerSet) → changes_enabled on controller enabled ≡ false
+    → enabled_by on controller enabled ≡ enabled
 same_enabled true Cpu enabled h = λ i. record { cpu = negated enabled.cpu h i; memory = enabled.memory; pids = enabled.pids }
 same_enabled true Memory enabled h = λ i. record { cpu = enabled.cpu; memory = negated enabled.memory h i; pids = enabled.pids }
 same_enabled true Pids enabled h = λ i. record { cpu = enabled.cpu; memory = enabled.memory; pids = negated enabled.pids h i }
@@ -139,4 +142,5 @@ module _ (st : State) (user : Identity) (subtree : Names) (on : Bool) (controlle
   ] refl
 
   pub control_try : breaks st user subtree (op ∷ []) ≡ (allowed st user op && changes_enabled on controller above)
-  control_try = one_operation st user subtree op whole ∙ where_so (allowed st user op) _ _ (λ free. breaks_where (nothing_bars st user op free))
+  control_try = one_operation st user subtree op whole
+      ∙ where_so (allowed st user op) _ _ (λ free. breaks_where (nothing_bars st user op free))

@@ -77,7 +77,8 @@ module _ (st : State) (ancestor : Names) where
 
   -- ---- one is found
 
-  none-free : (from count : ℕ) → find is_free (numbers_from from count) ≡ None → AllByRecursion (λ number. has_row st (probe ancestor number) ≡ true) (numbers_from from count)
+  none-free : (from count : ℕ) → find is_free (numbers_from from count) ≡ None
+      → AllByRecursion (λ number. has_row st (probe ancestor number) ≡ true) (numbers_from from count)
   none-free from zero h = tt
   none-free from (suc count) h =
       elim (has_row st (probe ancestor from)) as (λ there. cond (not there) (Some from) (find is_free (numbers_from (suc from) count)) ≡ None → (there ≡ true) × AllByRecursion (λ number. has_row st (probe ancestor number) ≡ true) (numbers_from (suc from) count)) [
@@ -85,7 +86,8 @@ module _ (st : State) (ancestor : Names) where
         | false ↦ λ found. absurd (none-some from (sym found))
       ] h
 
-  all_others : (number from count : ℕ) → number < from → from + count ≤ 2 ^ 64 → AllByRecursion (λ path. eq_by_cmp path_cmp (probe ancestor number) path ≡ false) (map (probe ancestor) (numbers_from from count))
+  all_others : (number from count : ℕ) → number < from → from + count ≤ 2 ^ 64
+      → AllByRecursion (λ path. eq_by_cmp path_cmp (probe ancestor number) path ≡ false) (map (probe ancestor) (numbers_from from count))
   all_others number from zero less small = tt
   all_others number from (suc count) less small = (
     false_from_ne_true (eq_by_cmp path_cmp (probe ancestor number) (probe ancestor from)) (λ ties.
@@ -99,7 +101,8 @@ module _ (st : State) (ancestor : Names) where
   distinct from zero small = tt
   distinct from (suc count) small = (all_others from (suc from) count (omega arith) (omega (arith, small)), distinct (suc from) count (omega (arith, small)))
 
-  listed : (path : Names) (numbers : List ℕ) → AllByRecursion (λ number. has_row st (probe ancestor number) ≡ true) numbers → is_member (eq_by_cmp path_cmp) (map (probe ancestor) numbers) path ≡ true → has_row st path ≡ true
+  listed : (path : Names) (numbers : List ℕ) → AllByRecursion (λ number. has_row st (probe ancestor number) ≡ true) numbers
+      → is_member (eq_by_cmp path_cmp) (map (probe ancestor) numbers) path ≡ true → has_row st path ≡ true
   listed path [] there h = absurd (true≢false (sym h))
   listed path (number ∷ numbers) there h =
       elim (eq_by_cmp path_cmp path (probe ancestor number)) as (λ same. eq_by_cmp path_cmp path (probe ancestor number) ≡ same → (same || is_member (eq_by_cmp path_cmp) (map (probe ancestor) numbers) path) ≡ true → has_row st path ≡ true) [

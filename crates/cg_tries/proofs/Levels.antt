@@ -11,7 +11,8 @@ use Rattle.cg_model.specs.States.{State, row_at, count_below}
 use Rattle.cg_model.specs.Limits.{is_under}
 use Rattle.cg_tries.specs.Finding.{level_passes, levels_pass, lets_in, lowered}
 
-under_lowered : (len at level : ℕ) (limit : Limit) → at ≤ len → (is_under (len - at) limit && nat_lt len level) ≡ nat_lt len (lowered level at limit)
+under_lowered : (len at level : ℕ) (limit : Limit) → at ≤ len
+    → (is_under (len - at) limit && nat_lt len level) ≡ nat_lt len (lowered level at limit)
 under_lowered len at level Max h = refl
 under_lowered len at level (At most) h = grind (arith, nat_tests)
 
@@ -39,12 +40,15 @@ module _ (st : State) (subtree : Names) where
   levels_pass-more len at zero h = ap (levels_pass st subtree len) (let e : 0 + at ≡ at = omega arith in e) ∙ h
   levels_pass-more len at (suc more) h =
       ap (levels_pass st subtree len) (let e : suc more + at ≡ suc (more + at) = omega arith in e)
-      ∙ ap (λ b. level_passes st subtree len (more + at) && b) (levels_pass-more len at more h) ∙ and-false (level_passes st subtree len (more + at))
+      ∙ ap (λ b. level_passes st subtree len (more + at) && b) (levels_pass-more len at more h)
+      ∙ and-false (level_passes st subtree len (more + at))
 
   barred_at : (len at : ℕ) → at ≤ suc len → levels_pass st subtree len at ≡ false → lets_in st subtree len ≡ false
-  barred_at len at h barred = ap (levels_pass st subtree len) (let e : suc len ≡ (suc len - at) + at = omega arith in e) ∙ levels_pass-more len at (suc len - at) barred
+  barred_at len at h barred = ap (levels_pass st subtree len) (let e : suc len ≡ (suc len - at) + at = omega arith in e)
+      ∙ levels_pass-more len at (suc len - at) barred
 
-  pub open_barred : (at level : ℕ) → level ≤ at → OpenAbove at level → (len : ℕ) → len < length subtree → lets_in st subtree len ≡ nat_lt len level
+  pub open_barred : (at level : ℕ) → level ≤ at → OpenAbove at level → (len : ℕ) → len < length subtree
+      → lets_in st subtree len ≡ nat_lt len level
   open_barred at level h now len within = ⊎_elim
       (λ below. sym (ap (levels_pass st subtree len) (sooner len at below)) ∙ now len within)
       (λ above.
@@ -52,7 +56,8 @@ module _ (st : State) (subtree : Names) where
       barred_at len at (omega (arith, above)) (sym (ap (levels_pass st subtree len) (later len at above)) ∙ now len within ∙ over) ∙ sym over)
       (cases_lt len at)
 
-  pub open_full : (at level : ℕ) (row : Cgroup) → at < level → OpenAbove at level → row_at st (take at subtree) ≡ Some row → is_under (count_below st (take at subtree)) row.max_descendants.value ≡ false
+  pub open_full : (at level : ℕ) (row : Cgroup) → at < level → OpenAbove at level → row_at st (take at subtree) ≡ Some row
+      → is_under (count_below st (take at subtree)) row.max_descendants.value ≡ false
       → (len : ℕ) → len < length subtree → lets_in st subtree len ≡ nat_lt len at
   open_full at level row h now is full len within = ⊎_elim
       (λ below. sym (ap (levels_pass st subtree len) (sooner len at below)) ∙ now len within ∙ lt-ltb len level (omega (arith, h, below)) ∙ sym (lt-ltb len at below))
@@ -63,7 +68,8 @@ module _ (st : State) (subtree : Names) where
       barred_at len (suc at) (omega (arith, above)) (ap (λ b. b && levels_pass st subtree len at) none) ∙ sym (le-ltb len at (omega (arith, above))))
       (cases_lt len at)
 
-  pub open_row : (at level : ℕ) (row : Cgroup) → at < level → OpenAbove at level → row_at st (take at subtree) ≡ Some row → is_under (count_below st (take at subtree)) row.max_descendants.value ≡ true
+  pub open_row : (at level : ℕ) (row : Cgroup) → at < level → OpenAbove at level → row_at st (take at subtree) ≡ Some row
+      → is_under (count_below st (take at subtree)) row.max_descendants.value ≡ true
       → OpenAbove (at + 1) (lowered level at row.max_depth.value)
   open_row at level row h now is under len within = ⊎_elim
       (λ below.

@@ -22,7 +22,8 @@ use Rattle.cg_model.specs.declared.outcome.Refusal.TheVariants.{NoSuchCgroup, No
 use Rattle.cg_model.specs.Tries.{across, move_tries}
 use Rattle.cg_model.specs.Escapes.{breaks}
 use Rattle.cg_tries.specs.Escapes.{IsUnbroken}
-use Rattle.cg_tries.specs.Finding.{allowed, passes_at, receives, can_leave_to, can_enter_at, goes_from, move_of, first_given, first_move}
+use Rattle.cg_ops.specs.Moves.{passes_at}
+use Rattle.cg_tries.specs.Finding.{allowed, receives, can_leave_to, can_enter_at, goes_from, move_of, first_given, first_move}
 use Rattle.cg_tries.proofs.Single.{move_try, where_so}
 
 -- ---- whether a move is allowed
@@ -41,7 +42,8 @@ move_clauses (Some row) may holds pass r s t u =
     ]
 
 -- the place receives, and what is common passes
-pub move_allowed : (st : State) (user : Identity) (pid : ℕ) (place path : Names) → place_at st pid ≡ Some place → allowed st user (Move pid path) ≡ (receives st user path && passes st user place path)
+pub move_allowed : (st : State) (user : Identity) (pid : ℕ) (place path : Names) → place_at st pid ≡ Some place
+    → allowed st user (Move pid path) ≡ (receives st user path && passes st user place path)
 move_allowed st user pid place path at =
     (λ i. not (is_some (first (absent (row_at st path) (NoSuchCgroup (length path))
     ++ present (row_at st path) (λ row. unless (writes user row.procs) (NoAccess (length path) Procs))
@@ -51,7 +53,8 @@ move_allowed st user pid place path at =
     ∙ move_clauses (row_at st path) (λ row. writes user row.procs) (λ row. is_root path || enables_nothing row.enabled) (passes st user place path) _ _ _ _
 
 -- on the other side of the edge, what lies above a place inside is what lies above the subtree
-pub common_inside : (subtree place path : Names) → inside subtree place ≡ true → inside subtree path ≡ false → common place path ≡ common subtree path
+pub common_inside : (subtree place path : Names) → inside subtree place ≡ true → inside subtree path ≡ false
+    → common place path ≡ common subtree path
 common_inside [] place path within out = absurd (true≢false out)
 common_inside (name ∷ subtree) [] path within out = absurd (true≢false (sym within))
 common_inside (name ∷ subtree) (other ∷ place) [] within out = refl
@@ -67,11 +70,13 @@ common_inside (name ∷ subtree) (other ∷ place) (third ∷ path) within out =
 
 -- ---- lists
 
-pub find-flat_map : {A B : Type 0} (p : B → Bool) (g : A → List B) (xs : List A) → find p (flat_map g xs) ≡ first_given (λ x. find p (g x)) xs
+pub find-flat_map : {A B : Type 0} (p : B → Bool) (g : A → List B) (xs : List A)
+    → find p (flat_map g xs) ≡ first_given (λ x. find p (g x)) xs
 find-flat_map p g [] = refl
 find-flat_map p g (x ∷ xs) = find-append p (g x) (flat_map g xs) ∙ ap (option_or (find p (g x))) (find-flat_map p g xs)
 
-pub find-map_filter : {A B : Type 0} (p : B → Bool) (f : A → B) (t : A → Bool) (xs : List A) → find p (map f (filter t xs)) ≡ option_map f (find (λ x. t x && p (f x)) xs)
+pub find-map_filter : {A B : Type 0} (p : B → Bool) (f : A → B) (t : A → Bool) (xs : List A)
+    → find p (map f (filter t xs)) ≡ option_map f (find (λ x. t x && p (f x)) xs)
 find-map_filter p f t [] = refl
 find-map_filter p f t (x ∷ xs) = elim (t x) as (λ b. find p (map f (cond b (x ∷ filter t xs) (filter t xs))) ≡ option_map f (cond (b && p (f x)) (Some x) (find (λ y. t y && p (f y)) xs))) [
   | true ↦ elim (p (f x)) as (λ c. cond c (Some (f x)) (find p (map f (filter t xs))) ≡ option_map f (cond c (Some x) (find (λ y. t y && p (f y)) xs))) [ true ↦ refl | false ↦ find-map_filter p f t xs ]
@@ -102,7 +107,8 @@ module _ (st : State) (user : Identity) (subtree : Names) (whole : IsUnbroken st
       → tried pid place path ≡ (cond (inside subtree place) (not (inside subtree path)) (inside subtree path) && (receives st user path && passes st user place path))
   tried-is pid place path at = where_so _ _ _ (λ over. move_try st user subtree pid place path whole at over ∙ move_allowed st user pid place path at)
 
-  from_inside : (pid : ℕ) (place : Names) → place_at st pid ≡ Some place → inside subtree place ≡ true → (path : Names) → tried pid place path ≡ can_leave_to st user subtree path
+  from_inside : (pid : ℕ) (place : Names) → place_at st pid ≡ Some place → inside subtree place ≡ true → (path : Names)
+      → tried pid place path ≡ can_leave_to st user subtree path
   from_inside pid place at within path =
       tried-is pid place path at
       ∙ ap (λ b. cond b (not (inside subtree path)) (inside subtree path) && (receives st user path && passes st user place path)) within
@@ -111,7 +117,8 @@ module _ (st : State) (user : Identity) (subtree : Names) (whole : IsUnbroken st
         | false ↦ λ out. ap (λ (p : Names). receives st user path && passes_at st user p) (common_inside subtree place path within out)
       ] refl
 
-  from_outside : (pid : ℕ) (place : Names) → place_at st pid ≡ Some place → inside subtree place ≡ false → (path : Names) → tried pid place path ≡ (can_enter_at st user subtree path && passes st user place subtree)
+  from_outside : (pid : ℕ) (place : Names) → place_at st pid ≡ Some place → inside subtree place ≡ false → (path : Names)
+      → tried pid place path ≡ (can_enter_at st user subtree path && passes st user place subtree)
   from_outside pid place at out path =
       tried-is pid place path at
       ∙ ap (λ b. cond b (not (inside subtree path)) (inside subtree path) && (receives st user path && passes st user place path)) out

@@ -24,7 +24,8 @@ use Rattle.cg_model.specs.declared.verdict.Clause.{Clause}
 use Rattle.cg_model.specs.Tries.{other_value, set_tries, change_of, control_tries, move_tries, probe_tries, plain_tries}
 use Rattle.cg_model.specs.Escapes.{breaks}
 use Rattle.cg_tries.specs.Escapes.{IsUnbroken}
-use Rattle.cg_tries.specs.Finding.{allowed, passes_at, if_allowed, first_given, set_of, first_set, control_of, first_control, first_write, receives, can_leave_to, can_enter_at, goes_from, move_of, first_move, writes_both, first_probe_path, first_inside, first_probe, first_passage}
+use Rattle.cg_ops.specs.Moves.{passes_at}
+use Rattle.cg_tries.specs.Finding.{allowed, if_allowed, first_given, set_of, first_set, control_of, first_control, first_write, receives, can_leave_to, can_enter_at, goes_from, move_of, first_move, writes_both, first_probe_path, first_inside, first_probe, first_passage}
 use Rattle.cg_tries.proofs.Seen.{is_empty, breaks-run}
 use Rattle.cg_tries.proofs.Single.{set_try, rmdir_try}
 use Rattle.cg_tries.proofs.Controls.{control_try}
@@ -63,7 +64,8 @@ module _ (st : State) (user : Identity) (subtree : Names) (whole : IsUnbroken st
     with_effect off on true controller = (λ i. cond (and-true off i) (Some (change false controller ∷ [])) (cond (and-false on i) (Some (change true controller ∷ [])) None))
     with_effect off on false controller = (λ i. cond (and-false off i) (Some (change false controller ∷ [])) (cond (and-true on i) (Some (change true controller ∷ [])) None))
 
-    one_control : (controller : Controller) → find (breaks st user subtree) ((change false controller ∷ []) ∷ (change true controller ∷ []) ∷ []) ≡ control_of st user subtree controller
+    one_control : (controller : Controller)
+        → find (breaks st user subtree) ((change false controller ∷ []) ∷ (change true controller ∷ []) ∷ []) ≡ control_of st user subtree controller
     one_control controller =
         (λ i. cond (control_try st user subtree false controller whole formed there i) (Some (change false controller ∷ [])) (cond (control_try st user subtree true controller whole formed there i) (Some (change true controller ∷ [])) None))
         ∙ with_effect (allowed st user (change false controller)) (allowed st user (change true controller)) (enables (enabled_at st (parent subtree)) controller) controller
@@ -114,13 +116,15 @@ common-shorter subtree path out =
 
 module _ (st : State) (user : Identity) (subtree : Names) (none : (len : ℕ) → len < length subtree → passes_at st user (take len subtree) ≡ false) where
   apart : (path : Names) → inside subtree path ≡ false → passes st user subtree path ≡ false
-  apart path out = ap (λ (p : Names). passes_at st user p) (common-take_first subtree path) ∙ none (length (common subtree path)) (common-shorter subtree path out)
+  apart path out = ap (λ (p : Names). passes_at st user p) (common-take_first subtree path)
+      ∙ none (length (common subtree path)) (common-shorter subtree path out)
 
   no_leave : (path : Names) (within : Bool) → inside subtree path ≡ within → can_leave_to st user subtree path ≡ false
   no_leave path true h = ap (λ b. not b && (receives st user path && passes st user subtree path)) h
   no_leave path false h = (λ i. not (h i) && (receives st user path && apart path h i)) ∙ and-false (receives st user path)
 
-  stays : (place : Names) (within : Bool) → inside subtree place ≡ within → goes_from st user subtree None (find (can_enter_at st user subtree) (paths_of st)) place ≡ None
+  stays : (place : Names) (within : Bool) → inside subtree place ≡ within
+      → goes_from st user subtree None (find (can_enter_at st user subtree) (paths_of st)) place ≡ None
   stays place true h = ap (λ b. cond b None (cond (passes st user place subtree) (find (can_enter_at st user subtree) (paths_of st)) None)) h
   stays place false h =
       (λ i. cond (h i) None (cond (passes_at st user (common_comm place subtree i)) (find (can_enter_at st user subtree) (paths_of st)) None))
@@ -134,7 +138,8 @@ module _ (st : State) (user : Identity) (subtree : Names) (none : (len : ℕ) �
 
   no_path : (len : ℕ) → len ≤ length subtree → first_probe_path st user subtree len ≡ None
   no_path zero h = refl
-  no_path (suc len) h = ap (λ o. option_or o (first_probe_path st user subtree len)) (unwritten st user subtree len (unwritten_at len (omega (arith, h)))) ∙ no_path len (omega (arith, h))
+  no_path (suc len) h = ap (λ o. option_or o (first_probe_path st user subtree len)) (unwritten st user subtree len (unwritten_at len (omega (arith, h))))
+      ∙ no_path len (omega (arith, h))
 
   pub no_move : first_move st user subtree ≡ None
   no_move =

@@ -25,7 +25,8 @@ use Rattle.cg_steps.proofs.Prefixes.{no_root_of_length}
 use Rattle.cg_model.specs.Tries.{probe, free_probe, numbers_from, is_inside, probe_tries_at, probe_tries}
 use Rattle.cg_model.specs.Escapes.{breaks}
 use Rattle.cg_tries.specs.Escapes.{IsUnbroken}
-use Rattle.cg_tries.specs.Finding.{allowed, passes_at, short_probe, levels_pass, lets_in, writes_both, probe_path, first_probe_path, first_inside, first_probe}
+use Rattle.cg_ops.specs.Moves.{passes_at}
+use Rattle.cg_tries.specs.Finding.{allowed, short_probe, levels_pass, lets_in, writes_both, probe_path, first_probe_path, first_inside, first_probe}
 use Rattle.cg_tries.proofs.Moves.{find-map_filter, find-same, find-guarded}
 use Rattle.cg_tries.proofs.Single.{where_so}
 use Rattle.cg_tries.proofs.Probes.{probe_try}
@@ -103,7 +104,8 @@ module _ (st : State) (user : Identity) (subtree : Names) (len : ℕ) (name : Na
       ∙ ap (row_at st) parent-path ∙ ancestor-row.1
 
   -- a child may be made and moved to where the limits let it in, and both files of the ancestor are written
-  pub probe_allowed : has_row st path ≡ false → (allowed st user (Mkdir path) && passes_at st user (take len subtree)) ≡ (lets_in st subtree len && writes_both st user (take len subtree))
+  pub probe_allowed : has_row st path ≡ false
+      → (allowed st user (Mkdir path) && passes_at st user (take len subtree)) ≡ (lets_in st subtree len && writes_both st user (take len subtree))
   probe_allowed free =
       let row = ancestor-row.0 in
       let none = none_value (row_at st path) free in
@@ -126,7 +128,8 @@ found-so p (y ∷ xs) x h = elim (p y) as (λ b. p y ≡ b → cond b (Some y) (
   | false ↦ λ _ k. found-so p xs x k
 ] refl h
 
-is_inside-place : (st : State) (subtree : Names) (pid : ℕ) → is_inside st subtree pid ≡ true → (place : Names) × (place_at st pid ≡ Some place) × (inside subtree place ≡ true)
+is_inside-place : (st : State) (subtree : Names) (pid : ℕ) → is_inside st subtree pid ≡ true
+    → (place : Names) × (place_at st pid ≡ Some place) × (inside subtree place ≡ true)
 is_inside-place st subtree pid h = elim (place_at st pid) as (λ o. place_at st pid ≡ o → elim o [ None ↦ false | Some place ↦ inside subtree place ] ≡ true → (place : Names) × (place_at st pid ≡ Some place) × (inside subtree place ≡ true)) [
   | None ↦ λ _ h. absurd (true≢false (sym h))
   | Some place ↦ λ at h. (place, at, h)
@@ -140,7 +143,8 @@ no_probe : (pid : Option ℕ) → ◌≡◌ {A = Option (List Op)} None (option_
 no_probe None = refl
 no_probe (Some pid) = refl
 
-guarded : (b : Bool) (path : Names) (pid : Option ℕ) → option_map (probing path) (cond b pid None) ≡ option_and_then (λ pid. option_map (λ path. probing path pid) (cond b (Some path) None)) pid
+guarded : (b : Bool) (path : Names) (pid : Option ℕ)
+    → option_map (probing path) (cond b pid None) ≡ option_and_then (λ pid. option_map (λ path. probing path pid) (cond b (Some path) None)) pid
 guarded true path None = refl
 guarded true path (Some pid) = refl
 guarded false path None = refl
@@ -164,7 +168,8 @@ module _ (st : State) (user : Identity) (subtree : Names) (whole : IsUnbroken st
       ∙ ap (option_map (probing path)) (find-same _ (λ pid. is_inside st subtree pid && may) (pids_of st) each ∙ find-guarded (is_inside st subtree) may (pids_of st))
       ∙ guarded may path (first_inside st subtree)
 
-  at_ancestor : (len : ℕ) → len < length subtree → find (breaks st user subtree) (probe_tries_at st subtree (take len subtree)) ≡ by_path (probe_path st user subtree len)
+  at_ancestor : (len : ℕ) → len < length subtree
+      → find (breaks st user subtree) (probe_tries_at st subtree (take len subtree)) ≡ by_path (probe_path st user subtree len)
   unfolding by_path
   at_ancestor len within = elim (free_probe st (take len subtree)) as (λ o. free_probe st (take len subtree) ≡ o
       → find (breaks st user subtree) (present o (λ number. cond (nat_le (length (path_text (probe (take len subtree) number))) 4095) (map (probing (probe (take len subtree) number)) (filter (is_inside st subtree) (pids_of st))) []))
@@ -192,7 +197,8 @@ module _ (st : State) (user : Identity) (subtree : Names) (whole : IsUnbroken st
         | Some pid ↦ elim first as (λ o. option_or (option_map (λ path. probing path pid) o) (option_map (λ path. probing path pid) later) ≡ option_map (λ path. probing path pid) (option_or o later)) [ None ↦ refl | Some path ↦ refl ]
       ]
 
-  at_all : (len : ℕ) → len ≤ length subtree → find (breaks st user subtree) (probe_tries st subtree len) ≡ by_path (first_probe_path st user subtree len)
+  at_all : (len : ℕ) → len ≤ length subtree
+      → find (breaks st user subtree) (probe_tries st subtree len) ≡ by_path (first_probe_path st user subtree len)
   unfolding by_path
   at_all zero h = no_probe (first_inside st subtree)
   at_all (suc len) h =

@@ -15,7 +15,8 @@ use Rattle.cg_tries.specs.Finding.{short_probe}
 
 -- ---- numbers in turn
 
-pub numbers_next : (p : ℕ → Bool) (number count : ℕ) → number < count → find p (numbers_from number (count - number)) ≡ cond (p number) (Some number) (find p (numbers_from (number + 1) (count - (number + 1))))
+pub numbers_next : (p : ℕ → Bool) (number count : ℕ) → number < count
+    → find p (numbers_from number (count - number)) ≡ cond (p number) (Some number) (find p (numbers_from (number + 1) (count - (number + 1))))
 numbers_next p number count h =
     let e : count - number ≡ suc (count - (number + 1)) = omega arith in
     let f : suc number ≡ number + 1 = omega arith in
@@ -30,7 +31,8 @@ digits-longer (suc k) n rest = elim (nat_eq (n / 10) 0) as (λ b. length rest �
   | false ↦ let h = digits-longer k (n / 10) (digit_glyph false (n % 10) ∷ rest) in omega (arith, h)
 ]
 
-digits-rising : (k m n : ℕ) (rest more : List ℕ) → m ≤ n → length rest ≤ length more → length (digits_onto k 10 false m rest) ≤ length (digits_onto k 10 false n more)
+digits-rising : (k m n : ℕ) (rest more : List ℕ) → m ≤ n → length rest ≤ length more
+    → length (digits_onto k 10 false m rest) ≤ length (digits_onto k 10 false n more)
 digits-rising zero m n rest more h l = l
 digits-rising (suc k) m n rest more h l =
     let less : m / 10 ≤ n / 10 = omega (arith, h) in
@@ -86,17 +88,21 @@ text_more : (ancestor : Names) (name : Name) → path_text (ancestor ++ name ∷
 text_more [] name = names_text-push [] name
 text_more (first ∷ ancestor) name = names_text-push (first ∷ ancestor) name
 
-pub length-probe : (ancestor : Names) (number : ℕ) → length (path_text (probe ancestor number)) ≡ length (names_text ancestor) + 6 + length (decimal number)
+pub length-probe : (ancestor : Names) (number : ℕ)
+    → length (path_text (probe ancestor number)) ≡ length (names_text ancestor) + 6 + length (decimal number)
 length-probe ancestor number =
-    ap length (text_more ancestor (codes "probe" ++ decimal number)) ∙ length-append (names_text ancestor) (47 ∷ (codes "probe" ++ decimal number)) ∙ omega arith
+    ap length (text_more ancestor (codes "probe" ++ decimal number))
+    ∙ length-append (names_text ancestor) (47 ∷ (codes "probe" ++ decimal number)) ∙ omega arith
 
 -- ---- paths
 
-pub short-is_path : (ancestor : Names) (number : ℕ) → IsPath (probe ancestor number) → short_probe ancestor number ≡ Some (probe ancestor number)
+pub short-is_path : (ancestor : Names) (number : ℕ) → IsPath (probe ancestor number)
+    → short_probe ancestor number ≡ Some (probe ancestor number)
 short-is_path ancestor number h =
     ap (λ b. cond b (Some (probe ancestor number)) None) (and_parts (list_all is_name (probe ancestor number)) _ h).1
 
-pub short-not_path : (ancestor : Names) (number : ℕ) → IsPath ancestor → is_path (probe ancestor number) ≡ false → short_probe ancestor number ≡ None
+pub short-not_path : (ancestor : Names) (number : ℕ) → IsPath ancestor → is_path (probe ancestor number) ≡ false
+    → short_probe ancestor number ≡ None
 short-not_path ancestor number path h =
     let long : nat_le (length (path_text (probe ancestor number))) 4095 ≡ false = false_from_ne_true _ (λ fits.
     let le = leb-true _ _ fits in
@@ -127,7 +133,8 @@ longer_later ancestor number h =
     le_false a b k = false_from_ne_true _ (λ t. let l = leb-true a b t in absurd (omega (arith, l, k)))
 
 -- where a probe is too long, all of greater numbers are
-pub none_short : (ancestor : Names) (p : ℕ → Bool) (number count : ℕ) → short_probe ancestor number ≡ None → option_and_then (short_probe ancestor) (find p (numbers_from number count)) ≡ None
+pub none_short : (ancestor : Names) (p : ℕ → Bool) (number count : ℕ) → short_probe ancestor number ≡ None
+    → option_and_then (short_probe ancestor) (find p (numbers_from number count)) ≡ None
 none_short ancestor p number zero h = refl
 none_short ancestor p number (suc count) h = elim (p number) as (λ b. option_and_then (short_probe ancestor) (cond b (Some number) (find p (numbers_from (suc number) count))) ≡ None) [
   | true ↦ h

@@ -29,13 +29,15 @@ use Rattle.cg_model.specs.declared.operation.Op.TheVariants.{Move, Mkdir}
 use Rattle.cg_model.specs.Limits.{limits}
 use Rattle.cg_model.specs.Escapes.{breaks}
 use Rattle.cg_tries.specs.Escapes.{IsUnbroken}
-use Rattle.cg_tries.specs.Finding.{allowed, passes_at, receives}
+use Rattle.cg_ops.specs.Moves.{passes_at}
+use Rattle.cg_tries.specs.Finding.{allowed, receives}
 use Rattle.cg_tries.proofs.Seen.{seen, IsAlike, unbroken-alike, breaks-alike_first}
 use Rattle.cg_tries.proofs.Single.{move_try}
 use Rattle.cg_tries.proofs.Moves.{common_inside, move_allowed}
 
 -- a child of an ancestor that isn't on the way to the subtree has that ancestor in common with it
-common-child : (len : ℕ) (subtree : Names) (name : Name) → len < length subtree → take len subtree ++ name ∷ [] ≢ take (suc len) subtree → common subtree (take len subtree ++ name ∷ []) ≡ take len subtree
+common-child : (len : ℕ) (subtree : Names) (name : Name) → len < length subtree → take len subtree ++ name ∷ [] ≢ take (suc len) subtree
+    → common subtree (take len subtree ++ name ∷ []) ≡ take len subtree
 common-child len [] name within other = absurd (omega arith)
 common-child zero (first ∷ subtree) name within other =
     elim (same_name first name) as (λ b. same_name first name ≡ b → cond b (first ∷ common subtree []) [] ≡ []) [
@@ -129,7 +131,8 @@ module _ (st : State) (user : Identity) (subtree : Names) (len : ℕ) (name : Na
           ∙ ap (λ r. elim r [ None ↦ false | Some row ↦ writes user row.procs && (is_root path || enables_nothing row.enabled) ] && passes_at st user (common place path)) (none_value (row_at st path) free)
     ] refl
 
-pub probe_try : (st : State) (user : Identity) (subtree : Names) (len : ℕ) (name : Name) (pid : ℕ) (place : Names) → IsUnbroken st subtree → IsWellFormed st → has_row st subtree ≡ true → len < length subtree
+pub probe_try : (st : State) (user : Identity) (subtree : Names) (len : ℕ) (name : Name) (pid : ℕ) (place : Names) → IsUnbroken st subtree
+    → IsWellFormed st → has_row st subtree ≡ true → len < length subtree
     → has_row st (take len subtree ++ name ∷ []) ≡ false → place_at st pid ≡ Some place → inside subtree place ≡ true
     → breaks st user subtree (Mkdir (take len subtree ++ name ∷ []) ∷ Move pid (take len subtree ++ name ∷ []) ∷ [])
     ≡ (allowed st user (Mkdir (take len subtree ++ name ∷ [])) && passes_at st user (take len subtree))

@@ -58,15 +58,18 @@ there-seen : (found : Option Cgroup) → is_some found ≡ is_some (option_and_t
 there-seen None = refl
 there-seen (Some row) = refl
 
-descendants-seen : (count : ℕ) (found : Option Cgroup) → elim found [ None ↦ true | Some row ↦ is_within_limit count row.max_descendants.value ] ≡ fits count (option_and_then (λ row. value_in row MaxDescendants) found)
+descendants-seen : (count : ℕ) (found : Option Cgroup)
+    → elim found [ None ↦ true | Some row ↦ is_within_limit count row.max_descendants.value ] ≡ fits count (option_and_then (λ row. value_in row MaxDescendants) found)
 descendants-seen count None = refl
 descendants-seen count (Some row) = refl
 
-depth-seen : (count : ℕ) (found : Option Cgroup) → elim found [ None ↦ true | Some row ↦ is_within_limit count row.max_depth.value ] ≡ fits count (option_and_then (λ row. value_in row MaxDepth) found)
+depth-seen : (count : ℕ) (found : Option Cgroup)
+    → elim found [ None ↦ true | Some row ↦ is_within_limit count row.max_depth.value ] ≡ fits count (option_and_then (λ row. value_in row MaxDepth) found)
 depth-seen count None = refl
 depth-seen count (Some row) = refl
 
-pub broken-seen : (start st new : State) (subtree : Names) → broken start st new subtree ≡ broken_seen (limits start subtree) (seen st subtree) (seen new subtree) subtree
+pub broken-seen : (start st new : State) (subtree : Names)
+    → broken start st new subtree ≡ broken_seen (limits start subtree) (seen st subtree) (seen new subtree) subtree
 broken-seen start st new subtree = λ i.
     unless (there-seen (row_at new subtree) i) Gone
     ++ map Crossed (crossing st new subtree)
@@ -90,28 +93,34 @@ keeps start st [] subtree = true
 keeps start st (deed ∷ deeds) subtree =
     is_empty (broken start st (after st deed.0 deed.1) subtree) && keeps start (after st deed.0 deed.1) deeds subtree
 
-keeps-later : (clauses : List Clause) (steps : ℕ) (later : Verdict) → is_kept (or_later clauses steps later) ≡ (is_empty clauses && is_kept later)
+keeps-later : (clauses : List Clause) (steps : ℕ) (later : Verdict)
+    → is_kept (or_later clauses steps later) ≡ (is_empty clauses && is_kept later)
 keeps-later [] steps later = refl
 keeps-later (clause ∷ clauses) steps later = refl
 
-keeps-from : (start : State) (steps : ℕ) (st : State) (deeds : List Deed) (subtree : Names) → is_kept (verdict_from start steps st deeds subtree) ≡ keeps start st deeds subtree
+keeps-from : (start : State) (steps : ℕ) (st : State) (deeds : List Deed) (subtree : Names)
+    → is_kept (verdict_from start steps st deeds subtree) ≡ keeps start st deeds subtree
 keeps-from start steps st [] subtree = refl
 keeps-from start steps st (deed ∷ deeds) subtree =
     keeps-later (broken start st (after st deed.0 deed.1) subtree) (suc steps) _
     ∙ ap (λ b. is_empty (broken start st (after st deed.0 deed.1) subtree) && b) (keeps-from start (suc steps) (after st deed.0 deed.1) deeds subtree)
 
-pub breaks-run : (st : State) (user : Identity) (subtree : Names) (ops : List Op) → breaks st user subtree ops ≡ not (is_empty (broken st st st subtree) && keeps st st (by_user user ops) subtree)
+pub breaks-run : (st : State) (user : Identity) (subtree : Names) (ops : List Op)
+    → breaks st user subtree ops ≡ not (is_empty (broken st st st subtree) && keeps st st (by_user user ops) subtree)
 breaks-run st user subtree ops =
     ap not (keeps-later (broken st st st subtree) 0 _ ∙ ap (λ b. is_empty (broken st st st subtree) && b) (keeps-from st 0 st (by_user user ops) subtree))
 
 -- ---- alike states
 
 -- of the start only the limits are seen
-broken-start : (start other st new : State) (subtree : Names) → limits start subtree ≡ limits other subtree → broken start st new subtree ≡ broken other st new subtree
+broken-start : (start other st new : State) (subtree : Names) → limits start subtree ≡ limits other subtree
+    → broken start st new subtree ≡ broken other st new subtree
 broken-start start other st new subtree same =
-    broken-seen start st new subtree ∙ ap (λ (l : Limits). broken_seen l (seen st subtree) (seen new subtree) subtree) same ∙ sym (broken-seen other st new subtree)
+    broken-seen start st new subtree ∙ ap (λ (l : Limits). broken_seen l (seen st subtree) (seen new subtree) subtree) same
+    ∙ sym (broken-seen other st new subtree)
 
-keeps-start : (start other st : State) (deeds : List Deed) (subtree : Names) → limits start subtree ≡ limits other subtree → keeps start st deeds subtree ≡ keeps other st deeds subtree
+keeps-start : (start other st : State) (deeds : List Deed) (subtree : Names) → limits start subtree ≡ limits other subtree
+    → keeps start st deeds subtree ≡ keeps other st deeds subtree
 keeps-start start other st [] subtree same = refl
 keeps-start start other st (deed ∷ deeds) subtree same = λ i.
     is_empty (broken-start start other st (after st deed.0 deed.1) subtree same i) && keeps-start start other (after st deed.0 deed.1) deeds subtree same i
@@ -126,14 +135,16 @@ unbroken-alike st new subtree alike whole = broken-alike st new subtree alike �
 -- a step to an alike state breaks nothing more
 pub step-alike : (st new : State) (subtree : Names) → IsAlike st new subtree → broken st st new subtree ≡ broken st st st subtree
 step-alike st new subtree alike =
-    broken-seen st st new subtree ∙ ap (λ (s : Seen). broken_seen (limits st subtree) (seen st subtree) s subtree) alike ∙ sym (broken-seen st st st subtree)
+    broken-seen st st new subtree ∙ ap (λ (s : Seen). broken_seen (limits st subtree) (seen st subtree) s subtree) alike
+    ∙ sym (broken-seen st st st subtree)
 
 twice : (b x : Bool) → not (b && (b && x)) ≡ not (b && x)
 twice true x = refl
 twice false x = refl
 
 -- a step that isn't seen is as good as none
-pub breaks-alike_first : (st : State) (user : Identity) (subtree : Names) (op : Op) → IsAlike st (after st user op) subtree → (ops : List Op) → breaks st user subtree (op ∷ ops) ≡ breaks (after st user op) user subtree ops
+pub breaks-alike_first : (st : State) (user : Identity) (subtree : Names) (op : Op) → IsAlike st (after st user op) subtree
+    → (ops : List Op) → breaks st user subtree (op ∷ ops) ≡ breaks (after st user op) user subtree ops
 breaks-alike_first st user subtree op alike ops =
     let new = after st user op in
     let same : limits st subtree ≡ limits new subtree = sym (ap (λ (s : Seen). s.limits) alike) in

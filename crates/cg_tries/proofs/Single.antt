@@ -39,7 +39,8 @@ use Rattle.cg_tries.proofs.Seen.{is_empty, breaks-run}
 abbrev pub step_breaks : State → State → Names → Bool
 step_breaks st new subtree = not (is_empty (broken st st new subtree))
 
-pub one_operation : (st : State) (user : Identity) (subtree : Names) (op : Op) → IsUnbroken st subtree → breaks st user subtree (op ∷ []) ≡ (allowed st user op && step_breaks st (next st user op) subtree)
+pub one_operation : (st : State) (user : Identity) (subtree : Names) (op : Op) → IsUnbroken st subtree
+    → breaks st user subtree (op ∷ []) ≡ (allowed st user op && step_breaks st (next st user op) subtree)
 one_operation st user subtree op whole =
     breaks-run st user subtree (op ∷ [])
     ∙ ap (λ (l : List Clause). not (is_empty l && (is_empty (broken st st (after st user op) subtree) && true))) whole
@@ -50,7 +51,8 @@ one_operation st user subtree op whole =
     ]
 
 -- so it breaks where it is allowed, if its step breaks
-pub where_allowed : (st : State) (user : Identity) (subtree : Names) (op : Op) → IsUnbroken st subtree → (bars st user op ≡ [] → broken st st (next st user op) subtree ≢ []) → breaks st user subtree (op ∷ []) ≡ allowed st user op
+pub where_allowed : (st : State) (user : Identity) (subtree : Names) (op : Op) → IsUnbroken st subtree
+    → (bars st user op ≡ [] → broken st st (next st user op) subtree ≢ []) → breaks st user subtree (op ∷ []) ≡ allowed st user op
 where_allowed st user subtree op whole step =
     one_operation st user subtree op whole
     ∙ elim (bars st user op) as (λ l. bars st user op ≡ l → (not (is_some (first l)) && step_breaks st (next st user op) subtree) ≡ not (is_some (first l))) [
@@ -77,7 +79,8 @@ still_there : (start st new : State) (subtree : Names) → broken start st new s
 still_there start st new subtree none =
     no_unless (has_row new subtree) Gone (no_parts _ _ (no_parts _ _ (no_parts _ _ (no_parts _ _ none).0).0).0).0
 
-pub rmdir_try : (st : State) (user : Identity) (subtree : Names) → IsUnbroken st subtree → breaks st user subtree (Rmdir subtree ∷ []) ≡ allowed st user (Rmdir subtree)
+pub rmdir_try : (st : State) (user : Identity) (subtree : Names) → IsUnbroken st subtree
+    → breaks st user subtree (Rmdir subtree ∷ []) ≡ allowed st user (Rmdir subtree)
 rmdir_try st user subtree whole = where_allowed st user subtree (Rmdir subtree) whole (λ free none.
     let gone : has_row (without_row st subtree) subtree ≡ false = ap is_some (row_at-without_row st subtree subtree ∙ ap (λ b. cond b None (row_at st subtree)) (same_path_refl subtree)) in
     true≢false (sym (still_there st st (without_row st subtree) subtree none) ∙ gone))
@@ -85,7 +88,8 @@ rmdir_try st user subtree whole = where_allowed st user subtree (Rmdir subtree) 
 -- ---- set
 
 -- where nothing is broken the limits are those of the start
-pub limits_stay : (start st new : State) (subtree : Names) → broken start st new subtree ≡ [] → (file : LimitFile) → limits start subtree file ≡ limits new subtree file
+pub limits_stay : (start st new : State) (subtree : Names) → broken start st new subtree ≡ [] → (file : LimitFile)
+    → limits start subtree file ≡ limits new subtree file
 limits_stay start st new subtree none file =
     let same = no_unless (same_limits (limits start subtree) (limits new subtree)) Limits (no_parts _ _ (no_parts _ _ (no_parts _ _ none).0).0).1 in
     λ i. same_limits-is (limits start subtree) (limits new subtree) same i file
@@ -99,13 +103,15 @@ other_differs CpuWeight (At value) h = elim (nat_eq value 100) as (λ b. nat_eq 
 other_differs file Max h = cc
 other_differs file (At value) h = cc
 
-value_set : (st : State) (subtree : Names) (file : LimitFile) (value other : Limit) → limits st subtree file ≡ Some value → limits (with_value st subtree file other) subtree file ≡ Some other
+value_set : (st : State) (subtree : Names) (file : LimitFile) (value other : Limit) → limits st subtree file ≡ Some value
+    → limits (with_value st subtree file other) subtree file ≡ Some other
 value_set st subtree file value other is =
     value_at-with_value st subtree file other subtree file
     ∙ ap (λ b. cond b (option_map (λ _. other) (limits st subtree file)) (limits st subtree file)) (and_from _ _ (same_path_refl subtree) (same_file-refl file))
     ∙ ap (option_map (λ _. other)) is
 
-pub set_try : (st : State) (user : Identity) (subtree : Names) (file : LimitFile) (value : Limit) → IsUnbroken st subtree → limits st subtree file ≡ Some value
+pub set_try : (st : State) (user : Identity) (subtree : Names) (file : LimitFile) (value : Limit) → IsUnbroken st subtree
+    → limits st subtree file ≡ Some value
     → breaks st user subtree (Set subtree file (other_value file value) ∷ []) ≡ allowed st user (Set subtree file (other_value file value))
 set_try st user subtree file value whole is = where_allowed st user subtree (Set subtree file (other_value file value)) whole (λ free none.
     let same = limits_stay st st (with_value st subtree file (other_value file value)) subtree none file in
@@ -114,11 +120,13 @@ set_try st user subtree file value whole is = where_allowed st user subtree (Set
 -- ---- move
 
 -- a live process on the other side of the edge breaks the subtree
-pub crossing_breaks : (st new : State) (subtree : Names) (pid : ℕ) → is_some (process_at st pid) ≡ true → is_crossed subtree (place_at st pid) (place_at new pid) ≡ true → broken st st new subtree ≢ []
+pub crossing_breaks : (st new : State) (subtree : Names) (pid : ℕ) → is_some (process_at st pid) ≡ true
+    → is_crossed subtree (place_at st pid) (place_at new pid) ≡ true → broken st st new subtree ≢ []
 crossing_breaks st new subtree pid live crossed none =
     crosses-some st new subtree pid live crossed (broken-whole (limits st subtree) st new subtree none).edge
 
-pub move_try : (st : State) (user : Identity) (subtree : Names) (pid : ℕ) (place path : Names) → IsUnbroken st subtree → place_at st pid ≡ Some place → cond (inside subtree place) (not (inside subtree path)) (inside subtree path) ≡ true
+pub move_try : (st : State) (user : Identity) (subtree : Names) (pid : ℕ) (place path : Names) → IsUnbroken st subtree
+    → place_at st pid ≡ Some place → cond (inside subtree place) (not (inside subtree path)) (inside subtree path) ≡ true
     → breaks st user subtree (Move pid path ∷ []) ≡ allowed st user (Move pid path)
 move_try st user subtree pid place path whole at over = where_allowed st user subtree (Move pid path) whole (λ free.
     let from = mapped_from (λ process. process.place) (process_at st pid) place at in

@@ -54,10 +54,6 @@ first_write st user subtree = option_or (first_set st user subtree) (option_or (
 
 -- ---- moves
 
--- the user writes cgroup.procs there, if there is such a cgroup
-abbrev pub passes_at : State → Identity → Names → Bool
-passes_at st user path = elim (row_at st path) [ None ↦ true | Some row ↦ writes user row.procs ]
-
 -- a process may come to a place, once it may pass
 abbrev pub receives : State → Identity → Names → Bool
 receives st user path = elim (row_at st path) [ None ↦ false | Some row ↦ writes user row.procs && (is_root path || enables_nothing row.enabled) ]

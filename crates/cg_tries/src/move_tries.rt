@@ -1,8 +1,8 @@
 //! Tries of one move: over the edge of a subtree.
-ghost use Rattle.std.specs.Prelude.{◌≡◌, ◌≤◌, ◌<◌, ℕ, [], ◌∷◌, true, false, find, length, take, option_copied, IfOk};
+ghost use Rattle.std.specs.Prelude.{◌≡◌, ◌<◌, ℕ, [], ◌∷◌, true, false, find, length, take, option_copied, IfOk};
 ghost use Rattle.cg_model.specs.States.{paths_of, pids_of};
-ghost use Rattle.cg_model.specs.Bars.{passes};
-ghost use Rattle.cg_tries.specs.Finding.{passes_at, receives, can_leave_to, can_enter_at, goes_from, first_given, move_of, first_move};
+ghost use Rattle.cg_ops.specs.Moves.{passes_at};
+ghost use Rattle.cg_tries.specs.Finding.{receives, can_leave_to, can_enter_at, goes_from, first_given, move_of, first_move};
 
 use cg_cgroup::memory::NoMemory;
 use cg_cgroup::path::Path;
@@ -10,27 +10,9 @@ use cg_cgroup::process::Pid;
 use cg_cgroup::user::User;
 use cg_model::operation::Op;
 use cg_model::operations::Operations;
+use cg_ops::moves::{may_hold, passes, passes_at};
 use cg_tree::hierarchy::Hierarchy;
 use std::alloc::Global;
-
-/// Whether the user writes the `cgroup.procs` of the cgroup of the first `len` names, where there is one.
-fn passes_at<H: Hierarchy>(tree: &H, user: &User, path: &Path, len: usize) -> bool
-    requires { len ≤ length path.now }
-    ensures { result ≡ passes_at (H.state tree.now) user.now (take len path.now) }
-{
-    match tree.get(path, len) {
-        Some(cgroup) => user.may_write(&cgroup.procs),
-        None => true,
-    }
-}
-
-/// Whether the user writes the `cgroup.procs` of the common ancestor of two cgroups.
-#[tactic(auto, using(cg_steps::proofs::Prefixes::take_common, cg_steps::proofs::Prefixes::length_common))]
-fn passes<H: Hierarchy>(tree: &H, user: &User, from: &Path, to: &Path) -> bool
-    ensures { result ≡ passes (H.state tree.now) user.now from.now to.now }
-{
-    passes_at(tree, user, to, from.common_len(to))
-}
 
 /// Whether the user writes the `cgroup.procs` of a proper ancestor: no move goes over the edge where he writes none.
 pub fn passes_above<H: Hierarchy>(tree: &H, user: &User, subtree: &Path) -> bool
@@ -48,7 +30,7 @@ pub fn passes_above<H: Hierarchy>(tree: &H, user: &User, subtree: &Path) -> bool
 }
 
 /// Whether a process may come to a cgroup, once it may pass.
-#[tactic(auto, using(cg_steps::proofs::Prefixes::take_whole, cg_steps::proofs::Prefixes::root_of_length, cg_steps::proofs::Prefixes::no_root_of_length))]
+#[tactic(auto, using(cg_steps::proofs::Prefixes::take_whole))]
 fn receives<H: Hierarchy>(tree: &H, user: &User, path: &Path) -> bool
     ensures { result ≡ receives (H.state tree.now) user.now path.now }
 {
@@ -59,7 +41,7 @@ fn receives<H: Hierarchy>(tree: &H, user: &User, path: &Path) -> bool
     if !user.may_write(&cgroup.procs) {
         return false;
     }
-    len == 0 || cgroup.enabled.is_empty()
+    may_hold(cgroup, path)
 }
 
 /// Whether a process from inside the subtree may go to a cgroup outside.

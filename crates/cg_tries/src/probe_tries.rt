@@ -3,7 +3,6 @@ ghost use Rattle.std.specs.Prelude.{◌≡◌, ◌≤◌, ◌<◌, ◌+◌, ℕ,
 ghost use Rattle.cg_cgroup.specs.Paths.{IsPath};
 ghost use Rattle.cg_model.specs.States.{paths_of, pids_of};
 ghost use Rattle.cg_model.specs.WellFormed.{has_row};
-ghost use Rattle.cg_model.specs.Limits.{is_under};
 ghost use Rattle.cg_model.specs.Tries.{is_inside};
 ghost use Rattle.cg_tries.specs.Finding.{lets_in, lowered, writes_both, short_probe, free_path, first_probe_path, first_inside, first_probe};
 
@@ -15,6 +14,7 @@ use cg_cgroup::user::User;
 use cg_model::operation::Op;
 use cg_model::operations::Operations;
 use cg_tree::hierarchy::Hierarchy;
+use cg_tree::limits::is_under;
 use std::alloc::Global;
 
 /// The first of these processes that is inside the subtree.
@@ -62,16 +62,6 @@ fn open_levels<H: Hierarchy>(tree: &H, subtree: &Path) -> usize
         level = lowered(level, at, cgroup.max_depth.value);
     }
     level
-}
-
-/// Whether so many are fewer than a limit allows.
-fn is_under(count: u64, limit: Limit) -> bool
-    ensures { result ≡ is_under count limit }
-{
-    match limit {
-        Limit::Max => true,
-        Limit::At(most) => count < most,
-    }
 }
 
 /// Whether the user writes the directory and the `cgroup.procs` of the cgroup of the first `len` names.

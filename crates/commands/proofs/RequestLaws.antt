@@ -1,6 +1,7 @@
 -- A command that ends before it has written anything.
 use Rattle.std.proofs.Common.{◌≡◌, ◌∙◌, ℕ, List, refl, ap, inl, inr}
-use Rattle.std.specs.Prelude.{◌⊎◌, Option, Some, None, Result, Err}
+use Rattle.std.specs.Prelude.{◌⊎◌, Option, Some, None, Result, Err, IsErrAnd}
+use Rattle.std.proofs.lemmas.Result.{err_from_is_err_and}
 use Rattle.std.specs.Io.KnownBytes.{Keeps}
 use Rattle.cg_cli.specs.declared.fault.CliFault.{CliFault}
 use Rattle.cg_cli.specs.declared.fault.CliFault.TheVariants.{Read, NoMemory}
@@ -13,3 +14,10 @@ Keeps-refl (Some xs) = refl
 pub unread : (known : Option (List ℕ)) (fault : CliFault) (result : Result ℕ CliFault) → result ≡ Err fault → (fault ≡ Read) ⊎ (fault ≡ NoMemory) → IsUnread known known result
 unread known fault result is (inl e) = (inl (is ∙ ap (λ (it : CliFault). Err it) e), Keeps-refl known)
 unread known fault result is (inr e) = (inr (is ∙ ap (λ (it : CliFault). Err it) e), Keeps-refl known)
+
+-- one that hands on the fault it met
+pub unread_by : (known : Option (List ℕ)) (fault : CliFault) (result : Result ℕ CliFault) → IsErrAnd result (λ found. found ≡ fault)
+    → (fault ≡ Read) ⊎ (fault ≡ NoMemory) → IsUnread known known result
+unread_by known fault result is early =
+    let met = err_from_is_err_and result is in
+    unread known fault result (met.1 ∙ ap (λ (it : CliFault). Err it) met.2) early

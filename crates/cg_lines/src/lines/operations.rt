@@ -2,7 +2,7 @@
 ghost use Rattle.std.specs.Prelude.{◌≡◌};
 ghost use Rattle.cg_cgroup.specs.Paths.{path_at};
 ghost use Rattle.std.specs.List.{slice_split};
-ghost use Rattle.cg_lines.specs.LineReading.{Gives, is_space, changes_at, move_at, control_at, mkdir_at, rmdir_at, set_at, fork_at, exit_at, chmod_at, operation_named, operation_at};
+ghost use Rattle.cg_lines.specs.LineReading.{ReadsAs, is_space, changes_at, move_at, control_at, mkdir_at, rmdir_at, set_at, fork_at, exit_at, chmod_at, operation_named, operation_at};
 
 use crate::lines::fault::LineFault;
 use crate::lines::words::{change_of, cut, limit_of, mode_of, pid_of};
@@ -13,14 +13,14 @@ use cg_model::operation::Op;
 use std::alloc::Global;
 
 fn path_of(alloc: Global, word: &str) -> Result<Path, LineFault>
-    ensures { Gives result (path_at word.now) }
+    ensures { ReadsAs result (path_at word.now) }
 {
     Ok(Path::parse(alloc, word)?)
 }
 
 /// The changes of one word or more.
 fn changes_of(alloc: Global, words: &str) -> Result<Changes, LineFault>
-    ensures { Gives result (changes_at (slice_split is_space words.now)) }
+    ensures { ReadsAs result (changes_at (slice_split is_space words.now)) }
 {
     let mut changes = Changes::new(alloc);
     let mut rest = words;
@@ -34,7 +34,7 @@ fn changes_of(alloc: Global, words: &str) -> Result<Changes, LineFault>
 
 #[tactic(auto, unfolding(crate::specs::LineReading::move_at))]
 fn move_of(alloc: Global, text: &str) -> Result<Op, LineFault>
-    ensures { Gives result (move_at text.now) }
+    ensures { ReadsAs result (move_at text.now) }
 {
     let (pid, to) = cut(text).ok_or(LineFault::BadWord)?;
     let pid = pid_of(pid).ok_or(LineFault::BadWord)?;
@@ -44,7 +44,7 @@ fn move_of(alloc: Global, text: &str) -> Result<Op, LineFault>
 
 #[tactic(auto, unfolding(crate::specs::LineReading::control_at))]
 fn control_of(alloc: Global, text: &str) -> Result<Op, LineFault>
-    ensures { Gives result (control_at text.now) }
+    ensures { ReadsAs result (control_at text.now) }
 {
     let Some((at, words)) = cut(text) else {
         let at = path_of(alloc, text)?;
@@ -58,7 +58,7 @@ fn control_of(alloc: Global, text: &str) -> Result<Op, LineFault>
 
 #[tactic(auto, unfolding(crate::specs::LineReading::mkdir_at))]
 fn mkdir_of(alloc: Global, text: &str) -> Result<Op, LineFault>
-    ensures { Gives result (mkdir_at text.now) }
+    ensures { ReadsAs result (mkdir_at text.now) }
 {
     let path = path_of(alloc, text)?;
     Ok(Op::Mkdir { path })
@@ -66,7 +66,7 @@ fn mkdir_of(alloc: Global, text: &str) -> Result<Op, LineFault>
 
 #[tactic(auto, unfolding(crate::specs::LineReading::rmdir_at))]
 fn rmdir_of(alloc: Global, text: &str) -> Result<Op, LineFault>
-    ensures { Gives result (rmdir_at text.now) }
+    ensures { ReadsAs result (rmdir_at text.now) }
 {
     let path = path_of(alloc, text)?;
     Ok(Op::Rmdir { path })
@@ -74,7 +74,7 @@ fn rmdir_of(alloc: Global, text: &str) -> Result<Op, LineFault>
 
 #[tactic(auto, unfolding(crate::specs::LineReading::set_at))]
 fn set_of(alloc: Global, text: &str) -> Result<Op, LineFault>
-    ensures { Gives result (set_at text.now) }
+    ensures { ReadsAs result (set_at text.now) }
 {
     let (at, rest) = cut(text).ok_or(LineFault::BadWord)?;
     let (file, value) = cut(rest).ok_or(LineFault::BadWord)?;
@@ -86,7 +86,7 @@ fn set_of(alloc: Global, text: &str) -> Result<Op, LineFault>
 
 #[tactic(auto, unfolding(crate::specs::LineReading::fork_at))]
 fn fork_of(text: &str) -> Result<Op, LineFault>
-    ensures { Gives result (fork_at text.now) }
+    ensures { ReadsAs result (fork_at text.now) }
 {
     let (parent, child) = cut(text).ok_or(LineFault::BadWord)?;
     let parent = pid_of(parent).ok_or(LineFault::BadWord)?;
@@ -96,7 +96,7 @@ fn fork_of(text: &str) -> Result<Op, LineFault>
 
 #[tactic(auto, unfolding(crate::specs::LineReading::exit_at))]
 fn exit_of(text: &str) -> Result<Op, LineFault>
-    ensures { Gives result (exit_at text.now) }
+    ensures { ReadsAs result (exit_at text.now) }
 {
     let pid = pid_of(text).ok_or(LineFault::BadWord)?;
     Ok(Op::Exit { pid })
@@ -104,7 +104,7 @@ fn exit_of(text: &str) -> Result<Op, LineFault>
 
 #[tactic(auto, unfolding(crate::specs::LineReading::chmod_at))]
 fn chmod_of(alloc: Global, text: &str) -> Result<Op, LineFault>
-    ensures { Gives result (chmod_at text.now) }
+    ensures { ReadsAs result (chmod_at text.now) }
 {
     let (at, rest) = cut(text).ok_or(LineFault::BadWord)?;
     let (entry, mode) = cut(rest).ok_or(LineFault::BadWord)?;
@@ -116,7 +116,7 @@ fn chmod_of(alloc: Global, text: &str) -> Result<Op, LineFault>
 
 #[tactic(auto, unfolding(crate::specs::LineReading::operation_named))]
 fn operation_named(alloc: Global, name: &str, text: &str) -> Result<Op, LineFault>
-    ensures { Gives result (operation_named name.now text.now) }
+    ensures { ReadsAs result (operation_named name.now text.now) }
 {
     match name {
         "move" => move_of(alloc, text),
@@ -134,7 +134,7 @@ fn operation_named(alloc: Global, name: &str, text: &str) -> Result<Op, LineFaul
 /// The operation of a line.
 #[tactic(auto, unfolding(crate::specs::LineReading::operation_at))]
 pub fn operation_of(alloc: Global, line: &str) -> Result<Op, LineFault>
-    ensures { Gives result (operation_at line.now) }
+    ensures { ReadsAs result (operation_at line.now) }
 {
     let (name, text) = cut(line).ok_or(LineFault::BadWord)?;
     operation_named(alloc, name, text)

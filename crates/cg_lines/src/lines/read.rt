@@ -1,7 +1,7 @@
 //! Reading an operation line.
 ghost use Rattle.std.specs.Prelude.{◌≡◌, ◌≢◌, ◌≤◌, ◌<◌, ◌↔◌, length, IfOk, Err};
 ghost use Rattle.cg_model.specs.declared.operation.Op.{Op};
-ghost use Rattle.cg_lines.specs.OperationLines.{spelling, IsHeld};
+ghost use Rattle.cg_lines.specs.OperationLines.{spelling, IsInRange};
 
 use crate::lines::fault::LineFault;
 use crate::lines::operations::operation_of;
@@ -15,9 +15,9 @@ pub const LONGEST_LINE: usize = 8192;
 /// The operation of a line, without its newline. `TooLong` over 8192 bytes, for which no memory is taken; `BadWord`
 /// where the line is no operation's; never `Cut`.
 pub fn read_op(alloc: Global, line: &[u8]) -> Result<Op, LineFault>
-    ensures ok { IfOk result (λ op. (line.now ≡ spelling op) × (length line.now ≤ LONGEST_LINE) × IsHeld op) }
+    ensures ok { IfOk result (λ op. (line.now ≡ spelling op) × (length line.now ≤ LONGEST_LINE) × IsInRange op) }
     ensures too_long { (result ≡ Err LineFault.TooLong) ↔ (LONGEST_LINE < length line.now) }
-    ensures bad_word { result ≡ Err LineFault.BadWord → (op : Op) → IsHeld op → line.now ≢ spelling op }
+    ensures bad_word { result ≡ Err LineFault.BadWord → (op : Op) → IsInRange op → line.now ≢ spelling op }
     ensures not_cut { result ≢ Err LineFault.Cut }
 {
     if line.len() > LONGEST_LINE {

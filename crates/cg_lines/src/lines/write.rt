@@ -4,7 +4,7 @@ ghost use Rattle.std.specs.String.{string_bytes};
 ghost use Rattle.std.specs.List.{flat_map};
 ghost use Rattle.cg_cgroup.specs.Paths.{path_text, IsPath};
 ghost use Rattle.cg_model.specs.declared.operation.Op.TheVariants.{Move, Control, Mkdir, Rmdir, Set, Fork, Exit, Chmod};
-ghost use Rattle.cg_lines.specs.OperationLines.{change_word, limit_word, mode_word, spelling, IsHeld};
+ghost use Rattle.cg_lines.specs.OperationLines.{change_word, limit_word, mode_word, spelling, IsInRange};
 
 use cg_cgroup::files::{EntryName, Limit, LimitFile};
 use cg_cgroup::memory::NoMemory;
@@ -24,7 +24,7 @@ fn whole(path: &Path) -> &str
 
 fn move_line(alloc: Global, pid: Pid, to: &Path) -> Result<String, NoMemory>
     ensures text { IfOk result (λ line. string_bytes line ≡ spelling (Move pid to.now) ++ 10 ∷ []) }
-    ensures held { IsHeld (Move pid to.now) }
+    ensures held { IsInRange (Move pid to.now) }
 {
     let pid = pid.get();
     let to = whole(to);
@@ -50,7 +50,7 @@ fn push_changes(line: &mut String, changes: &[Change]) -> Result<(), NoMemory>
 
 fn control_line(alloc: Global, at: &Path, changes: &Changes) -> Result<String, NoMemory>
     ensures text { IfOk result (λ line. string_bytes line ≡ spelling (Control at.now changes.now) ++ 10 ∷ []) }
-    ensures held { IsHeld (Control at.now changes.now) }
+    ensures held { IsInRange (Control at.now changes.now) }
 {
     let at = whole(at);
     let mut line = format!(in alloc; "control {at}")?;
@@ -61,7 +61,7 @@ fn control_line(alloc: Global, at: &Path, changes: &Changes) -> Result<String, N
 
 fn mkdir_line(alloc: Global, path: &Path) -> Result<String, NoMemory>
     ensures text { IfOk result (λ line. string_bytes line ≡ spelling (Mkdir path.now) ++ 10 ∷ []) }
-    ensures held { IsHeld (Mkdir path.now) }
+    ensures held { IsInRange (Mkdir path.now) }
 {
     let path = whole(path);
     Ok(format!(in alloc; "mkdir {path}\n")?)
@@ -69,7 +69,7 @@ fn mkdir_line(alloc: Global, path: &Path) -> Result<String, NoMemory>
 
 fn rmdir_line(alloc: Global, path: &Path) -> Result<String, NoMemory>
     ensures text { IfOk result (λ line. string_bytes line ≡ spelling (Rmdir path.now) ++ 10 ∷ []) }
-    ensures held { IsHeld (Rmdir path.now) }
+    ensures held { IsInRange (Rmdir path.now) }
 {
     let path = whole(path);
     Ok(format!(in alloc; "rmdir {path}\n")?)
@@ -77,7 +77,7 @@ fn rmdir_line(alloc: Global, path: &Path) -> Result<String, NoMemory>
 
 fn set_line(alloc: Global, at: &Path, file: LimitFile, value: Limit) -> Result<String, NoMemory>
     ensures text { IfOk result (λ line. string_bytes line ≡ spelling (Set at.now file value) ++ 10 ∷ []) }
-    ensures held { IsHeld (Set at.now file value) }
+    ensures held { IsInRange (Set at.now file value) }
 {
     let at = whole(at);
     let file = file.name();
@@ -89,7 +89,7 @@ fn set_line(alloc: Global, at: &Path, file: LimitFile, value: Limit) -> Result<S
 
 fn fork_line(alloc: Global, parent: Pid, child: Pid) -> Result<String, NoMemory>
     ensures text { IfOk result (λ line. string_bytes line ≡ spelling (Fork parent child) ++ 10 ∷ []) }
-    ensures held { IsHeld (Fork parent child) }
+    ensures held { IsInRange (Fork parent child) }
 {
     let parent = parent.get();
     let child = child.get();
@@ -98,7 +98,7 @@ fn fork_line(alloc: Global, parent: Pid, child: Pid) -> Result<String, NoMemory>
 
 fn exit_line(alloc: Global, pid: Pid) -> Result<String, NoMemory>
     ensures text { IfOk result (λ line. string_bytes line ≡ spelling (Exit pid) ++ 10 ∷ []) }
-    ensures held { IsHeld (Exit pid) }
+    ensures held { IsInRange (Exit pid) }
 {
     let pid = pid.get();
     Ok(format!(in alloc; "exit {pid}\n")?)
@@ -106,7 +106,7 @@ fn exit_line(alloc: Global, pid: Pid) -> Result<String, NoMemory>
 
 fn chmod_line(alloc: Global, at: &Path, entry: EntryName, mode: Mode) -> Result<String, NoMemory>
     ensures text { IfOk result (λ line. string_bytes line ≡ spelling (Chmod at.now entry mode) ++ 10 ∷ []) }
-    ensures held { IsHeld (Chmod at.now entry mode) }
+    ensures held { IsInRange (Chmod at.now entry mode) }
 {
     let at = whole(at);
     let entry = entry.name();
@@ -119,7 +119,7 @@ fn chmod_line(alloc: Global, at: &Path, entry: EntryName, mode: Mode) -> Result<
 
 fn line_of(alloc: Global, op: &Op) -> Result<String, NoMemory>
     ensures text { IfOk result (λ line. string_bytes line ≡ spelling op.now ++ 10 ∷ []) }
-    ensures held { IsHeld op.now }
+    ensures held { IsInRange op.now }
 {
     match op {
         Op::Move { pid, to } => move_line(alloc, *pid, to),
@@ -137,7 +137,7 @@ fn line_of(alloc: Global, op: &Op) -> Result<String, NoMemory>
 /// bytes.
 pub fn op_text(alloc: Global, op: &Op) -> Result<Vec<u8>, NoMemory>
     ensures text { IfOk result (λ text. text.items ≡ spelling op.now ++ 10 ∷ []) }
-    ensures held { IsHeld op.now }
+    ensures held { IsInRange op.now }
 {
     Ok(line_of(alloc, op)?.into_bytes())
 }

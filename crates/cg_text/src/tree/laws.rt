@@ -1,19 +1,30 @@
 //! What holds of every tree text.
-ghost use Rattle.std.specs.Prelude.{◌≡◌, ◌↔◌, ℕ, true, List, is_some, Ok};
+ghost use Rattle.std.specs.Prelude.{◌≡◌, ◌↔◌, ℕ, true, List, [], Some, is_some, Ok, Err};
 ghost use Rattle.cg_cgroup.specs.Paths.{Names, IsPath};
 ghost use Rattle.cg_cgroup.specs.Numbers.{is_pid};
 ghost use Rattle.cg_model.specs.States.{State, process_at};
 ghost use Rattle.cg_model.specs.WellFormed.{has_row};
+ghost use Rattle.cg_model.specs.Clauses.{first};
+ghost use Rattle.cg_text.specs.TextOf.{IsTextOf};
+ghost use Rattle.cg_text.specs.TextFaults.{text_faults};
 ghost use Rattle.cg_text.specs.TreeTexts.{tree_of};
-ghost use Rattle.cg_text.specs.HasState.{HasState};
+ghost use Rattle.cg_text.specs.declared.tree.fault.TreeFault.{TreeFault};
 
-/// A text has a state exactly where no fault is found in it, and it is the one that is read.
+/// A text is of a state exactly where none of the clauses finds a fault in it, and of one at most.
+pub fn texts_are_of_states()
+    ensures fault { (bytes : List ℕ) (st : State) → IsTextOf st bytes → text_faults bytes ≡ [] }
+    ensures state { (bytes : List ℕ) → text_faults bytes ≡ [] → (st : State) × IsTextOf st bytes }
+    ensures one { (bytes : List ℕ) (st other : State) → IsTextOf st bytes → IsTextOf other bytes → st ≡ other }
+{}
+
+/// What is read of a text is the state that it is of, or the first fault.
 pub fn states_are_read()
-    ensures { (bytes : List ℕ) (st : State) → (tree_of bytes ≡ Ok st) ↔ HasState bytes st }
+    ensures state { (bytes : List ℕ) (st : State) → (tree_of bytes ≡ Ok st) ↔ IsTextOf st bytes }
+    ensures fault { (bytes : List ℕ) (fault : TreeFault) → (tree_of bytes ≡ Err fault) ↔ (first (text_faults bytes) ≡ Some fault) }
 {}
 
 /// In the state of a text each cgroup stands at a path, and each live process has a PID.
 pub fn states_are_named()
-    ensures paths { (bytes : List ℕ) (st : State) (path : Names) → HasState bytes st → has_row st path ≡ true → IsPath path }
-    ensures pids { (bytes : List ℕ) (st : State) (pid : ℕ) → HasState bytes st → is_some (process_at st pid) ≡ true → is_pid pid ≡ true }
+    ensures paths { (bytes : List ℕ) (st : State) (path : Names) → IsTextOf st bytes → has_row st path ≡ true → IsPath path }
+    ensures pids { (bytes : List ℕ) (st : State) (pid : ℕ) → IsTextOf st bytes → is_some (process_at st pid) ≡ true → is_pid pid ≡ true }
 {}

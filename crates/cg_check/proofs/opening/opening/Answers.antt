@@ -7,7 +7,8 @@ loop-place-init g c = opening_begins (g.H.Hierarchy.state c.args.tree.now) c.arg
 
 pub loop-place-preserved-in_default : goal.loop-place-preserved-in_default
 loop-place-preserved-in_default g c =
-    opening_passes (g.H.Hierarchy.state c.args.tree.now) c.args.user.now c.args.subtree.now c.loop-place.place c.loop-place.chmods c.in_default.ensures.entry ∙ c.loop-place.invariant
+    opening_passes (g.H.Hierarchy.state c.args.tree.now) c.args.user.now c.args.subtree.now c.loop-place.place c.loop-place.chmods c.in_default.ensures.entry
+    ∙ c.loop-place.invariant
 
 pub loop-place-preserved : goal.loop-place-preserved
 loop-place-preserved g c =

@@ -1,5 +1,6 @@
 use Rattle.std.proofs.Common.{◌≡◌, Ok, sym}
 use Rattle.std.proofs.lemmas.Result.{err_from_is_err_and}
+use Rattle.cg_text.proofs.TextFaultLaws.{text_is_read}
 use Rattle.cg_cli.specs.Arguments.{user_read}
 use Rattle.cg_cli.proofs.CheckReports.{fault_reports, contained_bytes}
 use Rattle.cg_cli.proofs.check.check_bytes.Goals as goal
@@ -20,4 +21,4 @@ returns-clause-contained g c none st who path of_text of_user of_path =
     let zero_status : c.in_ok-text.status ≡ 0 = cc in
     let read : user_read c.args.user.uid c.args.user.gids.now ≡ Ok user = sym {a = Ok user} c.in_ok-user.ensures in
     contained_bytes c.args.tree.now c.args.user.uid c.args.user.gids.now c.args.subtree.now user c.in_ok-subtree.subtree c.in_ok-tree.tree read c.in_ok-subtree.ensures c.in_ok-tree.ensures.read
-    (c.in_ok-text.ensures.contained zero_status) st who path of_text of_user of_path
+    (c.in_ok-text.ensures.contained zero_status) st who path (text_is_read c.args.tree.now st of_text) of_user of_path

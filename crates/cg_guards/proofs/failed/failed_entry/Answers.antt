@@ -4,7 +4,8 @@ use Rattle.cg_guards.proofs.failed.failed_entry.Goals as goal
 
 pub loop-place-preserved-in_default : goal.loop-place-preserved-in_default
 loop-place-preserved-in_default g c =
-    none_fails (g.H.Hierarchy.state c.args.tree.now) c.args.user.now c.args.subtree.now c.loop-place.place c.in_default.ensures.entry ∙ c.loop-place.invariant
+    none_fails (g.H.Hierarchy.state c.args.tree.now) c.args.user.now c.args.subtree.now c.loop-place.place c.in_default.ensures.entry
+    ∙ c.loop-place.invariant
 
 pub loop-place-preserved : goal.loop-place-preserved
 loop-place-preserved g c =
@@ -18,4 +19,5 @@ returns-then-reaches g c =
 
 pub returns : goal.returns
 returns g c =
-    none_left (g.H.Hierarchy.state c.args.tree.now) c.args.user.now c.args.subtree.now c.loop-place.place (omega (arith, c.guarded_count-place-end.ensures, c.loop-place-test.false)) ∙ c.loop-place.invariant
+    none_left (g.H.Hierarchy.state c.args.tree.now) c.args.user.now c.args.subtree.now c.loop-place.place (omega (arith, c.guarded_count-place-end.ensures, c.loop-place-test.false))
+    ∙ c.loop-place.invariant

@@ -10,4 +10,5 @@ returns-then-below-files-clause-entry c = file_at c.args.subtree.now c.args.plac
 
 pub returns-clause-entry : goal.returns-clause-entry
 returns-clause-entry c =
-    c.parent_spot.ensures.entry ∙ parent_at c.args.subtree.now c.args.place c.depth-depth.result c.depth-depth.ensures.depth c.if-place-depth.false c.if-below-files.false
+    c.parent_spot.ensures.entry
+    ∙ parent_at c.args.subtree.now c.args.place c.depth-depth.result c.depth-depth.ensures.depth c.if-place-depth.false c.if-below-files.false

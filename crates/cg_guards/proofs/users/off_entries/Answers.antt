@@ -7,7 +7,8 @@ loop-place-init g c = record { off = refl; asked = c.requires.asked }
 
 pub loop-place-preserved-in_default : goal.loop-place-preserved-in_default
 loop-place-preserved-in_default g c = record {
-  off = absent_turn (g.H.Hierarchy.state c.args.tree.now) c.args.subtree.now c.loop-place.place c.loop-place.left.now c.in_default.ensures.entry ∙ c.loop-place.invariant.off;
+  off = absent_turn (g.H.Hierarchy.state c.args.tree.now) c.args.subtree.now c.loop-place.place c.loop-place.left.now c.in_default.ensures.entry
+      ∙ c.loop-place.invariant.off;
   asked = c.loop-place.invariant.asked;
 }
 

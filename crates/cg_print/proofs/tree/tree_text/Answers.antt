@@ -5,6 +5,7 @@ use Rattle.toml.specs.Parse.{parse_document}
 use Rattle.toml.specs.Text.{IsDocumentText}
 use Rattle.cg_text.specs.TreeTexts.{document_of}
 use Rattle.cg_text.proofs.TextLaws.{document_is}
+use Rattle.cg_text.proofs.TextOfLaws.{text_of}
 use Rattle.cg_print.specs.Documents.{tree_document, IsSpelled}
 use Rattle.cg_print.proofs.Depths.{tree_depth}
 use Rattle.cg_print.proofs.TextBack.{text_back}
@@ -24,5 +25,5 @@ returns-in-Ok g c =
     record {
       document = parsed;
       spelled = subst (IsSpelled st) (sym (ap (λ bytes. bytes.items) c.into_bytes.ensures.value)) spelled;
-      state = λ carried short. text_back c.into_bytes.result.items st parsed c.in_ok-document.ensures.kept carried short;
+      state = λ carried short. text_of c.into_bytes.result.items st (text_back c.into_bytes.result.items st parsed c.in_ok-document.ensures.kept carried short);
     }

@@ -1,5 +1,5 @@
 use Rattle.std.proofs.Common.{◌≡◌, ℕ, ◌<◌, false, take}
-use Rattle.cg_tries.specs.Finding.{passes_at}
+use Rattle.cg_ops.specs.Moves.{passes_at}
 use Rattle.cg_tries.proofs.move_tries.passes_above.Given as goal
 
 -- none so far

@@ -1,17 +1,14 @@
-use Rattle.std.proofs.Common.{inl, inr, refl}
-use Rattle.std.proofs.lemmas.Result.{err_from_is_err_and}
-use Rattle.commands.proofs.RequestLaws.{unread}
+use Rattle.std.proofs.Common.{inl, inr}
+use Rattle.commands.proofs.RequestLaws.{unread_by}
 use Rattle.commands.proofs.run.audit.Goals as goal
 
 pub returns-in_err-tree : goal.returns-in_err-tree
 returns-in_err-tree g c =
-    let met = err_from_is_err_and c.from_residual.result c.from_residual.ensures.1 in
-    inr (unread (g.W.Write.contents c.args.out.now) c.in_err-tree.field-0.0 c.from_residual.result (rw (met.1, met.2) refl) c.in_err-tree.ensures.fault)
+    inr (unread_by (g.W.Write.contents c.args.out.now) c.in_err-tree.field-0.0 c.from_residual.result c.from_residual.ensures.1 c.in_err-tree.ensures.fault)
 
 pub returns-in_err-users : goal.returns-in_err-users
 returns-in_err-users g c =
-    let met = err_from_is_err_and c.from_residual-in_err-users.result c.from_residual-in_err-users.ensures.1 in
-    inr (unread (g.W.Write.contents c.args.out.now) c.in_err-users.field-0.0 c.from_residual-in_err-users.result (rw (met.1, met.2) refl) (inr c.in_err-users.ensures.fault))
+    inr (unread_by (g.W.Write.contents c.args.out.now) c.in_err-users.field-0.0 c.from_residual-in_err-users.result c.from_residual-in_err-users.ensures.1 (inr c.in_err-users.ensures.fault))
 
 pub returns : goal.returns
 returns g c =

@@ -1,12 +1,10 @@
-use Rattle.std.proofs.Common.{inl, inr, refl}
-use Rattle.std.proofs.lemmas.Result.{err_from_is_err_and}
-use Rattle.commands.proofs.RequestLaws.{unread}
+use Rattle.std.proofs.Common.{inl, inr}
+use Rattle.commands.proofs.RequestLaws.{unread_by}
 use Rattle.commands.proofs.run.upgrade.Goals as goal
 
 pub returns-in_err-tree : goal.returns-in_err-tree
 returns-in_err-tree g c =
-    let met = err_from_is_err_and c.from_residual.result c.from_residual.ensures.1 in
-    inr (unread (g.W.Write.contents c.args.out.now) c.in_err-tree.field-0.0 c.from_residual.result (rw (met.1, met.2) refl) c.in_err-tree.ensures.fault)
+    inr (unread_by (g.W.Write.contents c.args.out.now) c.in_err-tree.field-0.0 c.from_residual.result c.from_residual.ensures.1 c.in_err-tree.ensures.fault)
 
 pub returns : goal.returns
 returns g c =

@@ -6,7 +6,7 @@ use Rattle.cg_model.specs.States.{State}
 use Rattle.std.proofs.lemmas.Result.{err_from_is_err_and}
 use Rattle.cg_model.specs.declared.operation.Op.{Op}
 use Rattle.cg_model.specs.declared.outcome.Outcome.{Outcome}
-use Rattle.cg_lines.specs.OperationLines.{spelling, IsHeld}
+use Rattle.cg_lines.specs.OperationLines.{spelling, IsInRange}
 use Rattle.cg_lines.specs.Outcomes.{outcome_text}
 use Rattle.cg_lines.specs.declared.lines.fault.LineFault.{LineFault}
 use Rattle.cg_lines.specs.declared.lines.fault.LineFault.TheVariants.{TooLong, BadWord, Cut, NoMemory}
@@ -25,7 +25,7 @@ told_apart same = cc
 -- a line that gives no operation
 faulty : (done : ℕ) (line : List ℕ) (course : Course) (user : Identity) (known : Option (List ℕ)) (fault : LineFault) → done < 65536
     → (◌≡◌ {A = Result Op LineFault} (Err fault) (Err TooLong)) ↔ (8192 < length line)
-    → (◌≡◌ {A = Result Op LineFault} (Err fault) (Err BadWord) → (op : Op) → IsHeld op → line ≢ spelling op)
+    → (◌≡◌ {A = Result Op LineFault} (Err fault) (Err BadWord) → (op : Op) → IsInRange op → line ≢ spelling op)
     → (◌≡◌ {A = Result Op LineFault} (Err fault) (Err Cut) → ⊥)
     → Answered (operation_read done line) course course user known known (Err (lifted_line (done + 1) fault))
 faulty done line course user known TooLong few long bad whole = (operation_read_long done line few (long.0 refl), Keeps-refl known)
