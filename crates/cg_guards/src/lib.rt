@@ -1,4 +1,4 @@
-//! What containment of a subtree stands on, and what a step leaves of it.
+//! The guards of a subtree: the entries on which they stand, the first that fails, and the users for whom they hold.
 #![tactic(auto)]
 
 pub mod failed;

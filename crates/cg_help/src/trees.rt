@@ -11,7 +11,7 @@ use entries::{entry_said, value_said};
 use rows::{controller_said, double_said, enabled_said, file_said, parent_said, place_said};
 use shape::shape_said;
 use std::alloc::{AllocError, Global};
-use table::{label, row, row_of, text_at};
+use table::{label, paths_of_rows, row, text_at};
 use toml::Table;
 
 /// What is wrong with the text of a tree, which has this fault.
@@ -36,8 +36,9 @@ pub(crate) fn first_missing<'a>(alloc: Global, bytes: &[u8], paths: &[&'a str]) 
         return None;
     }
     let top = toml::table_from_slice(alloc, bytes).ok()?;
+    let there = paths_of_rows(alloc, &top).ok()?;
     for path in paths {
-        if row_of(&top, path).is_none() {
+        if !there.contains(*path) {
             return Some(*path);
         }
     }

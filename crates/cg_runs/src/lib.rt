@@ -1,4 +1,4 @@
-//! Runs of operations on a tree, and whether a subtree is kept over them.
+//! Operations on a tree, one after another, and whether a subtree is held over them.
 #![tactic(auto)]
 
 mod broken;

@@ -1,4 +1,4 @@
-//! What a tree of cgroups is, and `Hierarchy`, through which all else sees one.
+//! `Hierarchy`, through which all else sees a tree of cgroups, and what its limits bar.
 #![tactic(auto)]
 
 pub mod hierarchy;

@@ -2,6 +2,7 @@
 use crate::shown::quoted;
 use cg_text::tree::Place;
 use std::alloc::{AllocError, Global};
+use std::collections::BTreeSet;
 use toml::{Table, Value};
 
 /// The rows at a key of the top table.
@@ -34,7 +35,7 @@ fn numbered<'a>(rows: &'a [Value], number: u32) -> Option<&'a Table> {
 pub(super) fn row_of<'a>(top: &'a Table, path: &str) -> Option<&'a Table> {
     for value in rows(top, "cgroup") {
         if let Some(row) = value.as_table() {
-            if has_path(row, path) {
+            if path_of(row) == Some(path) {
                 return Some(row);
             }
         }
@@ -42,11 +43,19 @@ pub(super) fn row_of<'a>(top: &'a Table, path: &str) -> Option<&'a Table> {
     None
 }
 
-fn has_path(row: &Table, path: &str) -> bool {
-    match row.get("path") {
-        Some(value) => value.as_str() == Some(path),
-        None => false,
+/// The paths that rows have.
+pub(super) fn paths_of_rows(alloc: Global, top: &Table) -> Result<BTreeSet<String>, AllocError> {
+    let mut paths = BTreeSet::new(alloc);
+    for value in rows(top, "cgroup") {
+        if let Some(path) = value.as_table().and_then(path_of) {
+            paths.insert(String::from_str(alloc, path)?)?;
+        }
     }
+    Ok(paths)
+}
+
+fn path_of(row: &Table) -> Option<&str> {
+    row.get("path")?.as_str()
 }
 
 /// The text at a key of a row.
