@@ -10,7 +10,7 @@ use Rattle.cg_model.specs.Clauses.{first}
 use Rattle.cg_steps.proofs.ClauseLaws.{none_of_first, no_parts, no_unless}
 use Rattle.cg_model.specs.Guards.{failures, IsSubtree}
 use Rattle.cg_model.specs.declared.guard.Failed.{Failed}
-use Rattle.cg_text.specs.TreeTexts.{tree_of}
+use Rattle.cg_text.specs.Readings.{Reading}
 use Rattle.cg_text.specs.declared.tree.fault.TreeFault.{TreeFault}
 use Rattle.cg_model.specs.declared.fault.CheckFault.{CheckFault}
 use Rattle.cg_model.specs.declared.fault.CheckFault.TheVariants.{RootSubtree, NoSuchSubtree, NoMemory as CheckNoMemory}
@@ -50,10 +50,10 @@ abbrev report_by : Result Identity CliFault → Result Names CliFault → Result
 report_by user path tree =
     report_on user (λ user. report_on path (λ path. report_on (elim tree [ Ok st ↦ Ok st | Err fault ↦ Err (lifted fault) ]) (λ st. advice_report st user path)))
 
-module _ (text : List ℕ) (uid : ℕ) (gids subtree : List ℕ) (user : Identity) (path : Names) (st : State) (of_user : user_read uid gids ≡ Ok user) (of_path : path_read subtree ≡ Ok path) (of_text : tree_of text ≡ Ok st) where
-  pub report_is : advise_report text uid gids subtree ≡ advice_report st user path
+module _ (tree : Reading) (uid : ℕ) (gids subtree : List ℕ) (user : Identity) (path : Names) (st : State) (of_user : user_read uid gids ≡ Ok user) (of_path : path_read subtree ≡ Ok path) (of_text : tree ≡ Ok st) where
+  pub report_is : advise_report tree uid gids subtree ≡ advice_report st user path
   report_is =
-      ap (λ u. report_by u (path_read subtree) (tree_of text)) of_user ∙ ap (λ p. report_by (Ok user) p (tree_of text)) of_path ∙ ap (report_by (Ok user) (Ok path)) of_text
+      ap (λ u. report_by u (path_read subtree) tree) of_user ∙ ap (λ p. report_by (Ok user) p tree) of_path ∙ ap (report_by (Ok user) (Ok path)) of_text
 
   of_lines : (found : Option (List ℕ)) → takes_memory (lines_report found).ending ≡ true
   of_lines None = refl
@@ -65,10 +65,10 @@ module _ (text : List ℕ) (uid : ℕ) (gids subtree : List ℕ) (user : Identit
   needs_memory (Err NoSuchSubtree) = refl
   needs_memory (Err CheckNoMemory) = refl
 
-  nothing_written : (fault : CliFault) → (advice_report st user path ≡ fault_report fault) → (advise_report text uid gids subtree).ending ≡ Err fault
+  nothing_written : (fault : CliFault) → (advice_report st user path ≡ fault_report fault) → (advise_report tree uid gids subtree).ending ≡ Err fault
   nothing_written fault same = ap (λ (r : Report). r.ending) (report_is ∙ same)
 
-  pub fault_reports : (fault : CheckFault) (known : Option (List ℕ)) → (fault ≢ CheckNoMemory → advised st user path ≡ Err fault) → Reports (advise_report text uid gids subtree) known known (Err (lifted_check fault))
+  pub fault_reports : (fault : CheckFault) (known : Option (List ℕ)) → (fault ≢ CheckNoMemory → advised st user path ≡ Err fault) → Reports (advise_report tree uid gids subtree) known known (Err (lifted_check fault))
   fault_reports RootSubtree known is =
       (nothing_written (lifted_check RootSubtree) (ap (λ f. report_on (in_call f) lines_report) (is (λ other. cc))), keeps known)
   fault_reports NoSuchSubtree known is =

@@ -9,7 +9,7 @@ use Rattle.cg_cgroup.specs.Paths.{Names, same_path}
 use Rattle.cg_cgroup.specs.Identity.{Identity}
 use Rattle.cg_model.specs.States.{State}
 use Rattle.cg_model.specs.Clauses.{first}
-use Rattle.cg_text.specs.TreeTexts.{tree_of}
+use Rattle.cg_text.specs.Readings.{Reading}
 use Rattle.cg_text.specs.declared.tree.fault.TreeFault.{TreeFault}
 use Rattle.cg_text.specs.declared.tree.fault.TreeFault.TheVariants.{NoMemory as TreeNoMemory}
 use Rattle.cg_model.specs.declared.fault.CheckFault.{CheckFault}
@@ -284,39 +284,40 @@ users_take : (users : Result (List Identity) CliFault) (subtrees : Result (List 
 users_take (Ok users) subtrees tree of_users of_paths = paths_take users subtrees tree of_paths
 users_take (Err fault) subtrees tree of_users of_paths = ap (λ f. takes_memory (Err f)) (sym (of_users fault refl))
 
-module _ (text : List ℕ) (given : List (ℕ × List ℕ)) (texts : List (List ℕ)) (known : Option (List ℕ)) where
-  pub users_fault_said : (fault : CliFault) → (fault ≢ NoMemory → users_read given ≡ Err fault) → ((other : CliFault) → users_read given ≡ Err other → fault ≡ other) → ReportsPairs (all_report text given texts) known known (Err fault)
+module _ (tree : Reading) (given : List (ℕ × List ℕ)) (texts : List (List ℕ)) (known : Option (List ℕ)) where
+  pub users_fault_said : (fault : CliFault) → (fault ≢ NoMemory → users_read given ≡ Err fault) → ((other : CliFault) → users_read given ≡ Err other → fault ≡ other) → ReportsPairs (all_report tree given texts) known known (Err fault)
   users_fault_said fault stated first =
-      fault_reports (all_report text given texts) fault known (λ other. ap (λ u. chain u (paths_read texts) (tree_of text)) (stated other))
-      (λ same. users_take (users_read given) (paths_read texts) (tree_of text) (λ f is. sym same ∙ first f is) (paths_fault texts))
+      fault_reports (all_report tree given texts) fault known (λ other. ap (λ u. chain u (paths_read texts) tree) (stated other))
+      (λ same. users_take (users_read given) (paths_read texts) tree (λ f is. sym same ∙ first f is) (paths_fault texts))
 
   module _ (users : List Identity) (of_users : users_read given ≡ Ok users) where
-    pub paths_fault_said : (fault : CliFault) → (fault ≢ NoMemory → paths_read texts ≡ Err fault) → ReportsPairs (all_report text given texts) known known (Err fault)
+    pub paths_fault_said : (fault : CliFault) → (fault ≢ NoMemory → paths_read texts ≡ Err fault) → ReportsPairs (all_report tree given texts) known known (Err fault)
     paths_fault_said fault stated =
-        fault_reports (all_report text given texts) fault known
-        (λ other. ap (λ u. chain u (paths_read texts) (tree_of text)) of_users ∙ ap (λ p. chain (Ok users) p (tree_of text)) (stated other))
-        (λ same. ap (λ u. takes (chain u (paths_read texts) (tree_of text))) of_users ∙ paths_take users (paths_read texts) (tree_of text) (paths_fault texts))
+        fault_reports (all_report tree given texts) fault known
+        (λ other. ap (λ u. chain u (paths_read texts) tree) of_users ∙ ap (λ p. chain (Ok users) p tree) (stated other))
+        (λ same. ap (λ u. takes (chain u (paths_read texts) tree)) of_users ∙ paths_take users (paths_read texts) tree (paths_fault texts))
 
     module _ (subtrees : List Names) (of_paths : paths_read texts ≡ Ok subtrees) where
-      by_tree : all_report text given texts ≡ chain (Ok users) (Ok subtrees) (tree_of text)
-      by_tree = ap (λ u. chain u (paths_read texts) (tree_of text)) of_users ∙ ap (λ p. chain (Ok users) p (tree_of text)) of_paths
+      by_tree : all_report tree given texts ≡ chain (Ok users) (Ok subtrees) tree
+      by_tree = ap (λ u. chain u (paths_read texts) tree) of_users ∙ ap (λ p. chain (Ok users) p tree) of_paths
 
-      pub tree_fault_said : (fault : TreeFault) → (fault ≢ TreeNoMemory → tree_of text ≡ Err fault) → ReportsPairs (all_report text given texts) known known (Err (lifted fault))
-      tree_fault_said TreeNoMemory stated = wanted (all_report text given texts) known (ap takes by_tree ∙ tree_takes users subtrees (tree_of text))
+      pub tree_fault_said : (fault : TreeFault) → (fault ≢ TreeNoMemory → tree ≡ Err fault) → ReportsPairs (all_report tree given texts) known known (Err (lifted fault))
+      tree_fault_said TreeNoMemory stated = wanted (all_report tree given texts) known (ap takes by_tree ∙ tree_takes users subtrees tree)
       tree_fault_said fault stated =
           subst (λ r. ReportsPairs r known known (Err (lifted fault))) (sym (by_tree ∙ ap (chain (Ok users) (Ok subtrees)) (stated (λ same. cc)))) (refl, keeps known)
 
-      module _ (kept_users : List Identity) (kept_subtrees : List Names) (users_once : kept_users ≡ once same_user users) (subtrees_once : kept_subtrees ≡ once same_path subtrees) (st : State) (of_text : tree_of text ≡ Ok st) where
-        pub tree_said : (new : Option (List ℕ)) (result : Result ℕ CliFault) → ReportsPairs (pairs_found st kept_users kept_subtrees) known new result → ReportsPairs (all_report text given texts) known new result
+      module _ (kept_users : List Identity) (kept_subtrees : List Names) (users_once : kept_users ≡ once same_user users) (subtrees_once : kept_subtrees ≡ once same_path subtrees) (st : State) (of_text : tree ≡ Ok st) where
+        pub tree_said : (new : Option (List ℕ)) (result : Result ℕ CliFault) → ReportsPairs (pairs_found st kept_users kept_subtrees) known new result → ReportsPairs (all_report tree given texts) known new result
         tree_said new result said =
             subst (λ r. ReportsPairs r known new result) (sym (by_tree ∙ ap (chain (Ok users) (Ok subtrees)) of_text))
             (subst (λ r. ReportsPairs r known new result) (λ i. pairs_found st (users_once i) (subtrees_once i)) said)
 
-        pub unlisted_said : (result : Result ℕ CliFault) → IfOk result (λ status. UnlistedAreContained st kept_users kept_subtrees)
-            → IfOk result (λ status. (start : State) (who : List Identity) (paths : List Names) → tree_of text ≡ Ok start → users_read given ≡ Ok who → paths_read texts ≡ Ok paths → UnlistedAreContained start (once same_user who) (once same_path paths))
-        unlisted_said (Err fault) said = tt
-        unlisted_said (Ok status) said = λ start who paths is_start is_who are_paths.
-            let e : st ≡ start = same_start (sym of_text ∙ is_start) in
+        pub unlisted_said : (P : State → Type 0) → ((start : State) → P start → tree ≡ Ok start) → (result : Result ℕ CliFault)
+            → IfOk result (λ status. UnlistedAreContained st kept_users kept_subtrees)
+            → IfOk result (λ status. (start : State) (who : List Identity) (paths : List Names) → P start → users_read given ≡ Ok who → paths_read texts ≡ Ok paths → UnlistedAreContained start (once same_user who) (once same_path paths))
+        unlisted_said P means (Err fault) said = tt
+        unlisted_said P means (Ok status) said = λ start who paths is_start is_who are_paths.
+            let e : st ≡ start = same_start (sym of_text ∙ means start is_start) in
             let f : users ≡ who = same_Ok users who (sym of_users ∙ is_who) in
             let h : subtrees ≡ paths = same_Ok subtrees paths (sym of_paths ∙ are_paths) in
             subst (λ (s : State). UnlistedAreContained s (once same_user who) (once same_path paths)) e

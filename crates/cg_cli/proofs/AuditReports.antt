@@ -5,9 +5,7 @@ use Rattle.cg_cgroup.specs.Paths.{Names, path_at, same_path}
 use Rattle.cg_cgroup.specs.Users.{user_of}
 use Rattle.cg_cgroup.specs.Identity.{Identity}
 use Rattle.cg_model.specs.States.{State}
-use Rattle.cg_text.specs.TreeTexts.{tree_of}
-use Rattle.cg_text.specs.TextOf.{IsTextOf}
-use Rattle.cg_text.proofs.TextFaultLaws.{text_is_read}
+use Rattle.cg_text.specs.Readings.{Reading}
 use Rattle.cg_text.specs.declared.tree.fault.TreeFault.{TreeFault}
 use Rattle.cg_text.specs.declared.tree.fault.TreeFault.TheVariants.{NoMemory as TreeNoMemory}
 use Rattle.cg_model.specs.declared.fault.CheckFault.{CheckFault}
@@ -85,39 +83,39 @@ users_take : (users : Result (List Identity) CliFault) (subtrees : Result (List 
 users_take (Ok users) subtrees tree of_users of_paths = paths_take users subtrees tree of_paths
 users_take (Err fault) subtrees tree of_users of_paths = ap (λ f. takes_memory (Err f)) (sym (of_users fault refl))
 
-module _ (text : List ℕ) (given : List (ℕ × List ℕ)) (texts : List (List ℕ)) (known : Option (List ℕ)) where
-  pub users_fault_reports : (fault : CliFault) → (fault ≢ NoMemory → users_read given ≡ Err fault) → ((other : CliFault) → users_read given ≡ Err other → fault ≡ other) → Reports (audit_report text given texts) known known (Err fault)
+module _ (tree : Reading) (given : List (ℕ × List ℕ)) (texts : List (List ℕ)) (known : Option (List ℕ)) where
+  pub users_fault_reports : (fault : CliFault) → (fault ≢ NoMemory → users_read given ≡ Err fault) → ((other : CliFault) → users_read given ≡ Err other → fault ≡ other) → Reports (audit_report tree given texts) known known (Err fault)
   users_fault_reports fault stated first =
-      fault_is_said (audit_report text given texts) fault known (λ write. users_fault given fault (stated (λ other. cc)) write)
-      (λ other. ap (λ u. (report_by u (paths_read texts) (tree_of text)).ending) (stated other))
-      (λ same. users_take (users_read given) (paths_read texts) (tree_of text) (λ f is. sym same ∙ first f is) (paths_fault texts))
+      fault_is_said (audit_report tree given texts) fault known (λ write. users_fault given fault (stated (λ other. cc)) write)
+      (λ other. ap (λ u. (report_by u (paths_read texts) tree).ending) (stated other))
+      (λ same. users_take (users_read given) (paths_read texts) tree (λ f is. sym same ∙ first f is) (paths_fault texts))
 
   module _ (users : List Identity) (of_users : users_read given ≡ Ok users) where
-    pub paths_fault_reports : (fault : CliFault) → (fault ≢ NoMemory → paths_read texts ≡ Err fault) → Reports (audit_report text given texts) known known (Err fault)
+    pub paths_fault_reports : (fault : CliFault) → (fault ≢ NoMemory → paths_read texts ≡ Err fault) → Reports (audit_report tree given texts) known known (Err fault)
     paths_fault_reports fault stated =
-        fault_is_said (audit_report text given texts) fault known (λ write. let named : fault ≡ BadPath = paths_fault texts fault (stated (λ other. cc)) in cc)
-        (λ other. ap (λ u. (report_by u (paths_read texts) (tree_of text)).ending) of_users ∙ ap (λ p. (report_by (Ok users) p (tree_of text)).ending) (stated other))
-        (λ same. ap (λ u. takes_memory (report_by u (paths_read texts) (tree_of text)).ending) of_users ∙ paths_take users (paths_read texts) (tree_of text) (paths_fault texts))
+        fault_is_said (audit_report tree given texts) fault known (λ write. let named : fault ≡ BadPath = paths_fault texts fault (stated (λ other. cc)) in cc)
+        (λ other. ap (λ u. (report_by u (paths_read texts) tree).ending) of_users ∙ ap (λ p. (report_by (Ok users) p tree).ending) (stated other))
+        (λ same. ap (λ u. takes_memory (report_by u (paths_read texts) tree).ending) of_users ∙ paths_take users (paths_read texts) tree (paths_fault texts))
 
     module _ (subtrees : List Names) (of_paths : paths_read texts ≡ Ok subtrees) where
-      by_tree : audit_report text given texts ≡ report_by (Ok users) (Ok subtrees) (tree_of text)
-      by_tree = ap (λ u. report_by u (paths_read texts) (tree_of text)) of_users ∙ ap (λ p. report_by (Ok users) p (tree_of text)) of_paths
+      by_tree : audit_report tree given texts ≡ report_by (Ok users) (Ok subtrees) tree
+      by_tree = ap (λ u. report_by u (paths_read texts) tree) of_users ∙ ap (λ p. report_by (Ok users) p tree) of_paths
 
-      pub tree_fault_reports : (fault : TreeFault) → (fault ≢ TreeNoMemory → tree_of text ≡ Err fault) → Reports (audit_report text given texts) known known (Err (lifted fault))
+      pub tree_fault_reports : (fault : TreeFault) → (fault ≢ TreeNoMemory → tree ≡ Err fault) → Reports (audit_report tree given texts) known known (Err (lifted fault))
       tree_fault_reports TreeNoMemory stated =
-          (ap (λ (r : Report). takes_memory r.ending) by_tree ∙ tree_takes users subtrees (tree_of text), keeps known)
+          (ap (λ (r : Report). takes_memory r.ending) by_tree ∙ tree_takes users subtrees tree, keeps known)
       tree_fault_reports fault stated =
           (ap (λ (r : Report). r.ending) by_tree ∙ ap (λ t. (report_by (Ok users) (Ok subtrees) t).ending) (stated (λ same. cc)), keeps known)
 
       -- ---- of those who are named, each once
 
-      module _ (kept_users : List Identity) (kept_subtrees : List Names) (users_once : kept_users ≡ once same_user users) (subtrees_once : kept_subtrees ≡ once same_path subtrees) (st : State) (of_text : tree_of text ≡ Ok st) where
-        of_kept : audit_report text given texts ≡ pairs_report st kept_users kept_subtrees
+      module _ (kept_users : List Identity) (kept_subtrees : List Names) (users_once : kept_users ≡ once same_user users) (subtrees_once : kept_subtrees ≡ once same_path subtrees) (st : State) (of_text : tree ≡ Ok st) where
+        of_kept : audit_report tree given texts ≡ pairs_report st kept_users kept_subtrees
         of_kept =
             by_tree ∙ ap (report_by (Ok users) (Ok subtrees)) of_text
             ∙ sym ((λ i. pairs_report st (users_once i) (subtrees_once i)) ∙ said_once st users subtrees)
 
-        pub subtree_fault_reports : (fault : CheckFault) → (fault ≢ CheckNoMemory → all_checked st kept_users kept_subtrees ≡ Err fault) → Reports (audit_report text given texts) known known (Err (lifted_check fault))
+        pub subtree_fault_reports : (fault : CheckFault) → (fault ≢ CheckNoMemory → all_checked st kept_users kept_subtrees ≡ Err fault) → Reports (audit_report tree given texts) known known (Err (lifted_check fault))
         subtree_fault_reports fault stated = subst (λ (r : Report). Reports r known known (Err (lifted_check fault))) (sym of_kept) (by_fault fault stated)
           where
             ending_of : (found : CheckFault) → all_checked st kept_users kept_subtrees ≡ Err found → (pairs_report st kept_users kept_subtrees).ending ≡ Err (lifted_check found)
@@ -129,16 +127,16 @@ module _ (text : List ℕ) (given : List (ℕ × List ℕ)) (texts : List (List 
             by_fault CheckNoMemory is = (answers_take kept_users kept_subtrees (all_checked st kept_users kept_subtrees), keeps known)
 
         module _ (new : Option (List ℕ)) (said : List ℕ) (status : ℕ) (is : pairs_report st kept_users kept_subtrees ≡ record { text = said; ending = Ok status }) where
-          pub answer_reports : Appends known new said → Reports (audit_report text given texts) known new (Ok status)
+          pub answer_reports : Appends known new said → Reports (audit_report tree given texts) known new (Ok status)
           answer_reports written = subst (λ (r : Report). Reports r known new (Ok status)) (sym (of_kept ∙ is)) (refl, written)
 
-          pub failed_write_reports : AppendsPart known new said → Reports (audit_report text given texts) known new (Err Write)
+          pub failed_write_reports : AppendsPart known new said → Reports (audit_report tree given texts) known new (Err Write)
           failed_write_reports part = subst (λ (r : Report). Reports r known new (Err Write)) (sym (of_kept ∙ is)) part
 
         pub contained_means : (kept_users ≢ [] → AreContained st kept_users kept_subtrees)
-            → (start : State) (who : List Identity) (paths : List Names) → IsTextOf start text → users_read given ≡ Ok who → paths_read texts ≡ Ok paths → who ≢ [] → AreContained start who paths
+            → (start : State) (who : List Identity) (paths : List Names) → tree ≡ Ok start → users_read given ≡ Ok who → paths_read texts ≡ Ok paths → who ≢ [] → AreContained start who paths
         contained_means law start who paths is_text is_who are_paths some =
-            subst (λ (s : State). AreContained s who paths) (same_start (sym of_text ∙ text_is_read text start is_text))
+            subst (λ (s : State). AreContained s who paths) (same_start (sym of_text ∙ is_text))
             (subst (λ l. AreContained st l paths) whose
             (subst (λ l. AreContained st users l) (same_Ok (sym of_paths ∙ are_paths))
             (contained_once users subtrees st

@@ -5,7 +5,7 @@ use Rattle.cg_cgroup.specs.Paths.{Names, path_at}
 use Rattle.cg_cgroup.specs.Users.{user_of}
 use Rattle.cg_cgroup.specs.Identity.{Identity}
 use Rattle.cg_model.specs.States.{State}
-use Rattle.cg_text.specs.TreeTexts.{tree_of}
+use Rattle.cg_text.specs.Readings.{Reading}
 use Rattle.cg_text.specs.declared.tree.fault.TreeFault.{TreeFault}
 use Rattle.cg_model.specs.declared.fault.CheckFault.{CheckFault}
 use Rattle.cg_model.specs.declared.fault.CheckFault.TheVariants.{RootSubtree, NoSuchSubtree, NoMemory as CheckNoMemory}
@@ -35,10 +35,10 @@ abbrev report_by : Result Identity CliFault → Result Names CliFault → Result
 report_by user path tree =
     report_on user (λ user. report_on path (λ path. report_on (elim tree [ Ok st ↦ Ok st | Err fault ↦ Err (lifted fault) ]) (λ st. subtree_report st user path)))
 
-module _ (text : List ℕ) (uid : ℕ) (gids subtree : List ℕ) (user : Identity) (path : Names) (st : State) (of_user : user_read uid gids ≡ Ok user) (of_path : path_read subtree ≡ Ok path) (of_text : tree_of text ≡ Ok st) where
-  pub report_is : check_report text uid gids subtree ≡ subtree_report st user path
+module _ (tree : Reading) (uid : ℕ) (gids subtree : List ℕ) (user : Identity) (path : Names) (st : State) (of_user : user_read uid gids ≡ Ok user) (of_path : path_read subtree ≡ Ok path) (of_text : tree ≡ Ok st) where
+  pub report_is : check_report tree uid gids subtree ≡ subtree_report st user path
   report_is =
-      ap (λ u. report_by u (path_read subtree) (tree_of text)) of_user ∙ ap (λ p. report_by (Ok user) p (tree_of text)) of_path ∙ ap (report_by (Ok user) (Ok path)) of_text
+      ap (λ u. report_by u (path_read subtree) tree) of_user ∙ ap (λ p. report_by (Ok user) p tree) of_path ∙ ap (report_by (Ok user) (Ok path)) of_text
 
   needs_memory : (found : Result Answer CheckFault) → takes_memory (report_on (in_call found) (answer_report path)).ending ≡ true
   needs_memory (Ok answer) = refl
@@ -46,10 +46,10 @@ module _ (text : List ℕ) (uid : ℕ) (gids subtree : List ℕ) (user : Identit
   needs_memory (Err NoSuchSubtree) = refl
   needs_memory (Err CheckNoMemory) = refl
 
-  nothing_written : (fault : CliFault) (known : Option (List ℕ)) → (subtree_report st user path ≡ fault_report fault) → (check_report text uid gids subtree).ending ≡ Err fault
+  nothing_written : (fault : CliFault) (known : Option (List ℕ)) → (subtree_report st user path ≡ fault_report fault) → (check_report tree uid gids subtree).ending ≡ Err fault
   nothing_written fault known same = ap (λ (r : Report). r.ending) (report_is ∙ same)
 
-  pub fault_reports : (fault : CheckFault) (known : Option (List ℕ)) → (fault ≢ CheckNoMemory → checked st user path ≡ Err fault) → Reports (check_report text uid gids subtree) known known (Err (lifted_check fault))
+  pub fault_reports : (fault : CheckFault) (known : Option (List ℕ)) → (fault ≢ CheckNoMemory → checked st user path ≡ Err fault) → Reports (check_report tree uid gids subtree) known known (Err (lifted_check fault))
   fault_reports RootSubtree known is =
       (nothing_written (lifted_check RootSubtree) known (ap (λ f. report_on (in_call f) (answer_report path)) (is (λ other. cc))), keeps known)
   fault_reports NoSuchSubtree known is =
@@ -58,7 +58,7 @@ module _ (text : List ℕ) (uid : ℕ) (gids subtree : List ℕ) (user : Identit
       (ap (λ (r : Report). takes_memory r.ending) report_is ∙ needs_memory (checked st user path), keeps known)
 
   -- what holds of the state, the user and the path that were read holds of those that the bytes say
-  pub of_bytes : (P : State → Identity → Names → Type 0) → P st user path → (other : State) (who : Identity) (named : Names) → tree_of text ≡ Ok other → user_of uid gids ≡ Some who → path_at subtree ≡ Some named → P other who named
+  pub of_bytes : (P : State → Identity → Names → Type 0) → P st user path → (other : State) (who : Identity) (named : Names) → tree ≡ Ok other → user_of uid gids ≡ Some who → path_at subtree ≡ Some named → P other who named
   of_bytes P holds other who named of_other of_who of_named =
       let a : st ≡ other = same_Ok _ _ (sym of_text ∙ of_other) in
       let b : user ≡ who = same_user (nat_eq uid 0) (user_of uid gids) user who of_user of_who in
@@ -66,5 +66,5 @@ module _ (text : List ℕ) (uid : ℕ) (gids subtree : List ℕ) (user : Identit
       subst (λ s. P s who named) a (subst (λ u. P st u named) b (subst (P st user) c holds))
 
   -- what is contained there
-  pub contained_bytes : IsContained st user path → (other : State) (who : Identity) (named : Names) → tree_of text ≡ Ok other → user_of uid gids ≡ Some who → path_at subtree ≡ Some named → IsContained other who named
+  pub contained_bytes : IsContained st user path → (other : State) (who : Identity) (named : Names) → tree ≡ Ok other → user_of uid gids ≡ Some who → path_at subtree ≡ Some named → IsContained other who named
   contained_bytes = of_bytes IsContained

@@ -7,7 +7,7 @@ use Rattle.cg_cgroup.specs.Users.{user_of}
 use Rattle.cg_cgroup.specs.Paths.{Names, is_root, path_at}
 use Rattle.cg_cgroup.specs.declared.cgroup.Cgroup.{Cgroup}
 use Rattle.cg_model.specs.States.{State, row_at}
-use Rattle.cg_text.specs.TreeTexts.{tree_of}
+use Rattle.cg_text.specs.Readings.{Reading}
 use Rattle.cg_text.specs.declared.tree.fault.TreeFault.{TreeFault}
 use Rattle.cg_text.specs.declared.tree.fault.TreeFault.TheVariants.{NoMemory as TreeNoMemory}
 use Rattle.cg_cli.specs.Faults.{lifted}
@@ -61,28 +61,28 @@ tree_before : (subtree : Option Names) (tree : Result State TreeFault) → Fault
 tree_before subtree (Ok st) = course_before st subtree
 tree_before subtree (Err fault) = lifted_before fault
 
-path_before : (text : List ℕ) (path : Option Names) → FaultIsBefore (elim (or_fault path BadPath) [ Ok named ↦ elim (elim (tree_of text) as (λ _. Result State CliFault) [ Ok st ↦ Ok st | Err fault ↦ Err (lifted fault) ]) [ Ok st ↦ course_from st (Some named) | Err fault ↦ Err fault ] | Err fault ↦ Err fault ])
-path_before text None = refl
-path_before text (Some named) = tree_before (Some named) (tree_of text)
+path_before : (tree : Reading) (path : Option Names) → FaultIsBefore (elim (or_fault path BadPath) [ Ok named ↦ elim (elim tree as (λ _. Result State CliFault) [ Ok st ↦ Ok st | Err fault ↦ Err (lifted fault) ]) [ Ok st ↦ course_from st (Some named) | Err fault ↦ Err fault ] | Err fault ↦ Err fault ])
+path_before tree None = refl
+path_before tree (Some named) = tree_before (Some named) tree
 
-read_before : (subtree : Option (List ℕ)) (text : List ℕ) → FaultIsBefore (course_read subtree text)
-read_before None text = tree_before None (tree_of text)
-read_before (Some subtree) text = path_before text (path_at subtree)
+read_before : (subtree : Option (List ℕ)) (tree : Reading) → FaultIsBefore (course_read subtree tree)
+read_before None tree = tree_before None tree
+read_before (Some subtree) tree = path_before tree (path_at subtree)
 
 never_after : (read : Result Course CliFault) (fault : CliFault) → FaultIsBefore read → read ≡ Err fault → is_before fault ≡ true
 never_after (Ok course) fault before is = let never : ⊥ = cc in absurd never
 never_after (Err other) fault before is = let same : other ≡ fault = cc in subst (λ f. is_before f ≡ true) same before
 
-module _ (text : List ℕ) (uid : ℕ) (gids : List ℕ) (subtree : Option (List ℕ)) where
+module _ (tree : Reading) (uid : ℕ) (gids : List ℕ) (subtree : Option (List ℕ)) where
   abbrev lines : Reporting
-  lines = lines_report text uid gids subtree
+  lines = lines_report tree uid gids subtree
 
   pub nothing_said : (ops : List ℕ) (known : Option (List ℕ)) → HasFront lines ops known known
-  nothing_said ops known = ([], ops, refl, subst (Appends known known) (sym (silent (user_read uid gids) (course_read subtree text))) (Appends-nil known))
+  nothing_said ops known = ([], ops, refl, subst (Appends known known) (sym (silent (user_read uid gids) (course_read subtree tree))) (Appends-nil known))
 
   -- what is said where the user and the course were read
-  pub lines_are : (user : Identity) (course : Course) → user_read uid gids ≡ Ok user → course_read subtree text ≡ Ok course → lines ≡ (λ ops. lines_said course user 0 ops)
-  lines_are user course of_user of_course = ap (λ u. lines_by u (course_read subtree text)) of_user ∙ ap (lines_by (Ok user)) of_course
+  pub lines_are : (user : Identity) (course : Course) → user_read uid gids ≡ Ok user → course_read subtree tree ≡ Ok course → lines ≡ (λ ops. lines_said course user 0 ops)
+  lines_are user course of_user of_course = ap (λ u. lines_by u (course_read subtree tree)) of_user ∙ ap (lines_by (Ok user)) of_course
 
   -- a fault before the operations
   said_fault : (ops : List ℕ) (known : Option (List ℕ)) (fault : CliFault) → lines ops ≡ fault_report fault → ((closed (lines ops)).ending ≡ Err fault) × Appends known known (closed (lines ops)).text
@@ -91,13 +91,13 @@ module _ (text : List ℕ) (uid : ℕ) (gids : List ℕ) (subtree : Option (List
       (ap (λ (r : Report). r.ending) is, subst (Appends known known) (sym (ap (λ (r : Report). r.text) is)) (Appends-nil known))
 
   module _ (user : Identity) (of_user : user_read uid gids ≡ Ok user) where
-    course_faults : (ops : List ℕ) (fault : CliFault) → course_read subtree text ≡ Err fault → lines ops ≡ fault_report fault
-    course_faults ops fault is = ap (λ u. lines_by u (course_read subtree text) ops) of_user ∙ ap (λ c. lines_by (Ok user) c ops) is
+    course_faults : (ops : List ℕ) (fault : CliFault) → course_read subtree tree ≡ Err fault → lines ops ≡ fault_report fault
+    course_faults ops fault is = ap (λ u. lines_by u (course_read subtree tree) ops) of_user ∙ ap (λ c. lines_by (Ok user) c ops) is
 
-    pub course_fault : (ops : List ℕ) (known : Option (List ℕ)) (fault : CliFault) → (fault ≢ NoMemory → course_read subtree text ≡ Err fault) → Replays closed lines ops known known (Err fault)
+    pub course_fault : (ops : List ℕ) (known : Option (List ℕ)) (fault : CliFault) → (fault ≢ NoMemory → course_read subtree tree ≡ Err fault) → Replays closed lines ops known known (Err fault)
     course_fault ops known NoMemory is = nothing_said ops known
-    course_fault ops known Read is = let never : false ≡ true = never_after (course_read subtree text) Read (read_before subtree text) (is (λ same. cc)) in cc
-    course_fault ops known Write is = let never : false ≡ true = never_after (course_read subtree text) Write (read_before subtree text) (is (λ same. cc)) in cc
+    course_fault ops known Read is = let never : false ≡ true = never_after (course_read subtree tree) Read (read_before subtree tree) (is (λ same. cc)) in cc
+    course_fault ops known Write is = let never : false ≡ true = never_after (course_read subtree tree) Write (read_before subtree tree) (is (λ same. cc)) in cc
     course_fault ops known fault is = said_fault ops known fault (course_faults ops fault (is (λ same. cc)))
 
   -- a fault of the user
@@ -105,10 +105,10 @@ module _ (text : List ℕ) (uid : ℕ) (gids : List ℕ) (subtree : Option (List
       → user_read uid gids ≡ cond root (Err Uid) (or_fault found Gids) → cond root (Err Uid) (or_fault found Gids) ≡ Err fault → Replays closed lines ops known known (Err fault)
   user_fault_by ops known fault true found e h =
       let is : Uid ≡ fault = cc in
-      subst (λ f. Replays closed lines ops known known (Err f)) is (said_fault ops known Uid (ap (λ u. lines_by u (course_read subtree text) ops) e))
+      subst (λ f. Replays closed lines ops known known (Err f)) is (said_fault ops known Uid (ap (λ u. lines_by u (course_read subtree tree) ops) e))
   user_fault_by ops known fault false None e h =
       let is : Gids ≡ fault = cc in
-      subst (λ f. Replays closed lines ops known known (Err f)) is (said_fault ops known Gids (ap (λ u. lines_by u (course_read subtree text) ops) e))
+      subst (λ f. Replays closed lines ops known known (Err f)) is (said_fault ops known Gids (ap (λ u. lines_by u (course_read subtree tree) ops) e))
   user_fault_by ops known fault false (Some user) e h = let never : ⊥ = cc in absurd never
 
   pub user_fault : (ops : List ℕ) (known : Option (List ℕ)) (fault : CliFault) → user_read uid gids ≡ Err fault → Replays closed lines ops known known (Err fault)

@@ -12,6 +12,7 @@ use Rattle.cg_model.specs.Several.{AreContained}
 use Rattle.cg_model.specs.declared.answer.Answer.{Answer}
 use Rattle.cg_model.specs.declared.answer.Answer.TheVariants.{Contained, Escapes, Unsettled}
 use Rattle.cg_report.specs.PairLines.{pairs_text}
+use Rattle.cg_text.specs.Readings.{Reading}
 use Rattle.cg_cli.specs.Audits.{users_read, paths_read}
 use Rattle.cg_cli.specs.Containment.{in_call}
 use Rattle.cg_cli.specs.May.{tree_read}
@@ -61,11 +62,11 @@ pairs_found st users subtrees = in_call (unless_fault (first (flat_map (subtree_
 
 -- All users are looked at first, each with his uid before his gids; then all paths, the tree's text, and whether the
 -- subtrees are ones that can be checked. Who and what is named again counts once.
-abbrev pub all_report : List ℕ → List (ℕ × List ℕ) → List (List ℕ) → Result (List Listed) CliFault
-all_report text given texts =
+abbrev pub all_report : Reading → List (ℕ × List ℕ) → List (List ℕ) → Result (List Listed) CliFault
+all_report tree given texts =
     read_then (users_read given) (λ users.
     read_then (paths_read texts) (λ subtrees.
-    read_then (tree_read text) (λ st. pairs_found st (once same_user users) (once same_path subtrees))))
+    read_then (tree_read tree) (λ st. pairs_found st (once same_user users) (once same_path subtrees))))
 
 -- What a call that writes each pair as it is found answers, and has written by then. A status is that of all pairs, whose
 -- text is written. A failed write leaves a part of the text, and want of memory some of the pairs. Any other fault is the

@@ -4,6 +4,7 @@ use Rattle.cg_cgroup.specs.Paths.{Names}
 use Rattle.cg_cgroup.specs.Identity.{Identity}
 use Rattle.cg_model.specs.States.{State}
 use Rattle.cg_model.specs.Checks.{all_checked}
+use Rattle.cg_text.specs.Readings.{Reading}
 use Rattle.cg_model.specs.declared.answer.AllAnswer.{AllAnswer}
 use Rattle.cg_model.specs.declared.answer.AllAnswer.TheVariants.{Contained, Pair}
 use Rattle.cg_report.specs.AuditLines.{audit_text}
@@ -46,8 +47,8 @@ pairs_report st users subtrees =
 
 -- All users are looked at first, each with his uid before his gids; then all paths, the tree's text, and whether the
 -- subtrees are ones that can be checked.
-abbrev pub audit_report : List ℕ → List (ℕ × List ℕ) → List (List ℕ) → Report
-audit_report text given texts =
+abbrev pub audit_report : Reading → List (ℕ × List ℕ) → List (List ℕ) → Report
+audit_report tree given texts =
     report_on (users_read given) (λ users.
     report_on (paths_read texts) (λ subtrees.
-    report_on (tree_read text) (λ st. pairs_report st users subtrees)))
+    report_on (tree_read tree) (λ st. pairs_report st users subtrees)))

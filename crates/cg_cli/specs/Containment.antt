@@ -5,6 +5,7 @@ use Rattle.cg_cgroup.specs.Identity.{Identity}
 use Rattle.cg_model.specs.States.{State}
 use Rattle.cg_model.specs.declared.fault.CheckFault.{CheckFault}
 use Rattle.cg_model.specs.Checks.{checked}
+use Rattle.cg_text.specs.Readings.{Reading}
 use Rattle.cg_model.specs.declared.answer.Answer.{Answer}
 use Rattle.cg_model.specs.declared.answer.Answer.TheVariants.{Contained, Escapes, Unsettled}
 use Rattle.cg_report.specs.AnswerLines.{answer_text}
@@ -32,8 +33,8 @@ abbrev pub subtree_report : State → Identity → Names → Report
 subtree_report st user subtree = report_on (in_call (checked st user subtree)) (answer_report subtree)
 
 -- The user is looked at first, then the path, the tree's text, and whether the subtree is one that can be checked.
-abbrev pub check_report : List ℕ → ℕ → List ℕ → List ℕ → Report
-check_report text uid gids subtree =
+abbrev pub check_report : Reading → ℕ → List ℕ → List ℕ → Report
+check_report tree uid gids subtree =
     report_on (user_read uid gids) (λ user.
     report_on (path_read subtree) (λ path.
-    report_on (tree_read text) (λ st. subtree_report st user path)))
+    report_on (tree_read tree) (λ st. subtree_report st user path)))

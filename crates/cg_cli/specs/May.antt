@@ -10,7 +10,7 @@ use Rattle.cg_model.specs.declared.operation.Op.TheVariants.{Move}
 use Rattle.cg_model.specs.declared.outcome.Refusal.{Refusal}
 use Rattle.cg_model.specs.declared.outcome.Outcome.TheVariants.{Refused}
 use Rattle.cg_lines.specs.Outcomes.{outcome_text}
-use Rattle.cg_text.specs.TreeTexts.{tree_of}
+use Rattle.cg_text.specs.Readings.{Reading}
 use Rattle.cg_cli.specs.Faults.{lifted}
 use Rattle.cg_cli.specs.Arguments.{user_read, pid_read, path_read}
 use Rattle.cg_cli.specs.Reports.{Report, report_on}
@@ -27,14 +27,14 @@ move_report st user pid to =
     let said : List ℕ × ℕ = permission (Move pid to) (first (bars st user (Move pid to))) in
     record { text = said.0; ending = Ok said.1 }
 
--- the tree of a text, or the text's first fault
-abbrev pub tree_read : List ℕ → Result State CliFault
-tree_read text = elim (tree_of text) [ Ok st ↦ Ok st | Err fault ↦ Err (lifted fault) ]
+-- what a text is read as, with its fault as that of a call
+abbrev pub tree_read : Reading → Result State CliFault
+tree_read tree = elim tree [ Ok st ↦ Ok st | Err fault ↦ Err (lifted fault) ]
 
 -- The arguments are looked at in the order of uid, gids, PID and path, and then the tree's text.
-abbrev pub may_report : List ℕ → ℕ → List ℕ → ℕ → List ℕ → Report
-may_report text uid gids pid to =
+abbrev pub may_report : Reading → ℕ → List ℕ → ℕ → List ℕ → Report
+may_report tree uid gids pid to =
     report_on (user_read uid gids) (λ user.
     report_on (pid_read pid) (λ number.
     report_on (path_read to) (λ path.
-    report_on (tree_read text) (λ st. move_report st user number path))))
+    report_on (tree_read tree) (λ st. move_report st user number path))))

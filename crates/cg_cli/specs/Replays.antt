@@ -12,6 +12,7 @@ use Rattle.cg_model.specs.declared.outcome.Outcome.TheVariants.{Done, Refused}
 use Rattle.cg_lines.specs.LineReading.{operation_at}
 use Rattle.cg_lines.specs.Outcomes.{outcome_text}
 use Rattle.cg_lines.specs.declared.lines.fault.LineFault.TheVariants.{TooLong, BadWord, Cut}
+use Rattle.cg_text.specs.Readings.{Reading}
 use Rattle.cg_cli.specs.Arguments.{or_fault, user_read, path_read}
 use Rattle.cg_cli.specs.Courses.{Course, state_of, on_course, course_from, closing}
 use Rattle.cg_cli.specs.May.{tree_read}
@@ -80,21 +81,21 @@ lines_said course user done bytes = replayed course user done (slice_split is_ne
 abbrev pub closed : Said Course → Report
 closed said = elim said.ending [ Ok course ↦ with_front said.text (closing course) | Err fault ↦ record { text = said.text; ending = Err fault } ]
 
--- what operations are carried out on, by the path of a subtree, where one is named, and the tree's text
-abbrev pub course_read : Option (List ℕ) → List ℕ → Result Course CliFault
-course_read None text = elim (tree_read text) [ Ok st ↦ course_from st None | Err fault ↦ Err fault ]
-course_read (Some subtree) text =
+-- what operations are carried out on, by the path of a subtree, where one is named, and what the tree's text is read as
+abbrev pub course_read : Option (List ℕ) → Reading → Result Course CliFault
+course_read None tree = elim (tree_read tree) [ Ok st ↦ course_from st None | Err fault ↦ Err fault ]
+course_read (Some subtree) tree =
     elim (path_read subtree) [
-      | Ok path ↦ elim (tree_read text) [ Ok st ↦ course_from st (Some path) | Err fault ↦ Err fault ]
+      | Ok path ↦ elim (tree_read tree) [ Ok st ↦ course_from st (Some path) | Err fault ↦ Err fault ]
       | Err fault ↦ Err fault
     ]
 
 -- What is said line by line. The user is looked at first, then the subtree's path, the tree's text, whether the subtree is
 -- one that can be watched, and then the operations.
-abbrev pub lines_report : List ℕ → ℕ → List ℕ → Option (List ℕ) → List ℕ → Said Course
-lines_report text uid gids subtree ops =
-    report_on (user_read uid gids) (λ user. report_on (course_read subtree text) (λ course. lines_said course user 0 ops))
+abbrev pub lines_report : Reading → ℕ → List ℕ → Option (List ℕ) → List ℕ → Said Course
+lines_report tree uid gids subtree ops =
+    report_on (user_read uid gids) (λ user. report_on (course_read subtree tree) (λ course. lines_said course user 0 ops))
 
 -- The whole report: the lines, and behind them the verdict where a subtree is watched and no fault ended them.
-abbrev pub replay_report : List ℕ → ℕ → List ℕ → Option (List ℕ) → List ℕ → Report
-replay_report text uid gids subtree ops = closed (lines_report text uid gids subtree ops)
+abbrev pub replay_report : Reading → ℕ → List ℕ → Option (List ℕ) → List ℕ → Report
+replay_report tree uid gids subtree ops = closed (lines_report tree uid gids subtree ops)

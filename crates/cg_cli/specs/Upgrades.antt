@@ -1,8 +1,9 @@
 -- The report on writing a tree text anew. Own.
 use Rattle.std.specs.Prelude.{◌≡◌, ◌≢◌, ℕ, ◌≤◌, List, length, Option, Some, Result, Ok, Err}
 use Rattle.cg_model.specs.States.{State}
-use Rattle.cg_text.specs.TreeTexts.{longest_text, document_of, tree_of}
-use Rattle.cg_text.specs.HasState.{HasState}
+use Rattle.cg_text.specs.Readings.{Reading}
+use Rattle.cg_text.specs.TextOf.{IsTextOf}
+use Rattle.cg_text.specs.TreeTexts.{longest_text, document_of}
 use Rattle.cg_print.specs.Documents.{tree_document, IsSpelled}
 use Rattle.cg_cli.specs.May.{tree_read}
 use Rattle.cg_cli.specs.Reports.{Report, Reports, report_on}
@@ -10,17 +11,17 @@ use Rattle.cg_cli.specs.declared.fault.CliFault.{CliFault}
 use Rattle.cg_cli.specs.declared.fault.CliFault.TheVariants.{NoMemory}
 
 -- the text that is written, or the fault of the tree's text
-abbrev pub upgrade_report : List ℕ → List ℕ → Report
+abbrev pub upgrade_report : Reading → List ℕ → Report
 upgrade_report tree text = report_on (tree_read tree) (λ st. record { text = text; ending = Ok 0 })
 
--- The text is that of the state's document, as `toml` spells it. Unless it is too long for a tree text it has the state.
+-- The text is that of the state's document, as `toml` spells it. Unless it is too long for a tree text it is one of the state.
 pub record IsNewText (st : State) (text : List ℕ) : Type 0 where
   pub document : document_of text ≡ Some (tree_document st)
   pub spelled : IsSpelled st text
-  pub state : length text ≤ longest_text → HasState text st
+  pub state : length text ≤ longest_text → IsTextOf st text
 
 -- The text of the state that came is the report. Want of memory may come before there is one.
-pub record Upgrades (tree : List ℕ) (old new : Option (List ℕ)) (result : Result ℕ CliFault) : Type 0 where
+pub record Upgrades (old new : Option (List ℕ)) (result : Result ℕ CliFault) (tree : Reading) : Type 0 where
   pub text : List ℕ
-  pub written : (st : State) → tree_of tree ≡ Ok st → result ≢ Err NoMemory → IsNewText st text
+  pub written : (st : State) → tree ≡ Ok st → result ≢ Err NoMemory → IsNewText st text
   pub reports : Reports (upgrade_report tree text) old new result

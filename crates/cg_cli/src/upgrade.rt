@@ -1,4 +1,6 @@
 //! Writing a tree text anew.
+ghost use Rattle.cg_text.specs.Readings.{OnText};
+ghost use Rattle.cg_text.specs.TreeTexts.{tree_of};
 ghost use Rattle.cg_cli.specs.Upgrades.{Upgrades};
 
 use crate::fault::CliFault;
@@ -14,7 +16,14 @@ use std::io::Write;
 /// `Tree`, and then nothing is written; `Write` where a write failed or took nothing; `NoMemory` where an allocation was
 /// refused.
 pub fn upgrade_bytes<W: Write>(alloc: Global, tree: &[u8], out: &mut W) -> Result<u8, CliFault>
-    ensures report { Upgrades tree.now (W.contents out.old) (W.contents out.new) result }
+    ensures report { OnText tree.now (Upgrades (W.contents out.old) (W.contents out.new) result) }
+{
+    upgrade_as_read(alloc, tree, out)
+}
+
+/// The same, said of what the reader reads.
+fn upgrade_as_read<W: Write>(alloc: Global, tree: &[u8], out: &mut W) -> Result<u8, CliFault>
+    ensures report { Upgrades (W.contents out.old) (W.contents out.new) result (tree_of tree.now) }
 {
     let rows = read_tree(alloc, tree)?;
     let text = tree_text(alloc, &rows)?;

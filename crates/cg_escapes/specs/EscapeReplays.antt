@@ -12,7 +12,7 @@ use Rattle.cg_model.specs.declared.answer.Answer.TheVariants.{Escapes}
 use Rattle.cg_report.specs.AnswerLines.{op_lines}
 use Rattle.cg_report.specs.VerdictLines.{verdict_text}
 use Rattle.cg_escapes.specs.EscapeLines.{HaveLines}
-use Rattle.cg_text.specs.TreeTexts.{tree_of}
+use Rattle.cg_text.specs.Readings.{Reading}
 use Rattle.cg_cli.specs.Reports.{Report}
 use Rattle.cg_cli.specs.Containment.{check_report}
 use Rattle.cg_cli.specs.Replays.{replay_report}
@@ -30,10 +30,10 @@ pub record EndsBroken (report : Report) : Type 0 where
   pub text : report.text ≡ front ++ verdict_text (Broken steps clause)
   pub ending : report.ending ≡ Ok 1
 
--- A check of the tree's bytes for a user and a subtree prints the line `escapes` and the lines of these operations, each of
+-- A check of what a text is read as, for a user and a subtree, prints the line `escapes` and the lines of these operations, each of
 -- 8192 bytes at most and fewer than 65536 of them. They are its answer, and a replay of the printed lines breaks the subtree.
-pub record IsReplayed (text : List ℕ) (uid : ℕ) (gids : List ℕ) (subtree : List ℕ) (ops : List Op) : Type 0 where
-  pub printed : (check_report text uid gids subtree).text ≡ codes "escapes\n" ++ op_lines ops
+pub record IsReplayed (tree : Reading) (uid : ℕ) (gids : List ℕ) (subtree : List ℕ) (ops : List Op) : Type 0 where
+  pub printed : (check_report tree uid gids subtree).text ≡ codes "escapes\n" ++ op_lines ops
   pub lines : HaveLines ops
-  pub answered : (st : State) (user : Identity) (path : Names) → tree_of text ≡ Ok st → user_of uid gids ≡ Some user → path_at subtree ≡ Some path → answer st user path ≡ Escapes ops
-  pub replayed : EndsBroken (replay_report text uid gids (Some subtree) (op_lines ops))
+  pub answered : (st : State) (user : Identity) (path : Names) → tree ≡ Ok st → user_of uid gids ≡ Some user → path_at subtree ≡ Some path → answer st user path ≡ Escapes ops
+  pub replayed : EndsBroken (replay_report tree uid gids (Some subtree) (op_lines ops))

@@ -10,6 +10,7 @@ ghost use Rattle.cg_model.specs.Answers.{answer};
 ghost use Rattle.cg_model.specs.declared.answer.Answer.TheVariants.{Escapes};
 ghost use Rattle.cg_escapes.specs.EscapeLines.{IsNamed, HaveLines};
 ghost use Rattle.std.specs.Prelude.{◌≡◌, ℕ, List, Ok};
+ghost use Rattle.cg_text.specs.Readings.{Reading, IsReading};
 ghost use Rattle.cg_cli.specs.Containment.{check_report};
 ghost use Rattle.cg_escapes.specs.EscapeReplays.{IsReplayed};
 
@@ -23,6 +24,7 @@ pub fn escapes_have_lines()
 /// enough and few enough to be replayed, and a replay of them with the same tree, user and subtree ends with a `broken`
 /// line and status 1.
 pub fn escapes_are_replayed()
-    ensures { (text : List ℕ) (uid : ℕ) (gids : List ℕ) (subtree : List ℕ)
-        → (check_report text uid gids subtree).ending ≡ Ok 1 → (ops : List Op) × IsReplayed text uid gids subtree ops }
+    ensures { (text : List ℕ) (tree : Reading) (uid : ℕ) (gids : List ℕ) (subtree : List ℕ)
+        → IsReading text tree → (check_report tree uid gids subtree).ending ≡ Ok 1
+        → (ops : List Op) × IsReplayed tree uid gids subtree ops }
 {}

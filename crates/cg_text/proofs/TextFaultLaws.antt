@@ -12,6 +12,7 @@ use Rattle.cg_text.specs.Tree.{or_else, first_row, row_fault, controllers_read, 
 use Rattle.cg_text.specs.HasState.{IsWritten}
 use Rattle.cg_model.specs.Clauses.{unless, absent, present, first}
 use Rattle.cg_text.specs.Said.{tables_at, controllers_said, format_said}
+use Rattle.cg_text.specs.Readings.{Reading, IsReading}
 use Rattle.cg_text.specs.TextFaults.{each, row_faults, cgroup_faults, process_faults, form_faults, said_faults, document_faults, text_faults}
 use Rattle.cg_text.specs.TextOf.{IsTextOf}
 use Rattle.cg_text.specs.TreeTexts.{longest_text, document_of, tree_of}
@@ -161,3 +162,19 @@ pub one_state : (bytes : List ℕ) (st other : State) → IsTextOf st bytes → 
 one_state bytes st other is also =
     let same : Ok st ≡ Ok other = sym (text_is_read bytes st is) ∙ text_is_read bytes other also in
     cc
+
+-- ---- what is read, as one word
+
+is_reading_as : (bytes : List ℕ) (read : Reading) → tree_of bytes ≡ read → IsReading bytes read
+is_reading_as bytes (Ok st) is = text_is_of bytes st is
+is_reading_as bytes (Err fault) is = fault_is_first bytes fault is
+
+pub is_reading : (bytes : List ℕ) → IsReading bytes (tree_of bytes)
+is_reading bytes = is_reading_as bytes (tree_of bytes) refl
+
+pub reading_is : (bytes : List ℕ) (read : Reading) → IsReading bytes read → tree_of bytes ≡ read
+reading_is bytes (Ok st) is = text_is_read bytes st is
+reading_is bytes (Err fault) is = first_is_read bytes fault is
+
+pub one_reading : (bytes : List ℕ) (read other : Reading) → IsReading bytes read → IsReading bytes other → read ≡ other
+one_reading bytes read other is also = sym (reading_is bytes read is) ∙ reading_is bytes other also

@@ -1,3 +1,4 @@
+-- How it is read and written: nobody has to believe it.
 -- From a TOML document to plain records, or the first fault of its form. Own.
 use Rattle.std.specs.Prelude.{ℕ, ◌+◌, ◌≤◌, length, ℤ, Bool, true, ◌&&◌, ◌||◌, nat_le, if◌then◌else◌, List, [], ◌∷◌, codes, Option, Some, None, option_and_then, Result, Ok, Err}
 use Rattle.std.specs.Option.{option_map}

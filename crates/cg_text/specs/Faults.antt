@@ -1,3 +1,4 @@
+-- How it is read and written: nobody has to believe it.
 -- The faults of a tree text, and what a call that may run out of memory answers.
 use Rattle.std.specs.Prelude.{◌≡◌, ◌≢◌, Option, Some, None, Result, Ok, Err}
 use Rattle.cg_text.specs.declared.tree.fault.TreeFault.{TreeFault}

@@ -1,3 +1,4 @@
+-- How it is read and written: nobody has to believe it.
 -- What it is for a text to have a state, beside the tests that find its first fault. Own.
 use Rattle.std.specs.Prelude.{◌≡◌, ℕ, ◌≤◌, ◌<◌, true, List, length, take, Some, None, is_some, Ok, slice_index_or}
 use Rattle.std.specs.Option.{option_map}

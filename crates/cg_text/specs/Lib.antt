@@ -9,5 +9,6 @@ pub mod Levels
 pub mod TreeTexts
 pub mod TextOf
 pub mod TextFaults
+pub mod Readings
 pub mod Tables
 pub mod HasState

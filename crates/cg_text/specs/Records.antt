@@ -1,3 +1,4 @@
+-- How it is read and written: nobody has to believe it.
 -- What a tree text says, as plain records: texts, numbers, and what is left out.
 use Rattle.std.specs.Prelude.{ℕ, ℤ, List, None}
 use Rattle.cg_text.specs.declared.tree.records.Format.{Format}

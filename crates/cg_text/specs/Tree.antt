@@ -1,3 +1,4 @@
+-- How it is read and written: nobody has to believe it.
 -- From plain records to the state of a tree, or the first fault. Own. Nothing here sees how the records were written.
 use Rattle.std.specs.Prelude.{ℕ, ◌+◌, pos, negsuc, Bool, true, false, ◌&&◌, ◌||◌, not, cond, List, [], ◌∷◌, map as map_list, take, Option, Some, None, is_some, option_and_then, unwrap_or, Result, Ok, Err}
 use Rattle.std.specs.Option.{option_map}

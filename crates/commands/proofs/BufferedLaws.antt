@@ -7,6 +7,7 @@ use Rattle.arguments.specs.declared.request.Request.{Request}
 use Rattle.arguments.specs.declared.request.Request.TheVariants as request
 use Rattle.arguments.specs.Given.{ids_of, tree_file}
 use Rattle.cg_model.specs.Listed.{Listed}
+use Rattle.cg_text.specs.Readings.{Reading}
 use Rattle.cg_cli.specs.AllPairs.{all_report, ReportsPairs}
 use Rattle.cg_cli.specs.Audits.{audit_report}
 use Rattle.cg_cli.specs.Upgrades.{Upgrades}
@@ -43,8 +44,8 @@ Reports-Keeps report old mid new (Err fault) h k = (h.0, Keeps-Keeps old mid new
 IsUnread-Keeps : (old mid new : Option (List ℕ)) (result : Result ℕ CliFault) → IsUnread old mid result → Keeps mid new → IsUnread old new result
 IsUnread-Keeps old mid new result h k = (h.0, Keeps-Keeps old mid new h.1 k)
 
-OnTree-Keeps : {A : Type 0} (file : Option A) (given : Option (List ℕ)) (before after : List ℕ → Type 0) (old mid new : Option (List ℕ)) (result : Result ℕ CliFault) → ((tree : List ℕ) → before tree → after tree) → OnTree file given before old mid result → Keeps mid new → OnTree file given after old new result
-OnTree-Keeps file given before after old mid new result passed (inl h) k = inl (h.0, h.1, passed h.0 h.2)
+OnTree-Keeps : {A : Type 0} (file : Option A) (given : Option (List ℕ)) (before after : Reading → Type 0) (old mid new : Option (List ℕ)) (result : Result ℕ CliFault) → ((tree : Reading) → before tree → after tree) → OnTree file given before old mid result → Keeps mid new → OnTree file given after old new result
+OnTree-Keeps file given before after old mid new result passed (inl h) k = inl (h.0, h.1, (h.2.0, h.2.1, passed h.2.0 h.2.2))
 OnTree-Keeps file given before after old mid new result passed (inr h) k = inr (IsUnread-Keeps old mid new result h k)
 
 ReportsPairs-Keeps : (pairs : Result (List Listed) CliFault) (old mid new : Option (List ℕ)) (result : Result ℕ CliFault) → ReportsPairs pairs old mid result → Keeps mid new → ReportsPairs pairs old new result
@@ -62,12 +63,12 @@ AuditSays-by : (all : Bool) (pairs : Result (List Listed) CliFault) (report : Re
 AuditSays-by true pairs report old mid new result said k = ReportsPairs-Keeps pairs old mid new result said k
 AuditSays-by false pairs report old mid new result said k = Reports-Keeps report old mid new result said k
 
-AuditSays-Keeps : (audit : Audit) (old mid new : Option (List ℕ)) (result : Result ℕ CliFault) (tree : List ℕ) → AuditSays audit old mid result tree → Keeps mid new → AuditSays audit old new result tree
+AuditSays-Keeps : (audit : Audit) (old mid new : Option (List ℕ)) (result : Result ℕ CliFault) (tree : Reading) → AuditSays audit old mid result tree → Keeps mid new → AuditSays audit old new result tree
 AuditSays-Keeps audit old mid new result tree said k =
     AuditSays-by audit.all (all_report tree (map ids_of audit.users.items) (map (λ subtree. subtree.now) audit.subtrees.items))
     (audit_report tree (map ids_of audit.users.items) (map (λ subtree. subtree.now) audit.subtrees.items)) old mid new result said k
 
-Upgrades-Keeps : (tree : List ℕ) (old mid new : Option (List ℕ)) (result : Result ℕ CliFault) → Upgrades tree old mid result → Keeps mid new → Upgrades tree old new result
+Upgrades-Keeps : (tree : Reading) (old mid new : Option (List ℕ)) (result : Result ℕ CliFault) → Upgrades old mid result tree → Keeps mid new → Upgrades old new result tree
 Upgrades-Keeps tree old mid new result h k = record { text = h.text; written = h.written; reports = Reports-Keeps _ old mid new result h.reports k }
 
 Replays-Keeps : (lines : Reporting) (ops : List ℕ) (old mid new : Option (List ℕ)) (result : Result ℕ CliFault) → Replays closed lines ops old mid result → Keeps mid new → Replays closed lines ops old new result

@@ -11,6 +11,7 @@ use Rattle.arguments.specs.declared.request.Sources.{Sources}
 use Rattle.arguments.specs.declared.request.Upgrade.{Upgrade}
 use Rattle.arguments.specs.declared.request.Request.{Request}
 use Rattle.arguments.specs.declared.request.Request.TheVariants as request
+use Rattle.cg_text.specs.Readings.{Reading, OnText}
 use Rattle.cg_cli.specs.May.{may_report}
 use Rattle.cg_cli.specs.Containment.{check_report}
 use Rattle.cg_cli.specs.Audits.{audit_report}
@@ -33,25 +34,25 @@ abbrev pub IsTree : {A : Type 0} → Option A → Option (List ℕ) → List ℕ
 IsTree None given tree = IfSome given (λ bytes. tree ≡ take most_bytes bytes)
 IsTree (Some file) given tree = Unit {0}
 
--- ---- the report of a request's own words on the text of a tree
+-- ---- the report of a request's own words on what the text of a tree is read as
 
-abbrev pub may_said : May → List ℕ → Report
+abbrev pub may_said : May → Reading → Report
 may_said may tree = may_report tree may.user.uid may.user.gids.items may.pid may.to.now
 
-abbrev pub check_said : Check → List ℕ → Report
+abbrev pub check_said : Check → Reading → Report
 check_said check tree = check_report tree check.user.uid check.user.gids.items check.subtree.now
 
-abbrev pub advise_said : Check → List ℕ → Report
+abbrev pub advise_said : Check → Reading → Report
 advise_said advise tree = advise_report tree advise.user.uid advise.user.gids.items advise.subtree.now
 
 -- the first pair that isn't contained, or each of them
-abbrev pub AuditSays : Audit → Option (List ℕ) → Option (List ℕ) → Result ℕ CliFault → List ℕ → Type 0
+abbrev pub AuditSays : Audit → Option (List ℕ) → Option (List ℕ) → Result ℕ CliFault → Reading → Type 0
 AuditSays audit old new result tree =
     let users = map ids_of audit.users.items in
     let subtrees = map (λ subtree. subtree.now) audit.subtrees.items in
     MatchBool audit.all (ReportsPairs (all_report tree users subtrees) old new result) (Reports (audit_report tree users subtrees) old new result)
 
-abbrev pub replay_said : Replay → List ℕ → Reporting
+abbrev pub replay_said : Replay → Reading → Reporting
 replay_said replay tree = lines_report tree replay.user.uid replay.user.gids.items (option_map (λ path. path.now) replay.subtree)
 
 -- ---- what a command answers, and has written by then
@@ -60,12 +61,12 @@ replay_said replay tree = lines_report tree replay.user.uid replay.user.gids.ite
 abbrev pub IsUnread : Option (List ℕ) → Option (List ℕ) → Result ℕ CliFault → Type 0
 IsUnread old new result = ((result ≡ Err Read) ⊎ (result ≡ Err NoMemory)) × Keeps old new
 
--- What is answered on some text of a tree.
-abbrev pub OnTree : {A : Type 0} → Option A → Option (List ℕ) → (List ℕ → Type 0) → Option (List ℕ) → Option (List ℕ) → Result ℕ CliFault → Type 0
-OnTree file given answers old new result = ((tree : List ℕ) × IsTree file given tree × answers tree) ⊎ IsUnread old new result
+-- What is answered on some text of a tree, of what that is read as.
+abbrev pub OnTree : {A : Type 0} → Option A → Option (List ℕ) → (Reading → Type 0) → Option (List ℕ) → Option (List ℕ) → Result ℕ CliFault → Type 0
+OnTree file given answers old new result = ((tree : List ℕ) × IsTree file given tree × OnText tree answers) ⊎ IsUnread old new result
 
 -- The report of some text of a tree.
-abbrev pub ReportsOnTree : {A : Type 0} → Option A → Option (List ℕ) → (List ℕ → Report) → Option (List ℕ) → Option (List ℕ) → Result ℕ CliFault → Type 0
+abbrev pub ReportsOnTree : {A : Type 0} → Option A → Option (List ℕ) → (Reading → Report) → Option (List ℕ) → Option (List ℕ) → Result ℕ CliFault → Type 0
 ReportsOnTree file given said old new result = OnTree file given (λ tree. Reports (said tree) old new result) old new result
 
 -- The report of operations over what a reader had to give, of which some may be left.
@@ -78,7 +79,7 @@ IsOps None given before = before ≡ given
 IsOps (Some file) given before = Unit {0}
 
 -- The report of operations on some text of a tree.
-abbrev pub ReplaysOnTree : Sources → Option (List ℕ) → (List ℕ → Reporting) → Option (List ℕ) → Option (List ℕ) → Result ℕ CliFault → Type 0
+abbrev pub ReplaysOnTree : Sources → Option (List ℕ) → (Reading → Reporting) → Option (List ℕ) → Option (List ℕ) → Result ℕ CliFault → Type 0
 ReplaysOnTree sources given said old new result =
     OnTree (tree_file sources) given
     (λ tree. (before : Option (List ℕ)) × IsOps (ops_file sources) given before × ReplaysOver before (said tree) old new result)
@@ -92,7 +93,7 @@ CarriesOut (request.Check check) given old new result = ReportsOnTree check.tree
 CarriesOut (request.Audit audit) given old new result = OnTree audit.tree given (AuditSays audit old new result) old new result
 CarriesOut (request.Advise advise) given old new result = ReportsOnTree advise.tree given (advise_said advise) old new result
 CarriesOut (request.Upgrade upgrade) given old new result =
-    OnTree upgrade.tree given (λ tree. Upgrades tree old new result) old new result
+    OnTree upgrade.tree given (Upgrades old new result) old new result
 CarriesOut (request.Replay replay) given old new result = ReplaysOnTree replay.sources given (replay_said replay) old new result
 
 -- How a call ended whose report is held in a buffer: its own fault comes before that of the last write.

@@ -3,6 +3,7 @@ ghost use Rattle.std.specs.Prelude.{◌≡◌, ◌⊎◌, ℕ, List, [], map, Op
 ghost use Rattle.std.specs.Io.Buffered.{writer_buffer, writer_contents};
 ghost use Rattle.std.specs.Io.KnownBytes.{Keeps};
 ghost use Rattle.cg_cli.specs.AllPairs.{all_report, ReportsPairs};
+ghost use Rattle.cg_text.specs.Readings.{OnText};
 ghost use Rattle.cg_cli.specs.Audits.{audit_report};
 ghost use Rattle.cg_cli.specs.Reports.{Reports};
 ghost use Rattle.cg_cli.specs.Upgrades.{Upgrades};
@@ -162,11 +163,11 @@ fn audited<W: Write>(
     request: &Audit<'_>,
     out: &mut W,
 ) -> Result<u8, CliFault>
-    ensures { MatchBool request.now.all
-        (ReportsPairs (all_report tree.now (map (λ user. (user.uid, user.gids.now)) users.now) (map (λ subtree. subtree.now) request.now.subtrees.items))
+    ensures { OnText tree.now (λ read. MatchBool request.now.all
+        (ReportsPairs (all_report read (map (λ user. (user.uid, user.gids.now)) users.now) (map (λ subtree. subtree.now) request.now.subtrees.items))
         (W.contents out.old) (W.contents out.new) result)
-        (Reports (audit_report tree.now (map (λ user. (user.uid, user.gids.now)) users.now) (map (λ subtree. subtree.now) request.now.subtrees.items))
-        (W.contents out.old) (W.contents out.new) result) }
+        (Reports (audit_report read (map (λ user. (user.uid, user.gids.now)) users.now) (map (λ subtree. subtree.now) request.now.subtrees.items))
+        (W.contents out.old) (W.contents out.new) result)) }
 {
     let subtrees = request.subtrees.as_slice();
     if request.all {
@@ -197,7 +198,7 @@ fn upgrade<R: AllocGlobal + Files, I: Read + Drop, W: Write>(
     out: &mut W,
 ) -> Result<u8, CliFault>
     ensures { OnTree request.now.tree (I.remaining input)
-        (λ tree. Upgrades tree (W.contents out.old) (W.contents out.new) result)
+        (Upgrades (W.contents out.old) (W.contents out.new) result)
         (W.contents out.old) (W.contents out.new) result }
 {
     let tree = tree_text(rt, request.tree, input)?;
@@ -239,8 +240,8 @@ fn replay_file<R: AllocGlobal + Files, W: Write>(
     line: &mut Option<Vec<u8>>,
     out: &mut W,
 ) -> Result<u8, CliFault>
-    ensures { (before : Option (List ℕ)) × ReplaysOver before (replay_said request.now tree.now)
-        (W.contents out.old) (W.contents out.new) result }
+    ensures { OnText tree.now (λ read. (before : Option (List ℕ)) × ReplaysOver before (replay_said request.now read)
+        (W.contents out.old) (W.contents out.new) result) }
 {
     let ops = opened(rt, file)?;
     replayed(rt.alloc(), tree, request, ops, line, out)
@@ -255,8 +256,8 @@ fn replayed<O: Read + Drop, W: Write>(
     line: &mut Option<Vec<u8>>,
     out: &mut W,
 ) -> Result<u8, CliFault>
-    ensures { ReplaysOver (O.remaining ops) (replay_said request.now tree.now)
-        (W.contents out.old) (W.contents out.new) result }
+    ensures { OnText tree.now (λ read. ReplaysOver (O.remaining ops) (replay_said request.now read)
+        (W.contents out.old) (W.contents out.new) result) }
 {
     let inner = LineKept {
         inner: Again { inner: ops },

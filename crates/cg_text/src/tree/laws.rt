@@ -1,14 +1,12 @@
 //! What holds of every tree text.
-ghost use Rattle.std.specs.Prelude.{◌≡◌, ◌↔◌, ℕ, true, List, [], Some, is_some, Ok, Err};
+ghost use Rattle.std.specs.Prelude.{◌≡◌, ℕ, true, List, [], is_some};
 ghost use Rattle.cg_cgroup.specs.Paths.{Names, IsPath};
 ghost use Rattle.cg_cgroup.specs.Numbers.{is_pid};
 ghost use Rattle.cg_model.specs.States.{State, process_at};
 ghost use Rattle.cg_model.specs.WellFormed.{has_row};
-ghost use Rattle.cg_model.specs.Clauses.{first};
 ghost use Rattle.cg_text.specs.TextOf.{IsTextOf};
 ghost use Rattle.cg_text.specs.TextFaults.{text_faults};
-ghost use Rattle.cg_text.specs.TreeTexts.{tree_of};
-ghost use Rattle.cg_text.specs.declared.tree.fault.TreeFault.{TreeFault};
+ghost use Rattle.cg_text.specs.Readings.{Reading, IsReading};
 
 /// A text is of a state exactly where none of the clauses finds a fault in it, and of one at most.
 pub fn texts_are_of_states()
@@ -17,10 +15,10 @@ pub fn texts_are_of_states()
     ensures one { (bytes : List ℕ) (st other : State) → IsTextOf st bytes → IsTextOf other bytes → st ≡ other }
 {}
 
-/// What is read of a text is the state that it is of, or the first fault.
-pub fn states_are_read()
-    ensures state { (bytes : List ℕ) (st : State) → (tree_of bytes ≡ Ok st) ↔ IsTextOf st bytes }
-    ensures fault { (bytes : List ℕ) (fault : TreeFault) → (tree_of bytes ≡ Err fault) ↔ (first (text_faults bytes) ≡ Some fault) }
+/// A text is read as one thing: the state that it is of, or the first of its faults.
+pub fn texts_are_read()
+    ensures some { (bytes : List ℕ) → (tree : Reading) × IsReading bytes tree }
+    ensures one { (bytes : List ℕ) (tree other : Reading) → IsReading bytes tree → IsReading bytes other → tree ≡ other }
 {}
 
 /// In the state of a text each cgroup stands at a path, and each live process has a PID.

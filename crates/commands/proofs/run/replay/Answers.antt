@@ -21,14 +21,14 @@ returns-in_err-tree-in-OpsGiven g c =
 pub returns-in_ok-tree-in-Files : goal.returns-in_ok-tree-in-Files
 returns-in_ok-tree-in-Files g c =
     let said = rw c.as_slice.ensures.value at c.replay_file.ensures in
-    rw c.in-Files.is (inl (c.in_ok-tree-in-Files.tree.items, tt, (said.0, tt, said.1)))
+    rw c.in-Files.is (inl (c.in_ok-tree-in-Files.tree.items, tt, (said.0, said.1, (said.2.0, tt, said.2.1))))
 
 pub returns-in_ok-tree-in-TreeGiven : goal.returns-in_ok-tree-in-TreeGiven
 returns-in_ok-tree-in-TreeGiven g c =
     let said = rw c.as_slice-in-TreeGiven.ensures.value at c.replay_file-in-TreeGiven.ensures in
-    rw c.in-TreeGiven.is (inl (c.in_ok-tree-in-TreeGiven.tree.items, c.in_ok-tree-in-TreeGiven.ensures.ok, (said.0, tt, said.1)))
+    rw c.in-TreeGiven.is (inl (c.in_ok-tree-in-TreeGiven.tree.items, c.in_ok-tree-in-TreeGiven.ensures.ok, (said.0, said.1, (said.2.0, tt, said.2.1))))
 
 pub returns-in_ok-tree-in-OpsGiven : goal.returns-in_ok-tree-in-OpsGiven
 returns-in_ok-tree-in-OpsGiven g c =
     let said = rw c.as_slice-in-OpsGiven.ensures.value at c.replayed.ensures in
-    rw c.in-OpsGiven.is (inl (c.in_ok-tree-in-OpsGiven.tree.items, tt, (_, refl, said)))
+    rw c.in-OpsGiven.is (inl (c.in_ok-tree-in-OpsGiven.tree.items, tt, (said.0, said.1, (_, refl, said.2))))

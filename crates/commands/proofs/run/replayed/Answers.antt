@@ -4,6 +4,8 @@ use Rattle.std.specs.Io.Buffered.{reader_inner, reader_buffer, reader_capacity, 
 use Rattle.std.specs.Io.KnownBytes.{prepend_known}
 use Rattle.std.specs.declared.io.buffered.BufReader.{BufReader}
 use Rattle.std.proofs.KnownBytes.{prepend_known-nil}
+use Rattle.cg_text.specs.TreeTexts.{tree_of}
+use Rattle.cg_text.proofs.TextFaultLaws.{is_reading}
 use Rattle.commands.proofs.RequestLaws.{unread}
 use Rattle.commands.proofs.run.replayed.Goals as goal
 
@@ -16,10 +18,10 @@ remaining-fresh reader below remaining inner empty capacity =
     ∙ ap remaining inner
 
 pub returns-in_default : goal.returns-in_default
-returns-in_default g c = inr (unread (g.W.Write.contents c.args.out.now) _ _ refl (inr refl))
+returns-in_default g c = (tree_of c.args.tree.now, is_reading c.args.tree.now, inr (unread (g.W.Write.contents c.args.out.now) _ _ refl (inr refl)))
 
 pub returns : goal.returns
 returns g c =
     let before = remaining-fresh c.in-Ok.ops _ (λ kept. g.O.Read.remaining kept.inner.inner) c.in-Ok.ensures.inner c.in-Ok.ensures.empty c.in-Ok.ensures.capacity in
     let said = rw (c.ids-replayer.ensures.uid, c.ids-replayer.ensures.gids) at c.replay_from-ended.ensures.replays in
-    inl (_, rw before at said)
+    (said.0, said.1, inl (_, rw before at said.2))

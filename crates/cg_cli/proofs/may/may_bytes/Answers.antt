@@ -1,0 +1,6 @@
+use Rattle.cg_text.specs.TreeTexts.{tree_of}
+use Rattle.cg_text.proofs.TextFaultLaws.{is_reading}
+use Rattle.cg_cli.proofs.may.may_bytes.Goals as goal
+
+pub returns : goal.returns
+returns g c = (tree_of c.args.tree.now, is_reading c.args.tree.now, c.may_as_read.ensures)
