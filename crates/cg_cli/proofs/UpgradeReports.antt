@@ -1,5 +1,5 @@
 -- What is written anew of a text is of the state that the text has.
-use Rattle.std.proofs.Common.{◌≡◌, ℕ, List, Option, Ok, Err, ap, sym, subst}
+use Rattle.std.proofs.Common.{◌≡◌, ℕ, List, Option, Result, Ok, Err, ap, sym, subst}
 use Rattle.std.specs.Io.KnownBytes.{Appends}
 use Rattle.cg_model.specs.States.{State}
 use Rattle.cg_text.specs.TreeTexts.{tree_of}
@@ -10,6 +10,7 @@ use Rattle.cg_cli.specs.May.{tree_read}
 use Rattle.cg_cli.specs.Reports.{Report, Reports, report_on}
 use Rattle.cg_cli.specs.Upgrades.{upgrade_report, IsNewText, Upgrades}
 use Rattle.cg_cli.specs.Written.{AppendsPart}
+use Rattle.cg_cli.specs.declared.fault.CliFault.{CliFault}
 use Rattle.cg_cli.specs.declared.fault.CliFault.TheVariants.{Write}
 
 module _ (bytes text : List ℕ) (st : State) (read : tree_of bytes ≡ Ok st) (written : IsCarried st → IsNewText st text)
@@ -20,7 +21,7 @@ module _ (bytes text : List ℕ) (st : State) (read : tree_of bytes ≡ Ok st) (
   upgrades : (result : Result ℕ CliFault) → Reports (upgrade_report (tree_of bytes) text) old new result → Upgrades old new result (tree_of bytes)
   upgrades result reports = record {
     text = text;
-    written = λ other is given. subst (λ (found : State). IsNewText found text) (same other is) (written (read_carried tree st read));
+    written = λ other is given. subst (λ (found : State). IsNewText found text) (same other is) (written (read_carried bytes st read));
     reports = reports;
   }
 
