@@ -1,5 +1,5 @@
 -- What the uids and gids of some users say of the entries that these users reach.
-use Rattle.std.proofs.Common.{◌≡◌, ℕ, ◌+◌, ◌<◌, Bool, true, false, not, ◌&&◌, ◌||◌, nat_eq, cond, List, [], ◌∷◌, length, take, get_or, Option, Some, None, refl, sym, ap, ◌∙◌}
+use Rattle.std.proofs.Common.{◌≡◌, ℕ, zero, suc, ◌+◌, ◌<◌, Bool, true, false, not, ◌&&◌, ◌||◌, nat_eq, cond, List, [], ◌∷◌, length, take, drop, get_or, Option, Some, None, refl, sym, ap, ◌∙◌}
 use Rattle.std.specs.List.{take_while, list_any}
 use Rattle.std.specs.Ordering.{nat_cmp, eq_by_cmp}
 use Rattle.std.specs.BTreeSet.{contains}
@@ -93,7 +93,7 @@ are_covered identities users of entry out =
     owned : (has_bit entry.mode 2 ≡ false) × (contains nat_cmp identities.uids entry.uid ≡ false)
     owned = either_false (has_bit entry.mode 2) _ parts.0
 
--- ---- the front of covered users
+-- ---- the front of covered users, and those behind some
 
 pub front_spared : (before : Option Entry) (p : Identity → Bool) (users next : List Identity) → next ≡ take_while p users → AreSpared before users → AreSpared before next
 front_spared before p users next is spared =
@@ -108,6 +108,19 @@ front_spared before p users next is spared =
 
 pub front_covered : (identities : Option Identities) (p : Identity → Bool) (users next : List Identity) → next ≡ take_while p users → AreCovered identities users → AreCovered identities next
 front_covered identities p users next is covered = λ entry out. front_spared (Some entry) p users next is (covered entry out)
+
+drop_spared : (before : Option Entry) (n : ℕ) (users : List Identity) → AreSpared before users → AreSpared before (drop n users)
+drop_spared before zero users spared = spared
+drop_spared before (suc n) [] spared = spared
+drop_spared before (suc n) (user ∷ users) spared =
+    drop_spared before n users (by_first (is_spared before user) (sym (take_while-cons (is_spared before) user users) ∙ spared))
+  where
+    by_first : (first : Bool) → cond first (user ∷ take_while (is_spared before) users) [] ≡ user ∷ users → AreSpared before users
+    by_first true same = cc
+    by_first false same = let never : ⊥ = cc in absurd never
+
+pub drop_covered : (identities : Option Identities) (n : ℕ) (users : List Identity) → AreCovered identities users → AreCovered identities (drop n users)
+drop_covered identities n users covered = λ entry out. drop_spared (Some entry) n users (covered entry out)
 
 pub none_covered : (users : List Identity) → AreCovered None users
 none_covered users = λ entry out. let never : ⊥ = cc in absurd never
