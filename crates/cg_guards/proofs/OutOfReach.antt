@@ -10,11 +10,11 @@ use Rattle.cg_cgroup.specs.Identity.{Identity}
 use Rattle.cg_cgroup.specs.Users.{in_group, has_bit, writes}
 use Rattle.cg_cgroup.specs.declared.user.Entry.{Entry}
 use Rattle.cg_guards.specs.GuardedUsers.{is_spared, AreSpared}
-use Rattle.cg_guards.specs.Reach.{AreOf, may_reach, is_out_of_reach, AreCovered}
+use Rattle.cg_guards.specs.Reach.{AreIdentitiesOf, may_reach, is_out_of_reach, AreCovered}
 use Rattle.cg_guards.specs.declared.identities.Identities.{Identities}
 use Rattle.cg_guards.proofs.KeptOff.{while_both}
 
-pub of_none : (identities : Identities) → identities.uids.keys ≡ [] → identities.gids.keys ≡ [] → AreOf identities []
+pub of_none : (identities : Identities) → identities.uids.keys ≡ [] → identities.gids.keys ≡ [] → AreIdentitiesOf identities []
 of_none identities uids gids = record { uids = λ uid. ap (list_any _) uids; gids = λ gid. ap (list_any _) gids }
 
 -- ---- one user more
@@ -22,10 +22,10 @@ of_none identities uids gids = record { uids = λ uid. ap (list_any _) uids; gid
 turned : (x y : ℕ) → eq_by_cmp nat_cmp x y ≡ nat_eq y x
 turned x y = unsigned_tied x y ∙ nat_eq_equiv.symm x y
 
-pub of_more : (before after : Identities) (users : List Identity) (i : ℕ) (user : Identity) → i < length users → user ≡ get_or users i user → AreOf before (take i users)
+pub of_more : (before after : Identities) (users : List Identity) (i : ℕ) (user : Identity) → i < length users → user ≡ get_or users i user → AreIdentitiesOf before (take i users)
     → ((uid : ℕ) → contains nat_cmp after.uids uid ≡ cond (eq_by_cmp nat_cmp user.uid uid) true (contains nat_cmp before.uids uid))
     → ((gid : ℕ) → contains nat_cmp after.gids gid ≡ (contains nat_cmp before.gids gid || list_any (eq_by_cmp nat_cmp gid) user.gids))
-    → AreOf after (take (i + 1) users)
+    → AreIdentitiesOf after (take (i + 1) users)
 of_more before after users i user within at of uids gids = record {
   uids = λ uid. uids uid ∙ (λ j. cond (turned user.uid uid j) true (of.uids uid j)) ∙ last (nat_eq uid user.uid) (list_any (λ other. nat_eq uid other.uid) (take i users))
       ∙ sym (one_more (λ other. nat_eq uid other.uid));
@@ -79,7 +79,7 @@ strangers entry (user ∷ users) owned member shut =
     members : (has_bit entry.mode 16 && in_group user entry.gid ≡ false) × (has_bit entry.mode 16 && list_any (λ other. in_group other entry.gid) users ≡ false)
     members = apart (has_bit entry.mode 16) (in_group user entry.gid) (list_any (λ other. in_group other entry.gid) users) member
 
-pub are_covered : (identities : Identities) (users : List Identity) → AreOf identities users → AreCovered (Some identities) users
+pub are_covered : (identities : Identities) (users : List Identity) → AreIdentitiesOf identities users → AreCovered (Some identities) users
 are_covered identities users of entry out =
     strangers entry users (sym (of.uids entry.uid) ∙ owned.1) (ap (λ b. has_bit entry.mode 16 && b) (sym (of.gids entry.gid)) ∙ parts.1) owned.0
   where

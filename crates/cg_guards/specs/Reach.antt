@@ -11,7 +11,7 @@ use Rattle.cg_guards.specs.GuardedUsers.{AreSpared}
 use Rattle.cg_guards.specs.declared.identities.Identities.{Identities}
 
 -- They are those of the users.
-pub record AreOf (identities : Identities) (users : List Identity) : Type 0 where
+pub record AreIdentitiesOf (identities : Identities) (users : List Identity) : Type 0 where
   pub uids : (uid : ℕ) → contains nat_cmp identities.uids uid ≡ list_any (λ user. nat_eq uid user.uid) users
   pub gids : (gid : ℕ) → contains nat_cmp identities.gids gid ≡ list_any (λ user. in_group user gid) users
 

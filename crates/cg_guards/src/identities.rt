@@ -1,6 +1,6 @@
 //! The uids and gids of some users, by which an entry that none of them reaches is passed over without asking it of each.
 ghost use Rattle.std.specs.Prelude.{◌≡◌, Some, IfOk};
-ghost use Rattle.cg_guards.specs.Reach.{AreOf, may_reach, AreCovered};
+ghost use Rattle.cg_guards.specs.Reach.{AreIdentitiesOf, may_reach, AreCovered};
 
 use cg_cgroup::memory::NoMemory;
 use cg_cgroup::user::{Entry, User};
@@ -17,7 +17,7 @@ pub struct Identities {
 impl Identities {
     /// Those of these users. Fails where memory is wanted.
     pub fn of(alloc: Global, users: &[User]) -> Result<Identities, NoMemory>
-        ensures of { IfOk result (λ identities. AreOf identities users.now) }
+        ensures of { IfOk result (λ identities. AreIdentitiesOf identities users.now) }
         ensures covered { IfOk result (λ identities. AreCovered (Some identities) users.now) }
     {
         let mut identities = Identities {

@@ -4,7 +4,7 @@ use Rattle.std.specs.Ordering.{nat_cmp, eq_by_cmp}
 use Rattle.std.specs.BTreeSet.{contains}
 use Rattle.std.proofs.lemmas.Iterator.Adapters.{fact_from_extend}
 use Rattle.std.proofs.lemmas.Iterator.{YieldsList-from_slice}
-use Rattle.cg_guards.specs.Reach.{AreOf}
+use Rattle.cg_guards.specs.Reach.{AreIdentitiesOf}
 use Rattle.cg_guards.proofs.OutOfReach.{of_none, of_more, are_covered}
 use Rattle.cg_guards.proofs.identities.Identities.of.Goals as goal
 
@@ -26,7 +26,7 @@ loop-user-preserved c =
         (fact_from_extend (λ y. y.now) c.extend.result c.extend.ensures.ran (λ it b. YieldsList-from_slice _ b.0) (λ xs e h gid. h.0 gid ∙ ap (λ gids. contains nat_cmp c.loop-user.identities.gids gid || list_any (eq_by_cmp nat_cmp gid) gids) e))
 
 pub returns-clause-of : goal.returns-clause-of
-returns-clause-of c = subst (AreOf c.loop-user.identities) (take_all c.loop-user.user-index c.args.users.now c.loop-user-test.false) c.loop-user.invariant
+returns-clause-of c = subst (AreIdentitiesOf c.loop-user.identities) (take_all c.loop-user.user-index c.args.users.now c.loop-user-test.false) c.loop-user.invariant
 
 pub returns-clause-covered : goal.returns-clause-covered
 returns-clause-covered c = are_covered c.loop-user.identities c.args.users.now (returns-clause-of c)
