@@ -7,7 +7,6 @@ use Rattle.cg_cgroup.specs.Identity.{Identity}
 use Rattle.cg_model.specs.States.{State}
 use Rattle.cg_model.specs.Clauses.{present}
 use Rattle.cg_model.specs.Guards.{is_guarded}
-use Rattle.cg_model.specs.declared.answer.Answer.TheVariants.{Contained}
 use Rattle.cg_model.specs.declared.answer.AllAnswer.{AllAnswer}
 use Rattle.cg_model.specs.declared.answer.AllAnswer.TheVariants as all
 use Rattle.cg_model.specs.Listed.{Listed}

@@ -1,7 +1,7 @@
 //! Whether a subtree is contained, and operations that break it where it isn't.
 #![tactic(auto)]
 
-ghost use Rattle.std.specs.Prelude.{◌≡◌, ◌≢◌, true, [], drop, is_some, IfOk, IfErr, OnErr};
+ghost use Rattle.std.specs.Prelude.{◌≡◌, ◌≢◌, true, [], drop, is_some, option_copied, IfOk, IfErr, OnErr};
 ghost use Rattle.cg_model.specs.Clauses.{first};
 ghost use Rattle.cg_model.specs.WellFormed.{IsWellFormed};
 ghost use Rattle.cg_model.specs.Guards.{IsSubtree, failures};
@@ -12,6 +12,7 @@ ghost use Rattle.cg_check.specs.Checks.{takes_memory, all_take_memory, Gives};
 ghost use Rattle.std.specs.List.{flat_map, prefix_len};
 ghost use Rattle.cg_check.specs.Unguarded.{IsFirstUnguarded};
 ghost use Rattle.cg_model.specs.Several.{AreContained};
+ghost use Rattle.cg_guards.specs.Reach.{AreCovered};
 ghost use Rattle.cg_check.specs.Listed.{is_guarded_of_all};
 
 mod copies;
@@ -22,6 +23,7 @@ mod opening;
 use cg_cgroup::path::Path;
 use cg_cgroup::user::User;
 use cg_guards::failed::failed_guard;
+use cg_guards::identities::Identities;
 use cg_guards::users::guarded_users;
 use cg_model::answer::{AllAnswer, Answer};
 use cg_model::fault::CheckFault;
@@ -68,10 +70,29 @@ pub fn check_all<H: Hierarchy + Drop>(
     ensures contained { result ≡ Ok AllAnswer.Contained → users.now ≢ []
         → AreContained (H.state tree.now) users.now subtrees.now }
 {
+    check_all_by(alloc, tree, users, None, subtrees)
+}
+
+/// The same where the users' identities are known, by which entries that nobody reaches aren't asked of each user.
+///
+/// # Errors
+/// Those of `check_all`.
+pub fn check_all_by<H: Hierarchy + Drop>(
+    alloc: Global,
+    tree: &H,
+    users: &[User],
+    identities: Option<&Identities>,
+    subtrees: &[Path],
+) -> Result<AllAnswer, CheckFault>
+    requires covered { AreCovered (option_copied identities) users.now }
+    ensures answer { Gives all_take_memory (all_checked (H.state tree.now) users.now subtrees.now) result }
+    ensures contained { result ≡ Ok AllAnswer.Contained → users.now ≢ []
+        → AreContained (H.state tree.now) users.now subtrees.now }
+{
     if let Some(fault) = first_fault(tree, subtrees) {
         return Err(fault);
     }
-    let Some((user, subtree)) = first_unguarded(tree, users, subtrees) else {
+    let Some((user, subtree)) = first_unguarded(tree, users, identities, subtrees) else {
         return Ok(AllAnswer::Contained);
     };
     let answer = check(alloc, tree, &users[user], &subtrees[subtree])?;
@@ -84,19 +105,21 @@ pub fn check_all<H: Hierarchy + Drop>(
 
 /// The users from the first on for whom a guard of one of some subtrees fails: those before him are contained in all of
 /// them. Each subtree is asked once for all users who are left, and nothing is allocated. Where all hold and the guarded
-/// entries have one owner, the users are gone over once.
+/// entries have one owner, or the identities are known, the users are gone over once.
 pub fn from_first_unguarded<'a, H: Hierarchy>(
     tree: &H,
     users: &'a [User],
+    identities: Option<&Identities>,
     subtrees: &[Path],
 ) -> &'a [User]
+    requires covered { AreCovered (option_copied identities) users.now }
     requires there { first (flat_map (subtree_faults (H.state tree.now)) subtrees.now) ≡ None }
     ensures { result.now ≡ drop (prefix_len (is_guarded_of_all (H.state tree.now) subtrees.now) users.now) users.now }
 {
     let mut left = users;
     let mut asked = None;
     for subtree in subtrees {
-        left = guarded_users(tree, left, &mut asked, subtree);
+        left = guarded_users(tree, left, identities, &mut asked, subtree);
     }
     let (_, from) = users.split_at(left.len());
     from
@@ -107,8 +130,10 @@ pub fn from_first_unguarded<'a, H: Hierarchy>(
 fn first_unguarded<H: Hierarchy>(
     tree: &H,
     users: &[User],
+    identities: Option<&Identities>,
     subtrees: &[Path],
 ) -> Option<(usize, usize)>
+    requires covered { AreCovered (option_copied identities) users.now }
     requires there { first (flat_map (subtree_faults (H.state tree.now)) subtrees.now) ≡ None }
     ensures { IsFirstUnguarded (H.state tree.now) users.now subtrees.now result }
 {
@@ -116,7 +141,7 @@ fn first_unguarded<H: Hierarchy>(
     let mut asked = None;
     let mut found = None;
     for (place, subtree) in subtrees.iter().enumerate() {
-        let left = guarded_users(tree, guarded, &mut asked, subtree);
+        let left = guarded_users(tree, guarded, identities, &mut asked, subtree);
         if left.len() == guarded.len() {
             continue;
         }

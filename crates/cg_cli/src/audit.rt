@@ -20,7 +20,8 @@ use crate::write::write_whole;
 use cg_cgroup::memory::NoMemory;
 use cg_cgroup::path::Path;
 use cg_cgroup::user::User;
-use cg_check::check_all;
+use cg_check::check_all_by;
+use cg_guards::identities::Identities;
 use cg_model::answer::AllAnswer;
 use cg_model::fault::CheckFault;
 use cg_report::audit::audit_text;
@@ -88,7 +89,10 @@ fn audited<H: Hierarchy + Drop>(
     ensures contained { IfOk result (λ said. said.1 ≡ 0 → users.now ≢ []
         → AreContained (H.state tree.now) users.now subtrees.now) }
 {
-    let answer = check_all(alloc, tree, users, subtrees)?;
+    let Ok(identities) = Identities::of(alloc, users) else {
+        return Err(CheckFault::NoMemory);
+    };
+    let answer = check_all_by(alloc, tree, users, Some(&identities), subtrees)?;
     match audit_text(alloc, users, subtrees, &answer) {
         Ok(text) => Ok((text, audit_status(&answer))),
         Err(NoMemory) => Err(CheckFault::NoMemory),

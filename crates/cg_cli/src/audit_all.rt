@@ -24,6 +24,7 @@ use crate::write::write_whole;
 use cg_cgroup::path::Path;
 use cg_cgroup::user::User;
 use cg_check::{check, first_fault, from_first_unguarded};
+use cg_guards::identities::Identities;
 use cg_model::answer::Answer;
 use cg_report::pair::pair_text;
 use cg_tree::hierarchy::Hierarchy;
@@ -110,10 +111,11 @@ fn write_pairs<H: Hierarchy + Drop, W: Write>(
     ensures { WritesPairs (listed (H.state tree.now) users.now subtrees.now) (W.contents out.old) (W.contents out.new) result }
 {
     let mut worst = 0;
-    let mut left = from_first_unguarded(tree, users, subtrees);
+    let identities = Identities::of(alloc, users)?;
+    let mut left = from_first_unguarded(tree, users, Some(&identities), subtrees);
     'users: while let [user, others @ ..] = left {
         worst = worse(worst, write_user(alloc, tree, user, subtrees, out)?);
-        left = from_first_unguarded(tree, others, subtrees);
+        left = from_first_unguarded(tree, others, Some(&identities), subtrees);
     }
     Ok(worst)
 }

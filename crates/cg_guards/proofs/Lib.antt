@@ -1,3 +1,4 @@
 pub mod FirstFailed
 pub mod KeptOff
+pub mod OutOfReach
 pub mod TableWalk

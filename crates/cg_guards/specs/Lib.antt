@@ -1,2 +1,3 @@
 pub mod GuardedUsers
+pub mod Reach
 pub mod Standing

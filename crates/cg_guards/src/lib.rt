@@ -2,5 +2,6 @@
 #![tactic(auto)]
 
 pub mod failed;
+pub mod identities;
 pub mod table;
 pub mod users;

@@ -1,26 +1,31 @@
 //! For which users of a list the guards of a subtree hold. Nothing is allocated, and what doesn't depend on the user is
 //! asked of the tree once for all of them.
-ghost use Rattle.std.specs.Prelude.{◌≡◌, false, Some};
+ghost use Rattle.std.specs.Prelude.{◌≡◌, false, Some, option_copied};
 ghost use Rattle.std.specs.List.{take_while};
 ghost use Rattle.cg_cgroup.specs.Paths.{is_root};
 ghost use Rattle.cg_model.specs.Guards.{guarded_entries, IsSubtree, is_guarded};
 ghost use Rattle.cg_guards.specs.GuardedUsers.{is_spared, is_alike, is_asked, AreSpared, kept_off};
+ghost use Rattle.cg_guards.specs.Reach.{is_out_of_reach, AreCovered};
 
 use crate::failed::is_over;
+use crate::identities::Identities;
 use crate::table::{guarded_count, guarded_entry};
 use cg_cgroup::path::Path;
 use cg_cgroup::user::{Entry, User};
 use cg_tree::hierarchy::Hierarchy;
 
 /// The users before the first for whom a guard of the subtree fails. `asked` holds an entry that none of them reaches, the
-/// last that was asked, so that it isn't asked of them again with the next subtree.
+/// last that was asked, so that it isn't asked of them again with the next subtree. Where their `identities` are known, an
+/// entry that these say nobody reaches isn't asked of them at all.
 pub fn guarded_users<'a, H: Hierarchy>(
     tree: &H,
     users: &'a [User],
+    identities: Option<&Identities>,
     asked: &mut Option<Entry>,
     subtree: &Path,
 ) -> &'a [User]
     requires subtree { IsSubtree (H.state tree.now) subtree.now }
+    requires covered { AreCovered (option_copied identities) users.now }
     requires asked { AreSpared asked.old users.now }
     ensures users { result.now ≡ take_while (is_guarded (H.state tree.now) subtree.now) users.now }
     ensures asked { AreSpared asked.new result.now }
@@ -31,18 +36,20 @@ pub fn guarded_users<'a, H: Hierarchy>(
     if is_over(tree, subtree) {
         return &users[..0];
     }
-    off_entries(tree, users, asked, subtree)
+    off_entries(tree, users, identities, asked, subtree)
 }
 
 /// Those before the first who reaches a guarded entry. Most entries have one owner, so one that is like the last is passed
-/// over.
+/// over, and so is one that is out of reach.
 fn off_entries<'a, H: Hierarchy>(
     tree: &H,
     users: &'a [User],
+    identities: Option<&Identities>,
     asked: &mut Option<Entry>,
     subtree: &Path,
 ) -> &'a [User]
     requires subtree { is_root subtree.now ≡ false }
+    requires covered { AreCovered (option_copied identities) users.now }
     requires asked { AreSpared asked.old users.now }
     ensures users { result.now ≡ kept_off (H.state tree.now) subtree.now (guarded_entries subtree.now) users.now }
     ensures asked { AreSpared asked.new result.now }
@@ -52,7 +59,7 @@ fn off_entries<'a, H: Hierarchy>(
         let Some(at) = guarded_entry(tree, subtree, place) else {
             continue;
         };
-        if is_asked(*asked, &at.entry) {
+        if is_asked(*asked, &at.entry) || is_out_of_reach(identities, &at.entry) {
             continue;
         }
         left = off_entry(left, &at.entry);
@@ -69,6 +76,16 @@ fn is_asked(before: Option<Entry>, entry: &Entry) -> bool
         Some(before) => is_alike(&before, entry),
         None => false,
     }
+}
+
+/// Whether none of some users may reach an entry, where their identities are known.
+fn is_out_of_reach(identities: Option<&Identities>, entry: &Entry) -> bool
+    ensures { result ≡ is_out_of_reach (option_copied identities.entry) entry.now }
+{
+    let Some(identities) = identities else {
+        return false;
+    };
+    !identities.may_reach(entry)
 }
 
 /// Whether two entries are reached by the same users.

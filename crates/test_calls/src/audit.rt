@@ -105,6 +105,48 @@ fn two_users_of_one_uid_differ_by_their_groups(rt: HostRuntime) -> Result<(), Fa
     Ok(())
 }
 
+/// `/p0` to `/p7`, each with the subtree `s`: `cgroup.procs` of each belongs to a user and a group of its own, who write it.
+fn own_owners(alloc: Global) -> Result<String, Fail> {
+    let mut text = String::from_str(
+        alloc,
+        "format = 2\ncontrollers = []\n[[cgroup]]\npath = \"/\"\n",
+    )?;
+    for place in 0u32..8 {
+        text = format!(in alloc;
+            "{text}[[cgroup]]\npath = \"/p{place}\"\n[cgroup.files]\n\"cgroup.procs\" = {{ uid = 200{place}, gid = 30{place}, mode = 0o664 }}\n[[cgroup]]\npath = \"/p{place}/s\"\n"
+        )?;
+    }
+    Ok(text)
+}
+
+#[test]
+fn owners_of_their_own_are_told_apart(rt: HostRuntime) -> Result<(), Fail> {
+    let tree = own_owners(rt.alloc())?;
+    let stranger = user(1000, &[50]);
+    let owner = user(2005, NO_GROUPS);
+    let member = user(1001, &[51, 302]);
+    let subtrees = ["/p0/s", "/p2/s", "/p4/s", "/p5/s", "/p7/s"];
+    for (users, report, status) in [
+        ([stranger, user(2003, &[301])].as_slice(), "contained\n", 0),
+        (
+            &[stranger, owner, member],
+            "pair 2005 /p5/s\nunsettled common-ancestor /p5\n",
+            2,
+        ),
+        (
+            &[stranger, member, owner],
+            "pair 1001:51,302 /p2/s\nunsettled common-ancestor /p2\n",
+            2,
+        ),
+    ] {
+        let mut out = Vec::new(rt.alloc());
+        let ended = audit_bytes(rt.alloc(), tree.as_bytes(), users, &subtrees, &mut out);
+        assert_eq!(rt; out.as_slice(), report.as_bytes());
+        assert_eq!(rt; ended, Ok(status));
+    }
+    Ok(())
+}
+
 /// An audit that ends in a fault, and has written nothing.
 fn assert_fault(
     rt: &impl Abort,

@@ -7,8 +7,8 @@ pub audit_text-requires : goal.audit_text-requires
 audit_text-requires g c =
     audits_are_shown (g.H.Hierarchy.state c.args.tree.now) c.args.users.now c.args.subtrees.now c.in_ok-answer.answer c.in_ok-answer.ensures.answer
 
-pub returns-in-Ok-clause-contained : goal.returns-in-Ok-clause-contained
-returns-in-Ok-clause-contained g c zero =
+pub returns-in-Ok-audit_text-clause-contained : goal.returns-in-Ok-audit_text-clause-contained
+returns-in-Ok-audit_text-clause-contained g c zero =
     c.in_ok-answer.ensures.contained
     (ap Ok
     (status_is_contained (g.H.Hierarchy.state c.args.tree.now) c.args.users.now c.args.subtrees.now c.in_ok-answer.answer c.in_ok-answer.ensures.answer
