@@ -319,15 +319,16 @@ class Repository(unittest.TestCase):
 
     def test_check_reaches_what_its_clauses_do(self):
         contained, report = (self.reached("cg_cli::check::check_bytes", it) for it in ("contained", "report"))
-        self.assertLessEqual({("cg_text", "tree_of"), ("cg_model", "IsContained")}, contained)
+        self.assertLessEqual({("cg_text", "IsTextOf"), ("cg_model", "IsContained")}, contained)
         self.assertNotIn(("cg_model", "tries"), contained)
         self.assertIn(("cg_model", "tries"), report)
         self.assertEqual(self.reached("cg_cli::check::check_bytes"), contained | report)
 
     def test_how_it_is_kept_is_never_reached(self):
         for name in ("check::check_bytes", "audit::audit_bytes", "may::may_bytes", "replay::replay_bytes", "replay::replay_from"):
-            crates = {crate for crate, _ in self.reached(f"cg_cli::{name}")}
-            self.assertFalse({"cg_indexed", "cg_rows"} & crates, name)
+            reached = self.reached(f"cg_cli::{name}")
+            self.assertFalse({"cg_indexed", "cg_rows"} & {crate for crate, _ in reached}, name)
+            self.assertNotIn(("cg_text", "tree_of"), reached, name)
 
     def test_all_that_definitions_name_is_there(self):
         for it in definitions_of(self.world):
