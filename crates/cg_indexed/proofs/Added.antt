@@ -31,8 +31,8 @@ use Rattle.cg_indexed.proofs.Counts.{count-none, uses-insert, few_uses, no_uses-
 use Rattle.cg_indexed.proofs.Values.{values-insert, get-put, values_same, values_put, value_none, keys-values}
 use Rattle.cg_indexed.proofs.Read.{paths_are, row_is}
 use Rattle.cg_indexed.proofs.Limits.{parent_take}
-use Rattle.cg_indexed.proofs.Climb.{changed_at, placed_changed, changed_length, below_parent, not_inside_parent}
-use Rattle.cg_indexed.proofs.Changed.{node_set, kept_reread}
+use Rattle.cg_indexed.proofs.Climb.{changed_at, changed_keeps, placed_changed, changed_length, below_parent, not_inside_parent}
+use Rattle.cg_indexed.proofs.Changed.{node_set, kept_of_node, kept_reread}
 use Rattle.cg_indexed.proofs.Puts.{put_here, put_other, put_longer, put_within, put_paired}
 
 -- ---- paths above
@@ -181,24 +181,13 @@ module _ (places : FinMap path_cmp ℕ) (links : List Link) (nodes : List Node) 
 
   -- what neither changes
   kept_link : {A : Type 0} (g : Link → A) → ((l : Link) → g (one_more l) ≡ g l) → (q : Names) (j : ℕ) → map.get next q ≡ Some j → g (link_at after_links j) ≡ g (link_at pushed_links j)
-  kept_link g same q j is =
-      ap g (link_after q j is) ∙ elim (inside q (parent p)) as (λ b. g (cond b (one_more (link_at pushed_links j)) (link_at pushed_links j)) ≡ g (link_at pushed_links j)) [ true ↦ same (link_at pushed_links j) | false ↦ refl ]
+  kept_link g same = changed_keeps one_more (λ n. refl) next g same (length p) (parent p) i pushed_links placed_next parent_next (length-parent p root)
+
+  kept_of : {A : Type 0} (g : Node → A) → g (recounted no_controllers row.enabled (node_at pushed_nodes i)) ≡ g (node_at pushed_nodes i) → (q : Names) (j : ℕ) → map.get next q ≡ Some j → g (node_at after_nodes j) ≡ g (node_at pushed_nodes j)
+  kept_of g = kept_of_node next pushed_links placed_next (parent p) i parent_next g pushed_nodes (recounted no_controllers row.enabled (node_at pushed_nodes i)) (paired_more places links nodes kept k free (new_link i row) (new_node row share))
 
   row_after : (q : Names) (j : ℕ) → map.get next q ≡ Some j → held_of (node_at after_nodes j) ≡ held_of (node_at pushed_nodes j)
-  row_after q j is =
-      ap held_of (node_after q j is)
-      ∙ elim (same_path q (parent p)) as (λ b. same_path q (parent p) ≡ b → held_of (cond b (recounted no_controllers row.enabled (node_at pushed_nodes i)) (node_at pushed_nodes j)) ≡ held_of (node_at pushed_nodes j)) [
-        | true ↦ λ e. ap (λ n. held_of (node_at pushed_nodes n)) (same_some i j (sym parent_next ∙ ap (map.get next) (sym (same_path-is q (parent p) e)) ∙ is))
-        | false ↦ λ e. refl
-      ] refl
-
-  kin_after : (q : Names) (j : ℕ) → map.get next q ≡ Some j → (node_at after_nodes j).kin ≡ (node_at pushed_nodes j).kin
-  kin_after q j is =
-      ap (λ n. n.kin) (node_after q j is)
-      ∙ elim (same_path q (parent p)) as (λ b. same_path q (parent p) ≡ b → (cond b (recounted no_controllers row.enabled (node_at pushed_nodes i)) (node_at pushed_nodes j)).kin ≡ (node_at pushed_nodes j).kin) [
-        | true ↦ λ e. ap (λ n. (node_at pushed_nodes n).kin) (same_some i j (sym parent_next ∙ ap (map.get next) (sym (same_path-is q (parent p) e)) ∙ is))
-        | false ↦ λ e. refl
-      ] refl
+  row_after = kept_of held_of refl
 
   cgroup_after : (q : Names) (j : ℕ) → map.get next q ≡ Some j → (node_at after_nodes j).cgroup ≡ (node_at pushed_nodes j).cgroup
   cgroup_after q j is = ap (λ (h : Held). h.cgroup) (row_after q j is)
@@ -308,7 +297,7 @@ module _ (places : FinMap path_cmp ℕ) (links : List Link) (nodes : List Node) 
 
   new_kin : (q : Names) (j : ℕ) → map.get next q ≡ Some j → j ≡ k → IsKin after_links j (node_at after_nodes j)
   new_kin q j is last a has =
-      let share_is : share ≡ Some a = sym (kin_after q j is ∙ ap (λ n. n.kin) (ap (node_at pushed_nodes) last ∙ new_node_there)) ∙ has in
+      let share_is : share ≡ Some a = sym (kept_of (λ n. n.kin) refl q j is ∙ ap (λ n. n.kin) (ap (node_at pushed_nodes) last ∙ new_node_there)) ∙ has in
       let up : (link_at after_links j).above ≡ a = above_after q j is ∙ ap (λ l. l.above) (ap (link_at pushed_links) last ∙ new_link_there) ∙ sym (parents a share_is) in
       both_true (eq-eqb (link_at after_links j).above a up)
       (elim (nat_eq j a) as (λ b. nat_eq j a ≡ b → not b ≡ true) [ true ↦ λ e. let same = eqb-true j a e in absurd (free (parent p) i parent_is (sym (parents a share_is) ∙ sym same ∙ last)) | false ↦ λ e. refl ] refl)
@@ -316,7 +305,7 @@ module _ (places : FinMap path_cmp ℕ) (links : List Link) (nodes : List Node) 
   kin_next : (q : Names) (j : ℕ) → map.get next q ≡ Some j → IsKin after_links j (node_at after_nodes j)
   kin_next q j is =
       ⊎_elim (λ h. new_kin q j is h.1)
-      (λ h. kin_reread links after_links j (node_at nodes j) (node_at after_nodes j) (kin_after q j is ∙ ap (λ n. n.kin) (old_node q j h.1)) (above_after q j is ∙ ap (λ l. l.above) (old_link q j h.1)) (kept.kin q j h.1)) (which q j is)
+      (λ h. kin_reread links after_links j (node_at nodes j) (node_at after_nodes j) (kept_of (λ n. n.kin) refl q j is ∙ ap (λ n. n.kin) (old_node q j h.1)) (above_after q j is ∙ ap (λ l. l.above) (old_link q j h.1)) (kept.kin q j h.1)) (which q j is)
 
   pub kept_next : AreKept next after_links after_nodes
   kept_next = record {
