@@ -44,12 +44,11 @@ cgroup_same x y e =
     let q = p.1.1.1 in
     let r = q.1.1.1 in
     let s = r.1.1.1 in
-    λ i. record {
-      dir = p.0 i; procs = p.1.0 i; subtree_control = p.1.1.0 i;
-      max_descendants = q.0 i; max_depth = q.1.0 i; cpu_weight = q.1.1.0 i;
-      memory_min = r.0 i; memory_low = r.1.0 i; memory_high = r.1.1.0 i;
-      memory_max = s.0 i; pids_max = s.1.0 i; enabled = s.1.1 i;
-    }
+    λ i.
+    let entries = record x { dir = p.0 i; procs = p.1.0 i; subtree_control = p.1.1.0 i } in
+    let tree = record entries { max_descendants = q.0 i; max_depth = q.1.0 i; cpu_weight = q.1.1.0 i } in
+    let memory = record tree { memory_min = r.0 i; memory_low = r.1.0 i; memory_high = r.1.1.0 i } in
+    record memory { memory_max = s.0 i; pids_max = s.1.0 i; enabled = s.1.1 i }
 
 pub cgroup_found : (x y : Cgroup) → x ≡ y → cgroups.ghosts.eq x y ≡ true
 cgroup_found x y same = subst (λ z. cgroups.ghosts.eq x z ≡ true) same (equal.lawful.laws.refl x)

@@ -1,6 +1,6 @@
 -- How a tree is kept: nobody has to believe it.
 -- How cgroups are kept at places, and what is kept of each.
-use Rattle.std.specs.Prelude.{◌≡◌, ℕ, ◌+◌, ◌-◌, min, ◌&&◌, List, length, map as map_list, count_by, Some, None, is_some, true}
+use Rattle.std.specs.Prelude.{◌≡◌, ℕ, ◌&&◌, List, length, map as map_list, count_by, Some, None, is_some, true}
 use Rattle.std.specs.FinMap as map
 use Rattle.std.specs.FinSet as set
 use Rattle.cg_cgroup.specs.Paths.{Names, path_cmp, below, is_child}
@@ -59,11 +59,8 @@ new_held row = record { cgroup = row; live = 0 }
 abbrev pub with_row_of : Cgroup → Held → Held
 with_row_of row held = record held { cgroup = row }
 
-abbrev pub one_live_more : Held → Held
-one_live_more held = record held { live = min (held.live + 1) 18446744073709551615 }
-
-abbrev pub one_live_less : Held → Held
-one_live_less held = record held { live = held.live - 1 }
+abbrev pub held_live_by : (ℕ → ℕ) → Held → Held
+held_live_by count held = record held { live = count held.live }
 
 -- the row of a path, and its children's files, once the path enables these
 abbrev pub enabling_held : Names → ControllerSet → Identity → Names → Held → Held

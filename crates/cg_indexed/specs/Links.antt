@@ -45,13 +45,18 @@ pub record ArePlaced (places : map.FinMap path_cmp ℕ) (links : List Link) : Ty
   pub apart : (p q : Names) (i : ℕ) → map.get places p ≡ Some i → map.get places q ≡ Some i → p ≡ q
   pub above : (p : Names) (i : ℕ) → map.get places p ≡ Some i → map.get places (parent p) ≡ Some (link_at links i).above
 
--- one more below
-abbrev pub one_more : Link → Link
-one_more link = record link { below = min (link.below + 1) 18446744073709551615 }
+-- one more, as far as numbers go, and one fewer
+abbrev pub counted_up : ℕ → ℕ
+counted_up n = min (n + 1) 18446744073709551615
 
--- one fewer below
+abbrev pub counted_down : ℕ → ℕ
+counted_down n = n - 1
+
+abbrev pub one_more : Link → Link
+one_more link = record link { below = counted_up link.below }
+
 abbrev pub one_less : Link → Link
-one_less link = record link { below = link.below - 1 }
+one_less link = record link { below = counted_down link.below }
 
 -- a change at a place, and at the places above it: at so many places
 abbrev pub changed_up : (Link → Link) → List Link → ℕ → ℕ → List Link

@@ -146,28 +146,19 @@ impl Hierarchy for Indexed {
     }
 
     fn set_limit(&mut self, path: &Path, file: LimitFile, value: Limit) {
-        let Some(cgroup) = self.cgroups.get(path, path.depth()) else {
-            unreachable!()
-        };
-        let mut cgroup = *cgroup;
+        let mut cgroup = *self.cgroups.cgroup(path);
         cgroup.set_value(file, value);
         self.cgroups.set(path, cgroup);
     }
 
     fn set_enabled(&mut self, path: &Path, enabled: ControllerSet, user: &User) {
-        let Some(cgroup) = self.cgroups.get(path, path.depth()) else {
-            unreachable!()
-        };
-        if cgroup.enabled != enabled {
+        if self.cgroups.cgroup(path).enabled != enabled {
             self.cgroups.enable(path, enabled, user);
         }
     }
 
     fn set_mode(&mut self, path: &Path, name: EntryName, mode: Mode) {
-        let Some(cgroup) = self.cgroups.get(path, path.depth()) else {
-            unreachable!()
-        };
-        let mut cgroup = *cgroup;
+        let mut cgroup = *self.cgroups.cgroup(path);
         // What `get` says of a mode's range keeps the tree well-formed.
         let _bits = mode.get();
         cgroup.set_mode(name, mode);

@@ -6,7 +6,8 @@ use Rattle.cg_model.specs.WellFormed.{IsWellFormed, may_hold}
 use Rattle.cg_steps.proofs.FormedLaws.{formed-with_process}
 use Rattle.cg_rows.specs.Processes.{LiveAndUsed, with_new}
 use Rattle.cg_rows.specs.RowsForm.{state_of_tables}
-use Rattle.cg_indexed.specs.Kept.{change_held, one_live_more}
+use Rattle.cg_indexed.specs.Links.{counted_up}
+use Rattle.cg_indexed.specs.Kept.{change_held, held_live_by}
 use Rattle.cg_indexed.specs.Indexed.{state_of, IsIndexed}
 use Rattle.cg_indexed.proofs.Living.{counted_more, count_live-insert, unused_not_live, held_there}
 use Rattle.cg_indexed.proofs.States.{cgroups_same}
@@ -22,10 +23,10 @@ raise_live-requires c = held_there (state_of c.self.inside.cgroups c.self.inside
 processes_are : (c : goal.After-raise_live) → c.insert.new.self ≡ with_new c.self.inside.processes c.args.pid (record { uid = c.args.uid; place = c.args.path.now })
 processes_are c = c.in_ok-insert.ensures.ok ∙ ap (λ (q : Names). with_new c.self.inside.processes c.args.pid (record { uid = c.args.uid; place = q })) c.in_ok-place.ensures
 
-next : (c : goal.After-raise_live) → state_of (change_held c.self.inside.cgroups c.args.path.now one_live_more) (with_new c.self.inside.processes c.args.pid (record { uid = c.args.uid; place = c.args.path.now })) c.self.inside.controllers
+next : (c : goal.After-raise_live) → state_of (change_held c.self.inside.cgroups c.args.path.now (held_live_by counted_up)) (with_new c.self.inside.processes c.args.pid (record { uid = c.args.uid; place = c.args.path.now })) c.self.inside.controllers
     ≡ with_process c.args.self.now c.args.pid c.args.uid c.args.path.now
 next c =
-    ap (λ rows. state_of_tables rows (with_new c.self.inside.processes c.args.pid (record { uid = c.args.uid; place = c.args.path.now })) c.self.inside.controllers) (cgroups_same c.self.inside.cgroups c.args.path.now one_live_more (λ h. refl))
+    ap (λ rows. state_of_tables rows (with_new c.self.inside.processes c.args.pid (record { uid = c.args.uid; place = c.args.path.now })) c.self.inside.controllers) (cgroups_same c.self.inside.cgroups c.args.path.now (held_live_by counted_up) (λ h. refl))
     ∙ ap (λ s. with_process s c.args.pid c.args.uid c.args.path.now) c.self.view_is
 
 pub returns-clause-ok : goal.returns-clause-ok
@@ -38,7 +39,7 @@ none_live_yet c =
 pub invariant_of-self-2 : goal.invariant_of-self-2
 invariant_of-self-2 c =
     subst (λ held. IsIndexed held c.insert.new.self c.self.inside.controllers) (sym c.raise_live.ensures)
-    (subst (λ (processes : LiveAndUsed). IsIndexed (change_held c.self.inside.cgroups c.args.path.now one_live_more) processes c.self.inside.controllers) (sym (processes_are c)) (record {
+    (subst (λ (processes : LiveAndUsed). IsIndexed (change_held c.self.inside.cgroups c.args.path.now (held_live_by counted_up)) processes c.self.inside.controllers) (sym (processes_are c)) (record {
       formed = subst IsWellFormed (sym (next c)) (formed-with_process c.args.self.now c.args.pid c.args.uid c.args.path.now c.requires.may_hold (subst IsWellFormed c.self.view_is c.self.invariant.formed));
       live = counted_more c.self.inside.cgroups c.self.inside.processes.live (map.insert c.self.inside.processes.live c.args.pid (record { uid = c.args.uid; place = c.args.path.now })) c.args.path.now c.self.invariant.live
           (count_live-insert c.self.inside.processes.live c.args.pid (record { uid = c.args.uid; place = c.args.path.now }) (none_live_yet c)) (omega (arith, c.size-size.ensures.bound, c.size-size.ensures.small));

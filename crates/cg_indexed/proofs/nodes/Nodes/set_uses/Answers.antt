@@ -1,10 +1,10 @@
 use Rattle.std.proofs.Common.{None, refl}
-use Rattle.cg_indexed.specs.Nodes.{new_slot, no_cgroup, slot_with_uses, with_uses}
+use Rattle.cg_indexed.specs.Nodes.{new_slot, no_cgroup, with_uses}
 use Rattle.cg_indexed.proofs.Puts.{set_through}
 use Rattle.cg_indexed.proofs.Seen.{changed_seen}
 use Rattle.cg_indexed.proofs.nodes.Nodes.set_uses.Goals as goal
 
 pub returns : goal.returns
 returns c =
-    changed_seen c.self.inside.shared.items c.self.inside.slots.items _ c.args.self.now c.args.at (slot_with_uses c.args.uses) (with_uses c.args.uses) c.self.view_is (λ slot. refl)
-    (set_through c.self.inside.slots c.args.at (slot_with_uses c.args.uses) (new_slot no_cgroup None) c.deref_mut.result.now c.put_uses.new.slots c.deref_mut.ensures.value c.put_uses.auto.slots c.put_uses.ensures)
+    changed_seen c.self.inside.shared.items c.self.inside.slots.items _ c.args.self.now c.args.at (λ slot. record slot { uses = c.args.uses }) (with_uses c.args.uses) c.self.view_is (λ slot. refl)
+    (set_through c.self.inside.slots c.args.at (λ slot. record slot { uses = c.args.uses }) (new_slot no_cgroup None) c.deref_mut.result.now c.put_uses.new.slots c.deref_mut.ensures.value c.put_uses.auto.slots c.put_uses.ensures)
