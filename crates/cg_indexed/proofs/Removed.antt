@@ -15,10 +15,11 @@ use Rattle.cg_cgroup.proofs.PathOrder.{same_path-is, same_path-not, same_path-ot
 use Rattle.cg_cgroup.proofs.PathParents.{length-parent, is_child-parent, parent-root}
 use Rattle.cg_steps.proofs.MapLaws.{entry_any, list_any-map}
 use Rattle.cg_steps.proofs.StateCounts.{count_below-without_row}
-use Rattle.cg_indexed.specs.Links.{no_link, link_at, to_nowhere, ArePlaced, one_less, lowered}
+use Rattle.cg_indexed.specs.Links.{no_link, link_at, to_nowhere, ArePlaced, tallied_link, tallied_up}
 use Rattle.cg_indexed.specs.Nodes.{Node, node_at, uses_of, recounted}
 use Rattle.cg_indexed.specs.Kept.{Held, held_of, enabled_of, values_of, child_uses, AreKept, tree_of}
 use Rattle.cg_indexed.specs.declared.links.Link.{Link}
+use Rattle.cg_indexed.specs.declared.links.Tally.TheVariants.{Fewer}
 use Rattle.cg_indexed.proofs.Kin.{kin_reread}
 use Rattle.cg_indexed.proofs.Counts.{uses-remove, recount_fewer, is_child-parents}
 use Rattle.cg_indexed.proofs.Values.{values-remove, get-without, values_gone, value_there}
@@ -41,7 +42,7 @@ module _ (places : FinMap path_cmp ℕ) (links : List Link) (nodes : List Node) 
   next = map.remove places p
 
   abbrev after_links : List Link
-  after_links = lowered links i (length p)
+  after_links = tallied_up Fewer links i (length p)
 
   abbrev after_nodes : List Node
   after_nodes = slice_set nodes i (recounted enabled no_controllers (node_at nodes i))
@@ -77,15 +78,15 @@ module _ (places : FinMap path_cmp ℕ) (links : List Link) (nodes : List Node) 
   parent_left : map.get next (parent p) ≡ Some i
   parent_left = let level = length-parent p root in next_other (parent p) (λ same. absurd (omega (arith, ap length same))) ∙ parent_is
 
-  link_after : (q : Names) (j : ℕ) → map.get next q ≡ Some j → link_at after_links j ≡ cond (inside q (parent p)) (one_less (link_at links j)) (link_at links j)
-  link_after q j has = changed_at one_less (λ n. refl) next (length p) (parent p) i links placed_next parent_left (length-parent p root) q j has
+  link_after : (q : Names) (j : ℕ) → map.get next q ≡ Some j → link_at after_links j ≡ cond (inside q (parent p)) ((tallied_link Fewer) (link_at links j)) (link_at links j)
+  link_after q j has = changed_at (tallied_link Fewer) (λ n. refl) next (length p) (parent p) i links placed_next parent_left (length-parent p root) q j has
 
   node_after : (q : Names) (j : ℕ) → map.get next q ≡ Some j → node_at after_nodes j ≡ cond (same_path q (parent p)) (recounted enabled no_controllers (node_at nodes i)) (node_at nodes j)
   node_after q j has = node_set next links placed_next (parent p) i parent_left nodes (recounted enabled no_controllers (node_at nodes i)) kept.paired q j has
 
   -- what neither changes
-  kept_link : {A : Type 0} (g : Link → A) → ((l : Link) → g (one_less l) ≡ g l) → (q : Names) (j : ℕ) → map.get next q ≡ Some j → g (link_at after_links j) ≡ g (link_at links j)
-  kept_link g same = changed_keeps one_less (λ n. refl) next g same (length p) (parent p) i links placed_next parent_left (length-parent p root)
+  kept_link : {A : Type 0} (g : Link → A) → ((l : Link) → g ((tallied_link Fewer) l) ≡ g l) → (q : Names) (j : ℕ) → map.get next q ≡ Some j → g (link_at after_links j) ≡ g (link_at links j)
+  kept_link g same = changed_keeps (tallied_link Fewer) (λ n. refl) next g same (length p) (parent p) i links placed_next parent_left (length-parent p root)
 
   kept_of : {A : Type 0} (g : Node → A) → g (recounted enabled no_controllers (node_at nodes i)) ≡ g (node_at nodes i) → (q : Names) (j : ℕ) → map.get next q ≡ Some j → g (node_at after_nodes j) ≡ g (node_at nodes j)
   kept_of g = kept_of_node next links placed_next (parent p) i parent_left g nodes (recounted enabled no_controllers (node_at nodes i)) kept.paired
@@ -115,10 +116,10 @@ module _ (places : FinMap path_cmp ℕ) (links : List Link) (nodes : List Node) 
           sym (ap map.keys (values-remove (λ (h : Held). h.cgroup) (values_of held_of places nodes) p))
           ∙ ap (λ m. map.keys (tree_of m).rows) (sym held_left) ∙ paths_are next after_nodes (values_of held_of next after_nodes) refl
 
-  counts : (q : Names) (j : ℕ) → map.get places q ≡ Some j → (cond (inside q (parent p)) (one_less (link_at links j)) (link_at links j)).below ≡ count_by (below q) (map.keys next)
+  counts : (q : Names) (j : ℕ) → map.get places q ≡ Some j → (cond (inside q (parent p)) ((tallied_link Fewer) (link_at links j)) (link_at links j)).below ≡ count_by (below q) (map.keys next)
   counts q j has =
       let old = kept.below q j has in
-      elim (inside q (parent p)) as (λ b. count_by (below q) (map.keys places) ≡ cond b (1 + count_by (below q) (map.keys next)) (count_by (below q) (map.keys next)) → (cond b (one_less (link_at links j)) (link_at links j)).below ≡ count_by (below q) (map.keys next)) [
+      elim (inside q (parent p)) as (λ b. count_by (below q) (map.keys places) ≡ cond b (1 + count_by (below q) (map.keys next)) (count_by (below q) (map.keys next)) → (cond b ((tallied_link Fewer) (link_at links j)) (link_at links j)).below ≡ count_by (below q) (map.keys next)) [
         | true ↦ λ h. omega (arith, old, h)
         | false ↦ λ h. old ∙ h
       ] (count_before q)
@@ -140,14 +141,14 @@ module _ (places : FinMap path_cmp ℕ) (links : List Link) (nodes : List Node) 
       ∙ ap (λ m. child_uses m q controller) (sym sets_left)
 
   -- a limit of each link is that of the cgroup
-  limit_left : {A : Type 0} (g : Link → A) (h : Cgroup → A) → ((l : Link) → g (one_less l) ≡ g l) → ((q : Names) (j : ℕ) → map.get places q ≡ Some j → g (link_at links j) ≡ h (node_at nodes j).cgroup)
+  limit_left : {A : Type 0} (g : Link → A) (h : Cgroup → A) → ((l : Link) → g ((tallied_link Fewer) l) ≡ g l) → ((q : Names) (j : ℕ) → map.get places q ≡ Some j → g (link_at links j) ≡ h (node_at nodes j).cgroup)
       → (q : Names) (j : ℕ) → map.get next q ≡ Some j → g (link_at after_links j) ≡ h (node_at after_nodes j).cgroup
   limit_left g h same old q j has = kept_link g same q j has ∙ old q j (left q j has).1 ∙ ap (λ (x : Held). h x.cgroup) (sym (row_after q j has))
 
   kept_lowered : AreKept next after_links after_nodes
   kept_lowered = record {
-    placed = placed_changed one_less (λ n. refl) next (length p) i links placed_next;
-    paired = length-set nodes i (recounted enabled no_controllers (node_at nodes i)) ∙ kept.paired ∙ sym (changed_length one_less (λ n. refl) (length p) i links);
+    placed = placed_changed (tallied_link Fewer) (λ n. refl) next (length p) i links placed_next;
+    paired = length-set nodes i (recounted enabled no_controllers (node_at nodes i)) ∙ kept.paired ∙ sym (changed_length (tallied_link Fewer) (λ n. refl) (length p) i links);
     below = λ q j has. ap (λ n. n.below) (link_after q j has) ∙ counts q j (left q j has).1;
     descendants = limit_left (λ l. l.max_descendants) (λ r. r.max_descendants.value) (λ l. refl) kept.descendants;
     depths = limit_left (λ l. l.max_depth) (λ r. r.max_depth.value) (λ l. refl) kept.depths;

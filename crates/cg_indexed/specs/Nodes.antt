@@ -10,8 +10,10 @@ use Rattle.cg_cgroup.specs.declared.files.Controller.{Controller}
 use Rattle.cg_cgroup.specs.declared.files.Controller.TheVariants.{Cpu, Memory, Pids}
 use Rattle.cg_cgroup.specs.declared.files.ControllerSet.{ControllerSet}
 use Rattle.cg_cgroup.specs.declared.cgroup.Cgroup.{Cgroup}
-use Rattle.cg_indexed.specs.Links.{link_at, counted_up, counted_down}
+use Rattle.cg_indexed.specs.Links.{link_at, tallied}
 use Rattle.cg_indexed.specs.declared.links.Link.{Link}
+use Rattle.cg_indexed.specs.declared.links.Tally.{Tally}
+use Rattle.cg_indexed.specs.declared.links.Tally.TheVariants.{More, Fewer}
 use Rattle.cg_indexed.specs.declared.nodes.Shared.{Shared}
 use Rattle.cg_indexed.specs.declared.nodes.Slot.{Slot}
 use Rattle.cg_indexed.specs.declared.nodes.Uses.{Uses}
@@ -88,10 +90,10 @@ uses_of uses Memory = uses.memory
 uses_of uses Pids = uses.pids
 
 abbrev pub more_if : Bool → ℕ → ℕ
-more_if so n = cond so (counted_up n) n
+more_if so n = cond so (tallied More n) n
 
 abbrev pub less_if : Bool → ℕ → ℕ
-less_if so n = cond so (counted_down n) n
+less_if so n = cond so (tallied Fewer n) n
 
 -- once a child that enabled `had` enables `has`
 abbrev pub uses_after : ControllerSet → ControllerSet → Uses → Uses
@@ -110,9 +112,8 @@ with_live live node = record node { live = live }
 abbrev pub with_uses : Uses → Node → Node
 with_uses uses node = record node { uses = uses }
 
--- counted anew by a count, as one more
-abbrev pub with_live_by : (ℕ → ℕ) → Node → Node
-with_live_by count node = with_live (count node.live) node
+abbrev pub tallied_node : Tally → Node → Node
+tallied_node tally node = with_live (tallied tally node.live) node
 
 abbrev pub recounted : ControllerSet → ControllerSet → Node → Node
 recounted had has node = record node { uses = uses_after had has node.uses }

@@ -7,11 +7,10 @@ ghost use Rattle.cg_cgroup.specs.Files.{enables};
 ghost use Rattle.cg_model.specs.States.{row_at, count_below, has_child, child_enables, depth_below};
 ghost use Rattle.cg_model.specs.WellFormed.{has_row};
 ghost use Rattle.cg_tree.specs.Limits.{NoneIsFull, IsNearestFull};
-ghost use Rattle.cg_indexed.specs.Links.{counted_up, counted_down};
-ghost use Rattle.cg_indexed.specs.Kept.{AreFittedBelow, tree_of, new_held, with_row_of, enabling_held, change_held, change_each_held, held_live_by};
+ghost use Rattle.cg_indexed.specs.Kept.{AreFittedBelow, tree_of, new_held, with_row_of, enabling_held, change_held, change_each_held, tallied_held};
 
-use crate::links::{Link, climb, leave, lower, place_for, put_limits, put_link, raise};
-use crate::nodes::{Nodes, differing, enable, lower_live, raise_live, recount};
+use crate::links::{Link, Tally, climb, leave, place_for, put_limits, put_link, tally_up};
+use crate::nodes::{Nodes, count_live, differing, enable, recount};
 use crate::path_index::PathIndex;
 use cg_cgroup::cgroup::Cgroup;
 use cg_cgroup::files::{Controller, ControllerSet};
@@ -147,24 +146,14 @@ impl Cgroups {
         put_limits(&mut self.links, place, &cgroup);
     }
 
-    /// Counts one more live process at a cgroup.
+    /// Counts one more live process at a cgroup, or one fewer.
     #[tactic(auto, using(crate::proofs::Read::is_placed))]
-    pub fn raise_live(&mut self, path: &Path)
+    pub fn count_live(&mut self, path: &Path, tally: Tally)
         requires { has_row (tree_of self.old) path.now ≡ true }
-        ensures { self.new ≡ change_held self.old path.now (held_live_by counted_up) }
+        ensures { self.new ≡ change_held self.old path.now (tallied_held tally) }
     {
         let place = self.places.whole(path);
-        raise_live(&mut self.nodes, place);
-    }
-
-    /// Counts one live process fewer at a cgroup.
-    #[tactic(auto, using(crate::proofs::Read::is_placed))]
-    pub fn lower_live(&mut self, path: &Path)
-        requires { has_row (tree_of self.old) path.now ≡ true }
-        ensures { self.new ≡ change_held self.old path.now (held_live_by counted_down) }
-    {
-        let place = self.places.whole(path);
-        lower_live(&mut self.nodes, place);
+        count_live(&mut self.nodes, place, tally);
     }
 
     /// Sets what a cgroup enables for its children, and makes and removes their limit files.
@@ -205,7 +194,7 @@ impl Cgroups {
         self.nodes.put_new(place, above, cgroup, shares)?;
         put_link(&mut self.links, place, Link::new(above, &cgroup));
         self.places.insert(alloc, path, place)?;
-        raise(&mut self.links, above, path.depth());
+        tally_up(&mut self.links, above, path.depth(), Tally::More);
         recount(
             &mut self.nodes,
             above,
@@ -227,7 +216,7 @@ impl Cgroups {
         let above = self.links[place].above;
         let enabled = self.nodes.cgroup(place).enabled;
         self.places.remove(path);
-        lower(&mut self.links, above, path.depth());
+        tally_up(&mut self.links, above, path.depth(), Tally::Fewer);
         leave(&mut self.links, place);
         recount(&mut self.nodes, above, enabled, ControllerSet::none());
         // Where memory is wanted, nobody has the place again.

@@ -7,10 +7,11 @@ use Rattle.std.specs.Vec.{with_items}
 use Rattle.cg_cgroup.specs.Paths.{Names, parent}
 use Rattle.cg_cgroup.specs.Files.{no_controllers}
 use Rattle.cg_cgroup.proofs.Options.{none_value}
-use Rattle.cg_indexed.specs.Links.{new_link, place_for, put_at, raised}
+use Rattle.cg_indexed.specs.Links.{new_link, place_for, put_at, tallied_up}
 use Rattle.cg_indexed.specs.Nodes.{Node, new_node, node_at, recounted}
 use Rattle.cg_indexed.specs.Kept.{held_of, values_of, AreKept, new_held}
 use Rattle.cg_indexed.specs.declared.links.Link.{Link}
+use Rattle.cg_indexed.specs.declared.links.Tally.TheVariants.{More}
 use Rattle.cg_indexed.proofs.Read.{there_is}
 use Rattle.cg_indexed.proofs.Kin.{IsPutNew, is_put_new}
 use Rattle.cg_indexed.proofs.Puts.{put_longer, place_fits, nobodys}
@@ -61,10 +62,10 @@ pushed_links c = put_at c.self.inside.links.items c.place_for-place.result (new_
 pushed_are : (c : goal.After-recount) → c.put_link.new.links.items ≡ pushed_links c
 pushed_are c = c.put_link.ensures ∙ (λ t. put_at (c.in_ok-reserve.ensures.items t) c.place_for-place.result (c.new.ensures t))
 
-links_are : (c : goal.After-recount) → (with_items c.put_link.new.links c.raise.new.links).items ≡ raised (pushed_links c) c.number-above.result (length c.args.path.now)
+links_are : (c : goal.After-recount) → (with_items c.put_link.new.links c.tally_up.new.links).items ≡ tallied_up More (pushed_links c) c.number-above.result (length c.args.path.now)
 links_are c =
-    with_items_is c.put_link.new.links c.raise.new.links (omega (arith, c.raise.auto.links, ap length c.deref_mut.ensures.value, c.put_link.new.links.ok.0))
-    ∙ c.raise.ensures ∙ (λ t. raised ((c.deref_mut.ensures.value ∙ pushed_are c) t) c.number-above.result (c.depth.ensures.depth t))
+    with_items_is c.put_link.new.links c.tally_up.new.links (omega (arith, c.tally_up.auto.links, ap length c.deref_mut.ensures.value, c.put_link.new.links.ok.0))
+    ∙ c.tally_up.ensures ∙ (λ t. tallied_up More ((c.deref_mut.ensures.value ∙ pushed_are c) t) c.number-above.result (c.depth.ensures.depth t))
 
 abbrev pushed_nodes : (c : goal.After-recount) → List Node
 pushed_nodes c = put_at c.self.inside.nodes c.place_for-place.result (new_node c.args.cgroup (put_is c).kin)
@@ -99,7 +100,7 @@ at_parent c =
 
 pub invariant_of-self-2 : goal.invariant_of-self-2
 invariant_of-self-2 c =
-    subst (λ m. AreKept m (with_items c.put_link.new.links c.raise.new.links).items c.recount.new.nodes) (sym (table_is c))
+    subst (λ m. AreKept m (with_items c.put_link.new.links c.tally_up.new.links).items c.recount.new.nodes) (sym (table_is c))
     (subst (λ ls. AreKept (map.insert c.self.inside.places c.args.path.now c.place_for-place.result) ls c.recount.new.nodes) (sym (links_are c))
     (subst (AreKept (map.insert c.self.inside.places c.args.path.now c.place_for-place.result) _) (sym (nodes_are c))
     (kept_next c.self.inside.places c.self.inside.links.items c.self.inside.nodes c.self.invariant (few c) c.args.path.now c.requires.not_root (none_there c) c.number-above.result (at_parent c) c.args.cgroup (put_is c).kin (put_is c).parents c.place_for-place.result (fits c) (free c))))
