@@ -1,5 +1,5 @@
 -- What is read of kept cgroups.
-use Rattle.std.proofs.Common.{◌≡◌, ℕ, ◌-◌, Bool, true, false, ◌&&◌, nat_lt, List, take, count_by, sym, ap, ◌∙◌, Some, None, is_some, option_map}
+use Rattle.std.proofs.Common.{◌≡◌, ℕ, ◌<◌, ◌-◌, Bool, true, false, ◌&&◌, nat_lt, List, length, take, count_by, sym, ap, ◌∙◌, Some, None, is_some, option_map, arith}
 use Rattle.std.specs.List.{list_any}
 use Rattle.std.specs.FinMap as map
 use Rattle.std.specs.FinMap.{FinMap}
@@ -71,3 +71,7 @@ module _ (places : FinMap path_cmp ℕ) (nodes : List Node) (m : FinMap path_cmp
         let row = row_is p ∙ ap (option_map (λ i. (node_at nodes i).cgroup)) is in
         (λ t. is_full_link (record { above = 0; below = count_is p at is t; max_descendants = kept.descendants p at is t; max_depth = kept.depths p at is t }) (len - k))
         ∙ ap (λ o. elim o as (λ _. Bool) [ None ↦ false | Some r ↦ bars_child (count_below (tree_of m) p) r.max_descendants.value (len - k) r.max_depth.value ]) (sym row)
+
+-- the place of a path is that of a node
+pub place_within : (places : FinMap path_cmp ℕ) (links : List Link) (nodes : List Node) → AreKept places links nodes → (p : Names) (i : ℕ) → map.get places p ≡ Some i → i < length nodes
+place_within places links nodes kept p i is = let l = kept.placed.within p i is in omega (arith, l, kept.paired)

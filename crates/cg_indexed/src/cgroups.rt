@@ -90,7 +90,7 @@ impl Cgroups {
     }
 
     /// How many live processes are counted at a cgroup.
-    #[tactic(auto, using(crate::proofs::Read::is_placed))]
+    #[tactic(auto, using(crate::proofs::Read::is_placed, crate::proofs::Read::place_within))]
     pub fn live(&self, path: &Path, len: usize) -> u64
         requires within { len ≤ length path.now }
         requires there { has_row (tree_of self.now) (take len path.now) ≡ true }
@@ -101,7 +101,7 @@ impl Cgroups {
     }
 
     /// Whether a child of a cgroup enables a controller.
-    #[tactic(auto, using(crate::proofs::Read::is_placed))]
+    #[tactic(auto, using(crate::proofs::Read::is_placed, crate::proofs::Read::place_within))]
     pub fn child_enables(&self, path: &Path, len: usize, controller: Controller) -> bool
         requires within { len ≤ length path.now }
         requires there { has_row (tree_of self.now) (take len path.now) ≡ true }

@@ -1,12 +1,7 @@
-use Rattle.std.proofs.Common.{take, ap, sym, ◌∙◌, nat_lt, arith}
+use Rattle.std.proofs.Common.{take, ap, sym, ◌∙◌, nat_lt}
 use Rattle.cg_indexed.specs.Nodes.{uses_of}
 use Rattle.cg_indexed.proofs.Read.{child_enables_is}
 use Rattle.cg_indexed.proofs.cgroups.Cgroups.child_enables.Goals as goal
-
-pub uses-requires : goal.uses-requires
-uses-requires c =
-    let l = c.self.invariant.placed.within (take c.args.len c.args.path.now) c.number-place.result (c.number-place.ensures) in
-    omega (arith, l, c.self.invariant.paired)
 
 pub returns : goal.returns
 returns c =

@@ -1,13 +1,8 @@
-use Rattle.std.proofs.Common.{take, ap, sym, ◌∙◌, Some, option_map, arith}
+use Rattle.std.proofs.Common.{take, ap, sym, ◌∙◌, Some, option_map}
 use Rattle.cg_indexed.specs.Nodes.{node_at}
 use Rattle.cg_indexed.specs.Kept.{held_of}
 use Rattle.cg_indexed.proofs.Read.{held_is}
 use Rattle.cg_indexed.proofs.cgroups.Cgroups.live.Goals as goal
-
-pub live-requires : goal.live-requires
-live-requires c =
-    let l = c.self.invariant.placed.within (take c.args.len c.args.path.now) c.number-place.result (c.number-place.ensures) in
-    omega (arith, l, c.self.invariant.paired)
 
 pub returns : goal.returns
 returns c =
