@@ -21,18 +21,19 @@ use Rattle.cg_cgroup.proofs.PathLaws.{inside_decides, inside-length}
 use Rattle.cg_cgroup.proofs.Options.{same_some, some_value}
 use Rattle.cg_steps.proofs.MapLaws.{any_entry, list_any-map}
 use Rattle.cg_steps.proofs.StateCounts.{count_below-with_row}
-use Rattle.cg_indexed.specs.Links.{no_link, link_at, new_link, put_at, ArePlaced, one_more, raised}
+use Rattle.cg_indexed.specs.Links.{no_link, link_at, new_link, put_at, ArePlaced, tallied_link, tallied_up}
 use Rattle.cg_indexed.specs.Nodes.{Node, IsKin, new_node, no_cgroup, node_at, no_uses, uses_of, recounted}
 use Rattle.cg_indexed.specs.Kept.{Held, held_of, enabled_of, values_of, child_uses, AreKept, new_held, tree_of}
 use Rattle.cg_indexed.specs.declared.links.Link.{Link}
 use Rattle.std.specs.Cmp.Derive.{both_true}
+use Rattle.cg_indexed.specs.declared.links.Tally.TheVariants.{More}
 use Rattle.cg_indexed.proofs.Kin.{kin_reread}
 use Rattle.cg_indexed.proofs.Counts.{count-none, uses-insert, few_uses, no_uses-childless, recount_exact, is_child-parents}
 use Rattle.cg_indexed.proofs.Values.{values-insert, get-put, values_same, values_put, value_none, keys-values}
 use Rattle.cg_indexed.proofs.Read.{paths_are, row_is}
 use Rattle.cg_indexed.proofs.Limits.{parent_take}
-use Rattle.cg_indexed.proofs.Climb.{changed_at, placed_changed, changed_length, below_parent, not_inside_parent}
-use Rattle.cg_indexed.proofs.Changed.{node_set, kept_reread}
+use Rattle.cg_indexed.proofs.Climb.{changed_at, changed_keeps, placed_changed, changed_length, below_parent, not_inside_parent}
+use Rattle.cg_indexed.proofs.Changed.{node_set, kept_of_node, kept_reread}
 use Rattle.cg_indexed.proofs.Puts.{put_here, put_other, put_longer, put_within, put_paired}
 
 -- ---- paths above
@@ -166,39 +167,28 @@ module _ (places : FinMap path_cmp ℕ) (links : List Link) (nodes : List Node) 
   }
 
   abbrev after_links : List Link
-  after_links = raised pushed_links i (length p)
+  after_links = tallied_up More pushed_links i (length p)
 
   abbrev after_nodes : List Node
   after_nodes = slice_set pushed_nodes i (recounted no_controllers row.enabled (node_at pushed_nodes i))
 
   -- each link after the climb, and each node after the recount
-  link_after : (q : Names) (j : ℕ) → map.get next q ≡ Some j → link_at after_links j ≡ cond (inside q (parent p)) (one_more (link_at pushed_links j)) (link_at pushed_links j)
-  link_after q j is = changed_at one_more (λ n. refl) next (length p) (parent p) i pushed_links placed_next parent_next (length-parent p root) q j is
+  link_after : (q : Names) (j : ℕ) → map.get next q ≡ Some j → link_at after_links j ≡ cond (inside q (parent p)) ((tallied_link More) (link_at pushed_links j)) (link_at pushed_links j)
+  link_after q j is = changed_at (tallied_link More) (λ n. refl) next (length p) (parent p) i pushed_links placed_next parent_next (length-parent p root) q j is
 
   node_after : (q : Names) (j : ℕ) → map.get next q ≡ Some j → node_at after_nodes j ≡ cond (same_path q (parent p)) (recounted no_controllers row.enabled (node_at pushed_nodes i)) (node_at pushed_nodes j)
   node_after q j is =
       node_set next pushed_links placed_next (parent p) i parent_next pushed_nodes (recounted no_controllers row.enabled (node_at pushed_nodes i)) (paired_more places links nodes kept k free (new_link i row) (new_node row share)) q j is
 
   -- what neither changes
-  kept_link : {A : Type 0} (g : Link → A) → ((l : Link) → g (one_more l) ≡ g l) → (q : Names) (j : ℕ) → map.get next q ≡ Some j → g (link_at after_links j) ≡ g (link_at pushed_links j)
-  kept_link g same q j is =
-      ap g (link_after q j is) ∙ elim (inside q (parent p)) as (λ b. g (cond b (one_more (link_at pushed_links j)) (link_at pushed_links j)) ≡ g (link_at pushed_links j)) [ true ↦ same (link_at pushed_links j) | false ↦ refl ]
+  kept_link : {A : Type 0} (g : Link → A) → ((l : Link) → g ((tallied_link More) l) ≡ g l) → (q : Names) (j : ℕ) → map.get next q ≡ Some j → g (link_at after_links j) ≡ g (link_at pushed_links j)
+  kept_link g same = changed_keeps (tallied_link More) (λ n. refl) next g same (length p) (parent p) i pushed_links placed_next parent_next (length-parent p root)
+
+  kept_of : {A : Type 0} (g : Node → A) → g (recounted no_controllers row.enabled (node_at pushed_nodes i)) ≡ g (node_at pushed_nodes i) → (q : Names) (j : ℕ) → map.get next q ≡ Some j → g (node_at after_nodes j) ≡ g (node_at pushed_nodes j)
+  kept_of g = kept_of_node next pushed_links placed_next (parent p) i parent_next g pushed_nodes (recounted no_controllers row.enabled (node_at pushed_nodes i)) (paired_more places links nodes kept k free (new_link i row) (new_node row share))
 
   row_after : (q : Names) (j : ℕ) → map.get next q ≡ Some j → held_of (node_at after_nodes j) ≡ held_of (node_at pushed_nodes j)
-  row_after q j is =
-      ap held_of (node_after q j is)
-      ∙ elim (same_path q (parent p)) as (λ b. same_path q (parent p) ≡ b → held_of (cond b (recounted no_controllers row.enabled (node_at pushed_nodes i)) (node_at pushed_nodes j)) ≡ held_of (node_at pushed_nodes j)) [
-        | true ↦ λ e. ap (λ n. held_of (node_at pushed_nodes n)) (same_some i j (sym parent_next ∙ ap (map.get next) (sym (same_path-is q (parent p) e)) ∙ is))
-        | false ↦ λ e. refl
-      ] refl
-
-  kin_after : (q : Names) (j : ℕ) → map.get next q ≡ Some j → (node_at after_nodes j).kin ≡ (node_at pushed_nodes j).kin
-  kin_after q j is =
-      ap (λ n. n.kin) (node_after q j is)
-      ∙ elim (same_path q (parent p)) as (λ b. same_path q (parent p) ≡ b → (cond b (recounted no_controllers row.enabled (node_at pushed_nodes i)) (node_at pushed_nodes j)).kin ≡ (node_at pushed_nodes j).kin) [
-        | true ↦ λ e. ap (λ n. (node_at pushed_nodes n).kin) (same_some i j (sym parent_next ∙ ap (map.get next) (sym (same_path-is q (parent p) e)) ∙ is))
-        | false ↦ λ e. refl
-      ] refl
+  row_after = kept_of held_of refl
 
   cgroup_after : (q : Names) (j : ℕ) → map.get next q ≡ Some j → (node_at after_nodes j).cgroup ≡ (node_at pushed_nodes j).cgroup
   cgroup_after q j is = ap (λ (h : Held). h.cgroup) (row_after q j is)
@@ -235,18 +225,18 @@ module _ (places : FinMap path_cmp ℕ) (links : List Link) (nodes : List Node) 
       omega (arith, most, length-map (map.entries places) (λ e. e.0), map.len-entries places)
 
   counts : (q : Names) (j : ℕ) → map.get next q ≡ Some j
-      → (cond (inside q (parent p)) (one_more (link_at pushed_links j)) (link_at pushed_links j)).below ≡ cond (inside q (parent p)) (1 + count_by (below q) (map.keys places)) (count_by (below q) (map.keys places))
+      → (cond (inside q (parent p)) ((tallied_link More) (link_at pushed_links j)) (link_at pushed_links j)).below ≡ cond (inside q (parent p)) (1 + count_by (below q) (map.keys places)) (count_by (below q) (map.keys places))
   counts q j is =
       ⊎_elim
       (λ h.
       let out : inside q (parent p) ≡ false = ap (λ x. inside x (parent p)) h.0 ∙ not_inside_parent p root in
-      ap (λ b. (cond b (one_more (link_at pushed_links j)) (link_at pushed_links j)).below) out
+      ap (λ b. (cond b ((tallied_link More) (link_at pushed_links j)) (link_at pushed_links j)).below) out
       ∙ ap (λ n. n.below) (ap (link_at pushed_links) h.1 ∙ new_link_there)
       ∙ sym (ap (λ b. cond b (1 + count_by (below q) (map.keys places)) (count_by (below q) (map.keys places))) out ∙ ap (λ x. count_by (below x) (map.keys places)) h.0 ∙ none_below places links kept.placed p none))
       (λ h.
       let old = ap (λ n. n.below) (old_link q j h.1) ∙ kept.below q j h.1 in
       let small = few_below q in
-      elim (inside q (parent p)) as (λ b. (cond b (one_more (link_at pushed_links j)) (link_at pushed_links j)).below ≡ cond b (1 + count_by (below q) (map.keys places)) (count_by (below q) (map.keys places))) [
+      elim (inside q (parent p)) as (λ b. (cond b ((tallied_link More) (link_at pushed_links j)) (link_at pushed_links j)).below ≡ cond b (1 + count_by (below q) (map.keys places)) (count_by (below q) (map.keys places))) [
         | true ↦ omega (arith, old, small)
         | false ↦ old
       ]) (which q j is)
@@ -294,7 +284,7 @@ module _ (places : FinMap path_cmp ℕ) (links : List Link) (nodes : List Node) 
       nothing Pids = refl
 
   -- a limit of each link is that of the cgroup
-  limit_next : {A : Type 0} (g : Link → A) (h : Cgroup → A) → ((l : Link) → g (one_more l) ≡ g l) → g (new_link i row) ≡ h row → ((q : Names) (j : ℕ) → map.get places q ≡ Some j → g (link_at links j) ≡ h (node_at nodes j).cgroup)
+  limit_next : {A : Type 0} (g : Link → A) (h : Cgroup → A) → ((l : Link) → g ((tallied_link More) l) ≡ g l) → g (new_link i row) ≡ h row → ((q : Names) (j : ℕ) → map.get places q ≡ Some j → g (link_at links j) ≡ h (node_at nodes j).cgroup)
       → (q : Names) (j : ℕ) → map.get next q ≡ Some j → g (link_at after_links j) ≡ h (node_at after_nodes j).cgroup
   limit_next g h same new old q j is =
       kept_link g same q j is
@@ -308,7 +298,7 @@ module _ (places : FinMap path_cmp ℕ) (links : List Link) (nodes : List Node) 
 
   new_kin : (q : Names) (j : ℕ) → map.get next q ≡ Some j → j ≡ k → IsKin after_links j (node_at after_nodes j)
   new_kin q j is last a has =
-      let share_is : share ≡ Some a = sym (kin_after q j is ∙ ap (λ n. n.kin) (ap (node_at pushed_nodes) last ∙ new_node_there)) ∙ has in
+      let share_is : share ≡ Some a = sym (kept_of (λ n. n.kin) refl q j is ∙ ap (λ n. n.kin) (ap (node_at pushed_nodes) last ∙ new_node_there)) ∙ has in
       let up : (link_at after_links j).above ≡ a = above_after q j is ∙ ap (λ l. l.above) (ap (link_at pushed_links) last ∙ new_link_there) ∙ sym (parents a share_is) in
       both_true (eq-eqb (link_at after_links j).above a up)
       (elim (nat_eq j a) as (λ b. nat_eq j a ≡ b → not b ≡ true) [ true ↦ λ e. let same = eqb-true j a e in absurd (free (parent p) i parent_is (sym (parents a share_is) ∙ sym same ∙ last)) | false ↦ λ e. refl ] refl)
@@ -316,12 +306,12 @@ module _ (places : FinMap path_cmp ℕ) (links : List Link) (nodes : List Node) 
   kin_next : (q : Names) (j : ℕ) → map.get next q ≡ Some j → IsKin after_links j (node_at after_nodes j)
   kin_next q j is =
       ⊎_elim (λ h. new_kin q j is h.1)
-      (λ h. kin_reread links after_links j (node_at nodes j) (node_at after_nodes j) (kin_after q j is ∙ ap (λ n. n.kin) (old_node q j h.1)) (above_after q j is ∙ ap (λ l. l.above) (old_link q j h.1)) (kept.kin q j h.1)) (which q j is)
+      (λ h. kin_reread links after_links j (node_at nodes j) (node_at after_nodes j) (kept_of (λ n. n.kin) refl q j is ∙ ap (λ n. n.kin) (old_node q j h.1)) (above_after q j is ∙ ap (λ l. l.above) (old_link q j h.1)) (kept.kin q j h.1)) (which q j is)
 
   pub kept_next : AreKept next after_links after_nodes
   kept_next = record {
-    placed = placed_changed one_more (λ n. refl) next (length p) i pushed_links placed_next;
-    paired = length-set pushed_nodes i (recounted no_controllers row.enabled (node_at pushed_nodes i)) ∙ paired_more places links nodes kept k free (new_link i row) (new_node row share) ∙ sym (changed_length one_more (λ n. refl) (length p) i pushed_links);
+    placed = placed_changed (tallied_link More) (λ n. refl) next (length p) i pushed_links placed_next;
+    paired = length-set pushed_nodes i (recounted no_controllers row.enabled (node_at pushed_nodes i)) ∙ paired_more places links nodes kept k free (new_link i row) (new_node row share) ∙ sym (changed_length (tallied_link More) (λ n. refl) (length p) i pushed_links);
     below = λ q j is. ap (λ n. n.below) (link_after q j is) ∙ counts q j is ∙ sym (count_next q);
     descendants = limit_next (λ l. l.max_descendants) (λ r. r.max_descendants.value) (λ l. refl) refl kept.descendants;
     depths = limit_next (λ l. l.max_depth) (λ r. r.max_depth.value) (λ l. refl) refl kept.depths;

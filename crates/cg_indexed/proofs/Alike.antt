@@ -41,20 +41,14 @@ cgroup_same x y e =
     both _ _ (held_same x.memory_high y.memory_high) (
     both _ _ (held_same x.memory_max y.memory_max) (
     both _ _ (held_same x.pids_max y.pids_max) (set_same x.enabled y.enabled))))))))))) e in
-    λ i. record {
-      dir = p.0 i;
-      procs = p.1.0 i;
-      subtree_control = p.1.1.0 i;
-      max_descendants = p.1.1.1.0 i;
-      max_depth = p.1.1.1.1.0 i;
-      cpu_weight = p.1.1.1.1.1.0 i;
-      memory_min = p.1.1.1.1.1.1.0 i;
-      memory_low = p.1.1.1.1.1.1.1.0 i;
-      memory_high = p.1.1.1.1.1.1.1.1.0 i;
-      memory_max = p.1.1.1.1.1.1.1.1.1.0 i;
-      pids_max = p.1.1.1.1.1.1.1.1.1.1.0 i;
-      enabled = p.1.1.1.1.1.1.1.1.1.1.1 i;
-    }
+    let q = p.1.1.1 in
+    let r = q.1.1.1 in
+    let s = r.1.1.1 in
+    λ i.
+    let entries = record x { dir = p.0 i; procs = p.1.0 i; subtree_control = p.1.1.0 i } in
+    let tree = record entries { max_descendants = q.0 i; max_depth = q.1.0 i; cpu_weight = q.1.1.0 i } in
+    let memory = record tree { memory_min = r.0 i; memory_low = r.1.0 i; memory_high = r.1.1.0 i } in
+    record memory { memory_max = s.0 i; pids_max = s.1.0 i; enabled = s.1.1 i }
 
 pub cgroup_found : (x y : Cgroup) → x ≡ y → cgroups.ghosts.eq x y ≡ true
 cgroup_found x y same = subst (λ z. cgroups.ghosts.eq x z ≡ true) same (equal.lawful.laws.refl x)

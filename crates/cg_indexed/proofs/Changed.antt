@@ -1,5 +1,5 @@
 -- Kept cgroups once what is at the place of one path changes.
-use Rattle.std.proofs.Common.{◌≡◌, ◌≢◌, ℕ, ◌≤◌, true, false, cond, ◌&&◌, not, nat_eq, List, length, get_or, refl, sym, ap, ◌∙◌, Some, None, arith}
+use Rattle.std.proofs.Common.{◌≡◌, ◌≢◌, ℕ, ◌≤◌, true, false, cond, ◌&&◌, not, nat_eq, List, length, get_or, refl, sym, ap, ◌∙◌, subst, Some, None, arith}
 use Rattle.std.specs.Prelude.{slice_set}
 use Rattle.std.proofs.lemmas.List.{get_or-set_same, get_or-set_other, length-set}
 use Rattle.std.specs.FinMap as map
@@ -9,9 +9,10 @@ use Rattle.cg_cgroup.specs.declared.cgroup.Cgroup.{Cgroup}
 use Rattle.cg_cgroup.proofs.PathOrder.{same_path-is, same_path-other, same_path_refl}
 use Rattle.cg_cgroup.proofs.Options.{same_some}
 use Rattle.cg_indexed.specs.Links.{no_link, link_at, ArePlaced, with_limits}
-use Rattle.cg_indexed.specs.Nodes.{Node, new_node, no_cgroup, node_at, uses_of, with_cgroup}
-use Rattle.cg_indexed.specs.Kept.{Held, held_of, enabled_of, values_of, child_uses, AreKept, with_row_of, change_held}
+use Rattle.cg_indexed.specs.Nodes.{Node, new_node, no_cgroup, node_at, uses_of, with_cgroup, tallied_node}
+use Rattle.cg_indexed.specs.Kept.{Held, held_of, enabled_of, values_of, child_uses, AreKept, with_row_of, change_held, tallied_held}
 use Rattle.cg_indexed.specs.declared.links.Link.{Link}
+use Rattle.cg_indexed.specs.declared.links.Tally.{Tally}
 use Rattle.cg_indexed.proofs.Kin.{kin_of_either}
 use Rattle.cg_indexed.proofs.Values.{values_same, values_change}
 
@@ -107,6 +108,17 @@ module _ (places : FinMap path_cmp ℕ) (links : List Link) (nodes : List Node) 
   held_node f new =
       values_change held_of places nodes (slice_set nodes i x) p i f is (ap held_of (node_here places links kept.placed p i is nodes x kept.paired) ∙ new)
       (λ q j apart has. ap held_of (node_past places links kept.placed p i is nodes x kept.paired q j apart has))
+
+-- live processes counted anew
+module _ (places : FinMap path_cmp ℕ) (links : List Link) (nodes : List Node) (kept : AreKept places links nodes) (p : Names) (i : ℕ) (is : map.get places p ≡ Some i) (tally : Tally) (new : List Node)
+    (set : new ≡ slice_set nodes i (tallied_node tally (node_at nodes i))) where
+  pub kept_live : AreKept places links new
+  kept_live = subst (AreKept places links) (sym set) (kept_node places links nodes kept p i is (tallied_node tally (node_at nodes i)) refl refl refl)
+
+  pub held_live : (held : FinMap path_cmp Held) → values_of held_of places nodes ≡ held → values_of held_of places new ≡ change_held held p (tallied_held tally)
+  held_live held view =
+      ap (values_of held_of places) set
+      ∙ held_node places links nodes kept p i is (tallied_node tally (node_at nodes i)) refl refl refl (tallied_held tally) refl ∙ ap (λ m. change_held m p (tallied_held tally)) view
 
 -- ---- a cgroup in the place of one that enables the same
 

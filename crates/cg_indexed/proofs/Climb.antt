@@ -160,6 +160,12 @@ module _ (f : Link → Link) (keeps : (n : Link) → (f n).above ≡ n.above) wh
               | false ↦ λ root. deeper root ∙ (λ k. cond (sym (inside_parent q p root apart) k) (f (past k)) (past k))
             ] refl
 
+    -- what the change leaves of a link, the climb leaves of each
+    pub changed_keeps : {A : Type 0} (g : Link → A) → ((link : Link) → g (f link) ≡ g link) → (n : ℕ) (p : Names) (i : ℕ) (links : List Link) → ArePlaced places links → map.get places p ≡ Some i → length p + 1 ≡ n
+        → (q : Names) (j : ℕ) → map.get places q ≡ Some j → g (link_at (changed_up f links i n) j) ≡ g (link_at links j)
+    changed_keeps g same n p i links placed is size q j has =
+        ap g (changed_at n p i links placed is size q j has) ∙ elim (inside q p) as (λ b. g (cond b (f (link_at links j)) (link_at links j)) ≡ g (link_at links j)) [ true ↦ same (link_at links j) | false ↦ refl ]
+
   -- one turn of the loop
   pub changed_more : (links : List Link) (i count done : ℕ) → i < length links → done < count
       → changed_up f links i (count - done) ≡ changed_up f (bumped links i) (link_at links i).above (count - (done + 1))

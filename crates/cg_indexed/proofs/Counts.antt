@@ -15,23 +15,11 @@ use Rattle.cg_cgroup.specs.declared.files.ControllerSet.{ControllerSet}
 use Rattle.cg_cgroup.proofs.PathOrder.{path_cmp_total, path_cmp-IsAntisymmetric, same_path-is, same_path_refl}
 use Rattle.cg_cgroup.proofs.PathParents.{is_child-parent, parent-is_child}
 use Rattle.cg_steps.proofs.MapLaws.{any_entry}
-use Rattle.cg_steps.proofs.MapFolds.{gathered, Commutes, gathered-insert, gathered-remove, insert-remove, get-remove-same}
+use Rattle.cg_steps.proofs.MapFolds.{gathered, gathered-insert, gathered-remove, insert-remove, get-remove-same}
+use Rattle.cg_steps.proofs.StateCounts.{one_more, one_more-Commutes}
 use Rattle.cg_indexed.specs.Nodes.{more_if, less_if, uses_of, uses_after}
 use Rattle.cg_indexed.specs.Kept.{child_uses}
 use Rattle.cg_indexed.specs.declared.nodes.Uses.{Uses}
-
--- one more where the test passes
-abbrev pub one_more : {A : Type 0} → (A → Bool) → A → ℕ → ℕ
-one_more p x n = cond (p x) (1 + n) n
-
-pub one_more-Commutes : {A : Type 0} (p : A → Bool) → Commutes (one_more p)
-one_more-Commutes p x y n = swapped (p x) (p y)
-  where
-    swapped : (a b : Bool) → cond a (1 + cond b (1 + n) n) (cond b (1 + n) n) ≡ cond b (1 + cond a (1 + n) n) (cond a (1 + n) n)
-    swapped true true = refl
-    swapped true false = refl
-    swapped false true = refl
-    swapped false false = refl
 
 module _ {A : Type 0} (p : A → Bool) where
   counted : List A → ℕ

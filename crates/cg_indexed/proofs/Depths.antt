@@ -20,7 +20,8 @@ use Rattle.cg_cgroup.proofs.PathOrder.{path_cmp_total}
 use Rattle.cg_steps.proofs.MapFolds.{gathered, Commutes, gathered-insert}
 use Rattle.cg_indexed.specs.TextKeys.{number_of, numbers_of, IsText, HasText, AreTexts}
 use Rattle.cg_indexed.specs.Levels.{levels_behind, levels_below, deepest}
-use Rattle.cg_indexed.proofs.Counts.{one_more, gathered-count}
+use Rattle.cg_steps.proofs.StateCounts.{one_more}
+use Rattle.cg_indexed.proofs.Counts.{gathered-count}
 use Rattle.cg_indexed.proofs.TextKeys.{number_at, find-texts}
 
 -- ---- names have no slash

@@ -1,5 +1,5 @@
 -- A climb finds the nearest cgroup whose limits bar a child.
-use Rattle.std.proofs.Common.{◌≡◌, ◌≢◌, ℕ, zero, suc, ◌+◌, ◌-◌, ◌<◌, ◌≤◌, true, false, cond, List, length, take, refl, sym, ap, ◌∙◌, subst, Some, None, Option, arith, take-take, ⊎_elim}
+use Rattle.std.proofs.Common.{◌≡◌, ◌≢◌, ℕ, zero, suc, ◌+◌, ◌-◌, ◌<◌, ◌≤◌, Bool, true, false, cond, List, length, take, refl, sym, ap, ◌∙◌, subst, Some, None, Option, arith, take-take, ⊎_elim}
 use Rattle.std.specs.Option.{MatchOption}
 use Rattle.std.proofs.lemmas.Bool.{lt-ltb, cases_eq}
 use Rattle.std.proofs.lemmas.List.{length-take-le}
@@ -12,14 +12,15 @@ use Rattle.cg_indexed.specs.Links.{link_at, ArePlaced, is_full_link, climbed}
 use Rattle.cg_indexed.specs.declared.links.Link.{Link}
 
 -- one turn of the loop
-pub climbed_more : (links : List Link) (len at up : ℕ) → up < len → at < length links
-    → climbed links len at (len - up) ≡ cond (is_full_link (link_at links at) up) (Some (len - up)) (climbed links len (link_at links at).above (len - (up + 1)))
-climbed_more links len at up more l =
+pub climbed_more : (links : List Link) (len at up : ℕ) (full : Bool) → full ≡ is_full_link (link_at links at) up → up < len → at < length links
+    → cond full (Some (len - up)) (climbed links len (link_at links at).above (len - (up + 1))) ≡ climbed links len at (len - up)
+climbed_more links len at up full is more l =
     let turns : len - up ≡ suc (len - (up + 1)) = omega arith in
     let levels : len - suc (len - (up + 1)) ≡ up = omega arith in
-    ap (climbed links len at) turns
+    ap (λ b. cond b (Some (len - up)) (climbed links len (link_at links at).above (len - (up + 1)))) is
+    ∙ sym (ap (climbed links len at) turns
     ∙ ap (λ b. cond b (cond (is_full_link (link_at links at) (len - suc (len - (up + 1)))) (Some (suc (len - (up + 1)))) (climbed links len (link_at links at).above (len - (up + 1)))) None) (lt-ltb at (length links) l)
-    ∙ (λ i. cond (is_full_link (link_at links at) (levels i)) (Some (sym turns i)) (climbed links len (link_at links at).above (len - (up + 1))))
+    ∙ (λ i. cond (is_full_link (link_at links at) (levels i)) (Some (sym turns i)) (climbed links len (link_at links at).above (len - (up + 1)))))
 
 pub parent_take : (q : Names) (n : ℕ) → n < length q → parent (take (suc n) q) ≡ take n q
 parent_take q n h =

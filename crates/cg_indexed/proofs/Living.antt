@@ -20,9 +20,11 @@ use Rattle.cg_steps.proofs.MapFolds.{gathered, gathered-insert, gathered-remove,
 use Rattle.cg_steps.proofs.StateTests.{has_child-row, has_live-process}
 use Rattle.cg_steps.proofs.FormedParts.{may_hold-row}
 use Rattle.cg_steps.proofs.TreeLaws.{below-has_child}
-use Rattle.cg_indexed.specs.Kept.{Held, change_held, change_each_held, one_live_more, one_live_less}
+use Rattle.cg_indexed.specs.Kept.{Held, change_held, change_each_held, tallied_held}
 use Rattle.cg_indexed.specs.Indexed.{count_live}
-use Rattle.cg_indexed.proofs.Counts.{one_more, one_more-Commutes, gathered-count, any-count, count-none}
+use Rattle.cg_steps.proofs.StateCounts.{one_more, one_more-Commutes}
+use Rattle.cg_indexed.specs.declared.links.Tally.TheVariants.{More, Fewer}
+use Rattle.cg_indexed.proofs.Counts.{gathered-count, any-count, count-none}
 use Rattle.cg_indexed.proofs.Enabled.{below-is_child}
 use Rattle.cg_indexed.proofs.Values.{get-put, get-without}
 
@@ -120,25 +122,25 @@ more_exact : (b : Bool) (n r : ℕ) → n ≡ r → r < 9223372036854775808 → 
 more_exact true n r h small = omega (arith, h)
 more_exact false n r h small = h
 
-live_of_less : (b : Bool) (h : Held) → (cond b (one_live_less h) h).live ≡ cond b (h.live - 1) h.live
+live_of_less : (b : Bool) (h : Held) → (cond b ((tallied_held Fewer) h) h).live ≡ cond b (h.live - 1) h.live
 live_of_less true h = refl
 live_of_less false h = refl
 
-live_of_more : (b : Bool) (h : Held) → (cond b (one_live_more h) h).live ≡ cond b (min (h.live + 1) 18446744073709551615) h.live
+live_of_more : (b : Bool) (h : Held) → (cond b ((tallied_held More) h) h).live ≡ cond b (min (h.live + 1) 18446744073709551615) h.live
 live_of_more true h = refl
 live_of_more false h = refl
 
 -- a process fewer
-pub counted_less : (held : FinMap path_cmp Held) (live : FinMap nat_cmp Process) (pid : ℕ) (process : Process) → AreCounted held live → map.get live pid ≡ Some process → AreCounted (change_held held process.place one_live_less) (map.remove live pid)
+pub counted_less : (held : FinMap path_cmp Held) (live : FinMap nat_cmp Process) (pid : ℕ) (process : Process) → AreCounted held live → map.get live pid ≡ Some process → AreCounted (change_held held process.place (tallied_held Fewer)) (map.remove live pid)
 counted_less held live pid process counted is =
-    counted_change held process.place one_live_less (map.remove live pid) (λ q h has.
+    counted_change held process.place (tallied_held Fewer) (map.remove live pid) (λ q h has.
     live_of_less (same_path process.place q) h ∙ less_exact (same_path process.place q) h.live (count_live (map.remove live pid) q) (counted q h has ∙ count_live-remove live pid process is q))
 
 -- a process more, where these are the others
 pub counted_more : (held : FinMap path_cmp Held) (others live : FinMap nat_cmp Process) (p : Names) → AreCounted held others → ((q : Names) → count_live live q ≡ cond (same_path p q) (1 + count_live others q) (count_live others q)) → map.len others < 9223372036854775808
-    → AreCounted (change_held held p one_live_more) live
+    → AreCounted (change_held held p (tallied_held More)) live
 counted_more held others live p counted one few =
-    counted_change held p one_live_more live (λ q h has.
+    counted_change held p (tallied_held More) live (λ q h has.
     let most = few_live others q in
     live_of_more (same_path p q) h ∙ more_exact (same_path p q) h.live (count_live others q) (counted q h has) (omega (arith, most, few)) ∙ sym (one q))
 

@@ -2,12 +2,19 @@
 use Rattle.std.proofs.Common.{◌≡◌, ℕ, ◌<◌, ◌≤◌, ◌≢◌, Bool, true, false, true≢false, not, ◌&&◌, cond, nat_lt, Option, List, [], ◌∷◌, ◌++◌, length, get_or, map as map_list, refl, sym, ap, ◌∙◌, Some, None, arith}
 use Rattle.std.specs.Prelude.{slice_set}
 use Rattle.std.proofs.lemmas.Bool.{lt-ltb, ltb-true, ltb-false}
-use Rattle.std.proofs.lemmas.List.{get_or_append_left, get_or_at, get_or-set_same, get_or-set_other, length-append, length-set, length-map, map-set, map_push}
+use Rattle.std.proofs.lemmas.List.{get_or_append_left, get_or_at, get_or-set_same, get_or-set_other, length-append, length-set, length-map, map-set, map_push, with_items_is}
+use Rattle.std.specs.Global.{Vec}
+use Rattle.std.specs.Vec.{with_items}
 use Rattle.std.specs.FinMap as map
 use Rattle.std.specs.FinMap.{FinMap}
 use Rattle.cg_cgroup.specs.Paths.{Names, path_cmp, parent}
 use Rattle.cg_indexed.specs.Links.{link_at, is_vacant, place_for, put_at, ArePlaced}
 use Rattle.cg_indexed.specs.declared.links.Link.{Link}
+
+-- an element changed through a slice of a vector
+pub set_through : {A : Type 0} (xs : Vec A) (i : ℕ) (f : A → A) (d : A) (now new : List A) → now ≡ xs.items → length new ≡ length now → new ≡ slice_set now i (f (get_or now i d))
+    → (with_items xs new).items ≡ slice_set xs.items i (f (get_or xs.items i d))
+set_through xs i f d now new is long set = with_items_is xs new (omega (arith, long, ap length is, xs.ok.0)) ∙ set ∙ ap (λ ys. slice_set ys i (f (get_or ys i d))) is
 
 module _ {A : Type 0} (xs : List A) (i : ℕ) (x : A) where
   pub put_here : (d : A) → i ≤ length xs → get_or (put_at xs i x) i d ≡ x

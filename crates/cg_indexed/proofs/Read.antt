@@ -1,5 +1,5 @@
 -- What is read of kept cgroups.
-use Rattle.std.proofs.Common.{◌≡◌, ℕ, ◌-◌, Bool, true, false, ◌&&◌, nat_lt, List, length, take, count_by, sym, ap, ◌∙◌, Some, None, is_some, option_map, arith, take_all}
+use Rattle.std.proofs.Common.{◌≡◌, ℕ, ◌<◌, ◌-◌, Bool, true, false, ◌&&◌, nat_lt, List, length, take, count_by, sym, ap, ◌∙◌, Some, None, is_some, option_map, arith}
 use Rattle.std.specs.List.{list_any}
 use Rattle.std.specs.FinMap as map
 use Rattle.std.specs.FinMap.{FinMap}
@@ -42,9 +42,8 @@ module _ (places : FinMap path_cmp ℕ) (nodes : List Node) (m : FinMap path_cmp
       fitted q (node_at nodes j).cgroup child (row_is q ∙ ap (option_map (λ k. (node_at nodes k).cgroup)) has) file
       ∙ ap (λ set. stands_under set file) (enabled_at-row (tree_of m) p (node_at nodes i).cgroup (row_is p ∙ ap (option_map (λ k. (node_at nodes k).cgroup)) is))
 
-  -- by the depth that the path tells of itself
-  pub whole_there : (q : Names) (len : ℕ) → len ≡ length q → has_row (tree_of m) q ≡ true → is_some (map.get places (take len q)) ≡ true
-  whole_there q len depth there = ap (λ x. is_some (map.get places x)) (take_all len q (omega arith)) ∙ sym (there_is q) ∙ there
+  pub is_placed : (q : Names) → has_row (tree_of m) q ≡ true → map.contains_key places q ≡ true
+  is_placed q there = sym (there_is q) ∙ there
 
   pub paths_are : paths_of (tree_of m) ≡ map.keys places
   paths_are = keys-mapped (λ h. h.cgroup) m ∙ ap map.keys (sym shows) ∙ keys-values held_of places nodes
@@ -73,6 +72,6 @@ module _ (places : FinMap path_cmp ℕ) (nodes : List Node) (m : FinMap path_cmp
         (λ t. is_full_link (record { above = 0; below = count_is p at is t; max_descendants = kept.descendants p at is t; max_depth = kept.depths p at is t }) (len - k))
         ∙ ap (λ o. elim o as (λ _. Bool) [ None ↦ false | Some r ↦ bars_child (count_below (tree_of m) p) r.max_descendants.value (len - k) r.max_depth.value ]) (sym row)
 
--- the place that a look-up by the whole path finds
-pub whole_place : (places : FinMap path_cmp ℕ) (q : Names) (len place : ℕ) → len ≡ length q → Some place ≡ map.get places (take len q) → map.get places q ≡ Some place
-whole_place places q len place depth found = ap (map.get places) (sym (take_all len q (omega arith))) ∙ sym found
+-- the place of a path is that of a node
+pub place_within : (places : FinMap path_cmp ℕ) (links : List Link) (nodes : List Node) → AreKept places links nodes → (p : Names) (i : ℕ) → map.get places p ≡ Some i → i < length nodes
+place_within places links nodes kept p i is = let l = kept.placed.within p i is in omega (arith, l, kept.paired)

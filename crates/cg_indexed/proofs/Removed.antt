@@ -15,17 +15,17 @@ use Rattle.cg_cgroup.proofs.PathOrder.{same_path-is, same_path-not, same_path-ot
 use Rattle.cg_cgroup.proofs.PathParents.{length-parent, is_child-parent, parent-root}
 use Rattle.cg_steps.proofs.MapLaws.{entry_any, list_any-map}
 use Rattle.cg_steps.proofs.StateCounts.{count_below-without_row}
-use Rattle.cg_cgroup.proofs.Options.{same_some}
-use Rattle.cg_indexed.specs.Links.{no_link, link_at, to_nowhere, ArePlaced, one_less, lowered}
+use Rattle.cg_indexed.specs.Links.{no_link, link_at, to_nowhere, ArePlaced, tallied_link, tallied_up}
 use Rattle.cg_indexed.specs.Nodes.{Node, node_at, uses_of, recounted}
 use Rattle.cg_indexed.specs.Kept.{Held, held_of, enabled_of, values_of, child_uses, AreKept, tree_of}
 use Rattle.cg_indexed.specs.declared.links.Link.{Link}
+use Rattle.cg_indexed.specs.declared.links.Tally.TheVariants.{Fewer}
 use Rattle.cg_indexed.proofs.Kin.{kin_reread}
 use Rattle.cg_indexed.proofs.Counts.{uses-remove, recount_fewer, is_child-parents}
 use Rattle.cg_indexed.proofs.Values.{values-remove, get-without, values_gone, value_there}
 use Rattle.cg_indexed.proofs.Read.{paths_are, row_is}
-use Rattle.cg_indexed.proofs.Climb.{changed_at, placed_changed, changed_length, below_parent}
-use Rattle.cg_indexed.proofs.Changed.{node_set, kept_reread}
+use Rattle.cg_indexed.proofs.Climb.{changed_at, changed_keeps, placed_changed, changed_length, below_parent}
+use Rattle.cg_indexed.proofs.Changed.{node_set, kept_of_node, kept_reread}
 
 module _ (places : FinMap path_cmp ℕ) (links : List Link) (nodes : List Node) (kept : AreKept places links nodes) (p : Names) (root : is_root p ≡ false) (here : ℕ) (is : map.get places p ≡ Some here)
     (childless : list_any (is_child p) (map.keys places) ≡ false) where
@@ -42,7 +42,7 @@ module _ (places : FinMap path_cmp ℕ) (links : List Link) (nodes : List Node) 
   next = map.remove places p
 
   abbrev after_links : List Link
-  after_links = lowered links i (length p)
+  after_links = tallied_up Fewer links i (length p)
 
   abbrev after_nodes : List Node
   after_nodes = slice_set nodes i (recounted enabled no_controllers (node_at nodes i))
@@ -78,32 +78,21 @@ module _ (places : FinMap path_cmp ℕ) (links : List Link) (nodes : List Node) 
   parent_left : map.get next (parent p) ≡ Some i
   parent_left = let level = length-parent p root in next_other (parent p) (λ same. absurd (omega (arith, ap length same))) ∙ parent_is
 
-  link_after : (q : Names) (j : ℕ) → map.get next q ≡ Some j → link_at after_links j ≡ cond (inside q (parent p)) (one_less (link_at links j)) (link_at links j)
-  link_after q j has = changed_at one_less (λ n. refl) next (length p) (parent p) i links placed_next parent_left (length-parent p root) q j has
+  link_after : (q : Names) (j : ℕ) → map.get next q ≡ Some j → link_at after_links j ≡ cond (inside q (parent p)) ((tallied_link Fewer) (link_at links j)) (link_at links j)
+  link_after q j has = changed_at (tallied_link Fewer) (λ n. refl) next (length p) (parent p) i links placed_next parent_left (length-parent p root) q j has
 
   node_after : (q : Names) (j : ℕ) → map.get next q ≡ Some j → node_at after_nodes j ≡ cond (same_path q (parent p)) (recounted enabled no_controllers (node_at nodes i)) (node_at nodes j)
   node_after q j has = node_set next links placed_next (parent p) i parent_left nodes (recounted enabled no_controllers (node_at nodes i)) kept.paired q j has
 
   -- what neither changes
-  kept_link : {A : Type 0} (g : Link → A) → ((l : Link) → g (one_less l) ≡ g l) → (q : Names) (j : ℕ) → map.get next q ≡ Some j → g (link_at after_links j) ≡ g (link_at links j)
-  kept_link g same q j has =
-      ap g (link_after q j has) ∙ elim (inside q (parent p)) as (λ b. g (cond b (one_less (link_at links j)) (link_at links j)) ≡ g (link_at links j)) [ true ↦ same (link_at links j) | false ↦ refl ]
+  kept_link : {A : Type 0} (g : Link → A) → ((l : Link) → g ((tallied_link Fewer) l) ≡ g l) → (q : Names) (j : ℕ) → map.get next q ≡ Some j → g (link_at after_links j) ≡ g (link_at links j)
+  kept_link g same = changed_keeps (tallied_link Fewer) (λ n. refl) next g same (length p) (parent p) i links placed_next parent_left (length-parent p root)
+
+  kept_of : {A : Type 0} (g : Node → A) → g (recounted enabled no_controllers (node_at nodes i)) ≡ g (node_at nodes i) → (q : Names) (j : ℕ) → map.get next q ≡ Some j → g (node_at after_nodes j) ≡ g (node_at nodes j)
+  kept_of g = kept_of_node next links placed_next (parent p) i parent_left g nodes (recounted enabled no_controllers (node_at nodes i)) kept.paired
 
   row_after : (q : Names) (j : ℕ) → map.get next q ≡ Some j → held_of (node_at after_nodes j) ≡ held_of (node_at nodes j)
-  row_after q j has =
-      ap held_of (node_after q j has)
-      ∙ elim (same_path q (parent p)) as (λ b. same_path q (parent p) ≡ b → held_of (cond b (recounted enabled no_controllers (node_at nodes i)) (node_at nodes j)) ≡ held_of (node_at nodes j)) [
-        | true ↦ λ e. ap (λ n. held_of (node_at nodes n)) (same_some i j (sym parent_left ∙ ap (map.get next) (sym (same_path-is q (parent p) e)) ∙ has))
-        | false ↦ λ e. refl
-      ] refl
-
-  kin_after : (q : Names) (j : ℕ) → map.get next q ≡ Some j → (node_at after_nodes j).kin ≡ (node_at nodes j).kin
-  kin_after q j has =
-      ap (λ n. n.kin) (node_after q j has)
-      ∙ elim (same_path q (parent p)) as (λ b. same_path q (parent p) ≡ b → (cond b (recounted enabled no_controllers (node_at nodes i)) (node_at nodes j)).kin ≡ (node_at nodes j).kin) [
-        | true ↦ λ e. ap (λ n. (node_at nodes n).kin) (same_some i j (sym parent_left ∙ ap (map.get next) (sym (same_path-is q (parent p) e)) ∙ has))
-        | false ↦ λ e. refl
-      ] refl
+  row_after = kept_of held_of refl
 
   map_left : {A : Type 0} (g : Node → A) → ((q : Names) (j : ℕ) → map.get next q ≡ Some j → g (node_at after_nodes j) ≡ g (node_at nodes j)) → values_of g next after_nodes ≡ map.remove (values_of g places nodes) p
   map_left g same = values_gone g places next nodes after_nodes p (get-without places p) (λ q j apart has. same q j (next_other q (same_path-other q p apart) ∙ has))
@@ -127,10 +116,10 @@ module _ (places : FinMap path_cmp ℕ) (links : List Link) (nodes : List Node) 
           sym (ap map.keys (values-remove (λ (h : Held). h.cgroup) (values_of held_of places nodes) p))
           ∙ ap (λ m. map.keys (tree_of m).rows) (sym held_left) ∙ paths_are next after_nodes (values_of held_of next after_nodes) refl
 
-  counts : (q : Names) (j : ℕ) → map.get places q ≡ Some j → (cond (inside q (parent p)) (one_less (link_at links j)) (link_at links j)).below ≡ count_by (below q) (map.keys next)
+  counts : (q : Names) (j : ℕ) → map.get places q ≡ Some j → (cond (inside q (parent p)) ((tallied_link Fewer) (link_at links j)) (link_at links j)).below ≡ count_by (below q) (map.keys next)
   counts q j has =
       let old = kept.below q j has in
-      elim (inside q (parent p)) as (λ b. count_by (below q) (map.keys places) ≡ cond b (1 + count_by (below q) (map.keys next)) (count_by (below q) (map.keys next)) → (cond b (one_less (link_at links j)) (link_at links j)).below ≡ count_by (below q) (map.keys next)) [
+      elim (inside q (parent p)) as (λ b. count_by (below q) (map.keys places) ≡ cond b (1 + count_by (below q) (map.keys next)) (count_by (below q) (map.keys next)) → (cond b ((tallied_link Fewer) (link_at links j)) (link_at links j)).below ≡ count_by (below q) (map.keys next)) [
         | true ↦ λ h. omega (arith, old, h)
         | false ↦ λ h. old ∙ h
       ] (count_before q)
@@ -152,19 +141,19 @@ module _ (places : FinMap path_cmp ℕ) (links : List Link) (nodes : List Node) 
       ∙ ap (λ m. child_uses m q controller) (sym sets_left)
 
   -- a limit of each link is that of the cgroup
-  limit_left : {A : Type 0} (g : Link → A) (h : Cgroup → A) → ((l : Link) → g (one_less l) ≡ g l) → ((q : Names) (j : ℕ) → map.get places q ≡ Some j → g (link_at links j) ≡ h (node_at nodes j).cgroup)
+  limit_left : {A : Type 0} (g : Link → A) (h : Cgroup → A) → ((l : Link) → g ((tallied_link Fewer) l) ≡ g l) → ((q : Names) (j : ℕ) → map.get places q ≡ Some j → g (link_at links j) ≡ h (node_at nodes j).cgroup)
       → (q : Names) (j : ℕ) → map.get next q ≡ Some j → g (link_at after_links j) ≡ h (node_at after_nodes j).cgroup
   limit_left g h same old q j has = kept_link g same q j has ∙ old q j (left q j has).1 ∙ ap (λ (x : Held). h x.cgroup) (sym (row_after q j has))
 
   kept_lowered : AreKept next after_links after_nodes
   kept_lowered = record {
-    placed = placed_changed one_less (λ n. refl) next (length p) i links placed_next;
-    paired = length-set nodes i (recounted enabled no_controllers (node_at nodes i)) ∙ kept.paired ∙ sym (changed_length one_less (λ n. refl) (length p) i links);
+    placed = placed_changed (tallied_link Fewer) (λ n. refl) next (length p) i links placed_next;
+    paired = length-set nodes i (recounted enabled no_controllers (node_at nodes i)) ∙ kept.paired ∙ sym (changed_length (tallied_link Fewer) (λ n. refl) (length p) i links);
     below = λ q j has. ap (λ n. n.below) (link_after q j has) ∙ counts q j (left q j has).1;
     descendants = limit_left (λ l. l.max_descendants) (λ r. r.max_descendants.value) (λ l. refl) kept.descendants;
     depths = limit_left (λ l. l.max_depth) (λ r. r.max_depth.value) (λ l. refl) kept.depths;
     uses = uses_left;
-    kin = λ q j has. kin_reread links after_links j (node_at nodes j) (node_at after_nodes j) (kin_after q j has) (kept_link (λ l. l.above) (λ l. refl) q j has) (kept.kin q j (left q j has).1);
+    kin = λ q j has. kin_reread links after_links j (node_at nodes j) (node_at after_nodes j) (kept_of (λ n. n.kin) refl q j has) (kept_link (λ l. l.above) (λ l. refl) q j has) (kept.kin q j (left q j has).1);
   }
 
   -- its place is left: no path that is there has it

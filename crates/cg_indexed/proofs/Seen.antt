@@ -26,6 +26,12 @@ pub set_seen : (shared : List Shared) (slots : List Slot) (i : ℕ) (slot : Slot
     → nodes_of shared (slice_set slots i slot) ≡ slice_set (nodes_of shared slots) i (f (node_at (nodes_of shared slots) i))
 set_seen shared slots i slot f new = map-set (node_of shared) slots i slot ∙ ap (slice_set (nodes_of shared slots) i) (new ∙ ap f (sym (node_seen shared slots i)))
 
+-- one changed in a list that shows the nodes
+pub changed_seen : (shared : List Shared) (slots new : List Slot) (old : List Node) (i : ℕ) (f : Slot → Slot) (g : Node → Node) → nodes_of shared slots ≡ old → ((slot : Slot) → node_of shared (f slot) ≡ g (node_of shared slot))
+    → new ≡ slice_set slots i (f (slot_at slots i)) → nodes_of shared new ≡ slice_set old i (g (node_at old i))
+changed_seen shared slots new old i f g view same set =
+    ap (nodes_of shared) set ∙ set_seen shared slots i (f (slot_at slots i)) g (same (slot_at slots i)) ∙ ap (λ nodes. slice_set nodes i (g (node_at nodes i))) view
+
 pub no_share : {A : Type 0} (k : ℕ) → None ≡ Some k → A
 no_share k h = absurd (true≢false (ap is_none h))
 

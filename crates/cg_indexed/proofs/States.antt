@@ -1,5 +1,5 @@
 -- What each change of kept cgroups does to the state that they show.
-use Rattle.std.proofs.Common.{◌≡◌, Bool, true, false, cond, refl, sym, ap, ◌∙◌, true≢false, Some, None, Option, is_some, option_map, [], ◌∷◌}
+use Rattle.std.proofs.Common.{◌≡◌, Bool, true, false, cond, refl, sym, ap, subst, ◌∙◌, true≢false, Some, None, Option, is_some, option_map, [], ◌∷◌}
 use Rattle.std.specs.Prelude.{option_and_then, not, ◌&&◌}
 use mathlib.Core.Bool.{beq}
 use Rattle.std.specs.Cmp.{first_so, second_so}
@@ -11,7 +11,7 @@ use Rattle.cg_cgroup.specs.Files.{stands_under, no_controllers}
 use Rattle.cg_cgroup.specs.Cgroups.{with_files_of}
 use Rattle.cg_cgroup.specs.declared.files.ControllerSet.{ControllerSet}
 use Rattle.cg_cgroup.specs.declared.cgroup.Cgroup.{Cgroup}
-use Rattle.cg_model.specs.States.{State, row_at, change_each, enabling, enabling_these, with_row, with_enabled}
+use Rattle.cg_model.specs.States.{State, row_at, change_at, change_each, enabling, enabling_these, with_row, with_enabled}
 use Rattle.cg_model.specs.WellFormed.{IsWellFormed, has_row, enabled_above, enabled_at}
 use Rattle.cg_cgroup.proofs.PathOrder.{path_cmp-IsAntisymmetric, same_path-is}
 use Rattle.cg_cgroup.proofs.PathParents.{parent-is_child, is_root-is_child, parent-other}
@@ -20,8 +20,11 @@ use Rattle.cg_cgroup.proofs.Options.{some_value, same_some, is_some-mapped}
 use Rattle.cg_steps.proofs.MapLaws.{get-changed, change_value-there}
 use Rattle.cg_steps.proofs.StateLaws.{row_at-with_row-other, row_at-with_row-same}
 use Rattle.cg_steps.proofs.FormedParts.{enabled_at-row}
+use Rattle.cg_rows.specs.Processes.{LiveAndUsed}
+use Rattle.cg_rows.specs.RowsForm.{state_of_tables}
 use Rattle.cg_indexed.specs.Kept.{Held, AreFittedBelow, cgroups_of, change_held, change_each_held, with_row_of, enabling_held, new_held}
-use Rattle.cg_indexed.proofs.Living.{get-change_held}
+use Rattle.cg_indexed.specs.Indexed.{state_of, IsIndexed}
+use Rattle.cg_indexed.proofs.Living.{AreCounted, get-change_held, counted_change}
 use Rattle.cg_indexed.proofs.Values.{same_maps, get-mapped, values-insert, option_map-twice}
 
 -- where the cgroup alone stays
@@ -103,6 +106,18 @@ parent_of_new st p row root formed =
 pub live_of_row : (b : Bool) (row : Cgroup) (h : Held) → (cond b (with_row_of row h) h).live ≡ h.live
 live_of_row true row h = refl
 live_of_row false row h = refl
+
+-- such a cgroup is the one that was there, changed
+module _ (held : FinMap path_cmp Held) (processes : LiveAndUsed) (controllers : ControllerSet) (st : State) (view : state_of held processes controllers ≡ st) (p : Names) (g : Cgroup → Cgroup) (row new : Cgroup)
+    (there : Some row ≡ map.get (cgroups_of held) p) (by : new ≡ g row) (now : FinMap path_cmp Held) (put : now ≡ change_held held p (with_row_of new)) where
+  pub put_shows : state_of now processes controllers ≡ change_at p g st
+  put_shows = ap (λ rows. state_of_tables rows processes controllers) (ap cgroups_of put ∙ cgroups_put held p g row new there by) ∙ ap (change_at p g) view
+
+  pub put_indexed : IsIndexed held processes controllers → IsWellFormed (change_at p g st) → IsIndexed now processes controllers
+  put_indexed was formed = record {
+    formed = subst IsWellFormed (sym put_shows) formed;
+    live = subst (λ m. AreCounted m processes.live) (sym put) (counted_change held p (with_row_of new) processes.live (λ q h is. live_of_row _ new h ∙ was.live q h is));
+  }
 
 -- what has a part is there
 pub there_by_part : {A : Type 0} (st : State) (p : Names) (part : Cgroup → Option A) → is_some (option_and_then part (row_at st p)) ≡ true → is_some (row_at st p) ≡ true

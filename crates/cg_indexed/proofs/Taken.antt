@@ -20,9 +20,10 @@ use Rattle.cg_model.specs.States.{State}
 use Rattle.cg_model.specs.WellFormed.{IsWellFormed, has_row}
 use Rattle.cg_steps.proofs.MapFolds.{gathered}
 use Rattle.cg_rows.proofs.Sorted.{holds_true}
-use Rattle.cg_indexed.specs.Kept.{Held, map_values, new_held, tree_of, cgroups_of, change_held, one_live_more}
+use Rattle.cg_indexed.specs.Kept.{Held, map_values, new_held, tree_of, cgroups_of, change_held, tallied_held}
 use Rattle.cg_indexed.specs.Indexed.{count_live}
-use Rattle.cg_indexed.proofs.Counts.{one_more}
+use Rattle.cg_steps.proofs.StateCounts.{one_more}
+use Rattle.cg_indexed.specs.declared.links.Tally.TheVariants.{More}
 use Rattle.cg_indexed.proofs.Values.{get-mapped, same_maps, get-put}
 use Rattle.cg_indexed.proofs.Living.{AreCounted, at, gathered_live, few_live, none_live, get-change_held}
 use Rattle.cg_indexed.proofs.States.{cgroups_same}
@@ -200,11 +201,11 @@ module _ (st : State) (held : FinMap path_cmp Held) (pid : ℕ) (process : Proce
             absurd (omega (arith, one, so_far.few process.place, none_live st formed process.place absent))
       ] refl
 
-  pub raised_more : map.len st.live < 9223372036854775808 → (more : FinMap path_cmp Held) → more ≡ change_held held process.place one_live_more → AreRaised st more next
+  pub raised_more : map.len st.live < 9223372036854775808 → (more : FinMap path_cmp Held) → more ≡ change_held held process.place (tallied_held More) → AreRaised st more next
   raised_more small more new = record {
-    cgroups = ap cgroups_of new ∙ cgroups_same held process.place one_live_more (λ h. refl) ∙ so_far.cgroups;
+    cgroups = ap cgroups_of new ∙ cgroups_same held process.place (tallied_held More) (λ h. refl) ∙ so_far.cgroups;
     few = λ q. let most = so_far.few q in fewer (same_path process.place q) _ _ most;
-    counted = λ q h is. raised q h (same_path process.place q) (so_far.counted q) (sym (ap (λ (m : FinMap path_cmp Held). map.get m q) new ∙ get-change_held held process.place one_live_more q) ∙ is);
+    counted = λ q h is. raised q h (same_path process.place q) (so_far.counted q) (sym (ap (λ (m : FinMap path_cmp Held). map.get m q) new ∙ get-change_held held process.place (tallied_held More) q) ∙ is);
   }
     where
       fewer : (b : Bool) (n all : ℕ) → cond b (1 + n) n ≤ all → n ≤ all
@@ -212,12 +213,12 @@ module _ (st : State) (held : FinMap path_cmp Held) (pid : ℕ) (process : Proce
       fewer false n all h = h
 
       raised : (q : Names) (h : Held) (b : Bool) → ((k : Held) → map.get held q ≡ Some k → k.live + cond b (1 + gathered (one_more (at q)) 0 next) (gathered (one_more (at q)) 0 next) ≡ count_live st.live q)
-          → cond b (option_map one_live_more (map.get held q)) (map.get held q) ≡ Some h → h.live + gathered (one_more (at q)) 0 next ≡ count_live st.live q
+          → cond b (option_map (tallied_held More) (map.get held q)) (map.get held q) ≡ Some h → h.live + gathered (one_more (at q)) 0 next ≡ count_live st.live q
       raised q h true counted e =
-          let found = mapped_from one_live_more (map.get held q) h e in
+          let found = mapped_from (tallied_held More) (map.get held q) h e in
           let before = counted found.0 found.1 in
           let most = few_live st.live q in
-          let now : (one_live_more found.0).live ≡ h.live = ap (λ (k : Held). k.live) found.2 in
+          let now : ((tallied_held More) found.0).live ≡ h.live = ap (λ (k : Held). k.live) found.2 in
           omega (arith, before, most, small, now)
       raised q h false counted e = counted h e
 

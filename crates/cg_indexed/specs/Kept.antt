@@ -1,6 +1,6 @@
 -- How a tree is kept: nobody has to believe it.
 -- How cgroups are kept at places, and what is kept of each.
-use Rattle.std.specs.Prelude.{◌≡◌, ℕ, ◌+◌, ◌-◌, min, ◌&&◌, List, length, map as map_list, count_by, Some, None, is_some, true}
+use Rattle.std.specs.Prelude.{◌≡◌, ℕ, ◌&&◌, List, length, map as map_list, count_by, Some, None, is_some, true}
 use Rattle.std.specs.FinMap as map
 use Rattle.std.specs.FinSet as set
 use Rattle.cg_cgroup.specs.Paths.{Names, path_cmp, below, is_child}
@@ -13,9 +13,10 @@ use Rattle.cg_cgroup.specs.declared.files.Controller.{Controller}
 use Rattle.cg_cgroup.specs.declared.files.ControllerSet.{ControllerSet}
 use Rattle.cg_cgroup.specs.declared.files.LimitFile.{LimitFile}
 use Rattle.cg_cgroup.specs.declared.cgroup.Cgroup.{Cgroup}
-use Rattle.cg_indexed.specs.Links.{link_at, ArePlaced}
+use Rattle.cg_indexed.specs.Links.{link_at, tallied, ArePlaced}
 use Rattle.cg_indexed.specs.Nodes.{Node, IsKin, node_at, uses_of}
 use Rattle.cg_indexed.specs.declared.links.Link.{Link}
+use Rattle.cg_indexed.specs.declared.links.Tally.{Tally}
 
 -- a cgroup, and how many live processes are counted at it
 pub record Held : Type 0 where
@@ -59,11 +60,8 @@ new_held row = record { cgroup = row; live = 0 }
 abbrev pub with_row_of : Cgroup → Held → Held
 with_row_of row held = record held { cgroup = row }
 
-abbrev pub one_live_more : Held → Held
-one_live_more held = record held { live = min (held.live + 1) 18446744073709551615 }
-
-abbrev pub one_live_less : Held → Held
-one_live_less held = record held { live = held.live - 1 }
+abbrev pub tallied_held : Tally → Held → Held
+tallied_held tally held = record held { live = tallied tally held.live }
 
 -- the row of a path, and its children's files, once the path enables these
 abbrev pub enabling_held : Names → ControllerSet → Identity → Names → Held → Held

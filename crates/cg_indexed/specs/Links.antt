@@ -7,6 +7,8 @@ use Rattle.cg_tree.specs.Limits.{bars_child}
 use Rattle.cg_cgroup.specs.declared.files.Limit.TheVariants.{Max}
 use Rattle.cg_cgroup.specs.declared.cgroup.Cgroup.{Cgroup}
 use Rattle.cg_indexed.specs.declared.links.Link.{Link}
+use Rattle.cg_indexed.specs.declared.links.Tally.{Tally}
+use Rattle.cg_indexed.specs.declared.links.Tally.TheVariants.{More, Fewer}
 
 -- what is read where there is no place
 abbrev pub no_link : Link
@@ -45,24 +47,21 @@ pub record ArePlaced (places : map.FinMap path_cmp ℕ) (links : List Link) : Ty
   pub apart : (p q : Names) (i : ℕ) → map.get places p ≡ Some i → map.get places q ≡ Some i → p ≡ q
   pub above : (p : Names) (i : ℕ) → map.get places p ≡ Some i → map.get places (parent p) ≡ Some (link_at links i).above
 
--- one more below
-abbrev pub one_more : Link → Link
-one_more link = record link { below = min (link.below + 1) 18446744073709551615 }
+-- one more, as far as numbers go, or one fewer
+abbrev pub tallied : Tally → ℕ → ℕ
+tallied More n = min (n + 1) 18446744073709551615
+tallied Fewer n = n - 1
 
--- one fewer below
-abbrev pub one_less : Link → Link
-one_less link = record link { below = link.below - 1 }
+abbrev pub tallied_link : Tally → Link → Link
+tallied_link tally link = record link { below = tallied tally link.below }
 
 -- a change at a place, and at the places above it: at so many places
 abbrev pub changed_up : (Link → Link) → List Link → ℕ → ℕ → List Link
 changed_up f links i zero = links
 changed_up f links i (suc n) = cond (nat_lt i (length links)) (changed_up f (slice_set links i (f (link_at links i))) (link_at links i).above n) links
 
-abbrev pub raised : List Link → ℕ → ℕ → List Link
-raised = changed_up one_more
-
-abbrev pub lowered : List Link → ℕ → ℕ → List Link
-lowered = changed_up one_less
+abbrev pub tallied_up : Tally → List Link → ℕ → ℕ → List Link
+tallied_up tally = changed_up (tallied_link tally)
 
 -- whether a cgroup bars a child of one so many levels below it
 abbrev pub is_full_link : Link → ℕ → Bool

@@ -1,41 +1,26 @@
 -- How a tree is kept: nobody has to believe it.
 -- Cgroups at their places, and what is counted of their children and processes.
-use Rattle.std.specs.Prelude.{◌≡◌, ℕ, ◌+◌, ◌-◌, ◌<◌, min, Bool, true, ◌&&◌, not, cond, nat_eq, List, ◌++◌, map, length, get_or, Option, Some, None, is_none, slice_set}
+use Rattle.std.specs.Prelude.{◌≡◌, ℕ, ◌<◌, Bool, true, ◌&&◌, not, cond, nat_eq, List, [], ◌++◌, map, length, get_or, Option, Some, None, is_none, slice_set}
 use Rattle.std.specs.Option.{option_map}
 use mathlib.Core.Bool.{beq}
 use Rattle.cg_cgroup.specs.Files.{no_controllers}
+use Rattle.cg_cgroup.specs.Cgroups.{cgroup_made_by}
 use Rattle.cg_model.specs.States.{enabling_these}
-use Rattle.cg_cgroup.specs.declared.user.Entry.{Entry}
-use Rattle.cg_cgroup.specs.declared.files.Limit.TheVariants.{Max}
 use Rattle.cg_cgroup.specs.declared.files.Controller.{Controller}
 use Rattle.cg_cgroup.specs.declared.files.Controller.TheVariants.{Cpu, Memory, Pids}
 use Rattle.cg_cgroup.specs.declared.files.ControllerSet.{ControllerSet}
 use Rattle.cg_cgroup.specs.declared.cgroup.Cgroup.{Cgroup}
-use Rattle.cg_indexed.specs.Links.{link_at}
+use Rattle.cg_indexed.specs.Links.{link_at, tallied}
 use Rattle.cg_indexed.specs.declared.links.Link.{Link}
+use Rattle.cg_indexed.specs.declared.links.Tally.{Tally}
+use Rattle.cg_indexed.specs.declared.links.Tally.TheVariants.{More, Fewer}
 use Rattle.cg_indexed.specs.declared.nodes.Shared.{Shared}
 use Rattle.cg_indexed.specs.declared.nodes.Slot.{Slot}
 use Rattle.cg_indexed.specs.declared.nodes.Uses.{Uses}
 
 -- what is read where there is no place
-abbrev pub no_entry : Entry
-no_entry = record { uid = 0; gid = 0; mode = 0 }
-
 abbrev pub no_cgroup : Cgroup
-no_cgroup = record {
-  dir = no_entry;
-  procs = no_entry;
-  subtree_control = no_entry;
-  max_descendants = record { entry = no_entry; value = Max };
-  max_depth = record { entry = no_entry; value = Max };
-  cpu_weight = None;
-  memory_min = None;
-  memory_low = None;
-  memory_high = None;
-  memory_max = None;
-  pids_max = None;
-  enabled = no_controllers;
-}
+no_cgroup = cgroup_made_by (record { uid = 0; gids = [] }) no_controllers
 
 abbrev pub no_uses : Uses
 no_uses = record { cpu = 0; memory = 0; pids = 0 }
@@ -93,12 +78,6 @@ pub record IsSharedAt (above : ℕ) (row : Cgroup) (shared : List Shared) (k : �
 abbrev pub with_own : Cgroup → Slot → Slot
 with_own row slot = record slot { cgroup = row; shared = None }
 
-abbrev pub slot_with_live : ℕ → Slot → Slot
-slot_with_live live slot = record slot { live = live }
-
-abbrev pub slot_with_uses : Uses → Slot → Slot
-slot_with_uses uses slot = record slot { uses = uses }
-
 -- whose children share the cgroup of a new place
 abbrev pub kin_if : Bool → ℕ → Option ℕ
 kin_if shares above = cond shares (Some above) None
@@ -111,10 +90,10 @@ uses_of uses Memory = uses.memory
 uses_of uses Pids = uses.pids
 
 abbrev pub more_if : Bool → ℕ → ℕ
-more_if so n = cond so (min (n + 1) 18446744073709551615) n
+more_if so n = cond so (tallied More n) n
 
 abbrev pub less_if : Bool → ℕ → ℕ
-less_if so n = cond so (n - 1) n
+less_if so n = cond so (tallied Fewer n) n
 
 -- once a child that enabled `had` enables `has`
 abbrev pub uses_after : ControllerSet → ControllerSet → Uses → Uses
@@ -133,11 +112,8 @@ with_live live node = record node { live = live }
 abbrev pub with_uses : Uses → Node → Node
 with_uses uses node = record node { uses = uses }
 
-abbrev pub one_more_live : Node → Node
-one_more_live node = record node { live = min (node.live + 1) 18446744073709551615 }
-
-abbrev pub one_less_live : Node → Node
-one_less_live node = record node { live = node.live - 1 }
+abbrev pub tallied_node : Tally → Node → Node
+tallied_node tally node = with_live (tallied tally node.live) node
 
 abbrev pub recounted : ControllerSet → ControllerSet → Node → Node
 recounted had has node = record node { uses = uses_after had has node.uses }

@@ -7,10 +7,10 @@ ghost use Rattle.cg_cgroup.specs.Files.{enables};
 ghost use Rattle.cg_model.specs.States.{row_at, count_below, has_child, child_enables, depth_below};
 ghost use Rattle.cg_model.specs.WellFormed.{has_row};
 ghost use Rattle.cg_tree.specs.Limits.{NoneIsFull, IsNearestFull};
-ghost use Rattle.cg_indexed.specs.Kept.{AreFittedBelow, tree_of, new_held, with_row_of, one_live_more, one_live_less, enabling_held, change_held, change_each_held};
+ghost use Rattle.cg_indexed.specs.Kept.{AreFittedBelow, tree_of, new_held, with_row_of, enabling_held, change_held, change_each_held, tallied_held};
 
-use crate::links::{Link, climb, leave, lower, place_for, put_limits, put_link, raise};
-use crate::nodes::{Nodes, differing, enable, lower_live, raise_live, recount};
+use crate::links::{Link, Tally, climb, leave, place_for, put_limits, put_link, tally_up};
+use crate::nodes::{Nodes, count_live, differing, enable, recount};
 use crate::path_index::PathIndex;
 use cg_cgroup::cgroup::Cgroup;
 use cg_cgroup::files::{Controller, ControllerSet};
@@ -80,43 +80,50 @@ impl Cgroups {
         }
     }
 
+    /// The cgroup of a path that is there.
+    #[tactic(auto, using(crate::proofs::Read::is_placed))]
+    pub fn cgroup(&self, path: &Path) -> &Cgroup
+        requires { has_row (tree_of self.now) path.now ≡ true }
+        ensures { Some result.now ≡ row_at (tree_of self.now) path.now }
+    {
+        self.nodes.cgroup(self.places.whole(path))
+    }
+
     /// How many live processes are counted at a cgroup.
+    #[tactic(auto, using(crate::proofs::Read::is_placed, crate::proofs::Read::place_within))]
     pub fn live(&self, path: &Path, len: usize) -> u64
         requires within { len ≤ length path.now }
         requires there { has_row (tree_of self.now) (take len path.now) ≡ true }
         ensures { option_map (λ held. held.live) (map.get self.now (take len path.now)) ≡ Some result }
     {
-        let Some(place) = self.places.get(path, len) else {
-            unreachable!()
-        };
+        let place = self.places.number(path, len);
         self.nodes.live(place)
     }
 
     /// Whether a child of a cgroup enables a controller.
+    #[tactic(auto, using(crate::proofs::Read::is_placed, crate::proofs::Read::place_within))]
     pub fn child_enables(&self, path: &Path, len: usize, controller: Controller) -> bool
         requires within { len ≤ length path.now }
         requires there { has_row (tree_of self.now) (take len path.now) ≡ true }
         ensures { result ≡ child_enables (tree_of self.now) (take len path.now) controller }
     {
-        let Some(place) = self.places.get(path, len) else {
-            unreachable!()
-        };
+        let place = self.places.number(path, len);
         self.nodes.uses(place).of(controller) > 0
     }
 
     /// How many cgroups lie below a cgroup, at any depth.
+    #[tactic(auto, using(crate::proofs::Read::is_placed))]
     pub fn count_below(&self, path: &Path, len: usize) -> u64
         requires within { len ≤ length path.now }
         requires there { has_row (tree_of self.now) (take len path.now) ≡ true }
         ensures { result ≡ count_below (tree_of self.now) (take len path.now) }
     {
-        let Some(place) = self.places.get(path, len) else {
-            unreachable!()
-        };
+        let place = self.places.number(path, len);
         self.links[place].below
     }
 
     /// The nearest of a cgroup and those above it whose limits bar a new child of that cgroup, by its number of names.
+    #[tactic(auto, using(crate::proofs::Read::is_placed))]
     pub fn nearest_full(&self, path: &Path, len: usize) -> Option<usize>
         requires within { len ≤ length path.now }
         requires there { has_row (tree_of self.now) (take len path.now) ≡ true }
@@ -125,9 +132,7 @@ impl Cgroups {
             (NoneIsFull (tree_of self.now) path.now len)
             (IsNearestFull (tree_of self.now) path.now len) }
     {
-        let Some(place) = self.places.get(path, len) else {
-            unreachable!()
-        };
+        let place = self.places.number(path, len);
         climb(&self.links, place, len)
     }
 
@@ -136,44 +141,29 @@ impl Cgroups {
         requires { option_map (λ held. held.cgroup.enabled) (map.get self.old path.now) ≡ Some cgroup.enabled }
         ensures { self.new ≡ change_held self.old path.now (with_row_of cgroup) }
     {
-        let Some(place) = self.places.get(path, path.depth()) else {
-            unreachable!()
-        };
+        let place = self.places.whole(path);
         self.nodes.put(place, cgroup);
         put_limits(&mut self.links, place, &cgroup);
     }
 
-    /// Counts one more live process at a cgroup.
-    pub fn raise_live(&mut self, path: &Path)
+    /// Counts one more live process at a cgroup, or one fewer.
+    #[tactic(auto, using(crate::proofs::Read::is_placed))]
+    pub fn count_live(&mut self, path: &Path, tally: Tally)
         requires { has_row (tree_of self.old) path.now ≡ true }
-        ensures { self.new ≡ change_held self.old path.now one_live_more }
+        ensures { self.new ≡ change_held self.old path.now (tallied_held tally) }
     {
-        let Some(place) = self.places.get(path, path.depth()) else {
-            unreachable!()
-        };
-        raise_live(&mut self.nodes, place);
-    }
-
-    /// Counts one live process fewer at a cgroup.
-    pub fn lower_live(&mut self, path: &Path)
-        requires { has_row (tree_of self.old) path.now ≡ true }
-        ensures { self.new ≡ change_held self.old path.now one_live_less }
-    {
-        let Some(place) = self.places.get(path, path.depth()) else {
-            unreachable!()
-        };
-        lower_live(&mut self.nodes, place);
+        let place = self.places.whole(path);
+        count_live(&mut self.nodes, place, tally);
     }
 
     /// Sets what a cgroup enables for its children, and makes and removes their limit files.
+    #[tactic(auto, using(crate::proofs::Read::is_placed))]
     pub fn enable(&mut self, path: &Path, enabled: ControllerSet, user: &User)
         requires there { has_row (tree_of self.old) path.now ≡ true }
         requires fitted { AreFittedBelow (tree_of self.old) path.now }
         ensures { self.new ≡ change_each_held (enabling_held path.now enabled user.now) self.old }
     {
-        let Some(place) = self.places.get(path, path.depth()) else {
-            unreachable!()
-        };
+        let place = self.places.whole(path);
         // What `size` says bounds the counts.
         let _size = self.places.size();
         let link = self.links[place];
@@ -195,9 +185,7 @@ impl Cgroups {
         ensures ok { OnOk result (self.new ≡ map.insert self.old path.now (new_held cgroup)) }
         ensures err { OnErr result (self.new ≡ self.old) }
     {
-        let Some(above) = self.places.get(path, path.parent_len()) else {
-            unreachable!()
-        };
+        let above = self.places.number(path, path.parent_len());
         // What `size` says bounds the counts.
         let _size = self.places.size();
         let shares = self.links[above].below >= FEW;
@@ -206,7 +194,7 @@ impl Cgroups {
         self.nodes.put_new(place, above, cgroup, shares)?;
         put_link(&mut self.links, place, Link::new(above, &cgroup));
         self.places.insert(alloc, path, place)?;
-        raise(&mut self.links, above, path.depth());
+        tally_up(&mut self.links, above, path.depth(), Tally::More);
         recount(
             &mut self.nodes,
             above,
@@ -217,19 +205,18 @@ impl Cgroups {
     }
 
     /// Removes a cgroup that isn't the root and has no child.
+    #[tactic(auto, using(crate::proofs::Read::is_placed))]
     pub fn remove(&mut self, path: &Path)
         requires there { has_row (tree_of self.old) path.now ≡ true }
         requires not_root { is_root path.now ≡ false }
         requires no_child { has_child (tree_of self.old) path.now ≡ false }
         ensures { self.new ≡ map.remove self.old path.now }
     {
-        let Some(place) = self.places.get(path, path.depth()) else {
-            unreachable!()
-        };
+        let place = self.places.whole(path);
         let above = self.links[place].above;
         let enabled = self.nodes.cgroup(place).enabled;
         self.places.remove(path);
-        lower(&mut self.links, above, path.depth());
+        tally_up(&mut self.links, above, path.depth(), Tally::Fewer);
         leave(&mut self.links, place);
         recount(&mut self.nodes, above, enabled, ControllerSet::none());
         // Where memory is wanted, nobody has the place again.

@@ -4,6 +4,7 @@ ghost use Rattle.cg_rows.specs.RowsForm.{IsRoot, state_of_root};
 ghost use Rattle.cg_indexed.specs.Kept.{map_values, new_held};
 
 use crate::cgroups::Cgroups;
+use crate::links::Tally;
 use cg_cgroup::cgroup::Cgroup;
 use cg_cgroup::files::{Controller, ControllerSet, EntryName, Limit, LimitFile};
 use cg_cgroup::memory::NoMemory;
@@ -65,7 +66,7 @@ impl Indexed {
         // What `size` says bounds the counts.
         let _size = rows.processes().size();
         for (_pid, process) in rows.processes().iter() {
-            cgroups.raise_live(&process.place);
+            cgroups.count_live(&process.place, Tally::More);
         }
         Ok(Indexed {
             cgroups,
@@ -146,28 +147,19 @@ impl Hierarchy for Indexed {
     }
 
     fn set_limit(&mut self, path: &Path, file: LimitFile, value: Limit) {
-        let Some(cgroup) = self.cgroups.get(path, path.depth()) else {
-            unreachable!()
-        };
-        let mut cgroup = *cgroup;
+        let mut cgroup = *self.cgroups.cgroup(path);
         cgroup.set_value(file, value);
         self.cgroups.set(path, cgroup);
     }
 
     fn set_enabled(&mut self, path: &Path, enabled: ControllerSet, user: &User) {
-        let Some(cgroup) = self.cgroups.get(path, path.depth()) else {
-            unreachable!()
-        };
-        if cgroup.enabled != enabled {
+        if self.cgroups.cgroup(path).enabled != enabled {
             self.cgroups.enable(path, enabled, user);
         }
     }
 
     fn set_mode(&mut self, path: &Path, name: EntryName, mode: Mode) {
-        let Some(cgroup) = self.cgroups.get(path, path.depth()) else {
-            unreachable!()
-        };
-        let mut cgroup = *cgroup;
+        let mut cgroup = *self.cgroups.cgroup(path);
         // What `get` says of a mode's range keeps the tree well-formed.
         let _bits = mode.get();
         cgroup.set_mode(name, mode);
@@ -182,7 +174,7 @@ impl Hierarchy for Indexed {
         let Some(process) = self.processes.get(pid) else {
             unreachable!()
         };
-        self.cgroups.lower_live(&process.place);
+        self.cgroups.count_live(&process.place, Tally::Fewer);
         self.processes.end(pid);
     }
 
@@ -214,8 +206,8 @@ impl Hierarchy for Indexed {
             unreachable!()
         };
         let old = &process.place;
-        self.cgroups.lower_live(old);
-        self.cgroups.raise_live(path);
+        self.cgroups.count_live(old, Tally::Fewer);
+        self.cgroups.count_live(path, Tally::More);
         self.processes.set_place(pid, place);
         Ok(())
     }
@@ -231,7 +223,7 @@ impl Hierarchy for Indexed {
         // What `size` says bounds the counts.
         let _size = self.processes.size();
         self.processes.insert(pid, Process { uid, place })?;
-        self.cgroups.raise_live(path);
+        self.cgroups.count_live(path, Tally::More);
         Ok(())
     }
 }

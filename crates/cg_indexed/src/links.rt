@@ -1,7 +1,7 @@
 //! Links from places of cgroups to those of their parents, and climbs along them.
 ghost use Rattle.std.specs.Prelude.{◌≡◌, ◌<◌, length, slice_set};
 ghost use Rattle.std.specs.Vec.{vec_len, vec_capacity};
-ghost use Rattle.cg_indexed.specs.Links.{link_at, new_link, with_limits, to_nowhere, is_vacant, place_for, put_at, is_full_link, raised, lowered, climbed};
+ghost use Rattle.cg_indexed.specs.Links.{link_at, new_link, with_limits, to_nowhere, is_vacant, place_for, put_at, is_full_link, tallied, tallied_up, climbed};
 
 use cg_cgroup::cgroup::Cgroup;
 use cg_cgroup::files::Limit;
@@ -9,6 +9,25 @@ use cg_tree::limits::bars_child;
 
 /// Where the link of a place leads that is no cgroup's: there is no such place.
 const NOWHERE: usize = usize::MAX;
+
+/// Whether one more is counted, or one fewer.
+#[derive(Clone, Copy)]
+pub enum Tally {
+    More,
+    Fewer,
+}
+
+impl Tally {
+    /// A count once it is so.
+    pub fn of(self, count: u64) -> u64
+        ensures { result ≡ tallied self count }
+    {
+        match self {
+            Tally::More => count.saturating_add(1),
+            Tally::Fewer => count.saturating_sub(1),
+        }
+    }
+}
 
 /// What a climb reads of a cgroup.
 #[derive(Clone, Copy)]
@@ -98,9 +117,9 @@ pub fn leave(links: &mut [Link], at: usize)
     link.above = NOWHERE;
 }
 
-/// Counts one more below a place and those above it, `count` places in all.
-pub fn raise(links: &mut [Link], start: usize, count: usize)
-    ensures { links.new ≡ raised links.old start count }
+/// Counts one more or one fewer below a place and those above it, `count` places in all.
+pub fn tally_up(links: &mut [Link], start: usize, count: usize, tally: Tally)
+    ensures { links.new ≡ tallied_up tally links.old start count }
 {
     let mut at = start;
     for done in 0..count {
@@ -108,22 +127,7 @@ pub fn raise(links: &mut [Link], start: usize, count: usize)
             return;
         }
         let link = &mut links[at];
-        link.below = link.below.saturating_add(1);
-        at = link.above;
-    }
-}
-
-/// Counts one fewer below a place and those above it, `count` places in all.
-pub fn lower(links: &mut [Link], start: usize, count: usize)
-    ensures { links.new ≡ lowered links.old start count }
-{
-    let mut at = start;
-    for done in 0..count {
-        if at >= links.len() {
-            return;
-        }
-        let link = &mut links[at];
-        link.below = link.below.saturating_sub(1);
+        link.below = tally.of(link.below);
         at = link.above;
     }
 }

@@ -1,9 +1,9 @@
 //! Cgroups at their places, and what is counted of their children and processes.
 ghost use Rattle.std.specs.Prelude.{◌≡◌, true, ◌<◌, length, slice_set, [], ◌∷◌, None, IfOk, OnOk, OnErr};
 ghost use Rattle.cg_indexed.specs.Links.{put_at};
-ghost use Rattle.cg_indexed.specs.Nodes.{Refits, RefitsShared, RefitsSlots, HasGrown, IsSharedAt, kin_if, new_node, new_slot, node_at, slot_at, more_if, less_if, uses_after, uses_of, with_cgroup, with_own, with_live, with_uses, slot_with_live, slot_with_uses, one_more_live, one_less_live, recounted, enabled_at, differing, with_files_from};
+ghost use Rattle.cg_indexed.specs.Nodes.{Refits, RefitsShared, RefitsSlots, HasGrown, IsSharedAt, kin_if, new_node, new_slot, node_at, slot_at, more_if, less_if, uses_after, uses_of, with_cgroup, with_own, with_live, with_uses, tallied_node, recounted, enabled_at, differing, with_files_from};
 
-use crate::links::Link;
+use crate::links::{Link, Tally};
 use cg_cgroup::cgroup::Cgroup;
 use cg_cgroup::files::{Controller, ControllerSet};
 use cg_cgroup::memory::NoMemory;
@@ -314,7 +314,7 @@ fn put_own(slots: &mut [Slot], at: usize, cgroup: Cgroup)
 
 fn put_live(slots: &mut [Slot], at: usize, live: u64)
     requires { at < length slots.old }
-    ensures { slots.new ≡ slice_set slots.old at (slot_with_live live (slot_at slots.old at)) }
+    ensures { slots.new ≡ slice_set slots.old at (record (slot_at slots.old at) { live = live }) }
 {
     let slot = &mut slots[at];
     slot.live = live;
@@ -322,28 +322,19 @@ fn put_live(slots: &mut [Slot], at: usize, live: u64)
 
 fn put_uses(slots: &mut [Slot], at: usize, uses: Uses)
     requires { at < length slots.old }
-    ensures { slots.new ≡ slice_set slots.old at (slot_with_uses uses (slot_at slots.old at)) }
+    ensures { slots.new ≡ slice_set slots.old at (record (slot_at slots.old at) { uses = uses }) }
 {
     let slot = &mut slots[at];
     slot.uses = uses;
 }
 
-/// Counts one more live process at a cgroup.
-pub fn raise_live(nodes: &mut Nodes, at: usize)
+/// Counts one more live process at a cgroup, or one fewer.
+pub fn count_live(nodes: &mut Nodes, at: usize, tally: Tally)
     requires { at < length nodes.old }
-    ensures { nodes.new ≡ slice_set nodes.old at (one_more_live (node_at nodes.old at)) }
+    ensures { nodes.new ≡ slice_set nodes.old at (tallied_node tally (node_at nodes.old at)) }
 {
     let live = nodes.live(at);
-    nodes.set_live(at, live.saturating_add(1));
-}
-
-/// Counts one live process fewer at a cgroup.
-pub fn lower_live(nodes: &mut Nodes, at: usize)
-    requires { at < length nodes.old }
-    ensures { nodes.new ≡ slice_set nodes.old at (one_less_live (node_at nodes.old at)) }
-{
-    let live = nodes.live(at);
-    nodes.set_live(at, live.saturating_sub(1));
+    nodes.set_live(at, tally.of(live));
 }
 
 /// Counts anew at a cgroup a child of which enabled `had` and enables `has`.

@@ -1,5 +1,5 @@
 //! Numbers by path.
-ghost use Rattle.std.specs.Prelude.{◌≡◌, ◌≤◌, ◌<◌, ◌^◌, true, false, length, take, fold, max, map as map_list, IfOk, OnOk, OnErr};
+ghost use Rattle.std.specs.Prelude.{◌≡◌, ◌≤◌, ◌<◌, ◌^◌, true, false, length, take, fold, max, map as map_list, Some, IfOk, OnOk, OnErr};
 ghost use Rattle.std.specs.FinMap as map;
 ghost use Rattle.std.specs.String.{string_bytes, string_cmp};
 ghost use Rattle.std.specs.BTreeMap.{keys, IsOrdered};
@@ -60,6 +60,26 @@ impl PathIndex {
         ensures { result ≡ map.get self.now (take len path.now) }
     {
         self.numbers.get(path.prefix(len)).copied()
+    }
+
+    /// The number of the path of the first `len` names of `path`, which is in the table.
+    pub fn number(&self, path: &Path, len: usize) -> usize
+        requires within { len ≤ length path.now }
+        requires there { map.contains_key self.now (take len path.now) ≡ true }
+        ensures { map.get self.now (take len path.now) ≡ Some result }
+    {
+        let Some(number) = self.get(path, len) else {
+            unreachable!()
+        };
+        number
+    }
+
+    /// The number of a path of the table.
+    pub fn whole(&self, path: &Path) -> usize
+        requires { map.contains_key self.now path.now ≡ true }
+        ensures { map.get self.now path.now ≡ Some result }
+    {
+        self.number(path, path.depth())
     }
 
     /// Adds a path. Fails where memory is wanted.

@@ -49,10 +49,10 @@ gathered-map step start g [] = refl
 gathered-map step start g (x ∷ xs) = ap (step (g x)) (gathered-map step start g xs)
 
 -- one more where the test passes
-abbrev one_more : {A : Type 0} → (A → Bool) → A → ℕ → ℕ
+abbrev pub one_more : {A : Type 0} → (A → Bool) → A → ℕ → ℕ
 one_more p x n = cond (p x) (1 + n) n
 
-one_more-Commutes : {A : Type 0} (p : A → Bool) → Commutes (one_more p)
+pub one_more-Commutes : {A : Type 0} (p : A → Bool) → Commutes (one_more p)
 one_more-Commutes p x y n = swapped (p x) (p y)
   where
     swapped : (a b : Bool) → cond a (1 + cond b (1 + n) n) (cond b (1 + n) n) ≡ cond b (1 + cond a (1 + n) n) (cond a (1 + n) n)

@@ -1,5 +1,5 @@
 -- What a step leaves as it was.
-use Rattle.std.proofs.Common.{◌≡◌, ℕ, Bool, true, false, ◌&&◌, ◌||◌, cond, nat_eq, refl, sym, ap, ◌∙◌, true≢false, [], Option, Some, None, is_some, option_map, option_and_then}
+use Rattle.std.proofs.Common.{◌≡◌, ℕ, Bool, true, false, ◌&&◌, ◌||◌, cond, nat_eq, refl, sym, ap, subst, ◌∙◌, true≢false, [], Option, Some, None, is_some, option_map, option_and_then}
 use Rattle.cg_cgroup.specs.Paths.{Names, same_path, is_child, parent}
 use Rattle.cg_cgroup.specs.Identity.{Identity}
 use Rattle.cg_cgroup.specs.Files.{controller_of, stands_under, same_file, same_entry}
@@ -137,34 +137,28 @@ process_at-next st user (Fork parent child) pid h =
 process_at-next st user (Exit ended) pid h = process_at-without_process-other st ended pid h
 process_at-next st user (Chmod at entry mode) pid h = refl
 
-is_used-next : (st : State) (user : Identity) (op : Op) (pid : ℕ) → alters_used op pid ≡ false
-    → is_used (next st user op) pid ≡ is_used st pid
-is_used-next st user (Move moved to) pid h = refl
-is_used-next st user (Control at changes) pid h = refl
-is_used-next st user (Mkdir path) pid h = refl
-is_used-next st user (Rmdir path) pid h = refl
-is_used-next st user (Set at file value) pid h = refl
-is_used-next st user (Fork parent child) pid h =
-    fork-by (λ s. is_used s pid ≡ is_used st pid) st child (process_at st parent) refl
-    (λ process. is_used-with_process st child process.uid process.place pid ∙ ap (λ b. b || is_used st pid) h)
-is_used-next st user (Exit ended) pid h = refl
-is_used-next st user (Chmod at entry mode) pid h = refl
+-- a reading of whether a PID was used after a step: as it was, or by a fork
+used-by : (Q : Bool → Type 0) (st : State) (user : Identity) (op : Op) (pid : ℕ) → Q (is_used st pid) → ((b : Bool) → b ≡ alters_used op pid → Q (b || is_used st pid)) → Q (is_used (next st user op) pid)
+used-by Q st user (Move moved to) pid same made = same
+used-by Q st user (Control at changes) pid same made = same
+used-by Q st user (Mkdir path) pid same made = same
+used-by Q st user (Rmdir path) pid same made = same
+used-by Q st user (Set at file value) pid same made = same
+used-by Q st user (Fork parent child) pid same made =
+    fork-by (λ s. Q (is_used s pid)) st child (process_at st parent) same
+    (λ process. subst Q (sym (is_used-with_process st child process.uid process.place pid)) (made (nat_eq child pid) refl))
+used-by Q st user (Exit ended) pid same made = same
+used-by Q st user (Chmod at entry mode) pid same made = same
+
+is_used-next : (st : State) (user : Identity) (op : Op) (pid : ℕ) → alters_used op pid ≡ false → is_used (next st user op) pid ≡ is_used st pid
+is_used-next st user op pid h = used-by (λ used. used ≡ is_used st pid) st user op pid refl (λ b is. ap (λ x. x || is_used st pid) (is ∙ h))
 
 used_still : (b used : Bool) → used ≡ true → (b || used) ≡ true
 used_still true used h = refl
 used_still false used h = h
 
 used-next : (st : State) (user : Identity) (op : Op) (pid : ℕ) → is_used st pid ≡ true → is_used (next st user op) pid ≡ true
-used-next st user (Move moved to) pid h = h
-used-next st user (Control at changes) pid h = h
-used-next st user (Mkdir path) pid h = h
-used-next st user (Rmdir path) pid h = h
-used-next st user (Set at file value) pid h = h
-used-next st user (Fork parent child) pid h =
-    fork-by (λ s. is_used s pid ≡ true) st child (process_at st parent) h
-    (λ process. is_used-with_process st child process.uid process.place pid ∙ used_still (nat_eq child pid) (is_used st pid) h)
-used-next st user (Exit ended) pid h = h
-used-next st user (Chmod at entry mode) pid h = h
+used-next st user op pid h = used-by (λ used. used ≡ true) st user op pid h (λ b is. used_still b (is_used st pid) h)
 
 controllers-next : (st : State) (user : Identity) (op : Op) → (next st user op).controllers ≡ st.controllers
 controllers-next st user (Move pid to) = refl

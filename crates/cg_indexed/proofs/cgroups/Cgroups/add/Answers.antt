@@ -1,4 +1,4 @@
-use Rattle.std.proofs.Common.{◌≡◌, ℕ, ◌-◌, ◌<◌, ◌≤◌, ◌≢◌, ap, sym, ◌∙◌, subst, length, take, List, true≢false, is_some, Some, None, arith}
+use Rattle.std.proofs.Common.{◌≡◌, ℕ, ◌-◌, ◌<◌, ◌≤◌, ◌≢◌, ap, sym, ◌∙◌, subst, length, take, List, is_some, Some, None, arith}
 use Rattle.std.proofs.lemmas.List.{with_items_is}
 use Rattle.std.proofs.lemmas.Result.{err_from_is_err_and}
 use Rattle.std.specs.Prelude.{slice_set}
@@ -7,21 +7,22 @@ use Rattle.std.specs.Vec.{with_items}
 use Rattle.cg_cgroup.specs.Paths.{Names, parent}
 use Rattle.cg_cgroup.specs.Files.{no_controllers}
 use Rattle.cg_cgroup.proofs.Options.{none_value}
-use Rattle.cg_indexed.specs.Links.{new_link, place_for, put_at, raised}
+use Rattle.cg_indexed.specs.Links.{new_link, place_for, put_at, tallied_up}
 use Rattle.cg_indexed.specs.Nodes.{Node, new_node, node_at, recounted}
 use Rattle.cg_indexed.specs.Kept.{held_of, values_of, AreKept, new_held}
 use Rattle.cg_indexed.specs.declared.links.Link.{Link}
+use Rattle.cg_indexed.specs.declared.links.Tally.TheVariants.{More}
 use Rattle.cg_indexed.proofs.Read.{there_is}
 use Rattle.cg_indexed.proofs.Kin.{IsPutNew, is_put_new}
 use Rattle.cg_indexed.proofs.Puts.{put_longer, place_fits, nobodys}
 use Rattle.cg_indexed.proofs.Added.{kept_more, held_more, held_next, kept_next}
 use Rattle.cg_indexed.proofs.cgroups.Cgroups.add.Goals as goal
 
-pub unreachable-requires : goal.unreachable-requires
-unreachable-requires c =
+pub number-above-requires-clause-there : goal.number-above-requires-clause-there
+number-above-requires-clause-there c =
     let at : c.parent_len.result ≡ length c.args.path.now - 1 = omega (arith, c.parent_len.ensures) in
-    true≢false (sym c.requires.parent ∙ there_is c.self.inside.places c.self.inside.nodes c.args.self.now c.self.view_is (parent c.args.path.now)
-    ∙ ap (λ n. is_some (map.get c.self.inside.places (take n c.args.path.now))) (sym at) ∙ ap is_some (sym c.in_default.ensures))
+    ap (λ n. is_some (map.get c.self.inside.places (take n c.args.path.now))) at
+    ∙ sym (there_is c.self.inside.places c.self.inside.nodes c.args.self.now c.self.view_is (parent c.args.path.now)) ∙ c.requires.parent
 
 pub insert-requires : goal.insert-requires
 insert-requires c = sym (there_is c.self.inside.places c.self.inside.nodes c.args.self.now c.self.view_is c.args.path.now) ∙ c.requires.absent
@@ -46,32 +47,32 @@ returns-in_err-insert-clause-err c =
     ∙ held_more c.self.inside.places c.self.inside.links.items c.self.inside.nodes c.self.invariant c.place_for-place.result free c.new.result (new_node c.args.cgroup put.kin) ∙ c.self.view_is)
 
 -- the tables after the calls
-put_is : (c : goal.After-recount) → IsPutNew c.place_for-place.result c.in-Some.above c.args.cgroup c.self.inside.nodes c.put_new.new.self
+put_is : (c : goal.After-recount) → IsPutNew c.place_for-place.result c.number-above.result c.args.cgroup c.self.inside.nodes c.put_new.new.self
 put_is c = is_put_new _ c.in_ok-put_new.ensures.ok
 
 pub recount-requires : goal.recount-requires
 recount-requires c =
-    let l = c.self.invariant.placed.within _ c.in-Some.above (sym c.in-Some.ensures) in
+    let l = c.self.invariant.placed.within _ c.number-above.result (c.number-above.ensures) in
     let put = is_put_new _ c.in_ok-put_new.ensures.ok in
     omega (arith, l, c.self.invariant.paired, ap length put.put, put_longer c.self.inside.nodes c.place_for-place.result (new_node c.args.cgroup put.kin))
 
 abbrev pushed_links : (c : goal.After-recount) → List Link
-pushed_links c = put_at c.self.inside.links.items c.place_for-place.result (new_link c.in-Some.above c.args.cgroup)
+pushed_links c = put_at c.self.inside.links.items c.place_for-place.result (new_link c.number-above.result c.args.cgroup)
 
 pushed_are : (c : goal.After-recount) → c.put_link.new.links.items ≡ pushed_links c
 pushed_are c = c.put_link.ensures ∙ (λ t. put_at (c.in_ok-reserve.ensures.items t) c.place_for-place.result (c.new.ensures t))
 
-links_are : (c : goal.After-recount) → (with_items c.put_link.new.links c.raise.new.links).items ≡ raised (pushed_links c) c.in-Some.above (length c.args.path.now)
+links_are : (c : goal.After-recount) → (with_items c.put_link.new.links c.tally_up.new.links).items ≡ tallied_up More (pushed_links c) c.number-above.result (length c.args.path.now)
 links_are c =
-    with_items_is c.put_link.new.links c.raise.new.links (omega (arith, c.raise.auto.links, ap length c.deref_mut.ensures.value, c.put_link.new.links.ok.0))
-    ∙ c.raise.ensures ∙ (λ t. raised ((c.deref_mut.ensures.value ∙ pushed_are c) t) c.in-Some.above (c.depth.ensures.depth t))
+    with_items_is c.put_link.new.links c.tally_up.new.links (omega (arith, c.tally_up.auto.links, ap length c.deref_mut.ensures.value, c.put_link.new.links.ok.0))
+    ∙ c.tally_up.ensures ∙ (λ t. tallied_up More ((c.deref_mut.ensures.value ∙ pushed_are c) t) c.number-above.result (c.depth.ensures.depth t))
 
 abbrev pushed_nodes : (c : goal.After-recount) → List Node
 pushed_nodes c = put_at c.self.inside.nodes c.place_for-place.result (new_node c.args.cgroup (put_is c).kin)
 
-nodes_are : (c : goal.After-recount) → c.recount.new.nodes ≡ slice_set (pushed_nodes c) c.in-Some.above (recounted no_controllers c.args.cgroup.enabled (node_at (pushed_nodes c) c.in-Some.above))
+nodes_are : (c : goal.After-recount) → c.recount.new.nodes ≡ slice_set (pushed_nodes c) c.number-above.result (recounted no_controllers c.args.cgroup.enabled (node_at (pushed_nodes c) c.number-above.result))
 nodes_are c =
-    c.recount.ensures ∙ (λ t. slice_set ((put_is c).put t) c.in-Some.above (recounted (c.none.ensures t) c.args.cgroup.enabled (node_at ((put_is c).put t) c.in-Some.above)))
+    c.recount.ensures ∙ (λ t. slice_set ((put_is c).put t) c.number-above.result (recounted (c.none.ensures t) c.args.cgroup.enabled (node_at ((put_is c).put t) c.number-above.result)))
 
 table_is : (c : goal.After-recount) → c.insert.new.self ≡ map.insert c.self.inside.places c.args.path.now c.place_for-place.result
 table_is c = c.in_ok-insert.ensures.ok
@@ -92,20 +93,20 @@ few c = omega (arith, c.size-size.ensures.bound, c.size-size.ensures.small)
 none_there : (c : goal.After-recount) → map.get c.self.inside.places c.args.path.now ≡ None
 none_there c = none_value _ (sym (there_is c.self.inside.places c.self.inside.nodes c.args.self.now c.self.view_is c.args.path.now) ∙ c.requires.absent)
 
-at_parent : (c : goal.After-recount) → map.get c.self.inside.places (parent c.args.path.now) ≡ Some c.in-Some.above
+at_parent : (c : goal.After-recount) → map.get c.self.inside.places (parent c.args.path.now) ≡ Some c.number-above.result
 at_parent c =
     let at : length c.args.path.now - 1 ≡ c.parent_len.result = omega (arith, c.parent_len.ensures) in
-    ap (λ n. map.get c.self.inside.places (take n c.args.path.now)) at ∙ sym c.in-Some.ensures
+    ap (λ n. map.get c.self.inside.places (take n c.args.path.now)) at ∙ c.number-above.ensures
 
 pub invariant_of-self-2 : goal.invariant_of-self-2
 invariant_of-self-2 c =
-    subst (λ m. AreKept m (with_items c.put_link.new.links c.raise.new.links).items c.recount.new.nodes) (sym (table_is c))
+    subst (λ m. AreKept m (with_items c.put_link.new.links c.tally_up.new.links).items c.recount.new.nodes) (sym (table_is c))
     (subst (λ ls. AreKept (map.insert c.self.inside.places c.args.path.now c.place_for-place.result) ls c.recount.new.nodes) (sym (links_are c))
     (subst (AreKept (map.insert c.self.inside.places c.args.path.now c.place_for-place.result) _) (sym (nodes_are c))
-    (kept_next c.self.inside.places c.self.inside.links.items c.self.inside.nodes c.self.invariant (few c) c.args.path.now c.requires.not_root (none_there c) c.in-Some.above (at_parent c) c.args.cgroup (put_is c).kin (put_is c).parents c.place_for-place.result (fits c) (free c))))
+    (kept_next c.self.inside.places c.self.inside.links.items c.self.inside.nodes c.self.invariant (few c) c.args.path.now c.requires.not_root (none_there c) c.number-above.result (at_parent c) c.args.cgroup (put_is c).kin (put_is c).parents c.place_for-place.result (fits c) (free c))))
 
 pub returns-clause-ok : goal.returns-clause-ok
 returns-clause-ok c =
     (λ t. values_of held_of (table_is c t) (nodes_are c t))
-    ∙ held_next c.self.inside.places c.self.inside.links.items c.self.inside.nodes c.self.invariant (few c) c.args.path.now c.requires.not_root (none_there c) c.in-Some.above (at_parent c) c.args.cgroup (put_is c).kin (put_is c).parents c.place_for-place.result (fits c) (free c)
+    ∙ held_next c.self.inside.places c.self.inside.links.items c.self.inside.nodes c.self.invariant (few c) c.args.path.now c.requires.not_root (none_there c) c.number-above.result (at_parent c) c.args.cgroup (put_is c).kin (put_is c).parents c.place_for-place.result (fits c) (free c)
     ∙ ap (λ m. map.insert m c.args.path.now (new_held c.args.cgroup)) c.self.view_is

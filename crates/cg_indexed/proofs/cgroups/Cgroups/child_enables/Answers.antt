@@ -1,20 +1,10 @@
-use Rattle.std.proofs.Common.{take, ap, sym, ◌∙◌, is_some, nat_lt, true≢false, arith}
+use Rattle.std.proofs.Common.{take, ap, sym, ◌∙◌, nat_lt}
 use Rattle.cg_indexed.specs.Nodes.{uses_of}
-use Rattle.cg_indexed.proofs.Read.{there_is, child_enables_is}
+use Rattle.cg_indexed.proofs.Read.{child_enables_is}
 use Rattle.cg_indexed.proofs.cgroups.Cgroups.child_enables.Goals as goal
-
-pub unreachable-requires : goal.unreachable-requires
-unreachable-requires c =
-    let q = take c.args.len c.args.path.now in
-    true≢false (sym c.requires.there ∙ there_is c.self.inside.places c.self.inside.nodes c.args.self.now c.self.view_is q ∙ ap is_some (sym c.in_default.ensures))
-
-pub uses-requires : goal.uses-requires
-uses-requires c =
-    let l = c.self.invariant.placed.within (take c.args.len c.args.path.now) c.in-Some.place (sym c.in-Some.ensures) in
-    omega (arith, l, c.self.invariant.paired)
 
 pub returns : goal.returns
 returns c =
     let q = take c.args.len c.args.path.now in
-    ap (nat_lt 0) (c.of.ensures ∙ ap (λ uses. uses_of uses c.args.controller) c.uses.ensures ∙ c.self.invariant.uses q c.in-Some.place (sym c.in-Some.ensures) c.args.controller)
+    ap (nat_lt 0) (c.of.ensures ∙ ap (λ uses. uses_of uses c.args.controller) c.uses.ensures ∙ c.self.invariant.uses q c.number-place.result (c.number-place.ensures) c.args.controller)
     ∙ sym (child_enables_is c.self.inside.places c.self.inside.nodes c.args.self.now c.self.view_is q c.args.controller)

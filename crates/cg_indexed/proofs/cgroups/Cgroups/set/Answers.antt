@@ -1,46 +1,39 @@
-use Rattle.std.proofs.Common.{◌≡◌, ap, sym, ◌∙◌, subst, is_some, length, List, Some, option_map, true, true≢false, take_all, arith}
-use Rattle.std.proofs.lemmas.List.{with_items_is}
+use Rattle.std.proofs.Common.{◌≡◌, ap, sym, ◌∙◌, subst, is_some, option_map}
 use Rattle.std.specs.Prelude.{slice_set}
 use Rattle.std.specs.FinMap as map
 use Rattle.std.specs.Vec.{with_items}
 use Rattle.cg_cgroup.proofs.Options.{same_some, is_some-mapped}
-use Rattle.cg_indexed.specs.Links.{link_at, with_limits}
+use Rattle.cg_indexed.specs.Links.{no_link, link_at, with_limits}
 use Rattle.cg_indexed.specs.Nodes.{node_at}
 use Rattle.cg_indexed.specs.Kept.{held_of, values_of, AreKept, with_row_of, change_held}
-use Rattle.cg_indexed.specs.declared.links.Link.{Link}
-use Rattle.cg_indexed.proofs.Read.{held_is, whole_place}
+use Rattle.cg_indexed.proofs.Read.{held_is}
+use Rattle.cg_indexed.proofs.Puts.{set_through}
 use Rattle.cg_indexed.proofs.Changed.{kept_put, held_put}
 use Rattle.cg_indexed.proofs.cgroups.Cgroups.set.Goals as goal
 
-pub unreachable-requires : goal.unreachable-requires
-unreachable-requires c =
+pub whole-place-requires : goal.whole-place-requires
+whole-place-requires c =
     let q = c.args.path.now in
-    let there : is_some (map.get c.self.inside.places q) ≡ true =
-    sym (ap is_some (held_is c.self.inside.places c.self.inside.nodes c.args.self.now c.self.view_is q) ∙ is_some-mapped _ (map.get c.self.inside.places q)) ∙ sym (is_some-mapped (λ held. held.cgroup.enabled) (map.get c.args.self.now q)) ∙ ap is_some c.requires in
-    true≢false (sym there ∙ ap (λ x. is_some (map.get c.self.inside.places x)) (sym (take_all c.depth.result q (omega arith))) ∙ ap is_some (sym c.in_default.ensures))
-
-place_is : (c : goal.After-self-1) → map.get c.self.inside.places c.args.path.now ≡ Some c.in-Some.place
-place_is c = whole_place c.self.inside.places c.args.path.now c.depth.result c.in-Some.place c.depth.ensures.depth c.in-Some.ensures
+    sym (ap is_some (held_is c.self.inside.places c.self.inside.nodes c.args.self.now c.self.view_is q) ∙ is_some-mapped _ (map.get c.self.inside.places q)) ∙ sym (is_some-mapped (λ held. held.cgroup.enabled) (map.get c.args.self.now q)) ∙ ap is_some c.requires
 
 -- the cgroup that was there enables the same
-same : (c : goal.After-self-1) → c.args.cgroup.enabled ≡ (node_at c.self.inside.nodes c.in-Some.place).cgroup.enabled
+same : (c : goal.After-self-1) → c.args.cgroup.enabled ≡ (node_at c.self.inside.nodes c.whole-place.result).cgroup.enabled
 same c =
     let nodes = c.self.inside.nodes in
-    same_some _ _ (sym c.requires ∙ ap (option_map (λ held. held.cgroup.enabled)) (held_is c.self.inside.places nodes c.args.self.now c.self.view_is c.args.path.now ∙ ap (option_map (λ i. held_of (node_at nodes i))) (place_is c)))
+    same_some _ _ (sym c.requires ∙ ap (option_map (λ held. held.cgroup.enabled)) (held_is c.self.inside.places nodes c.args.self.now c.self.view_is c.args.path.now ∙ ap (option_map (λ i. held_of (node_at nodes i))) c.whole-place.ensures))
 
-links_are : (c : goal.After-self-1) → (with_items c.self.inside.links c.put_limits.new.links).items ≡ slice_set c.self.inside.links.items c.in-Some.place (with_limits c.args.cgroup (link_at c.self.inside.links.items c.in-Some.place))
+links_are : (c : goal.After-self-1) → (with_items c.self.inside.links c.put_limits.new.links).items ≡ slice_set c.self.inside.links.items c.whole-place.result (with_limits c.args.cgroup (link_at c.self.inside.links.items c.whole-place.result))
 links_are c =
-    with_items_is c.self.inside.links c.put_limits.new.links (omega (arith, c.put_limits.auto.links, ap length c.deref_mut.ensures.value, c.self.inside.links.ok.0))
-    ∙ c.put_limits.ensures ∙ ap (λ (ls : List Link). slice_set ls c.in-Some.place (with_limits c.args.cgroup (link_at ls c.in-Some.place))) c.deref_mut.ensures.value
+    set_through c.self.inside.links c.whole-place.result (with_limits c.args.cgroup) no_link c.deref_mut.result.now c.put_limits.new.links c.deref_mut.ensures.value c.put_limits.auto.links c.put_limits.ensures
 
 pub invariant_of-self : goal.invariant_of-self
 invariant_of-self c =
     subst (λ ls. AreKept c.self.inside.places ls c.put.new.self) (sym (links_are c))
     (subst (AreKept c.self.inside.places _) (sym c.put.ensures)
-    (kept_put c.self.inside.places c.self.inside.links.items c.self.inside.nodes c.self.invariant c.args.path.now c.in-Some.place (place_is c) c.args.cgroup (same c)))
+    (kept_put c.self.inside.places c.self.inside.links.items c.self.inside.nodes c.self.invariant c.args.path.now c.whole-place.result c.whole-place.ensures c.args.cgroup (same c)))
 
 pub returns : goal.returns
 returns c =
     ap (values_of held_of c.self.inside.places) c.put.ensures
-    ∙ held_put c.self.inside.places c.self.inside.links.items c.self.inside.nodes c.self.invariant c.args.path.now c.in-Some.place (place_is c) c.args.cgroup (same c)
+    ∙ held_put c.self.inside.places c.self.inside.links.items c.self.inside.nodes c.self.invariant c.args.path.now c.whole-place.result c.whole-place.ensures c.args.cgroup (same c)
     ∙ ap (λ m. change_held m c.args.path.now (with_row_of c.args.cgroup)) c.self.view_is

@@ -10,15 +10,15 @@ loop-pid-init c =
     raised_none c.args.rows c.in_ok-cgroups.cgroups c.into_iter-pid-iterator.result c.in_ok-cgroups.ensures
     (c.into_iter-pid-iterator.ensures.into_iter_gives ∙ c.iter-pid-items.ensures ∙ ap (λ live. map.entries live) c.processes-2.ensures.live)
 
-pub raise_live-requires : goal.raise_live-requires
-raise_live-requires c =
+pub count_live-requires : goal.count_live-requires
+count_live-requires c =
     raised_home c.args.rows c.loop-pid.cgroups c.in-Some._pid.now c.in-Some.process.now c.next.new.self (subst (AreRaised c.args.rows c.loop-pid.cgroups) c.in-Some.ensures.steps c.loop-pid.invariant)
     (subst IsWellFormed c.rows.view_is c.rows.invariant)
 
 pub loop-pid-preserved : goal.loop-pid-preserved
 loop-pid-preserved c =
     raised_more c.args.rows c.loop-pid.cgroups c.in-Some._pid.now c.in-Some.process.now c.next.new.self (subst (AreRaised c.args.rows c.loop-pid.cgroups) c.in-Some.ensures.steps c.loop-pid.invariant)
-    (let few = ap (λ live. map.len live) (sym c.processes.ensures.live) in omega (arith, few, c.size-size.ensures.bound, c.size-size.ensures.small)) c.raise_live.new.self c.raise_live.ensures
+    (let few = ap (λ live. map.len live) (sym c.processes.ensures.live) in omega (arith, few, c.size-size.ensures.bound, c.size-size.ensures.small)) c.count_live.new.self c.count_live.ensures
 
 pub returns : goal.returns
 returns c = λ t. record { rows = c.loop-pid.invariant.cgroups t; live = c.into_processes.ensures.live t; used = c.into_processes.ensures.used t; controllers = c.controllers.ensures.controllers t }

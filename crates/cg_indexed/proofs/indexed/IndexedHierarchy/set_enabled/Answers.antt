@@ -1,18 +1,17 @@
-use Rattle.std.proofs.Common.{◌≡◌, ap, sym, subst, take_all, refl, is_some, true≢false, ◌∙◌, arith}
+use Rattle.std.proofs.Common.{◌≡◌, ap, sym, subst, refl, ◌∙◌}
 use Rattle.std.specs.FinMap as map
 use Rattle.cg_model.specs.States.{State, with_enabled}
 use Rattle.cg_model.specs.WellFormed.{IsWellFormed, has_row}
 use Rattle.cg_steps.proofs.FormedLaws.{formed-with_enabled}
 use Rattle.cg_rows.specs.RowsForm.{state_of_tables}
-use Rattle.cg_indexed.specs.Kept.{cgroups_of, change_each_held, enabling_held}
+use Rattle.cg_indexed.specs.Kept.{change_each_held, enabling_held}
 use Rattle.cg_indexed.specs.Indexed.{state_of, IsIndexed}
 use Rattle.cg_indexed.proofs.Living.{counted_each}
 use Rattle.cg_indexed.proofs.States.{cgroups_each, fitted_formed, nothing_enabled, same_sets}
 use Rattle.cg_indexed.proofs.indexed.IndexedHierarchy.set_enabled.Goals as goal
 
-pub unreachable-requires : goal.unreachable-requires
-unreachable-requires c =
-    true≢false (sym c.requires.there ∙ ap (λ (s : State). has_row s c.args.path.now) (sym c.self.view_is) ∙ ap (λ q. is_some (map.get (cgroups_of c.self.inside.cgroups) q)) (sym (take_all c.depth.result c.args.path.now (omega arith))) ∙ ap is_some (sym c.in_default.ensures))
+pub cgroup-requires : goal.cgroup-requires
+cgroup-requires c = ap (λ (s : State). has_row s c.args.path.now) c.self.view_is ∙ c.requires.there
 
 pub enable-requires-clause-fitted : goal.enable-requires-clause-fitted
 enable-requires-clause-fitted c = fitted_formed (state_of c.self.inside.cgroups c.self.inside.processes c.self.inside.controllers) c.self.invariant.formed c.args.path.now
@@ -37,6 +36,5 @@ returns-then-ne c = ap (λ held. state_of held c.self.inside.processes c.self.in
 
 pub returns-else-ne : goal.returns-else-ne
 returns-else-ne c =
-    let same : c.in-Some.cgroup.now.enabled ≡ c.args.enabled = same_sets c.in-Some.cgroup.now.enabled c.args.enabled (sym c.ne.ensures ∙ c.if-ne.false) in
-    let there = ap (map.get (cgroups_of c.self.inside.cgroups)) (sym (take_all c.depth.result c.args.path.now (omega arith))) ∙ sym c.in-Some.ensures in
-    sym (nothing_enabled c.args.self.now (subst IsWellFormed c.self.view_is c.self.invariant.formed) c.args.path.now c.in-Some.cgroup.now c.args.enabled c.args.user.now (ap (λ (s : State). map.get s.rows c.args.path.now) (sym c.self.view_is) ∙ there) same)
+    let same : c.cgroup.result.now.enabled ≡ c.args.enabled = same_sets c.cgroup.result.now.enabled c.args.enabled (sym c.ne.ensures ∙ c.if-ne.false) in
+    sym (nothing_enabled c.args.self.now (subst IsWellFormed c.self.view_is c.self.invariant.formed) c.args.path.now c.cgroup.result.now c.args.enabled c.args.user.now (ap (λ (s : State). map.get s.rows c.args.path.now) (sym c.self.view_is) ∙ sym c.cgroup.ensures) same)

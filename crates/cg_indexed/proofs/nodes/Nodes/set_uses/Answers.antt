@@ -1,18 +1,10 @@
-use Rattle.std.proofs.Common.{◌≡◌, ap, ◌∙◌, refl, length, List, arith}
-use Rattle.std.proofs.lemmas.List.{with_items_is}
-use Rattle.std.specs.Prelude.{slice_set}
-use Rattle.std.specs.Vec.{with_items}
-use Rattle.cg_indexed.specs.Nodes.{node_at, slot_at, nodes_of, slot_with_uses, with_uses}
-use Rattle.cg_indexed.specs.declared.nodes.Slot.{Slot}
-use Rattle.cg_indexed.proofs.Seen.{set_seen}
+use Rattle.std.proofs.Common.{None, refl}
+use Rattle.cg_indexed.specs.Nodes.{new_slot, no_cgroup, with_uses}
+use Rattle.cg_indexed.proofs.Puts.{set_through}
+use Rattle.cg_indexed.proofs.Seen.{changed_seen}
 use Rattle.cg_indexed.proofs.nodes.Nodes.set_uses.Goals as goal
-
-slots_are : (c : goal.After-self-1) → (with_items c.self.inside.slots c.put_uses.new.slots).items ≡ slice_set c.self.inside.slots.items c.args.at (slot_with_uses c.args.uses (slot_at c.self.inside.slots.items c.args.at))
-slots_are c =
-    with_items_is c.self.inside.slots c.put_uses.new.slots (omega (arith, c.put_uses.auto.slots, ap length c.deref_mut.ensures.value, c.self.inside.slots.ok.0))
-    ∙ c.put_uses.ensures ∙ ap (λ (slots : List Slot). slice_set slots c.args.at (slot_with_uses c.args.uses (slot_at slots c.args.at))) c.deref_mut.ensures.value
 
 pub returns : goal.returns
 returns c =
-    ap (nodes_of c.self.inside.shared.items) (slots_are c) ∙ set_seen c.self.inside.shared.items c.self.inside.slots.items c.args.at (slot_with_uses c.args.uses (slot_at c.self.inside.slots.items c.args.at)) (with_uses c.args.uses) refl
-    ∙ ap (λ ns. slice_set ns c.args.at (with_uses c.args.uses (node_at ns c.args.at))) c.self.view_is
+    changed_seen c.self.inside.shared.items c.self.inside.slots.items _ c.args.self.now c.args.at (λ slot. record slot { uses = c.args.uses }) (with_uses c.args.uses) c.self.view_is (λ slot. refl)
+    (set_through c.self.inside.slots c.args.at (λ slot. record slot { uses = c.args.uses }) (new_slot no_cgroup None) c.deref_mut.result.now c.put_uses.new.slots c.deref_mut.ensures.value c.put_uses.auto.slots c.put_uses.ensures)
