@@ -54,20 +54,21 @@ module _ {first lines : Reporting} (same : first ≡ lines) (ops : List ℕ) (ol
         → closed (lines ops) ≡ with_front (lines ops).text (record { text = text; ending = Ok status })
     said_is text status said = behind (lines ops) (Ok course) there.0 ∙ ap (with_front (lines ops).text) said
 
-    pub close_whole : (new : Option (List ℕ)) (text : List ℕ) (status : ℕ) → Says course text status → Appends mid new text
+    pub close_whole : (new : Option (List ℕ)) {text shown : List ℕ} {status : ℕ} → Says course text status → shown ≡ text → Appends mid new shown
         → Replays closed lines ops old new (Ok status)
-    close_whole new text status said wrote =
+    close_whole new {text} {shown} {status} said is_shown wrote =
         let is = said_is text status said in (
           ap (λ (r : Report). r.ending) is,
-          subst (Appends old new) (sym (ap (λ (r : Report). r.text) is)) (Appends-trans old mid new (lines ops).text text there.1 wrote),
+          subst (Appends old new) (sym (ap (λ (r : Report). r.text) is))
+          (Appends-trans old mid new (lines ops).text text there.1 (subst (Appends mid new) is_shown wrote)),
         )
 
-    pub close_part : (new : Option (List ℕ)) (text : List ℕ) (status : ℕ) → Says course text status → AppendsPart mid new text
+    pub close_part : (new : Option (List ℕ)) {text shown : List ℕ} {status : ℕ} → Says course text status → shown ≡ text → AppendsPart mid new shown
         → (result : Result ℕ CliFault) → IsErrAnd result (λ found. found ≡ Write) → Replays closed lines ops old new result
-    close_part new text status said part result is =
+    close_part new {text} {shown} {status} said is_shown part result is =
         handed_on (Replays closed lines ops old new) Write result is
         (subst (AppendsPart old new) (sym (ap (λ (r : Report). r.text) (said_is text status said)))
-        (part_behind old mid new (lines ops).text text there.1 part))
+        (part_behind old mid new (lines ops).text text there.1 (subst (AppendsPart mid new) is_shown part)))
 
     pub close_memory : (result : Result ℕ CliFault) → IsErrAnd result (λ found. found ≡ NoMemory) → Replays closed lines ops old mid result
     close_memory result is = handed_on (Replays closed lines ops old mid) NoMemory result is (ops, [], sym (append-nil ops), there.1)
@@ -77,26 +78,28 @@ module _ {first lines : Reporting} (same : first ≡ lines) (before left old : O
   fault_from : (new : Option (List ℕ)) (fault : CliFault) → ReplaysFrom whole lines before left old new (Err fault)
       → ReplaysFrom closed lines before left old new (Err fault)
   fault_from new Read read = read
-  fault_from new fault read = from_replays closed lines before left old new read.0 (Err fault) read.1 (fault_closed lines read.0 old new fault read.2)
+  fault_from new fault read =
+      from_replays closed lines before left old new read.0 (Err fault) read.1 (fault_closed lines read.0 old new fault read.2)
 
-  pub from_close_fault : (new : Option (List ℕ)) (fault : CliFault) → ReplaysFrom whole first before left old new (Err fault) → (result : Result ℕ CliFault)
-      → IsErrAnd result (λ found. found ≡ fault) → ReplaysFrom closed lines before left old new result
+  pub from_close_fault : (new : Option (List ℕ)) (fault : CliFault) → ReplaysFrom whole first before left old new (Err fault)
+      → (result : Result ℕ CliFault) → IsErrAnd result (λ found. found ≡ fault) → ReplaysFrom closed lines before left old new result
   from_close_fault new fault came result is =
       handed_on (ReplaysFrom closed lines before left old new) fault result is
       (fault_from new fault (subst (λ report. ReplaysFrom whole report before left old new (Err fault)) same came))
 
   module _ (mid : Option (List ℕ)) (course : Course) (came : ReplaysFrom whole first before left old mid (Ok course)) where
-    pub from_close_whole : (new : Option (List ℕ)) (text : List ℕ) (status : ℕ) → Says course text status → Appends mid new text
+    pub from_close_whole : (new : Option (List ℕ)) {text shown : List ℕ} {status : ℕ} → Says course text status → shown ≡ text → Appends mid new shown
         → ReplaysFrom closed lines before left old new (Ok status)
-    from_close_whole new text status said wrote = (came.0, came.1, close_whole same came.0 old mid course came.2 new text status said wrote)
+    from_close_whole new said is_shown wrote = (came.0, came.1, close_whole same came.0 old mid course came.2 new said is_shown wrote)
 
-    pub from_close_part : (new : Option (List ℕ)) (text : List ℕ) (status : ℕ) → Says course text status → AppendsPart mid new text
+    pub from_close_part : (new : Option (List ℕ)) {text shown : List ℕ} {status : ℕ} → Says course text status → shown ≡ text → AppendsPart mid new shown
         → (result : Result ℕ CliFault) → IsErrAnd result (λ found. found ≡ Write) → ReplaysFrom closed lines before left old new result
-    from_close_part new text status said part result is =
+    from_close_part new said is_shown part result is =
         handed_on (ReplaysFrom closed lines before left old new) Write result is
-        (came.0, came.1, close_part same came.0 old mid course came.2 new text status said part (Err Write) refl)
+        (came.0, came.1, close_part same came.0 old mid course came.2 new said is_shown part (Err Write) refl)
 
-    pub from_close_memory : (result : Result ℕ CliFault) → IsErrAnd result (λ found. found ≡ NoMemory) → ReplaysFrom closed lines before left old mid result
+    pub from_close_memory : (result : Result ℕ CliFault) → IsErrAnd result (λ found. found ≡ NoMemory)
+        → ReplaysFrom closed lines before left old mid result
     from_close_memory result is =
         handed_on (ReplaysFrom closed lines before left old mid) NoMemory result is
         (came.0, came.1, close_memory same came.0 old mid course came.2 (Err NoMemory) refl)
@@ -104,7 +107,8 @@ module _ {first lines : Reporting} (same : first ≡ lines) (before left old : O
 -- a run that has only begun
 module _ {course other : Course} {done : ℕ} (of_course : other ≡ course) (of_done : done ≡ 0) where
   -- what comes of it is said from the start
-  pub begun : {user who : Identity} {line : List ℕ} → who ≡ user → line ≡ [] → coming other who done line ≡ (λ bytes. lines_said course user 0 bytes)
+  pub begun : {user who : Identity} {line : List ℕ} → who ≡ user → line ≡ []
+      → coming other who done line ≡ (λ bytes. lines_said course user 0 bytes)
   begun {user} {who} {line} of_user of_line =
       ap (λ c. coming c who done line) of_course ∙ ap (λ u. coming course u done line) of_user
       ∙ ap (λ (n : ℕ). coming course user n line) of_done ∙ ap (coming course user 0) of_line

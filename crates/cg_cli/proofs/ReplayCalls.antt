@@ -106,14 +106,17 @@ module _ (tree : Reading) (uid : ℕ) (gids : List ℕ) (subtree : Option (List 
         ∙ ap (lines_by (Ok user)) of_course
 
     -- what is known of the lines of the course that was read
-    pub lines_are : (course : Course) → course_read name tree ≡ Ok course → (Q : Reporting → Type 0) → Q (λ ops. lines_said course user 0 ops) → Q lines
+    pub lines_are : (course : Course) → course_read name tree ≡ Ok course
+        → (Q : Reporting → Type 0) → Q (λ ops. lines_said course user 0 ops) → Q lines
     lines_are course of_course Q known = subst Q (sym (lines_by_course (Ok course) of_course)) known
 
     course_known : (ops : List ℕ) (known : Option (List ℕ)) (fault : CliFault) → (fault ≢ NoMemory → course_read name tree ≡ Err fault)
         → Replays closed lines ops known known (Err fault)
     course_known ops known NoMemory is = nothing_said ops known
-    course_known ops known Read is = let never : false ≡ true = never_after (course_read name tree) Read (read_before name tree) (is (λ same. cc)) in cc
-    course_known ops known Write is = let never : false ≡ true = never_after (course_read name tree) Write (read_before name tree) (is (λ same. cc)) in cc
+    course_known ops known Read is =
+        let never : false ≡ true = never_after (course_read name tree) Read (read_before name tree) (is (λ same. cc)) in cc
+    course_known ops known Write is =
+        let never : false ≡ true = never_after (course_read name tree) Write (read_before name tree) (is (λ same. cc)) in cc
     course_known ops known fault is =
         said_fault ops known fault (ap (λ (report : Reporting). report ops) (lines_by_course (Err fault) (is (λ same. cc))))
 

@@ -1,6 +1,3 @@
-use Rattle.std.proofs.Common.{subst}
-use Rattle.std.specs.Io.KnownBytes.{Appends}
-use Rattle.cg_cli.specs.Written.{AppendsPart}
 use Rattle.cg_cli.proofs.Closings.{begun, made_none, close_fault, close_whole, close_part, close_memory}
 use Rattle.cg_cli.proofs.replay.slice_closed.Goals as goal
 
@@ -10,34 +7,28 @@ replay_slice-requires-clause-made g c = made_none c.new.ensures.course c.new.ens
 pub returns-in_err-course : goal.returns-in_err-course
 returns-in_err-course g c =
     let run = c.new.ensures in
-    close_fault (begun run.course run.done run.user run.line) c.args.ops.now
-    (g.W.Write.contents c.args.out.now) (g.W.Write.contents c.replay_slice.new.out) c.in_err-course.field-0.0 c.in_err-course.ensures
-    c.from_residual.result c.from_residual.ensures.1
+    close_fault (begun run.course run.done run.user run.line) c.args.ops.now (g.W.Write.contents c.args.out.now)
+    (g.W.Write.contents c.replay_slice.new.out) c.in_err-course.field-0.0 c.in_err-course.ensures c.from_residual.result
+    c.from_residual.ensures.1
 
 pub returns-in_err-text : goal.returns-in_err-text
 returns-in_err-text g c =
     let run = c.new.ensures in
-    close_memory (begun run.course run.done run.user run.line) c.args.ops.now
-    (g.W.Write.contents c.args.out.now) (g.W.Write.contents c.replay_slice.new.out) (g.C.OnCourse.course c.in_ok-course.course) c.in_ok-course.ensures
+    close_memory (begun run.course run.done run.user run.line) c.args.ops.now (g.W.Write.contents c.args.out.now)
+    (g.W.Write.contents c.replay_slice.new.out) (g.C.OnCourse.course c.in_ok-course.course) c.in_ok-course.ensures
     c.from_residual-in_err-text.result c.from_residual-in_err-text.ensures.1
 
 pub returns-in_err-write_whole : goal.returns-in_err-write_whole
 returns-in_err-write_whole g c =
     let run = c.new.ensures in
-    let mid = g.W.Write.contents c.replay_slice.new.out in
-    let new = g.W.Write.contents c.write_whole.new.out in
-    let part = subst (AppendsPart mid new) c.as_slice.ensures.value c.in_err-write_whole.ensures.err in
-    close_part (begun run.course run.done run.user run.line) c.args.ops.now
-    (g.W.Write.contents c.args.out.now) mid (g.C.OnCourse.course c.in_ok-course.course) c.in_ok-course.ensures
-    new c.in_ok-text.text.items c.in_ok-text.status c.in_ok-text.ensures part
+    close_part (begun run.course run.done run.user run.line) c.args.ops.now (g.W.Write.contents c.args.out.now)
+    (g.W.Write.contents c.replay_slice.new.out) (g.C.OnCourse.course c.in_ok-course.course) c.in_ok-course.ensures
+    (g.W.Write.contents c.write_whole.new.out) c.in_ok-text.ensures c.as_slice.ensures.value c.in_err-write_whole.ensures.err
     c.from_residual-in_err-write_whole.result c.from_residual-in_err-write_whole.ensures.1
 
 pub returns : goal.returns
 returns g c =
     let run = c.new.ensures in
-    let mid = g.W.Write.contents c.replay_slice.new.out in
-    let new = g.W.Write.contents c.write_whole.new.out in
-    close_whole (begun run.course run.done run.user run.line) c.args.ops.now
-    (g.W.Write.contents c.args.out.now) mid (g.C.OnCourse.course c.in_ok-course.course) c.in_ok-course.ensures
-    new c.in_ok-text.text.items c.in_ok-text.status c.in_ok-text.ensures
-    (subst (Appends mid new) c.as_slice.ensures.value c.in_ok-write_whole.ensures.ok)
+    close_whole (begun run.course run.done run.user run.line) c.args.ops.now (g.W.Write.contents c.args.out.now)
+    (g.W.Write.contents c.replay_slice.new.out) (g.C.OnCourse.course c.in_ok-course.course) c.in_ok-course.ensures
+    (g.W.Write.contents c.write_whole.new.out) c.in_ok-text.ensures c.as_slice.ensures.value c.in_ok-write_whole.ensures.ok
