@@ -54,17 +54,17 @@ module _ {first lines : Reporting} (same : first ≡ lines) (ops : List ℕ) (ol
         → closed (lines ops) ≡ with_front (lines ops).text (record { text = text; ending = Ok status })
     said_is text status said = behind (lines ops) (Ok course) there.0 ∙ ap (with_front (lines ops).text) said
 
-    pub close_whole : (new : Option (List ℕ)) {text shown : List ℕ} {status : ℕ} → Says course text status → shown ≡ text → Appends mid new shown
-        → Replays closed lines ops old new (Ok status)
+    pub close_whole : (new : Option (List ℕ)) {text shown : List ℕ} {status : ℕ} → Says course text status → shown ≡ text
+        → Appends mid new shown → Replays closed lines ops old new (Ok status)
     close_whole new {text} {shown} {status} said is_shown wrote =
         let is = said_is text status said in (
           ap (λ (r : Report). r.ending) is,
           subst (Appends old new) (sym (ap (λ (r : Report). r.text) is))
-          (Appends-trans old mid new (lines ops).text text there.1 (subst (Appends mid new) is_shown wrote)),
+              (Appends-trans old mid new (lines ops).text text there.1 (subst (Appends mid new) is_shown wrote)),
         )
 
-    pub close_part : (new : Option (List ℕ)) {text shown : List ℕ} {status : ℕ} → Says course text status → shown ≡ text → AppendsPart mid new shown
-        → (result : Result ℕ CliFault) → IsErrAnd result (λ found. found ≡ Write) → Replays closed lines ops old new result
+    pub close_part : (new : Option (List ℕ)) {text shown : List ℕ} {status : ℕ} → Says course text status → shown ≡ text
+        → AppendsPart mid new shown → (result : Result ℕ CliFault) → IsErrAnd result (λ found. found ≡ Write) → Replays closed lines ops old new result
     close_part new {text} {shown} {status} said is_shown part result is =
         handed_on (Replays closed lines ops old new) Write result is
         (subst (AppendsPart old new) (sym (ap (λ (r : Report). r.text) (said_is text status said)))
@@ -88,12 +88,12 @@ module _ {first lines : Reporting} (same : first ≡ lines) (before left old : O
       (fault_from new fault (subst (λ report. ReplaysFrom whole report before left old new (Err fault)) same came))
 
   module _ (mid : Option (List ℕ)) (course : Course) (came : ReplaysFrom whole first before left old mid (Ok course)) where
-    pub from_close_whole : (new : Option (List ℕ)) {text shown : List ℕ} {status : ℕ} → Says course text status → shown ≡ text → Appends mid new shown
-        → ReplaysFrom closed lines before left old new (Ok status)
+    pub from_close_whole : (new : Option (List ℕ)) {text shown : List ℕ} {status : ℕ} → Says course text status → shown ≡ text
+        → Appends mid new shown → ReplaysFrom closed lines before left old new (Ok status)
     from_close_whole new said is_shown wrote = (came.0, came.1, close_whole same came.0 old mid course came.2 new said is_shown wrote)
 
-    pub from_close_part : (new : Option (List ℕ)) {text shown : List ℕ} {status : ℕ} → Says course text status → shown ≡ text → AppendsPart mid new shown
-        → (result : Result ℕ CliFault) → IsErrAnd result (λ found. found ≡ Write) → ReplaysFrom closed lines before left old new result
+    pub from_close_part : (new : Option (List ℕ)) {text shown : List ℕ} {status : ℕ} → Says course text status → shown ≡ text
+        → AppendsPart mid new shown → (result : Result ℕ CliFault) → IsErrAnd result (λ found. found ≡ Write) → ReplaysFrom closed lines before left old new result
     from_close_part new said is_shown part result is =
         handed_on (ReplaysFrom closed lines before left old new) Write result is
         (came.0, came.1, close_part same came.0 old mid course came.2 new said is_shown part (Err Write) refl)

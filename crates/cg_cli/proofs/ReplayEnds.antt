@@ -1,5 +1,6 @@
 -- A replay that ends: what it answers and has written by then is the report's.
-use Rattle.std.proofs.Common.{◌≡◌, ℕ, ◌+◌, ◌<◌, true, nat_lt, cond, List, [], ◌∷◌, ◌++◌, length, take, Option, Result, Ok, Err, IsErrAnd, refl, ap, sym, ◌∙◌, subst, append_assoc, append-nil, length-append, arith}
+use Rattle.std.proofs.Common.{◌≡◌, ℕ, ◌+◌, ◌<◌, true, nat_lt, cond, List, [], ◌∷◌, ◌++◌, length, take, Option, Result, Ok, Err, IsErrAnd}
+use Rattle.std.proofs.Common.{refl, ap, sym, ◌∙◌, subst, append_assoc, append-nil, length-append, arith}
 use Rattle.std.proofs.Math.Seq.{take-append-add}
 use Rattle.std.proofs.lemmas.Bool.Decides.{nat_tests}
 use Rattle.std.proofs.lemmas.List.{nil_from_length}
@@ -109,7 +110,8 @@ module _ {before : Reporting} (course : Course) (user : Identity) {done : ℕ} {
       (subst (λ bytes. Replays whole before bytes old new (Err fault)) all ended)
 
   -- there is no rest
-  pub rest_ends : length rest ≡ 0 → (ended : Result Course CliFault) → ended ≡ end_read course done line → Replays whole before ops old mid ended
+  pub rest_ends : length rest ≡ 0 → (ended : Result Course CliFault) → ended ≡ end_read course done line
+      → Replays whole before ops old mid ended
   rest_ends zero ended is =
       let all : given ≡ ops = sym (split ∙ ap (λ l. given ++ l) (nil_from_length rest zero) ∙ append-nil given) in
       let came = replays_end before (coming course user done line) given old mid course done line waiting way

@@ -1,5 +1,7 @@
 -- A replay over a reader: what it gave, and what is left.
-use Rattle.std.proofs.Common.{◌≡◌, ℕ, ◌<◌, ◌≤◌, true, false, nat_lt, List, [], ◌∷◌, ◌++◌, length, take, drop, Option, Some, None, Result, Ok, Err, IsErrAnd, IfSome, OnSome, ◌⊎◌, inl, inr, refl, ap, sym, ◌∙◌, subst, append-nil, length-take-le, arith}
+use Rattle.std.proofs.Common.{◌≡◌, ℕ, ◌<◌, ◌≤◌, true, false, nat_lt, List, [], ◌∷◌, ◌++◌, length, take, drop, Option, Some, None, Result}
+use Rattle.std.proofs.Common.{Ok, Err, IsErrAnd, IfSome, OnSome, ◌⊎◌, inl, inr, refl, ap, sym, ◌∙◌, subst, append-nil, length-take-le}
+use Rattle.std.proofs.Common.{arith}
 use Rattle.std.proofs.lemmas.Bool.Decides.{nat_tests}
 use Rattle.std.specs.Io.{StartsWith}
 use Rattle.std.specs.Io.KnownBytes.{Keeps, Consumes, IsAtEnd}
@@ -117,7 +119,8 @@ module _ {report : Reporting} (course : Course) (user : Identity) {done : ℕ} {
   -- at a fault
   pub from_fault : {T : Type 0} (view : T → Course) (after : Reporting) (left new : Option (List ℕ)) (fault : CliFault)
       → ReadOn there after had left mid new (Err fault)
-      → (result : Result T CliFault) → IsErrAnd result (λ found. found ≡ fault) → ReplaysFrom whole report before left old new (came_to view result)
+      → (result : Result T CliFault) → IsErrAnd result (λ found. found ≡ fault)
+      → ReplaysFrom whole report before left old new (came_to view result)
   from_fault view after left new fault read result is =
       handed_on (λ r. ReplaysFrom whole report before left old new (came_to view r)) fault result is (fault_read after left new fault read)
 
@@ -131,7 +134,8 @@ module _ (course : Course) (user : Identity) {done : ℕ} {line : List ℕ} (wai
       let after = coming course user done line in
       let read = subst (λ n. ReadOn there after had left mid new (Ok n)) none more in
       let all = given ++ read.0 in
-      let known = all_known before left all (Consumes-trans before had left given read.0 gave read.2) (end_passed before had left given gave (read.4 refl)) in
+      let known = all_known before left all (Consumes-trans before had left given read.0 gave read.2)
+      (end_passed before had left given gave (read.4 refl)) in
       subst (ReplaysFrom whole report before left old new) (sym {A = Result Course CliFault} is)
       (from_replays whole report before left old new all (end_read course done line) known
       (replays_end report after all old new course done line waiting (leads_on way read.3) (quiet course user done line waiting)))

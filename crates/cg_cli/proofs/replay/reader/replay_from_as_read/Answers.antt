@@ -10,9 +10,9 @@ pub returns-in_err-unwatched-in-None-clause-replays : goal.returns-in_err-unwatc
 returns-in_err-unwatched-in-None-clause-replays g c =
     course_fault_from (tree_of c.args.tree.now) c.args.user.uid c.args.user.gids.now _
     (ap (option_map (λ text. text.now)) c.in-None.is) c.in_ok-user.user c.in_ok-user.ensures
-    (g.R.Read.remaining c.args.ops.now) (g.W.Write.contents c.args.out.now)
-    c.in_err-unwatched-in-None.field-0.0 c.in_err-unwatched-in-None.ensures
-    c.from_residual-in_err-unwatched-in-None.result c.from_residual-in_err-unwatched-in-None.ensures.1
+    (g.R.Read.remaining c.args.ops.now) (g.W.Write.contents c.args.out.now) c.in_err-unwatched-in-None.field-0.0
+    c.in_err-unwatched-in-None.ensures c.from_residual-in_err-unwatched-in-None.result
+    c.from_residual-in_err-unwatched-in-None.ensures.1
 
 pub returns-in_ok-unwatched-in-None-clause-replays : goal.returns-in_ok-unwatched-in-None-clause-replays
 returns-in_ok-unwatched-in-None-clause-replays g c =
@@ -21,16 +21,16 @@ returns-in_ok-unwatched-in-None-clause-replays g c =
     (ap (option_map (λ text. text.now)) c.in-None.is) c.in_ok-user.user c.in_ok-user.ensures
     _ c.in_ok-unwatched-in-None.ensures
     (λ lines.
-        ReplaysFrom closed lines (g.R.Read.remaining c.args.ops.now) (g.R.Read.remaining after.new.ops)
-        (g.W.Write.contents c.args.out.now) (g.W.Write.contents after.new.out) after.result) after.ensures
+    ReplaysFrom closed lines (g.R.Read.remaining c.args.ops.now) (g.R.Read.remaining after.new.ops)
+    (g.W.Write.contents c.args.out.now) (g.W.Write.contents after.new.out) after.result) after.ensures
 
 pub returns-in_err-watched-in-Some-clause-replays : goal.returns-in_err-watched-in-Some-clause-replays
 returns-in_err-watched-in-Some-clause-replays g c =
     course_fault_from (tree_of c.args.tree.now) c.args.user.uid c.args.user.gids.now _
     (ap (option_map (λ text. text.now)) c.in-Some.is) c.in_ok-user.user c.in_ok-user.ensures
-    (g.R.Read.remaining c.args.ops.now) (g.W.Write.contents c.args.out.now)
-    c.in_err-watched-in-Some.field-0.0 c.in_err-watched-in-Some.ensures.read
-    c.from_residual-in_err-watched-in-Some.result c.from_residual-in_err-watched-in-Some.ensures.1
+    (g.R.Read.remaining c.args.ops.now) (g.W.Write.contents c.args.out.now) c.in_err-watched-in-Some.field-0.0
+    c.in_err-watched-in-Some.ensures.read c.from_residual-in_err-watched-in-Some.result
+    c.from_residual-in_err-watched-in-Some.ensures.1
 
 pub returns-in_ok-watched-in-Some-clause-replays : goal.returns-in_ok-watched-in-Some-clause-replays
 returns-in_ok-watched-in-Some-clause-replays g c =
@@ -39,8 +39,8 @@ returns-in_ok-watched-in-Some-clause-replays g c =
     (ap (option_map (λ text. text.now)) c.in-Some.is) c.in_ok-user.user c.in_ok-user.ensures
     _ c.in_ok-watched-in-Some.ensures.read
     (λ lines.
-        ReplaysFrom closed lines (g.R.Read.remaining c.args.ops.now) (g.R.Read.remaining after.new.ops)
-        (g.W.Write.contents c.args.out.now) (g.W.Write.contents after.new.out) after.result) after.ensures
+    ReplaysFrom closed lines (g.R.Read.remaining c.args.ops.now) (g.R.Read.remaining after.new.ops)
+    (g.W.Write.contents c.args.out.now) (g.W.Write.contents after.new.out) after.result) after.ensures
 
 pub reader_closed-requires-in-Some : goal.reader_closed-requires-in-Some
 reader_closed-requires-in-Some g c = c.in_ok-watched-in-Some.ensures.made

@@ -37,8 +37,9 @@ returns-in_err-read_on g c =
     let told = c.loop-asked.invariant in
     from_fault (g.C.OnCourse.course run.course) run.user told.waiting told.way
     (g.R.Read.remaining c.args.ops.now) (g.R.Read.remaining c.loop-asked.ops) told.gave g.C.OnCourse.course
-    (coming (g.C.OnCourse.course failed.course) failed.user failed.done failed.line.items) (g.R.Read.remaining c.read_on.new.ops)
-    (g.W.Write.contents c.read_on.new.out) c.in_err-read_on.field-0.0 c.in_err-read_on.ensures.read c.from_residual.result c.from_residual.ensures.1
+    (coming (g.C.OnCourse.course failed.course) failed.user failed.done failed.line.items)
+    (g.R.Read.remaining c.read_on.new.ops) (g.W.Write.contents c.read_on.new.out) c.in_err-read_on.field-0.0 c.in_err-read_on.ensures.read
+    c.from_residual.result c.from_residual.ensures.1
 
 pub returns-then-branch-eq0 : goal.returns-then-branch-eq0
 returns-then-branch-eq0 g c =
