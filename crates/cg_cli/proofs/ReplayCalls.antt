@@ -1,5 +1,6 @@
 -- A replay from its arguments on.
-use Rattle.std.proofs.Common.{◌≡◌, ◌≢◌, ℕ, nat_eq, Bool, true, false, cond, List, [], Option, Some, None, Result, Ok, Err, refl, ap, sym, ◌∙◌, subst}
+use Rattle.std.proofs.Common.{◌≡◌, ◌≢◌, ℕ, nat_eq, Bool, true, false, cond, List, [], Option, Some, None, Result, Ok, Err, IsErrAnd, refl}
+use Rattle.std.proofs.Common.{ap, sym, ◌∙◌, subst}
 use Rattle.std.specs.Io.KnownBytes.{Appends}
 use Rattle.std.proofs.KnownBytes.{Appends-nil}
 use Rattle.cg_cgroup.specs.Identity.{Identity}
@@ -18,6 +19,7 @@ use Rattle.cg_cli.specs.Replays.{closed, course_read, lines_said, lines_report, 
 use Rattle.cg_cli.specs.Replaying.{Reporting, AreOf, HasFront, Replays, ReplaysFrom}
 use Rattle.cg_cli.specs.declared.fault.CliFault.{CliFault}
 use Rattle.cg_cli.specs.declared.fault.CliFault.TheVariants.{Uid, Gids, Read, Write, NoMemory, BadPath}
+use Rattle.cg_cli.proofs.ReplayEnds.{handed_on}
 use Rattle.cg_cli.proofs.ReplayReads.{from_replays}
 
 -- the lines, by what the user and the course are
@@ -73,6 +75,17 @@ never_after : (read : Result Course CliFault) (fault : CliFault) → FaultIsBefo
 never_after (Ok course) fault before is = let never : ⊥ = cc in absurd never
 never_after (Err other) fault before is = let same : other ≡ fault = cc in subst (λ f. is_before f ≡ true) same before
 
+-- a reader that wasn't asked
+some_bytes : (known : Option (List ℕ)) → (ops : List ℕ) × AreOf known ops
+some_bytes None = ([], tt)
+some_bytes (Some xs) = (xs, refl)
+
+not_asked : (lines : Reporting) (given old new : Option (List ℕ)) (ended : Result ℕ CliFault)
+    → ((ops : List ℕ) → Replays closed lines ops old new ended) → ReplaysFrom closed lines given given old new ended
+not_asked lines given old new ended replays =
+    let some = some_bytes given in
+    from_replays closed lines given given old new some.0 ended some.1 (replays some.0)
+
 module _ (tree : Reading) (uid : ℕ) (gids : List ℕ) (subtree : Option (List ℕ)) where
   abbrev lines : Reporting
   lines = lines_report tree uid gids subtree
@@ -80,25 +93,43 @@ module _ (tree : Reading) (uid : ℕ) (gids : List ℕ) (subtree : Option (List 
   pub nothing_said : (ops : List ℕ) (known : Option (List ℕ)) → HasFront lines ops known known
   nothing_said ops known = ([], ops, refl, subst (Appends known known) (sym (silent (user_read uid gids) (course_read subtree tree))) (Appends-nil known))
 
-  -- what is said where the user and the course were read
-  pub lines_are : (user : Identity) (course : Course) → user_read uid gids ≡ Ok user → course_read subtree tree ≡ Ok course → lines ≡ (λ ops. lines_said course user 0 ops)
-  lines_are user course of_user of_course = ap (λ u. lines_by u (course_read subtree tree)) of_user ∙ ap (lines_by (Ok user)) of_course
-
   -- a fault before the operations
   said_fault : (ops : List ℕ) (known : Option (List ℕ)) (fault : CliFault) → lines ops ≡ fault_report fault → ((closed (lines ops)).ending ≡ Err fault) × Appends known known (closed (lines ops)).text
   said_fault ops known fault same =
       let is = ap closed same in
       (ap (λ (r : Report). r.ending) is, subst (Appends known known) (sym (ap (λ (r : Report). r.text) is)) (Appends-nil known))
 
-  module _ (user : Identity) (of_user : user_read uid gids ≡ Ok user) where
-    course_faults : (ops : List ℕ) (fault : CliFault) → course_read subtree tree ≡ Err fault → lines ops ≡ fault_report fault
-    course_faults ops fault is = ap (λ u. lines_by u (course_read subtree tree) ops) of_user ∙ ap (λ c. lines_by (Ok user) c ops) is
+  -- where the user was read, and what is named as a subtree
+  module _ {name : Option (List ℕ)} (named : subtree ≡ name) (user : Identity) (of_user : Ok user ≡ user_read uid gids) where
+    lines_by_course : (read : Result Course CliFault) → course_read name tree ≡ read → lines ≡ lines_by (Ok user) read
+    lines_by_course read of_course =
+        ap (λ u. lines_by u (course_read subtree tree)) (sym of_user) ∙ ap (λ n. lines_by (Ok user) (course_read n tree)) named
+        ∙ ap (lines_by (Ok user)) of_course
 
-    pub course_fault : (ops : List ℕ) (known : Option (List ℕ)) (fault : CliFault) → (fault ≢ NoMemory → course_read subtree tree ≡ Err fault) → Replays closed lines ops known known (Err fault)
-    course_fault ops known NoMemory is = nothing_said ops known
-    course_fault ops known Read is = let never : false ≡ true = never_after (course_read subtree tree) Read (read_before subtree tree) (is (λ same. cc)) in cc
-    course_fault ops known Write is = let never : false ≡ true = never_after (course_read subtree tree) Write (read_before subtree tree) (is (λ same. cc)) in cc
-    course_fault ops known fault is = said_fault ops known fault (course_faults ops fault (is (λ same. cc)))
+    -- what is known of the lines of the course that was read
+    pub lines_are : (course : Course) → course_read name tree ≡ Ok course
+        → (Q : Reporting → Type 0) → Q (λ ops. lines_said course user 0 ops) → Q lines
+    lines_are course of_course Q known = subst Q (sym (lines_by_course (Ok course) of_course)) known
+
+    course_known : (ops : List ℕ) (known : Option (List ℕ)) (fault : CliFault) → (fault ≢ NoMemory → course_read name tree ≡ Err fault)
+        → Replays closed lines ops known known (Err fault)
+    course_known ops known NoMemory is = nothing_said ops known
+    course_known ops known Read is =
+        let never : false ≡ true = never_after (course_read name tree) Read (read_before name tree) (is (λ same. cc)) in cc
+    course_known ops known Write is =
+        let never : false ≡ true = never_after (course_read name tree) Write (read_before name tree) (is (λ same. cc)) in cc
+    course_known ops known fault is =
+        said_fault ops known fault (ap (λ (report : Reporting). report ops) (lines_by_course (Err fault) (is (λ same. cc))))
+
+    pub course_fault : (ops : List ℕ) (known : Option (List ℕ)) (fault : CliFault) → (fault ≢ NoMemory → course_read name tree ≡ Err fault)
+        → (result : Result ℕ CliFault) → IsErrAnd result (λ found. found ≡ fault) → Replays closed lines ops known known result
+    course_fault ops known fault is result handed =
+        handed_on (Replays closed lines ops known known) fault result handed (course_known ops known fault is)
+
+    pub course_fault_from : (given known : Option (List ℕ)) (fault : CliFault) → (fault ≢ NoMemory → course_read name tree ≡ Err fault)
+        → (result : Result ℕ CliFault) → IsErrAnd result (λ found. found ≡ fault) → ReplaysFrom closed lines given given known known result
+    course_fault_from given known fault is result handed =
+        not_asked lines given known known result (λ ops. course_fault ops known fault is result handed)
 
   -- a fault of the user
   user_fault_by : (ops : List ℕ) (known : Option (List ℕ)) (fault : CliFault) (root : Bool) (found : Option Identity)
@@ -111,15 +142,8 @@ module _ (tree : Reading) (uid : ℕ) (gids : List ℕ) (subtree : Option (List 
       subst (λ f. Replays closed lines ops known known (Err f)) is (said_fault ops known Gids (ap (λ u. lines_by u (course_read subtree tree) ops) e))
   user_fault_by ops known fault false (Some user) e h = let never : ⊥ = cc in absurd never
 
-  pub user_fault : (ops : List ℕ) (known : Option (List ℕ)) (fault : CliFault) → user_read uid gids ≡ Err fault → Replays closed lines ops known known (Err fault)
-  user_fault ops known fault h = user_fault_by ops known fault (nat_eq uid 0) (user_of uid gids) refl h
-
--- a reader that wasn't asked
-some_bytes : (known : Option (List ℕ)) → (ops : List ℕ) × AreOf known ops
-some_bytes None = ([], tt)
-some_bytes (Some xs) = (xs, refl)
-
-pub not_asked : (lines : Reporting) (given old new : Option (List ℕ)) (ended : Result ℕ CliFault) → ((ops : List ℕ) → Replays closed lines ops old new ended) → ReplaysFrom closed lines given given old new ended
-not_asked lines given old new ended replays =
-    let some = some_bytes given in
-    from_replays closed lines given given old new some.0 ended some.1 (replays some.0)
+  pub user_fault_from : (given known : Option (List ℕ)) (fault : CliFault) → Err fault ≡ user_read uid gids
+      → (result : Result ℕ CliFault) → IsErrAnd result (λ found. found ≡ fault) → ReplaysFrom closed lines given given known known result
+  user_fault_from given known fault read result handed =
+      handed_on (ReplaysFrom closed lines given given known known) fault result handed
+      (not_asked lines given known known (Err fault) (λ ops. user_fault_by ops known fault (nat_eq uid 0) (user_of uid gids) refl (sym read)))

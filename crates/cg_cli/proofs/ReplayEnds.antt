@@ -1,11 +1,14 @@
 -- A replay that ends: what it answers and has written by then is the report's.
-use Rattle.std.proofs.Common.{◌≡◌, ℕ, ◌+◌, ◌<◌, true, nat_lt, cond, List, [], ◌∷◌, ◌++◌, length, take, Option, Result, Ok, Err, refl, ap, sym, ◌∙◌, subst, append_assoc, append-nil, length-append, arith}
+use Rattle.std.proofs.Common.{◌≡◌, ℕ, ◌+◌, ◌<◌, true, nat_lt, cond, List, [], ◌∷◌, ◌++◌, length, take, Option, Result, Ok, Err, IsErrAnd}
+use Rattle.std.proofs.Common.{refl, ap, sym, ◌∙◌, subst, append_assoc, append-nil, length-append, arith}
 use Rattle.std.proofs.Math.Seq.{take-append-add}
 use Rattle.std.proofs.lemmas.Bool.Decides.{nat_tests}
+use Rattle.std.proofs.lemmas.List.{nil_from_length}
+use Rattle.std.proofs.lemmas.Result.{err_from_is_err_and}
 use Rattle.std.specs.Io.KnownBytes.{Appends}
 use Rattle.std.proofs.KnownBytes.{Appends-nil, Appends-trans, Appends-kept}
 use Rattle.cg_cgroup.specs.Identity.{Identity}
-use Rattle.cg_cli.specs.Courses.{Course}
+use Rattle.cg_cli.specs.Courses.{Course, came_to}
 use Rattle.cg_lines.specs.declared.lines.fault.LineFault.TheVariants.{TooLong, Cut}
 use Rattle.cg_cli.specs.Written.{AppendsPart}
 use Rattle.cg_cli.specs.Reports.{Said}
@@ -23,9 +26,9 @@ leads_nowhere report known = record { written = []; appended = Appends-nil known
 fronts : (front next : List ℕ) (report : Said Course) → with_front front (with_front next report) ≡ with_front (front ++ next) report
 fronts front next report = ap (λ (text : List ℕ). let r : Said Course = record { text = text; ending = report.ending } in r) (sym (append_assoc front next report.text))
 
-pub leads_on : (before there after : Reporting) (first second : List ℕ) (old mid new : Option (List ℕ)) → Leads before there first old mid → Leads there after second mid new
-    → Leads before after (first ++ second) old new
-leads_on before there after first second old mid new p q = record {
+pub leads_on : {before there after : Reporting} {first second : List ℕ} {old mid new : Option (List ℕ)}
+    → Leads before there first old mid → Leads there after second mid new → Leads before after (first ++ second) old new
+leads_on {before} {there} {after} {first} {second} {old} {mid} {new} p q = record {
   written = p.written ++ q.written;
   appended = Appends-trans old mid new p.written q.written p.appended q.appended;
   whole = λ rest.
@@ -60,6 +63,13 @@ replays_end before after given old new course done (b ∷ bs) waiting way none =
 
 -- ---- at a fault
 
+-- what is known of a fault is known of the call that hands it on
+pub handed_on : {T : Type 0} (Q : Result T CliFault → Type 0) (fault : CliFault) (result : Result T CliFault)
+    → IsErrAnd result (λ found. found ≡ fault) → Q (Err fault) → Q result
+handed_on {T} Q fault result is known =
+    let met = err_from_is_err_and result is in
+    subst Q (sym (met.1 ∙ ap (λ (found : CliFault). let r : Result T CliFault = Err found in r) met.2)) known
+
 -- a text that was written, and a part of the next
 pub part_behind : (old mid new : Option (List ℕ)) (front text : List ℕ) → Appends old mid front → AppendsPart mid new text → AppendsPart old new (front ++ text)
 part_behind old mid new front text first part = (
@@ -81,3 +91,30 @@ replays_fault before after then given piece rest old mid new ending fault way no
       ap (λ (r : Said Course). r.ending) e,
       subst (Appends old new) (sym (ap (λ (r : Said Course). r.text) e ∙ append-nil way.written)) (Appends-kept old mid new way.written way.appended fed.1),
     )
+
+-- ---- over bytes that are all there
+
+-- what the bytes before the rest led to
+module _ {before : Reporting} (course : Course) (user : Identity) {done : ℕ} {line : List ℕ} (waiting : IsWaiting done line)
+    {given : List ℕ} {old mid : Option (List ℕ)} (way : Leads before (coming course user done line) given old mid)
+    (ops rest : List ℕ) (split : ops ≡ given ++ rest) where
+  -- the rest has a fault
+  pub rest_fault : {T : Type 0} (view : T → Course) (then : Reporting) (new : Option (List ℕ)) (fault : CliFault)
+      → Fed (coming course user done line) then rest mid new (Err fault)
+      → (result : Result T CliFault) → IsErrAnd result (λ found. found ≡ fault) → Replays whole before ops old new (came_to view result)
+  rest_fault view then new fault fed result is =
+      let all : given ++ (rest ++ []) ≡ ops = ap (λ l. given ++ l) (append-nil rest) ∙ sym split in
+      let ended = replays_fault before (coming course user done line) then given rest [] old mid new (end_read course done line) fault way
+      (quiet course user done line waiting) fed in
+      handed_on (λ r. Replays whole before ops old new (came_to view r)) fault result is
+      (subst (λ bytes. Replays whole before bytes old new (Err fault)) all ended)
+
+  -- there is no rest
+  pub rest_ends : length rest ≡ 0 → (ended : Result Course CliFault) → ended ≡ end_read course done line
+      → Replays whole before ops old mid ended
+  rest_ends zero ended is =
+      let all : given ≡ ops = sym (split ∙ ap (λ l. given ++ l) (nil_from_length rest zero) ∙ append-nil given) in
+      let came = replays_end before (coming course user done line) given old mid course done line waiting way
+      (quiet course user done line waiting) in
+      subst (Replays whole before ops old mid) (sym {A = Result Course CliFault} is)
+      (subst (λ bytes. Replays whole before bytes old mid (end_read course done line)) all came)

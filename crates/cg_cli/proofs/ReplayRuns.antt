@@ -1,6 +1,8 @@
 -- A replay on its way: what bytes led to, and what is said of the rest.
-use Rattle.std.proofs.Common.{◌≡◌, ℕ, ◌+◌, ◌<◌, ◌≤◌, false, List, [], ◌∷◌, ◌++◌, All, length, take, drop, get_or, Option, Ok, Err, ap, sym, ◌∙◌, subst, append_assoc, length-append, take-append-drop, arith}
+use Rattle.std.proofs.Common.{◌≡◌, ℕ, ◌+◌, ◌<◌, ◌≤◌, false, List, [], ◌∷◌, ◌++◌, All, length, take, drop, get_or, Option, Result, Ok, Err}
+use Rattle.std.proofs.Common.{IsErrAnd, ap, sym, ◌∙◌, subst, append_assoc, length-append, take-append-drop, arith}
 use Rattle.std.proofs.lemmas.List.{take_more, take-append-le}
+use Rattle.std.proofs.lemmas.List.Elements.{All-append}
 use Rattle.std.specs.Io.KnownBytes.{Appends}
 use Rattle.cg_cgroup.specs.Identity.{Identity}
 use Rattle.cg_cli.specs.Courses.{Course, state_of, on_course}
@@ -12,6 +14,7 @@ use Rattle.cg_cli.specs.Replays.{is_newline, outcome_of, operation_read, with_fr
 use Rattle.cg_cli.specs.Replaying.{Reporting, coming, Leads, Fed, Answered}
 use Rattle.cg_cli.specs.declared.fault.CliFault.{CliFault}
 use Rattle.cg_cli.specs.declared.fault.CliFault.TheVariants.{Line, TooManySteps, Write, Read, NoMemory}
+use Rattle.cg_cli.proofs.ReplayEnds.{handed_on}
 use Rattle.cg_cli.proofs.ReplayReports.{report_of_line, report_of_long, report_of_many}
 
 -- ---- what was written
@@ -48,10 +51,10 @@ module _ (course : Course) (user : Identity) (done : ℕ) (line piece : List ℕ
       ≡ report_on (operation_read done whole) (λ op. with_front (outcome_text op (outcome_of (state_of course) user op)) (lines_said (on_course course user op) user (done + 1) rest))
   there none within newline rest = ap (lines_said course user done) (line_ends line piece rest end within newline) ∙ report_of_line course user done whole rest none
 
-  pub fed_answer : All (λ b. is_newline b ≡ false) whole → end < length piece → get_or piece end 0 ≡ 10
+  line_answered : All (λ b. is_newline b ≡ false) whole → end < length piece → get_or piece end 0 ≡ 10
       → (now : Course) (old new : Option (List ℕ)) → Answered (operation_read done whole) course now user old new (Ok tt)
       → Leads (coming course user done line) (coming now user (done + 1) []) (take (end + 1) piece) old new
-  fed_answer none within newline now old new answered =
+  line_answered none within newline now old new answered =
       let op = answered.0 in
       let said = outcome_text op (outcome_of (state_of course) user op) in
       record {
@@ -77,19 +80,37 @@ module _ (course : Course) (user : Identity) (done : ℕ) (line piece : List ℕ
       further none within newline rest
       ∙ ap (λ r. report_on r (λ op. with_front (outcome_text op (outcome_of (state_of course) user op)) (lines_said (on_course course user op) user (done + 1) (drop (end + 1) piece ++ rest)))) read
 
-  pub fed_fault : All (λ b. is_newline b ≡ false) whole → end < length piece → get_or piece end 0 ≡ 10
+  line_failed : All (λ b. is_newline b ≡ false) whole → end < length piece → get_or piece end 0 ≡ 10
       → (now : Course) (old new : Option (List ℕ)) (then : Reporting) (fault : CliFault) → Answered (operation_read done whole) course now user old new (Err fault)
       → Fed (coming course user done line) then piece old new (Err fault)
-  fed_fault none within newline now old new then Write answered =
+  line_failed none within newline now old new then Write answered =
       λ rest.
       let said = outcome_text answered.0 (outcome_of (state_of course) user answered.0) in
       let e = further none within newline rest
       ∙ ap (λ r. report_on r (λ op. with_front (outcome_text op (outcome_of (state_of course) user op)) (lines_said (on_course course user op) user (done + 1) (drop (end + 1) piece ++ rest)))) answered.1 in
       subst (AppendsPart old new) (sym (ap (λ (r : Said Course). r.text) e))
       (part_of_front old new said (lines_said (on_course course user answered.0) user (done + 1) (drop (end + 1) piece ++ rest)).text answered.2)
-  fed_fault none within newline now old new then NoMemory answered = answered
-  fed_fault none within newline now old new then Read answered = answered
-  fed_fault none within newline now old new then fault answered = (fault_further none within newline fault answered.0, answered.1)
+  line_failed none within newline now old new then NoMemory answered = answered
+  line_failed none within newline now old new then Read answered = answered
+  line_failed none within newline now old new then fault answered = (fault_further none within newline fault answered.0, answered.1)
+
+  -- an answer to a line that is whole: it was begun, and its newline is in the piece
+  module _ (held : List ℕ) (is : held ≡ whole) (one_line : All (λ b. is_newline b ≡ false) line)
+      (more : All (λ b. is_newline b ≡ false) (take end piece)) (within : end < length piece) (newline : end < length piece → get_or piece end 0 ≡ 10)
+      (now : Course) (old new : Option (List ℕ)) where
+    pub fed_answer : Answered (operation_read done held) course now user old new (Ok tt) → (left : List ℕ) → left ≡ []
+        → Leads (coming course user done line) (coming now user (done + 1) left) (take (end + 1) piece) old new
+    fed_answer answered left none =
+        let leads = line_answered (All-append (λ b. is_newline b ≡ false) line (take end piece) one_line more) within (newline within) now old new
+        (subst (λ bytes. Answered (operation_read done bytes) course now user old new (Ok tt)) is answered) in
+        subst (λ l. Leads (coming course user done line) (coming now user (done + 1) l) (take (end + 1) piece) old new) (sym {A = List ℕ} none) leads
+
+    pub fed_fault : (then : Reporting) (fault : CliFault) → Answered (operation_read done held) course now user old new (Err fault)
+        → (result : Result ℕ CliFault) → IsErrAnd result (λ found. found ≡ fault) → Fed (coming course user done line) then piece old new result
+    fed_fault then fault answered result handed =
+        handed_on (Fed (coming course user done line) then piece old new) fault result handed
+        (line_failed (All-append (λ b. is_newline b ≡ false) line (take end piece) one_line more) within (newline within) now old new then fault
+        (subst (λ bytes. Answered (operation_read done bytes) course now user old new (Err fault)) is answered))
 
   -- the line is too long
   pub fed_long : All (λ b. is_newline b ≡ false) whole → 8192 < length whole → done < 65536 → (rest : List ℕ)

@@ -1,66 +1,40 @@
-use Rattle.std.proofs.Common.{◌≡◌, Ok, Err, Some, None, sym, subst, ap}
-use Rattle.std.proofs.lemmas.Result.{err_from_is_err_and}
+use Rattle.std.proofs.Common.{ap}
 use Rattle.std.specs.Option.{option_map}
 use Rattle.cg_text.specs.TreeTexts.{tree_of}
-use Rattle.cg_cli.specs.Arguments.{user_read}
-use Rattle.cg_cli.specs.Replays.{closed, lines_report}
+use Rattle.cg_cli.specs.Replays.{closed}
 use Rattle.cg_cli.specs.Replaying.{Replays}
 use Rattle.cg_cli.proofs.ReplayCalls.{course_fault, lines_are}
 use Rattle.cg_cli.proofs.replay.replay_as_read.Goals as goal
 
 pub returns-in_err-unwatched-in-None-clause-replays : goal.returns-in_err-unwatched-in-None-clause-replays
 returns-in_err-unwatched-in-None-clause-replays g c =
-    let tree = tree_of c.args.tree.now in
-    let uid = c.args.user.uid in
-    let gids = c.args.user.gids.now in
-    let known = g.W.Write.contents c.args.out.now in
-    let user = c.in_ok-user.user in
-    let fault = c.in_err-unwatched-in-None.field-0.0 in
-    let read : user_read uid gids ≡ Ok user = sym {a = Ok user} c.in_ok-user.ensures in
-    let named = ap (option_map (λ text. text.now)) c.in-None.is in
-    let p = err_from_is_err_and c.from_residual-in_err-unwatched-in-None.result c.from_residual-in_err-unwatched-in-None.ensures.1 in
-    rw (p.1, p.2)
-    (subst (λ subtree. Replays closed (lines_report tree uid gids subtree) c.args.ops.now known known (Err fault)) (sym named)
-    (course_fault tree uid gids None user read c.args.ops.now known fault c.in_err-unwatched-in-None.ensures))
+    course_fault (tree_of c.args.tree.now) c.args.user.uid c.args.user.gids.now _
+    (ap (option_map (λ text. text.now)) c.in-None.is) c.in_ok-user.user c.in_ok-user.ensures
+    c.args.ops.now (g.W.Write.contents c.args.out.now) c.in_err-unwatched-in-None.field-0.0 c.in_err-unwatched-in-None.ensures
+    c.from_residual-in_err-unwatched-in-None.result c.from_residual-in_err-unwatched-in-None.ensures.1
 
 pub returns-in_ok-unwatched-in-None-clause-replays : goal.returns-in_ok-unwatched-in-None-clause-replays
 returns-in_ok-unwatched-in-None-clause-replays g c =
-    let tree = tree_of c.args.tree.now in
-    let uid = c.args.user.uid in
-    let gids = c.args.user.gids.now in
-    let user = c.in_ok-user.user in
-    let read : user_read uid gids ≡ Ok user = sym {a = Ok user} c.in_ok-user.ensures in
-    let named = ap (option_map (λ text. text.now)) c.in-None.is in
-    let same = lines_are tree uid gids None user _ read c.in_ok-unwatched-in-None.ensures in
-    subst (λ subtree. Replays closed (lines_report tree uid gids subtree) c.args.ops.now (g.W.Write.contents c.args.out.now) (g.W.Write.contents c.slice_closed.new.out) c.slice_closed.result) (sym named)
-    (subst (λ lines. Replays closed lines c.args.ops.now (g.W.Write.contents c.args.out.now) (g.W.Write.contents c.slice_closed.new.out) c.slice_closed.result) (sym same) c.slice_closed.ensures)
+    lines_are (tree_of c.args.tree.now) c.args.user.uid c.args.user.gids.now _
+    (ap (option_map (λ text. text.now)) c.in-None.is) c.in_ok-user.user c.in_ok-user.ensures
+    _ c.in_ok-unwatched-in-None.ensures
+    (λ lines. Replays closed lines c.args.ops.now (g.W.Write.contents c.args.out.now) (g.W.Write.contents c.slice_closed.new.out) c.slice_closed.result)
+    c.slice_closed.ensures
 
 pub returns-in_err-watched-in-Some-clause-replays : goal.returns-in_err-watched-in-Some-clause-replays
 returns-in_err-watched-in-Some-clause-replays g c =
-    let tree = tree_of c.args.tree.now in
-    let uid = c.args.user.uid in
-    let gids = c.args.user.gids.now in
-    let known = g.W.Write.contents c.args.out.now in
-    let user = c.in_ok-user.user in
-    let fault = c.in_err-watched-in-Some.field-0.0 in
-    let read : user_read uid gids ≡ Ok user = sym {a = Ok user} c.in_ok-user.ensures in
-    let named = ap (option_map (λ text. text.now)) c.in-Some.is in
-    let p = err_from_is_err_and c.from_residual-in_err-watched-in-Some.result c.from_residual-in_err-watched-in-Some.ensures.1 in
-    rw (p.1, p.2)
-    (subst (λ subtree. Replays closed (lines_report tree uid gids subtree) c.args.ops.now known known (Err fault)) (sym named)
-    (course_fault tree uid gids (Some c.in-Some.subtree.now) user read c.args.ops.now known fault c.in_err-watched-in-Some.ensures.read))
+    course_fault (tree_of c.args.tree.now) c.args.user.uid c.args.user.gids.now _
+    (ap (option_map (λ text. text.now)) c.in-Some.is) c.in_ok-user.user c.in_ok-user.ensures
+    c.args.ops.now (g.W.Write.contents c.args.out.now) c.in_err-watched-in-Some.field-0.0 c.in_err-watched-in-Some.ensures.read
+    c.from_residual-in_err-watched-in-Some.result c.from_residual-in_err-watched-in-Some.ensures.1
 
 pub returns-in_ok-watched-in-Some-clause-replays : goal.returns-in_ok-watched-in-Some-clause-replays
 returns-in_ok-watched-in-Some-clause-replays g c =
-    let tree = tree_of c.args.tree.now in
-    let uid = c.args.user.uid in
-    let gids = c.args.user.gids.now in
-    let user = c.in_ok-user.user in
-    let read : user_read uid gids ≡ Ok user = sym {a = Ok user} c.in_ok-user.ensures in
-    let named = ap (option_map (λ text. text.now)) c.in-Some.is in
-    let same = lines_are tree uid gids (Some c.in-Some.subtree.now) user _ read c.in_ok-watched-in-Some.ensures.read in
-    subst (λ subtree. Replays closed (lines_report tree uid gids subtree) c.args.ops.now (g.W.Write.contents c.args.out.now) (g.W.Write.contents c.slice_closed-in-Some.new.out) c.slice_closed-in-Some.result) (sym named)
-    (subst (λ lines. Replays closed lines c.args.ops.now (g.W.Write.contents c.args.out.now) (g.W.Write.contents c.slice_closed-in-Some.new.out) c.slice_closed-in-Some.result) (sym same) c.slice_closed-in-Some.ensures)
+    lines_are (tree_of c.args.tree.now) c.args.user.uid c.args.user.gids.now _
+    (ap (option_map (λ text. text.now)) c.in-Some.is) c.in_ok-user.user c.in_ok-user.ensures
+    _ c.in_ok-watched-in-Some.ensures.read
+    (λ lines. Replays closed lines c.args.ops.now (g.W.Write.contents c.args.out.now) (g.W.Write.contents c.slice_closed-in-Some.new.out) c.slice_closed-in-Some.result)
+    c.slice_closed-in-Some.ensures
 
 pub slice_closed-requires-in-Some : goal.slice_closed-requires-in-Some
 slice_closed-requires-in-Some g c = c.in_ok-watched-in-Some.ensures.made

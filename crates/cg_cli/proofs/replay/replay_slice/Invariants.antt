@@ -11,12 +11,9 @@ invariant-loop-rest g l = record {
   given : List ℕ;
   split : l.ops ≡ given ++ l.rest;
   way :
-      Leads
-      (coming (g.C.OnCourse.course l.initial.run.course) l.initial.run.user l.initial.run.done l.initial.run.line.items)
+      Leads (coming (g.C.OnCourse.course l.initial.run.course) l.initial.run.user l.initial.run.done l.initial.run.line.items)
       (coming (g.C.OnCourse.course l.run.course) l.run.user l.run.done l.run.line.items)
-      given
-      (g.W.Write.contents l.initial.out)
-      (g.W.Write.contents l.out);
+      given (g.W.Write.contents l.initial.out) (g.W.Write.contents l.out);
 }
 
 abbrev pub decreases-loop-rest : goal.decreases-loop-rest

@@ -13,10 +13,7 @@ invariant-loop-asked g l = record {
   given : List ℕ;
   gave : Consumes (g.R.Read.remaining l.initial.ops) (g.R.Read.remaining l.ops) given;
   way :
-      Leads
-      (coming (g.C.OnCourse.course l.initial.run.course) l.initial.run.user l.initial.run.done l.initial.run.line.items)
+      Leads (coming (g.C.OnCourse.course l.initial.run.course) l.initial.run.user l.initial.run.done l.initial.run.line.items)
       (coming (g.C.OnCourse.course l.run.course) l.run.user l.run.done l.run.line.items)
-      given
-      (g.W.Write.contents l.initial.out)
-      (g.W.Write.contents l.out);
+      given (g.W.Write.contents l.initial.out) (g.W.Write.contents l.out);
 }

@@ -1,10 +1,9 @@
-use Rattle.std.proofs.Common.{◌≡◌, ◌+◌, ◌<◌, false, List, ℕ, ◌++◌, take, length, Ok, Err, sym, subst, arith, length-append, length-take-le}
+use Rattle.std.proofs.Common.{◌≡◌, ◌<◌, false, ◌++◌, take, length, arith, length-append, length-take-le}
 use Rattle.std.proofs.lemmas.Grind.{common_steps}
-use Rattle.std.proofs.lemmas.Result.{err_from_is_err_and}
 use Rattle.std.proofs.lemmas.List.Elements.{All-append}
 use Rattle.std.proofs.KnownBytes.{Keeps-refl}
-use Rattle.cg_cli.specs.Replays.{is_newline, operation_read}
-use Rattle.cg_cli.specs.Replaying.{coming, Leads, Answered}
+use Rattle.cg_cli.specs.Replays.{is_newline}
+use Rattle.cg_cli.specs.Replaying.{coming}
 use Rattle.cg_cli.proofs.ReplayRuns.{fed_answer, fed_fault, fed_long, fed_many}
 use Rattle.cg_cli.proofs.replay.run.Run.feed.Goals as goal
 
@@ -30,36 +29,19 @@ returns-then-len-end-gt-LONGEST_LINE-clause-fed g c =
 pub returns-in_err-answer-clause-fed : goal.returns-in_err-answer-clause-fed
 returns-in_err-answer-clause-fed g c =
     let self = c.args.self.now in
-    let st = g.C.OnCourse.course self.course in
     let now = g.C.OnCourse.course c.answer.new.course in
-    let line = self.line.items in
-    let piece = c.args.piece.now in
-    let end = c.line_end-end.result in
-    let old = g.W.Write.contents c.args.out.now in
-    let new = g.W.Write.contents c.answer.new.out in
-    let fault = c.in_err-answer.field-0.0 in
-    let whole : c.as_slice.result.now ≡ line ++ take end piece = grind (arith, common_steps) in
-    let none = All-append (λ b. is_newline b ≡ false) line (take end piece) c.requires.waiting.one_line c.line_end-end.ensures.before in
-    let within : end < length piece = omega arith in
-    let answered = subst (λ l. Answered (operation_read self.done l) st now self.user old new (Err fault)) whole c.in_err-answer.ensures in
-    let p = err_from_is_err_and c.from_residual-in_err-answer.result c.from_residual-in_err-answer.ensures.1 in
-    rw (p.1, p.2)
-    (fed_fault st self.user self.done line piece end none within (c.line_end-end.ensures.newline within) now old new
-    (coming now self.user self.done c.extend_from_slice.new.self.items) fault answered)
+    fed_fault (g.C.OnCourse.course self.course) self.user self.done self.line.items c.args.piece.now c.line_end-end.result
+    c.as_slice.result.now (grind (arith, common_steps)) c.requires.waiting.one_line c.line_end-end.ensures.before
+    (omega arith) c.line_end-end.ensures.newline now (g.W.Write.contents c.args.out.now) (g.W.Write.contents c.answer.new.out)
+    (coming now self.user self.done c.extend_from_slice.new.self.items) c.in_err-answer.field-0.0 c.in_err-answer.ensures
+    c.from_residual-in_err-answer.result c.from_residual-in_err-answer.ensures.1
 
 pub returns-clause-fed : goal.returns-clause-fed
 returns-clause-fed g c =
-    let self = c.args.self.now in
-    let st = g.C.OnCourse.course self.course in
-    let now = g.C.OnCourse.course c.answer.new.course in
-    let line = self.line.items in
-    let piece = c.args.piece.now in
-    let end = c.line_end-end.result in
-    let old = g.W.Write.contents c.args.out.now in
-    let new = g.W.Write.contents c.answer.new.out in
-    let whole : c.as_slice.result.now ≡ line ++ take end piece = grind (arith, common_steps) in
-    let none = All-append (λ b. is_newline b ≡ false) line (take end piece) c.requires.waiting.one_line c.line_end-end.ensures.before in
-    let within : end < length piece = omega arith in
-    let answered = subst (λ l. Answered (operation_read self.done l) st now self.user old new (Ok tt)) whole c.in_ok-answer.ensures in
-    let leads = fed_answer st self.user self.done line piece end none within (c.line_end-end.ensures.newline within) now old new answered in
-    (omega arith, subst (λ l. Leads (coming st self.user self.done line) (coming now self.user (self.done + 1) l) (take (end + 1) piece) old new) (sym {A = List ℕ} c.clear.ensures.items) leads)
+    let self = c.args.self.now in (
+      omega arith,
+      fed_answer (g.C.OnCourse.course self.course) self.user self.done self.line.items c.args.piece.now c.line_end-end.result
+          c.as_slice.result.now (grind (arith, common_steps)) c.requires.waiting.one_line c.line_end-end.ensures.before
+          (omega arith) c.line_end-end.ensures.newline (g.C.OnCourse.course c.answer.new.course)
+          (g.W.Write.contents c.args.out.now) (g.W.Write.contents c.answer.new.out) c.in_ok-answer.ensures _ c.clear.ensures.items,
+    )
