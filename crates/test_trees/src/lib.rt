@@ -1,4 +1,4 @@
-//! What the crates of tests and trials share: tree texts, changes of them, and random numbers.
+//! What the crates of tests share: tree texts, changes of them, and random numbers.
 #![tactic(auto)]
 
 pub mod changes;

@@ -1,7 +1,7 @@
 //! Tree texts.
 
 /// Two subtrees delegated to user 1000, as in the document's example: `/c0` and `/c1`, each with limits that aren't his.
-pub const DELEGATION: &str = "
+pub const DELEGATION: &[u8] = b"
 format = 1
 controllers = [\"cpu\", \"memory\", \"pids\"]
 
@@ -65,7 +65,7 @@ at = \"/c0/c00\"
 ";
 
 /// The same with process 13 at `/c0` itself.
-pub const DELEGATION_AND_PROCESS: &str = "
+pub const DELEGATION_AND_PROCESS: &[u8] = b"
 [[process]]
 pid = 13
 uid = 1000
@@ -73,7 +73,7 @@ at = \"/c0\"
 ";
 
 /// `/p` is delegated to user 1000 and enables memory; process 20 is below it.
-pub const PARENT_DELEGATED: &str = "
+pub const PARENT_DELEGATED: &[u8] = b"
 format = 1
 controllers = [\"memory\"]
 
@@ -97,7 +97,7 @@ at = \"/p/s\"
 ";
 
 /// User 1000 has all that the guards of `/s` ask for, and a process on each side of its edge.
-pub const OPEN: &str = "
+pub const OPEN: &[u8] = b"
 format = 2
 controllers = [\"memory\"]
 
@@ -137,7 +137,7 @@ at = \"/\"
 ";
 
 /// The parent of `/a/b` isn't there.
-pub const NO_PARENT: &str = "
+pub const NO_PARENT: &[u8] = b"
 format = 1
 controllers = []
 [[cgroup]]
@@ -147,7 +147,7 @@ path = \"/a/b\"
 ";
 
 /// Process 5 is in `/a`, which enables memory.
-pub const INTERNAL_PROCESS: &str = "
+pub const INTERNAL_PROCESS: &[u8] = b"
 format = 1
 controllers = [\"memory\"]
 [[cgroup]]
@@ -163,7 +163,7 @@ at = \"/a\"
 ";
 
 /// `/` and `/c0`, everything of uid 0.
-pub const EMPTY: &str = "
+pub const EMPTY: &[u8] = b"
 format = 1
 controllers = []
 [[cgroup]]

@@ -15,7 +15,7 @@ use cg_report::answer::answer_text;
 use cg_report::verdict::verdict_text;
 use cg_runs::replay::Replay;
 use cg_text::tree::{TreeFault, read_tree};
-use std::alloc::Global;
+use std::fmt::Debug;
 
 /// Makes a call that writes a text, and that fails where it wants memory alone.
 fn written<E: Drop>(trial: &mut Trial<'_>, write: impl Fn() -> Result<Vec<u8>, E>) -> Ended
@@ -45,18 +45,21 @@ pub fn tree_read(tree: &[u8], trial: &mut Trial<'_>) -> Ended {
     }
 }
 
-/// So many newlines.
-fn newlines(alloc: Global, count: usize) -> Result<Vec<u8>, Stopped> {
-    Ok(vec![in alloc; b'\n'; count]?)
+/// The fault of a text that is too long, of so many newlines.
+fn too_long<T: Drop, E: Debug + Drop>(
+    trial: &mut Trial<'_>,
+    len: usize,
+    read: impl Fn(&[u8]) -> Result<T, E>,
+) -> Ended {
+    let text = vec![in trial.alloc; b'\n'; len]?;
+    trial.begin()?;
+    answer_said(trial.alloc, false, true, &read(text.as_slice()).err())
 }
 
 /// `text read_long_tree`, of one byte more than a tree text has
 pub fn long_tree_read(trial: &mut Trial<'_>) -> Ended {
     let alloc = trial.alloc;
-    let text = newlines(alloc, 16_777_217)?;
-    trial.begin()?;
-    let fault = read_tree(alloc, text.as_slice()).err();
-    answer_said(alloc, false, true, &fault)
+    too_long(trial, 16_777_217, |text| read_tree(alloc, text))
 }
 
 /// `text read_op LINE`
@@ -71,10 +74,7 @@ pub fn operation_read(trial: &mut Trial<'_>) -> Ended {
 /// `text read_long_op`, of one byte more than a line has
 pub fn long_operation_read(trial: &mut Trial<'_>) -> Ended {
     let alloc = trial.alloc;
-    let line = newlines(alloc, 8193)?;
-    trial.begin()?;
-    let fault = read_op(alloc, line.as_slice()).err();
-    answer_said(alloc, false, true, &fault)
+    too_long(trial, 8193, |line| read_op(alloc, line))
 }
 
 /// `text op_text LINE`

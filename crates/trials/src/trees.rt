@@ -150,19 +150,6 @@ fn may_hold<H: Hierarchy>(tree: &H, path: &Path) -> bool {
     }
 }
 
-/// Adds a process. Nothing is done where its PID was used, or it may not be placed there.
-fn add_process<H: Hierarchy>(
-    alloc: Global,
-    tree: &mut H,
-    pid: Pid,
-    path: &Path,
-) -> Result<(), NoMemory> {
-    if !may_hold(tree, path) || tree.is_used(pid) {
-        return Ok(());
-    }
-    tree.add_process(alloc, pid, 1000, path)
-}
-
 /// Makes a call that places a process at a cgroup, which the words tell both.
 fn process_placed<H: Hierarchy + Drop>(
     mut tree: H,
@@ -176,14 +163,15 @@ fn process_placed<H: Hierarchy + Drop>(
     Ok(text_said(wanted, kept, placed(trial.alloc, &tree, pid)?))
 }
 
-/// `add_process PID PATH`
+/// `add_process PID PATH`: nothing is done where the PID was used, or the process may not be placed there.
 pub fn process_added<H: Hierarchy + Drop>(tree: H, trial: &mut Trial<'_>) -> Ended {
     let alloc = trial.alloc;
-    process_placed(
-        tree,
-        trial,
-        |tree, pid, path| add_process(alloc, tree, pid, path),
-    )
+    process_placed(tree, trial, |tree, pid, path| {
+        if !may_hold(tree, path) || tree.is_used(pid) {
+            return Ok(());
+        }
+        tree.add_process(alloc, pid, 1000, path)
+    })
 }
 
 /// Whose a process is, where it is, and whether its PID was used.
@@ -194,27 +182,15 @@ fn placed<H: Hierarchy>(alloc: Global, tree: &H, pid: Pid) -> Result<String, Sto
     Ok(format!(in alloc; "{owner:?} {place:?} {is_used}")?)
 }
 
-/// Moves a process. Nothing is done where it isn't live, or it may not be placed there.
-fn set_place<H: Hierarchy>(
-    alloc: Global,
-    tree: &mut H,
-    pid: Pid,
-    path: &Path,
-) -> Result<(), NoMemory> {
-    if !may_hold(tree, path) || tree.owner(pid).is_none() {
-        return Ok(());
-    }
-    tree.set_place(alloc, pid, path)
-}
-
-/// `set_place PID PATH`
+/// `set_place PID PATH`: nothing is done where the process isn't live, or may not be placed there.
 pub fn process_moved<H: Hierarchy + Drop>(tree: H, trial: &mut Trial<'_>) -> Ended {
     let alloc = trial.alloc;
-    process_placed(
-        tree,
-        trial,
-        |tree, pid, path| set_place(alloc, tree, pid, path),
-    )
+    process_placed(tree, trial, |tree, pid, path| {
+        if !may_hold(tree, path) || tree.owner(pid).is_none() {
+            return Ok(());
+        }
+        tree.set_place(alloc, pid, path)
+    })
 }
 
 /// What a tree tells of a cgroup and a process without memory.

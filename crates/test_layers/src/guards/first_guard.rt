@@ -15,7 +15,7 @@ use test_trees::texts::{DELEGATION, EMPTY, PARENT_DELEGATED};
 fn expect(
     rt: &impl Abort,
     alloc: Global,
-    text: &str,
+    text: &[u8],
     change: (&str, &str),
     gids: &[u32],
     subtree: &str,

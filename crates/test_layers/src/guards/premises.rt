@@ -25,7 +25,7 @@ use test_trees::texts::{DELEGATION, EMPTY};
 fn after(
     rt: &impl Abort,
     alloc: Global,
-    text: &str,
+    text: &[u8],
     change: (&str, &str),
     wanted: (Guard, usize),
     op: &Op,

@@ -39,7 +39,7 @@ pub const MEMORY_MAX_OWNED: (&str, &str) = ("\"memory.max\" = {", "\"memory.max\
 pub const ROOM_FOR_ONE: (&str, &str) = ("value = 4", "value = 1");
 
 /// The tree of a text with a change, in the format that has groups.
-pub fn tree_with(alloc: Global, text: &str, change: (&str, &str)) -> Result<Rows, Fail> {
+pub fn tree_with(alloc: Global, text: &[u8], change: (&str, &str)) -> Result<Rows, Fail> {
     let text = changed(alloc, text, &[("format = 1", "format = 2"), change])?;
     Ok(read_tree(alloc, text.as_bytes())?)
 }

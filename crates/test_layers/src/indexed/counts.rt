@@ -20,20 +20,6 @@ fn count_below<H: Hierarchy>(
     Ok(Some(tree.count_below(&path, path.depth())))
 }
 
-/// Makes the cgroup of a text, or removes it.
-fn change<H: Hierarchy>(
-    alloc: Global,
-    tree: &mut H,
-    is_made: bool,
-    text: &str,
-) -> Result<bool, PathFault> {
-    let path = path(alloc, text)?;
-    if is_made {
-        return Ok(add(alloc, tree, &path, Owners::WHOLE)?);
-    }
-    Ok(remove(tree, &path))
-}
-
 /// Cgroups that are made and removed in turn, and how many then lie below `/c0`.
 const CHANGES: [(bool, &str, u64); 4] = [
     (true, "/c0/a", 3),
@@ -46,7 +32,13 @@ const CHANGES: [(bool, &str, u64); 4] = [
 fn check_counts<H: Hierarchy>(rt: &impl Abort, alloc: Global, tree: &mut H) -> Result<(), Fail> {
     assert_eq!(rt; count_below(alloc, tree, "/c0")?, Some(2));
     for (is_made, text, count) in CHANGES {
-        assert!(rt; change(alloc, tree, is_made, text)?, "{text}");
+        let path = path(alloc, text)?;
+        let is_done = if is_made {
+            add(alloc, tree, &path, Owners::WHOLE)?
+        } else {
+            remove(tree, &path)
+        };
+        assert!(rt; is_done, "{text}");
         assert_eq!(rt; count_below(alloc, tree, "/c0")?, Some(count), "{text}");
     }
     Ok(())
