@@ -1,9 +1,7 @@
-//! `advise_bytes` on rows worked out by hand, on faults, and at writers that fail and dawdle.
-use super::writers::{ByteByByte, FailsOnce, TakesNone};
-use cg_cli::advise::advise_bytes;
-use cg_cli::arguments::UserIds;
-use cg_cli::fault::CliFault;
-use cg_model::fault::CheckFault;
+//! `advise_bytes` on rows worked out by hand, and at writers that fail and dawdle; `check` has its faults.
+use super::answers_written::Written;
+use super::calls::{Call, expect};
+use crate::users::{USER, user};
 use std::alloc::Global;
 use std::process::Abort;
 use std::test::Fail;
@@ -178,79 +176,26 @@ const OF_LIMITS: [Row; 5] = [
     },
 ];
 
-fn expect_report<R: AllocGlobal + Abort>(rt: &R, row: &Row) -> Result<(), Fail> {
-    let text = row.text(rt.alloc())?;
-    let user = UserIds {
-        uid: 1000,
-        gids: row.gids,
-    };
+fn expect_report(rt: &impl Abort, alloc: Global, row: &Row) -> Result<(), Fail> {
+    let text = row.text(alloc)?;
     let status = if row.report == "contained\n" { 0 } else { 1 };
-    let mut out = Vec::new(rt.alloc());
-    assert_eq!(rt;
-        advise_bytes(rt.alloc(), text.as_bytes(), user, "/a/b", &mut out),
-        Ok(status)
-    );
-    assert_eq!(rt; out.as_slice(), row.report.as_bytes());
+    let call = Call::Advise(user(1000, row.gids), "/a/b");
+    expect(rt, alloc, text.as_bytes(), call, row.report, status);
     Ok(())
 }
 
 #[test]
-fn who_reaches_nothing_is_contained(rt: HostRuntime) -> Result<(), Fail> {
-    expect_report(&rt, &NO_REASON)
-}
-
-#[test]
-fn what_lets_him_move_is_mended(rt: HostRuntime) -> Result<(), Fail> {
-    for row in &OF_ANCESTORS {
-        expect_report(&rt, row)?;
-    }
-    Ok(())
-}
-
-#[test]
-fn limits_are_taken_from_him(rt: HostRuntime) -> Result<(), Fail> {
-    for row in &OF_FILES {
-        expect_report(&rt, row)?;
-    }
-    Ok(())
-}
-
-#[test]
-fn the_parent_is_taken_from_him(rt: HostRuntime) -> Result<(), Fail> {
-    for row in &OF_THE_PARENT {
-        expect_report(&rt, row)?;
-    }
-    Ok(())
-}
-
-#[test]
-fn limits_that_are_exceeded_are_raised(rt: HostRuntime) -> Result<(), Fail> {
-    for row in &OF_LIMITS {
-        expect_report(&rt, row)?;
-    }
-    Ok(())
-}
-
-#[test]
-fn the_first_fault_is_said_and_nothing_written(rt: HostRuntime) -> Result<(), Fail> {
-    let many = [7; 33];
-    let root = CliFault::Subtree(CheckFault::RootSubtree);
-    let missing = CliFault::Subtree(CheckFault::NoSuchSubtree);
-    let text = NO_REASON.text(rt.alloc())?;
-    for (uid, gids, subtree, fault) in [
-        (0, many.as_slice(), "a", CliFault::Uid),
-        (1000, many.as_slice(), "a", CliFault::Gids),
-        (1000, &many[..32], "a", CliFault::BadPath),
-        (1000, &many[..32], "/", root),
-        (1000, &many[..32], "/zz", missing),
+fn what_he_reaches_is_taken_from_him(rt: HostRuntime) -> Result<(), Fail> {
+    expect_report(&rt, rt.alloc(), &NO_REASON)?;
+    for rows in [
+        OF_ANCESTORS.as_slice(),
+        &OF_FILES,
+        &OF_THE_PARENT,
+        &OF_LIMITS,
     ] {
-        let mut out = Vec::new(rt.alloc());
-        let user = UserIds { uid, gids };
-        assert_eq!(rt;
-            advise_bytes(rt.alloc(), text.as_bytes(), user, subtree, &mut out),
-            Err(fault)
-        );
-        assert_eq!(rt; out.len(), 0);
+        for row in rows {
+            expect_report(&rt, rt.alloc(), row)?;
+        }
     }
     Ok(())
 }
@@ -259,32 +204,12 @@ fn the_first_fault_is_said_and_nothing_written(rt: HostRuntime) -> Result<(), Fa
 fn a_failed_write_leaves_the_front_of_the_report(rt: HostRuntime) -> Result<(), Fail> {
     let row = &OF_ANCESTORS[0];
     let text = row.text(rt.alloc())?;
-    let user = UserIds {
-        uid: 1000,
-        gids: &[],
+    let written = Written {
+        tree: text.as_bytes(),
+        call: Call::Advise(USER, "/a/b"),
+        report: row.report.as_bytes(),
+        status: 1,
     };
-    let report = row.report.as_bytes();
-    for room in 0..report.len() {
-        let mut out = FailsOnce::new(rt.alloc(), room);
-        assert_eq!(rt;
-            advise_bytes(rt.alloc(), text.as_bytes(), user, "/a/b", &mut out),
-            Err(CliFault::Write)
-        );
-        assert_eq!(rt; out.taken.as_slice(), &report[..room]);
-    }
-    let mut out = TakesNone { asked: 0 };
-    assert_eq!(rt;
-        advise_bytes(rt.alloc(), text.as_bytes(), user, "/a/b", &mut out),
-        Err(CliFault::Write)
-    );
-    assert_eq!(rt; out.asked, 1);
-    let mut out = ByteByByte {
-        taken: Vec::new(rt.alloc()),
-    };
-    assert_eq!(rt;
-        advise_bytes(rt.alloc(), text.as_bytes(), user, "/a/b", &mut out),
-        Ok(1)
-    );
-    assert_eq!(rt; out.taken.as_slice(), report);
+    written.expect(&rt, rt.alloc());
     Ok(())
 }

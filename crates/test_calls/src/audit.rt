@@ -1,50 +1,20 @@
-//! `audit_bytes` on rows worked out by hand, on faults, and at writers that fail.
-use super::changed::{Base, Changed, MEMORY_MAX};
-use super::writers::{ByteByByte, FailsOnce, TakesNone};
-use crate::samples::{DELEGATION, NO_PARENT};
-use cg_cli::arguments::UserIds;
-use cg_cli::audit::audit_bytes;
+//! `audit_bytes` on rows worked out by hand, and on faults, of which those of `audit_all_bytes` are the same.
+use super::calls::{Call, expect, expect_fault};
+use super::changed::{FORMAT_2, GROUP_WRITES, SECOND_USER, delegation_with};
+use crate::users::{MANY_GROUPS, USER, user};
 use cg_cli::fault::CliFault;
 use cg_model::fault::CheckFault;
 use cg_text::tree::{Place, TreeFault};
 use std::alloc::Global;
-use std::process::Abort;
 use std::test::Fail;
-
-/// The delegation, where the limit on the memory of `/c0` belongs to user 1001.
-const SECOND_USER: Changed = Changed {
-    base: Base::Delegation,
-    changes: &[(
-        MEMORY_MAX,
-        "\"memory.max\" = { uid = 1001, value = 1073741824 }",
-    )],
-};
-
-/// The delegation, where group 50 writes `cgroup.procs` of the root.
-const GROUP: Changed = Changed {
-    base: Base::Delegation,
-    changes: &[
-        ("format = 1", "format = 2"),
-        (
-            "enabled = [\"memory\"]\n",
-            "enabled = [\"memory\"]\n[cgroup.files]\n\"cgroup.procs\" = { gid = 50, mode = 0o664 }\n",
-        ),
-    ],
-};
-
-const MANY_GROUPS: &[u32] = &[7; 33];
-
-const NO_GROUPS: &[u32] = &[];
-
-fn user(uid: u32, gids: &[u32]) -> UserIds<'_> {
-    UserIds { uid, gids }
-}
+use test_trees::texts::{DELEGATION, NO_PARENT};
 
 #[test]
 fn all_is_contained_or_the_first_pair_is_named(rt: HostRuntime) -> Result<(), Fail> {
-    let first = user(1000, NO_GROUPS);
-    let second = user(1001, NO_GROUPS);
+    let (first, second) = (USER, user(1001, &[]));
     let escape = "pair 1001 /c0\nescapes\nset /c0 memory.max max\n";
+    let below = "pair 1000 /c0/c00\nescapes\nset /c0/c00 cgroup.max.descendants 0\n";
+    let tree = delegation_with(rt.alloc(), &[SECOND_USER])?;
     for (users, subtrees, report, status) in [
         (
             [first, second].as_slice(),
@@ -58,49 +28,28 @@ fn all_is_contained_or_the_first_pair_is_named(rt: HostRuntime) -> Result<(), Fa
         (&[first, first], &["/c0", "/c1"], "contained\n", 0),
         (&[], &["/c0"], "contained\n", 0),
         (&[second], &[], "contained\n", 0),
-        (
-            &[first],
-            &["/c0", "/c0/c00"],
-            "pair 1000 /c0/c00\nescapes\nset /c0/c00 cgroup.max.descendants 0\n",
-            1,
-        ),
+        (&[first], &["/c0", "/c0/c00"], below, 1),
     ] {
-        let tree = SECOND_USER.text(rt.alloc())?;
-        let mut out = Vec::new(rt.alloc());
-        let ended = audit_bytes(rt.alloc(), tree.as_bytes(), users, subtrees, &mut out);
-        assert_eq!(rt; out.as_slice(), report.as_bytes());
-        assert_eq!(rt; ended, Ok(status));
+        let call = Call::Audit(users, subtrees);
+        expect(&rt, rt.alloc(), tree.as_bytes(), call, report, status);
     }
-    let mut out = Vec::new(rt.alloc());
-    assert_eq!(rt;
-        audit_bytes(
-            rt.alloc(),
-            DELEGATION,
-            &[first, second],
-            &["/c0", "/c1"],
-            &mut out
-        ),
-        Ok(0)
-    );
-    assert_eq!(rt; out.as_slice(), b"contained\n".as_slice());
+    let users = [first, second];
+    let call = Call::Audit(&users, &["/c0", "/c1"]);
+    expect(&rt, rt.alloc(), DELEGATION, call, "contained\n", 0);
     Ok(())
 }
 
 #[test]
 fn two_users_of_one_uid_differ_by_their_groups(rt: HostRuntime) -> Result<(), Fail> {
-    let plain = user(1000, NO_GROUPS);
     let member = user(1000, &[50]);
-    let tree = GROUP.text(rt.alloc())?;
+    let escape = "pair 1000 /c0\nescapes\nmove 10 /c0\n";
+    let tree = delegation_with(rt.alloc(), &[FORMAT_2, GROUP_WRITES])?;
     for (users, report, status) in [
-        ([plain].as_slice(), "contained\n", 0),
-        (&[plain, member], "pair 1000 /c0\nescapes\nmove 10 /c0\n", 1),
+        ([USER].as_slice(), "contained\n", 0),
+        (&[USER, member], escape, 1),
     ] {
-        let mut out = Vec::new(rt.alloc());
-        assert_eq!(rt;
-            audit_bytes(rt.alloc(), tree.as_bytes(), users, &["/c0"], &mut out),
-            Ok(status)
-        );
-        assert_eq!(rt; out.as_slice(), report.as_bytes());
+        let call = Call::Audit(users, &["/c0"]);
+        expect(&rt, rt.alloc(), tree.as_bytes(), call, report, status);
     }
     Ok(())
 }
@@ -123,7 +72,7 @@ fn own_owners(alloc: Global) -> Result<String, Fail> {
 fn owners_of_their_own_are_told_apart(rt: HostRuntime) -> Result<(), Fail> {
     let tree = own_owners(rt.alloc())?;
     let stranger = user(1000, &[50]);
-    let owner = user(2005, NO_GROUPS);
+    let owner = user(2005, &[]);
     let member = user(1001, &[51, 302]);
     let subtrees = ["/p0/s", "/p2/s", "/p4/s", "/p5/s", "/p7/s"];
     for (users, report, status) in [
@@ -139,128 +88,40 @@ fn owners_of_their_own_are_told_apart(rt: HostRuntime) -> Result<(), Fail> {
             2,
         ),
     ] {
-        let mut out = Vec::new(rt.alloc());
-        let ended = audit_bytes(rt.alloc(), tree.as_bytes(), users, &subtrees, &mut out);
-        assert_eq!(rt; out.as_slice(), report.as_bytes());
-        assert_eq!(rt; ended, Ok(status));
+        let call = Call::Audit(users, &subtrees);
+        expect(&rt, rt.alloc(), tree.as_bytes(), call, report, status);
     }
     Ok(())
 }
 
-/// An audit that ends in a fault, and has written nothing.
-fn assert_fault(
-    rt: &impl Abort,
-    alloc: Global,
-    tree: &[u8],
-    users: &[UserIds<'_>],
-    subtrees: &[&str],
-    fault: CliFault,
-) {
-    let mut out = Vec::new(alloc);
-    assert_eq!(rt;
-        audit_bytes(alloc, tree, users, subtrees, &mut out),
-        Err(fault)
-    );
-    assert_eq!(rt; out.len(), 0);
-}
-
 #[test]
-fn the_first_fault_of_a_user_is_said_and_nothing_written(rt: HostRuntime) {
-    let good = user(1000, NO_GROUPS);
-    let root = user(0, NO_GROUPS);
-    let grouped = user(1000, MANY_GROUPS);
-    let alloc = rt.alloc();
-    assert_fault(
-        &rt,
-        alloc,
-        DELEGATION,
-        &[good, root],
-        &["zz"],
-        CliFault::Uid,
-    );
-    assert_fault(
-        &rt,
-        alloc,
-        DELEGATION,
-        &[grouped, root],
-        &["zz"],
-        CliFault::Gids,
-    );
-    assert_fault(
-        &rt,
-        alloc,
-        DELEGATION,
-        &[root, grouped],
-        &["zz"],
-        CliFault::Uid,
-    );
-    assert_fault(
-        &rt,
-        alloc,
-        NO_PARENT,
-        &[good],
-        &["/zz", "zz"],
-        CliFault::BadPath,
-    );
-}
-
-#[test]
-fn the_first_fault_of_the_tree_is_said_and_nothing_written(rt: HostRuntime) {
-    let good = user(1000, NO_GROUPS);
+fn the_first_fault_is_said_and_nothing_written(rt: HostRuntime) {
+    let (root, grouped) = (user(0, &[]), user(1000, MANY_GROUPS));
     let no_root = CliFault::Subtree(CheckFault::RootSubtree);
     let missing = CliFault::Subtree(CheckFault::NoSuchSubtree);
     let no_parent = CliFault::Tree(TreeFault::NoParent(Place::Cgroup(2)));
-    let alloc = rt.alloc();
-    assert_fault(&rt, alloc, NO_PARENT, &[good], &["/zz", "/"], no_parent);
-    assert_fault(&rt, alloc, DELEGATION, &[good], &["/zz", "/"], missing);
-    assert_fault(&rt, alloc, DELEGATION, &[good], &["/", "/zz"], no_root);
-    assert_fault(&rt, alloc, DELEGATION, &[], &["/c0", "/zz"], missing);
-}
-
-#[test]
-fn a_failed_write_leaves_the_front_of_the_report(rt: HostRuntime) -> Result<(), Fail> {
-    let report = b"pair 1001 /c0\nescapes\nset /c0 memory.max max\n";
-    let users = [user(1000, NO_GROUPS), user(1001, NO_GROUPS)];
-    let tree = SECOND_USER.text(rt.alloc())?;
-    for room in 0..report.len() {
-        let mut out = FailsOnce::new(rt.alloc(), room);
-        assert_eq!(rt;
-            audit_bytes(
-                rt.alloc(),
-                tree.as_bytes(),
-                users.as_slice(),
-                &["/c0"],
-                &mut out
-            ),
-            Err(CliFault::Write)
-        );
-        assert_eq!(rt; out.taken.as_slice(), &report[..room]);
+    for (tree, users, subtrees, fault) in [
+        (
+            DELEGATION,
+            [USER, root].as_slice(),
+            ["zz"].as_slice(),
+            CliFault::Uid,
+        ),
+        (DELEGATION, &[grouped, root], &["zz"], CliFault::Gids),
+        (DELEGATION, &[root, grouped], &["zz"], CliFault::Uid),
+        (DELEGATION, &[USER, USER, root], &["zz"], CliFault::Uid),
+        (NO_PARENT, &[USER], &["/zz", "zz"], CliFault::BadPath),
+        (NO_PARENT, &[USER], &["/zz", "/"], no_parent),
+        (DELEGATION, &[USER], &["/zz", "/"], missing),
+        (DELEGATION, &[USER], &["/", "/zz"], no_root),
+        (DELEGATION, &[], &["/c0", "/zz"], missing),
+        (DELEGATION, &[], &["/c0", "/c0", "/zz"], missing),
+    ] {
+        for call in [
+            Call::Audit(users, subtrees),
+            Call::AuditAll(users, subtrees),
+        ] {
+            expect_fault(&rt, rt.alloc(), tree, call, fault);
+        }
     }
-    let mut out = TakesNone { asked: 0 };
-    assert_eq!(rt;
-        audit_bytes(
-            rt.alloc(),
-            tree.as_bytes(),
-            users.as_slice(),
-            &["/c0"],
-            &mut out
-        ),
-        Err(CliFault::Write)
-    );
-    assert_eq!(rt; out.asked, 1);
-    let mut out = ByteByByte {
-        taken: Vec::new(rt.alloc()),
-    };
-    assert_eq!(rt;
-        audit_bytes(
-            rt.alloc(),
-            tree.as_bytes(),
-            users.as_slice(),
-            &["/c0"],
-            &mut out
-        ),
-        Ok(1)
-    );
-    assert_eq!(rt; out.taken.as_slice(), report.as_slice());
-    Ok(())
 }

@@ -1,8 +1,11 @@
 //! Tree texts that differ from others at a few places.
-use crate::samples::{DELEGATION, EMPTY, PARENT_DELEGATED};
 use std::alloc::Global;
-use std::str::from_utf8;
 use std::test::Fail;
+use test_trees::changes::changed;
+use test_trees::texts::DELEGATION;
+
+/// A part of a text, and what stands in its place.
+pub type Change = (&'static str, &'static str);
 
 /// The first row of tree texts that enable memory at the root, up to its end.
 pub const ROOT: &str = "enabled = [\"memory\"]\n";
@@ -10,40 +13,45 @@ pub const ROOT: &str = "enabled = [\"memory\"]\n";
 /// The limit on the memory of `/c0` in the delegation.
 pub const MEMORY_MAX: &str = "\"memory.max\" = { value = 1073741824 }";
 
-#[derive(Clone, Copy)]
-pub enum Base {
-    Delegation,
-    Empty,
-    ParentDelegated,
-}
+pub const FORMAT_2: Change = ("format = 1", "format = 2");
 
-impl Base {
-    fn text(self) -> &'static [u8] {
-        match self {
-            Base::Delegation => DELEGATION,
-            Base::Empty => EMPTY,
-            Base::ParentDelegated => PARENT_DELEGATED,
-        }
-    }
-}
+/// User 1000 owns the limit on the memory of `/c0`.
+pub const MEMORY_MAX_OWNED: Change = (
+    MEMORY_MAX,
+    "\"memory.max\" = { uid = 1000, value = 1073741824 }",
+);
 
-/// A tree's text, and parts of it with what stands in their place. A part that stands there more than once is the first.
-#[derive(Clone, Copy)]
-pub struct Changed {
-    pub base: Base,
-    pub changes: &'static [(&'static str, &'static str)],
-}
+/// `/c0` has more descendants than it may have.
+pub const TOO_MANY: Change = (
+    "\"cgroup.max.descendants\" = { value = 4 }",
+    "\"cgroup.max.descendants\" = { value = 1 }",
+);
 
-impl Changed {
-    pub fn text(self, alloc: Global) -> Result<String, Fail> {
-        let mut text = String::from_str(alloc, from_utf8(self.base.text())?)?;
-        for (old, new) in self.changes {
-            let (before, after) = text
-                .as_str()
-                .split_once(*old)
-                .ok_or("a part that isn't there")?;
-            text = format!(in alloc; "{before}{new}{after}")?;
-        }
-        Ok(text)
-    }
+/// Others write `cgroup.procs` of the root.
+pub const ROOT_PROCS_OPEN: Change = (
+    ROOT,
+    "enabled = [\"memory\"]\n[cgroup.files]\n\"cgroup.procs\" = { mode = 0o646 }\n",
+);
+
+/// User 1000 owns `cgroup.procs` of the root, and may not write it.
+pub const ROOT_PROCS_OWNED: Change = (
+    ROOT,
+    "enabled = [\"memory\"]\n[cgroup.files]\n\"cgroup.procs\" = { uid = 1000, mode = 0o446 }\n",
+);
+
+/// Group 50 writes `cgroup.procs` of the root.
+pub const GROUP_WRITES: Change = (
+    ROOT,
+    "enabled = [\"memory\"]\n[cgroup.files]\n\"cgroup.procs\" = { gid = 50, mode = 0o664 }\n",
+);
+
+/// User 1001 owns the limit on the memory of `/c0`.
+pub const SECOND_USER: Change = (
+    MEMORY_MAX,
+    "\"memory.max\" = { uid = 1001, value = 1073741824 }",
+);
+
+/// The delegation with these changes.
+pub fn delegation_with(alloc: Global, changes: &[(&str, &str)]) -> Result<String, Fail> {
+    changed(alloc, DELEGATION, changes)
 }

@@ -10,6 +10,8 @@ mod audit;
 #[cfg(test)]
 mod audit_all;
 #[cfg(test)]
+mod calls;
+#[cfg(test)]
 mod changed;
 #[cfg(test)]
 mod check;
@@ -24,11 +26,11 @@ mod replay;
 #[cfg(test)]
 mod replay_ends;
 #[cfg(test)]
-mod samples;
-#[cfg(test)]
 mod strangers;
 #[cfg(test)]
 mod upgrade;
+#[cfg(test)]
+mod users;
 #[cfg(test)]
 mod vectors;
 #[cfg(test)]

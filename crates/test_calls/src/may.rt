@@ -1,28 +1,15 @@
-//! `may_bytes` on rows worked out by hand, and at writers that fail and dawdle.
-use super::writers::{ByteByByte, FailsOnce, TakesNone};
-use crate::samples::{DELEGATION, INTERNAL_PROCESS, NO_PARENT, PARENT_DELEGATED};
-use cg_cli::arguments::UserIds;
+//! `may_bytes` on rows worked out by hand, and on faults.
+use super::calls::{Call, expect, expect_fault};
+use crate::users::{MANY_GROUPS, USER, user};
 use cg_cli::fault::{CliFault, fault_text};
-use cg_cli::may::may_bytes;
 use cg_text::tree::{Place, TreeFault};
-use std::alloc::Global;
-use std::io::Write;
 use std::test::Fail;
-
-fn delegation<W: Write>(
-    alloc: Global,
-    uid: u32,
-    gids: &[u32],
-    pid: u32,
-    to: &str,
-    out: &mut W,
-) -> Result<u8, CliFault> {
-    may_bytes(alloc, DELEGATION, UserIds { uid, gids }, pid, to, out)
-}
+use test_trees::texts::{DELEGATION, INTERNAL_PROCESS, NO_PARENT, PARENT_DELEGATED};
 
 #[test]
-fn moves_are_granted_or_refused(rt: HostRuntime) -> Result<(), Fail> {
-    for (uid, pid, to, text, status) in [
+fn moves_are_granted_or_refused(rt: HostRuntime) {
+    let alloc = rt.alloc();
+    for (uid, pid, to, report, status) in [
         (1000, 10, "/c0/c00", "refused no-access / cgroup.procs\n", 1),
         (1000, 11, "/c0/c01", "granted\n", 0),
         (
@@ -43,97 +30,50 @@ fn moves_are_granted_or_refused(rt: HostRuntime) -> Result<(), Fail> {
         (1000, 11, "/zz", "refused no-such-cgroup /zz\n", 1),
         (1000, 10, "/", "refused no-access / cgroup.procs\n", 1),
     ] {
-        let mut out = Vec::new(rt.alloc());
-        assert_eq!(rt;
-            delegation(rt.alloc(), uid, &[], pid, to, &mut out),
-            Ok(status)
-        );
-        assert_eq!(rt; out.as_slice(), text.as_bytes());
+        let call = Call::May(user(uid, &[]), pid, to);
+        expect(&rt, alloc, DELEGATION, call, report, status);
     }
-    let mut out = Vec::new(rt.alloc());
-    let user = UserIds {
-        uid: 1000,
-        gids: &[],
-    };
-    assert_eq!(rt;
-        may_bytes(rt.alloc(), PARENT_DELEGATED, user, 20, "/p", &mut out),
-        Ok(1)
+    let call = Call::May(USER, 20, "/p");
+    expect(
+        &rt,
+        alloc,
+        PARENT_DELEGATED,
+        call,
+        "refused internal-process /p\n",
+        1,
     );
-    assert_eq!(rt; out.as_slice(), b"refused internal-process /p\n".as_slice());
-    Ok(())
 }
 
 #[test]
 fn the_first_fault_is_said_and_nothing_written(rt: HostRuntime) {
-    let many = [7; 33];
+    let most = &MANY_GROUPS[..32];
     for (uid, gids, pid, to, fault) in [
-        (0, many.as_slice(), 0, "c0", CliFault::Uid),
-        (1000, many.as_slice(), 0, "c0", CliFault::Gids),
-        (1000, &many[..32], 0, "c0", CliFault::Pid),
-        (1000, &many[..32], 4194304, "c0", CliFault::Pid),
-        (1000, &many[..32], 4194303, "c0", CliFault::BadPath),
-        (1000, &many[..32], 10, "", CliFault::BadPath),
-        (1000, &many[..32], 10, "/c0/cgroup.procs", CliFault::BadPath),
+        (0, MANY_GROUPS, 0, "c0", CliFault::Uid),
+        (1000, MANY_GROUPS, 0, "c0", CliFault::Gids),
+        (1000, most, 0, "c0", CliFault::Pid),
+        (1000, most, 4194304, "c0", CliFault::Pid),
+        (1000, most, 4194303, "c0", CliFault::BadPath),
+        (1000, most, 10, "", CliFault::BadPath),
+        (1000, most, 10, "/c0/cgroup.procs", CliFault::BadPath),
     ] {
-        let mut out = Vec::new(rt.alloc());
-        assert_eq!(rt;
-            delegation(rt.alloc(), uid, gids, pid, to, &mut out),
-            Err(fault)
-        );
-        assert_eq!(rt; out.len(), 0);
+        let call = Call::May(user(uid, gids), pid, to);
+        expect_fault(&rt, rt.alloc(), DELEGATION, call, fault);
     }
-}
-
-#[test]
-fn a_failed_write_leaves_the_front_of_the_report(rt: HostRuntime) -> Result<(), Fail> {
-    let report = b"refused no-access / cgroup.procs\n";
-    for room in 0..report.len() {
-        let mut out = FailsOnce::new(rt.alloc(), room);
-        assert_eq!(rt;
-            delegation(rt.alloc(), 1000, &[], 10, "/c0/c00", &mut out),
-            Err(CliFault::Write)
-        );
-        assert_eq!(rt; out.taken.as_slice(), &report[..room]);
-    }
-    let mut out = TakesNone { asked: 0 };
-    assert_eq!(rt;
-        delegation(rt.alloc(), 1000, &[], 10, "/c0/c00", &mut out),
-        Err(CliFault::Write)
-    );
-    assert_eq!(rt; out.asked, 1);
-    let mut out = ByteByByte {
-        taken: Vec::new(rt.alloc()),
-    };
-    assert_eq!(rt;
-        delegation(rt.alloc(), 1000, &[], 10, "/c0/c00", &mut out),
-        Ok(1)
-    );
-    assert_eq!(rt; out.taken.as_slice(), report.as_slice());
-    Ok(())
 }
 
 #[test]
 fn a_fault_of_the_tree_has_its_line(rt: HostRuntime) -> Result<(), Fail> {
     let no_parent = CliFault::Tree(TreeFault::NoParent(Place::Cgroup(2)));
-    let internal_process = CliFault::Tree(TreeFault::InternalProcess(Place::Process(1)));
-    let user = UserIds {
-        uid: 1000,
-        gids: &[],
-    };
+    let internal = CliFault::Tree(TreeFault::InternalProcess(Place::Process(1)));
     for (tree, fault, line) in [
         (NO_PARENT, no_parent, "fault: tree no-parent cgroup 2\n"),
         (
             INTERNAL_PROCESS,
-            internal_process,
+            internal,
             "fault: tree internal-process process 1\n",
         ),
     ] {
-        let mut out = Vec::new(rt.alloc());
-        assert_eq!(rt;
-            may_bytes(rt.alloc(), tree, user, 10, "/a", &mut out),
-            Err(fault)
-        );
-        assert_eq!(rt; out.len(), 0);
+        expect_fault(&rt, rt.alloc(), tree, Call::May(USER, 10, "/a"), fault);
         let text = fault_text(rt.alloc(), &fault)?;
         assert_eq!(rt; text.as_slice(), line.as_bytes());
     }

@@ -1,69 +1,26 @@
-//! Where a replay ends: faults before its first line, lines that are too long, too many, cut or not read, and writers that
-//! fail and dawdle.
+//! Where a replay ends: faults before its first line, and lines that are too long, too many, cut or not read.
+use super::answers_written::REPLAYS;
+use super::calls::{Call, expect_fault};
 use super::readers::{Again, Pieces};
-use super::writers::{ByteByByte, FailsOnce, TakesNone};
-use crate::samples::{DELEGATION, NO_PARENT};
-use cg_cli::arguments::UserIds;
+use crate::users::{MANY_GROUPS, USER, user};
 use cg_cli::fault::{CliFault, fault_text};
-use cg_cli::replay::{replay_bytes, replay_from};
+use cg_cli::replay::replay_from;
 use cg_lines::lines::LineFault;
 use cg_text::tree::{Place, TreeFault};
 use std::alloc::{AllocError, Global};
-use std::io::{BufRead, ErrorKind, Write};
+use std::io::{BufRead, ErrorKind};
 use std::process::Abort;
 use std::test::Fail;
+use test_trees::texts::{DELEGATION, NO_PARENT};
 
-/// Operations of user 1000, and their report where `/c0` is watched.
-const REPLAYS: [(&[u8], &[u8]); 2] = [
-    (
-        b"mkdir /c0/c00/x\nmkdir /c0/c00/x/y\n",
-        b"ok\nrefused depth-limit /c0\nkept\n",
-    ),
-    (
-        b"control /c0 +memory\nset /c0/c00 memory.max 4096\ncontrol /c0 -memory +memory\ncontrol /c0/c01 +memory\ncontrol /c0 -memory\ncontrol /c0/c00 +memory\n",
-        b"ok\nok\nok\nok\nrefused child-uses memory\nrefused internal-process /c0/c00\nkept\n",
-    ),
-];
-
-fn replay<W: Write>(alloc: Global, ops: &[u8], out: &mut W) -> Result<u8, CliFault> {
-    let user = UserIds {
-        uid: 1000,
-        gids: &[],
-    };
-    replay_bytes(alloc, DELEGATION, user, None, ops, out)
-}
-
-fn replay_reader<R: BufRead, W: Write>(
+/// A replay of user 1000 in the delegation, whose operations come from a reader.
+fn replay_reader<R: BufRead>(
     alloc: Global,
+    subtree: Option<&str>,
     ops: &mut R,
-    out: &mut W,
+    out: &mut Vec<u8>,
 ) -> Result<u8, CliFault> {
-    let user = UserIds {
-        uid: 1000,
-        gids: &[],
-    };
-    replay_from(alloc, DELEGATION, user, None, ops, out)
-}
-
-/// The same where `/c0` is watched.
-fn watched<W: Write>(alloc: Global, ops: &[u8], out: &mut W) -> Result<u8, CliFault> {
-    let user = UserIds {
-        uid: 1000,
-        gids: &[],
-    };
-    replay_bytes(alloc, DELEGATION, user, Some("/c0"), ops, out)
-}
-
-fn watched_reader<R: BufRead, W: Write>(
-    alloc: Global,
-    ops: &mut R,
-    out: &mut W,
-) -> Result<u8, CliFault> {
-    let user = UserIds {
-        uid: 1000,
-        gids: &[],
-    };
-    replay_from(alloc, DELEGATION, user, Some("/c0"), ops, out)
+    replay_from(alloc, DELEGATION, USER, subtree, ops, out)
 }
 
 /// A text so many times.
@@ -77,25 +34,18 @@ fn times(alloc: Global, text: &[u8], count: usize) -> Result<Vec<u8>, AllocError
 
 #[test]
 fn a_fault_before_the_lines_leaves_nothing_written(rt: HostRuntime) {
-    let many = [7; 33];
     let no_parent = CliFault::Tree(TreeFault::NoParent(Place::Cgroup(2)));
     for (uid, gids, tree, fault) in [
-        (0, many.as_slice(), b"".as_slice(), CliFault::Uid),
-        (1000, many.as_slice(), b"".as_slice(), CliFault::Gids),
-        (1000, &many[..32], NO_PARENT, no_parent),
+        (0, MANY_GROUPS, b"".as_slice(), CliFault::Uid),
+        (1000, MANY_GROUPS, b"".as_slice(), CliFault::Gids),
+        (1000, &MANY_GROUPS[..32], NO_PARENT, no_parent),
     ] {
-        let user = UserIds { uid, gids };
+        let user = user(uid, gids);
+        expect_fault(&rt, rt.alloc(), tree, Call::Replay(user, None, b"x"), fault);
         let mut out = Vec::new(rt.alloc());
-        assert_eq!(rt;
-            replay_bytes(rt.alloc(), tree, user, None, b"x", &mut out),
-            Err(fault)
-        );
-        assert_eq!(rt; out.len(), 0);
         let mut ops = Pieces::new(b"x", 1);
-        assert_eq!(rt;
-            replay_from(rt.alloc(), tree, user, None, &mut ops, &mut out),
-            Err(fault)
-        );
+        let ended = replay_from(rt.alloc(), tree, user, None, &mut ops, &mut out);
+        assert_eq!(rt; ended, Err(fault));
         assert_eq!(rt; out.len(), 0);
         assert_eq!(rt; ops.asked, 0);
     }
@@ -131,10 +81,9 @@ fn a_line_without_its_newline_is_cut_or_too_long(rt: HostRuntime) -> Result<(), 
         (20000, LineFault::TooLong),
     ] {
         let ops = times(rt.alloc(), b"x", count)?;
-        let mut out = Vec::new(rt.alloc());
-        let ending = replay(rt.alloc(), ops.as_slice(), &mut out);
-        assert_eq!(rt; ending, line_fault(1, fault));
-        assert_eq!(rt; out.len(), 0);
+        let call = Call::Replay(USER, None, ops.as_slice());
+        let fault = CliFault::Line { number: 1, fault };
+        expect_fault(&rt, rt.alloc(), DELEGATION, call, fault);
     }
     Ok(())
 }
@@ -151,7 +100,7 @@ fn a_line_of_8192_bytes_is_answered_and_a_longer_one_is_not(rt: HostRuntime) -> 
     for size in [1, 100, 8192, 8193, 20000] {
         let mut out = Vec::new(rt.alloc());
         let mut pieces = Pieces::new(ops.as_slice(), size);
-        let ending = replay_reader(rt.alloc(), &mut pieces, &mut out);
+        let ending = replay_reader(rt.alloc(), None, &mut pieces, &mut out);
         assert_eq!(rt; ending, line_fault(2, LineFault::TooLong));
         assert_eq!(rt;
             out.as_slice(),
@@ -165,16 +114,13 @@ fn a_line_of_8192_bytes_is_answered_and_a_longer_one_is_not(rt: HostRuntime) -> 
 fn a_replay_has_65536_operations_at_most(rt: HostRuntime) -> Result<(), Fail> {
     let mut ops = times(rt.alloc(), b"exit 99\n", 65536)?;
     let report = times(rt.alloc(), b"refused no-such-process 99\n", 65536)?;
-    let mut out = Vec::new(rt.alloc());
-    assert_eq!(rt; replay(rt.alloc(), ops.as_slice(), &mut out), Ok(0));
-    assert!(rt; out == report);
-    ops.extend_from_slice(b"\n")?;
-    let mut out = Vec::new(rt.alloc());
-    assert_eq!(rt;
-        replay(rt.alloc(), ops.as_slice(), &mut out),
-        Err(CliFault::TooManySteps)
-    );
-    assert!(rt; out == report);
+    for ending in [Ok(0), Err(CliFault::TooManySteps)] {
+        let mut out = Vec::new(rt.alloc());
+        let call = Call::Replay(USER, None, ops.as_slice());
+        assert_eq!(rt; call.make(rt.alloc(), DELEGATION, &mut out), ending);
+        assert!(rt; out == report);
+        ops.extend_from_slice(b"\n")?;
+    }
     Ok(())
 }
 
@@ -182,12 +128,12 @@ fn a_replay_has_65536_operations_at_most(rt: HostRuntime) -> Result<(), Fail> {
 fn an_endless_reader_is_left(rt: HostRuntime) -> Result<(), Fail> {
     let mut endless = Again::new(b"x");
     let mut out = Vec::new(rt.alloc());
-    let ending = replay_reader(rt.alloc(), &mut endless, &mut out);
+    let ending = replay_reader(rt.alloc(), None, &mut endless, &mut out);
     assert_eq!(rt; ending, line_fault(1, LineFault::TooLong));
     assert_eq!(rt; out.len(), 0);
     assert_eq!(rt; endless.asked, 8193);
     let mut endless = Again::new(b"exit 99\n");
-    let ending = replay_reader(rt.alloc(), &mut endless, &mut out);
+    let ending = replay_reader(rt.alloc(), None, &mut endless, &mut out);
     assert_eq!(rt; ending, Err(CliFault::TooManySteps));
     assert!(rt; out == times(rt.alloc(), b"refused no-such-process 99\n", 65536)?);
     assert_eq!(rt; endless.asked, 524_289);
@@ -221,7 +167,7 @@ fn assert_failed_reads(rt: &impl Abort, alloc: Global, kind: ErrorKind, fault: C
             pieces.fails_at = given as u64 + 1;
             pieces.kind = kind;
             let mut out = Vec::new(alloc);
-            let ending = watched_reader(alloc, &mut pieces, &mut out);
+            let ending = replay_reader(alloc, Some("/c0"), &mut pieces, &mut out);
             assert_eq!(rt; ending, Err(fault));
             assert_eq!(rt; pieces.asked, pieces.fails_at);
             assert_eq!(rt;
@@ -234,56 +180,11 @@ fn assert_failed_reads(rt: &impl Abort, alloc: Global, kind: ErrorKind, fault: C
 
 #[test]
 fn a_failed_read_leaves_the_lines_before_it(rt: HostRuntime) {
-    assert_failed_reads(&rt, rt.alloc(), ErrorKind::Interrupted, CliFault::Read);
-    assert_failed_reads(&rt, rt.alloc(), ErrorKind::IsADirectory, CliFault::Read);
-    assert_failed_reads(&rt, rt.alloc(), ErrorKind::OutOfMemory, CliFault::NoMemory);
-}
-
-#[test]
-fn a_failed_write_leaves_a_part_of_the_report(rt: HostRuntime) {
-    for (ops, report) in REPLAYS {
-        for room in 0..report.len() {
-            let mut out = FailsOnce::new(rt.alloc(), room);
-            assert_eq!(rt; watched(rt.alloc(), ops, &mut out), Err(CliFault::Write));
-            assert_eq!(rt; out.taken.as_slice(), &report[..room]);
-        }
-        let mut out = TakesNone { asked: 0 };
-        assert_eq!(rt; watched(rt.alloc(), ops, &mut out), Err(CliFault::Write));
-        assert_eq!(rt; out.asked, 1);
-        let mut out = ByteByByte {
-            taken: Vec::new(rt.alloc()),
-        };
-        assert_eq!(rt; watched(rt.alloc(), ops, &mut out), Ok(0));
-        assert_eq!(rt; out.taken.as_slice(), report);
+    for (kind, fault) in [
+        (ErrorKind::Interrupted, CliFault::Read),
+        (ErrorKind::IsADirectory, CliFault::Read),
+        (ErrorKind::OutOfMemory, CliFault::NoMemory),
+    ] {
+        assert_failed_reads(&rt, rt.alloc(), kind, fault);
     }
-    let mut out = TakesNone { asked: 0 };
-    assert_eq!(rt; replay(rt.alloc(), b"", &mut out), Ok(0));
-    assert_eq!(rt; out.asked, 0);
-}
-
-/// The same where the operations come from a reader, a byte at a time.
-#[test]
-fn a_failed_write_behind_a_reader_leaves_a_part_of_the_report(rt: HostRuntime) {
-    for (ops, report) in REPLAYS {
-        for room in 0..report.len() {
-            let mut out = FailsOnce::new(rt.alloc(), room);
-            let ending = watched_reader(rt.alloc(), &mut Pieces::new(ops, 1), &mut out);
-            assert_eq!(rt; ending, Err(CliFault::Write));
-            assert_eq!(rt; out.taken.as_slice(), &report[..room]);
-        }
-        let mut out = TakesNone { asked: 0 };
-        let ending = watched_reader(rt.alloc(), &mut Pieces::new(ops, 1), &mut out);
-        assert_eq!(rt; ending, Err(CliFault::Write));
-        assert_eq!(rt; out.asked, 1);
-        let mut out = ByteByByte {
-            taken: Vec::new(rt.alloc()),
-        };
-        let ending = watched_reader(rt.alloc(), &mut Pieces::new(ops, 1), &mut out);
-        assert_eq!(rt; ending, Ok(0));
-        assert_eq!(rt; out.taken.as_slice(), report);
-    }
-    let mut out = TakesNone { asked: 0 };
-    let ending = replay_reader(rt.alloc(), &mut Pieces::new(b"", 1), &mut out);
-    assert_eq!(rt; ending, Ok(0));
-    assert_eq!(rt; out.asked, 0);
 }

@@ -1,13 +1,10 @@
 //! `upgrade_bytes`: what is read from what was written is the same tree, and written anew it is the same bytes.
-use super::changed::{Base, Changed, MEMORY_MAX, ROOT};
+use super::answers_written::Written;
+use super::calls::{self, Call, expect_fault};
+use super::changed::{MEMORY_MAX, ROOT, delegation_with};
 use super::vectors::{BASE, Parts, text_of};
-use super::writers::{ByteByByte, FailsOnce, TakesNone};
-use crate::samples::{
-    DELEGATION, DELEGATION_AND_PROCESS, EMPTY, INTERNAL_PROCESS, NO_PARENT, PARENT_DELEGATED,
-};
+use crate::users::USER;
 use cg_cgroup::process::Pid;
-use cg_cli::arguments::UserIds;
-use cg_cli::check::check_bytes;
 use cg_cli::fault::CliFault;
 use cg_cli::upgrade::upgrade_bytes;
 use cg_rows::rows::Rows;
@@ -17,6 +14,9 @@ use std::alloc::Global;
 use std::process::Abort;
 use std::str::from_utf8;
 use std::test::Fail;
+use test_trees::texts::{
+    DELEGATION, DELEGATION_AND_PROCESS, EMPTY, INTERNAL_PROCESS, NO_PARENT, PARENT_DELEGATED,
+};
 
 /// What is written of a text.
 fn upgraded(alloc: Global, text: &[u8]) -> Result<Vec<u8>, CliFault> {
@@ -67,7 +67,7 @@ fn the_samples_stay_the_same_trees(rt: HostRuntime) -> Result<(), Fail> {
     for text in [DELEGATION, PARENT_DELEGATED, EMPTY] {
         expect(&rt, text)?;
     }
-    let text = [DELEGATION, DELEGATION_AND_PROCESS.as_bytes()].concat(rt.alloc())?;
+    let text = [DELEGATION, DELEGATION_AND_PROCESS].concat(rt.alloc())?;
     expect(&rt, text.as_slice())
 }
 
@@ -112,11 +112,7 @@ const CHANGES: [&[(&str, &str)]; 6] = [
 #[test]
 fn groups_modes_and_bounds_are_kept(rt: HostRuntime) -> Result<(), Fail> {
     for changes in CHANGES {
-        let text = Changed {
-            base: Base::Delegation,
-            changes,
-        }
-        .text(rt.alloc())?;
+        let text = delegation_with(rt.alloc(), changes)?;
         expect(&rt, text.as_bytes())?;
     }
     Ok(())
@@ -193,53 +189,33 @@ fn a_root_alone_has_no_processes(rt: HostRuntime) -> Result<(), Fail> {
 #[test]
 fn what_is_said_of_it_is_the_same(rt: HostRuntime) -> Result<(), Fail> {
     let written = upgraded(rt.alloc(), DELEGATION)?;
-    let user = UserIds {
-        uid: 1000,
-        gids: &[],
-    };
-    let mut out = Vec::new(rt.alloc());
-    let status = check_bytes(rt.alloc(), written.as_slice(), user, "/c0", &mut out);
-    assert_eq!(rt; status, Ok(0));
-    assert_eq!(rt; out.as_slice(), b"contained\n".as_slice());
+    let call = Call::Check(USER, "/c0");
+    calls::expect(&rt, rt.alloc(), written.as_slice(), call, "contained\n", 0);
     Ok(())
 }
 
 #[test]
-fn nothing_is_written_of_a_text_with_a_fault(rt: HostRuntime) -> Result<(), Fail> {
+fn nothing_is_written_of_a_text_with_a_fault(rt: HostRuntime) {
+    let internal = TreeFault::InternalProcess(Place::Process(1));
     for (text, fault) in [
         (NO_PARENT, TreeFault::NoParent(Place::Cgroup(2))),
-        (
-            INTERNAL_PROCESS,
-            TreeFault::InternalProcess(Place::Process(1)),
-        ),
+        (INTERNAL_PROCESS, internal),
         (b"".as_slice(), TreeFault::Shape(Place::Top)),
         (b"\xff".as_slice(), TreeFault::NotToml),
     ] {
-        let mut out = Vec::new(rt.alloc());
-        let status = upgrade_bytes(rt.alloc(), text, &mut out);
-        assert_eq!(rt; status, Err(CliFault::Tree(fault)));
-        assert_eq!(rt; out.len(), 0);
+        expect_fault(&rt, rt.alloc(), text, Call::Upgrade, CliFault::Tree(fault));
     }
-    Ok(())
 }
 
 #[test]
 fn a_failed_write_leaves_the_front_of_the_text(rt: HostRuntime) -> Result<(), Fail> {
     let text = upgraded(rt.alloc(), EMPTY)?;
-    for room in 0..text.len() {
-        let mut out = FailsOnce::new(rt.alloc(), room);
-        let status = upgrade_bytes(rt.alloc(), EMPTY, &mut out);
-        assert_eq!(rt; status, Err(CliFault::Write));
-        assert_eq!(rt; out.taken.as_slice(), &text[..room]);
-    }
-    let mut out = TakesNone { asked: 0 };
-    let status = upgrade_bytes(rt.alloc(), EMPTY, &mut out);
-    assert_eq!(rt; status, Err(CliFault::Write));
-    assert_eq!(rt; out.asked, 1);
-    let mut out = ByteByByte {
-        taken: Vec::new(rt.alloc()),
+    let written = Written {
+        tree: EMPTY,
+        call: Call::Upgrade,
+        report: text.as_slice(),
+        status: 0,
     };
-    assert_eq!(rt; upgrade_bytes(rt.alloc(), EMPTY, &mut out), Ok(0));
-    assert_eq!(rt; out.taken.as_slice(), text.as_slice());
+    written.expect(&rt, rt.alloc());
     Ok(())
 }

@@ -9,11 +9,10 @@ mod rows;
 mod top;
 mod whole;
 
-use crate::samples::DELEGATION;
+use crate::users::user;
 use cg_cgroup::cgroup::Cgroup;
 use cg_cgroup::memory::NoMemory;
 use cg_cgroup::path::Path;
-use cg_cli::arguments::UserIds;
 use cg_cli::fault::{CliFault, fault_text};
 use cg_cli::may::may_bytes;
 use cg_text::tree::read_tree;
@@ -44,10 +43,7 @@ pub const READ: &str = "refused no-access /a cgroup.procs";
 /// What the calls say of a text: the report where both read it, the line of the fault where both refuse it and nothing
 /// is written, and nothing where they differ.
 fn said(alloc: Global, text: &[u8], asked: Asked<'_>) -> Result<Option<Vec<u8>>, NoMemory> {
-    let user = UserIds {
-        uid: 1000,
-        gids: asked.gids,
-    };
+    let user = user(1000, asked.gids);
     let mut out = Vec::new(alloc);
     let status = may_bytes(alloc, text, user, asked.pid, asked.to, &mut out);
     match (read_tree(alloc, text), status) {
@@ -127,17 +123,27 @@ pub fn expect(rt: &impl Abort, alloc: Global, parts: Parts<'_>, line: &str) -> R
     expect_line(rt, alloc, text.as_bytes(), TO_A, line)
 }
 
-/// The delegation example with the first of each pair, where it stands first, changed to the second.
-pub fn delegation_with(alloc: Global, changes: &[(&str, &str)]) -> Result<String, Fail> {
-    let mut text = String::from_str(alloc, from_utf8(DELEGATION)?)?;
-    for (old, new) in changes {
-        let (before, after) = text
-            .as_str()
-            .split_once(*old)
-            .ok_or("a part that isn't there")?;
-        text = format!(in alloc; "{before}{new}{after}")?;
+/// The same where further keys of `/a` are all that the vector writes.
+pub fn expect_keys(rt: &impl Abort, alloc: Global, keys: &str, line: &str) -> Result<(), Fail> {
+    expect(rt, alloc, Parts { keys, ..BASE }, line)
+}
+
+/// The same where all that it writes follows the base text.
+pub fn expect_rest(rt: &impl Abort, alloc: Global, rest: &str, line: &str) -> Result<(), Fail> {
+    expect(rt, alloc, Parts { rest, ..BASE }, line)
+}
+
+/// The same where all that it writes is the path of the other cgroup.
+pub fn expect_path(rt: &impl Abort, alloc: Global, path: &str, line: &str) -> Result<(), Fail> {
+    expect(rt, alloc, Parts { path, ..BASE }, line)
+}
+
+/// What a row says of one entry: `dir`, or a file, quoted.
+pub fn entry_keys(alloc: Global, name: &str, keys: &str) -> Result<String, AllocError> {
+    if name == "dir" {
+        return format!(in alloc; "dir = {{ {keys} }}");
     }
-    Ok(text)
+    format!(in alloc; "files = {{ {name} = {{ {keys} }} }}")
 }
 
 /// A text `count` times.
@@ -149,9 +155,10 @@ pub fn repeated(alloc: Global, text: &str, count: usize) -> Result<String, Alloc
     Ok(all)
 }
 
-/// The cgroup at a path of a text's tree.
-pub fn cgroup_in(alloc: Global, text: &str, path: &str) -> Result<Option<Cgroup>, CliFault> {
+/// The cgroup `/a` of the base text with these parts.
+pub fn cgroup_of(alloc: Global, parts: Parts<'_>) -> Result<Cgroup, Fail> {
+    let text = text_of(alloc, parts)?;
     let tree = read_tree(alloc, text.as_bytes())?;
-    let path = Path::parse(alloc, path)?;
-    Ok(tree.get(&path, path.depth()).copied())
+    let path = Path::parse(alloc, "/a")?;
+    Ok(*tree.get(&path, path.depth()).ok_or("no /a")?)
 }

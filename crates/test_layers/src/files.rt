@@ -1,22 +1,25 @@
 //! Controllers, limit files and the names of entries.
 use cg_cgroup::files::{Controller, ControllerSet, EntryName, Limit, LimitFile};
 
+/// The limit files in their order, by the names that the kernel gives them.
+pub const NAMED: [(LimitFile, &str); 8] = [
+    (LimitFile::MaxDescendants, "cgroup.max.descendants"),
+    (LimitFile::MaxDepth, "cgroup.max.depth"),
+    (LimitFile::CpuWeight, "cpu.weight"),
+    (LimitFile::MemoryMin, "memory.min"),
+    (LimitFile::MemoryLow, "memory.low"),
+    (LimitFile::MemoryHigh, "memory.high"),
+    (LimitFile::MemoryMax, "memory.max"),
+    (LimitFile::PidsMax, "pids.max"),
+];
+
 #[test]
 fn names_are_the_kernels(rt: HostRuntime) {
-    let names = [
-        "cgroup.max.descendants",
-        "cgroup.max.depth",
-        "cpu.weight",
-        "memory.min",
-        "memory.low",
-        "memory.high",
-        "memory.max",
-        "pids.max",
-    ];
-    for (file, name) in LimitFile::ALL.iter().zip(names) {
+    for (file, (wanted, name)) in LimitFile::ALL.iter().zip(NAMED) {
+        assert_eq!(rt; *file, wanted);
         assert_eq!(rt; file.name(), name);
-        assert_eq!(rt; LimitFile::from_name(name), Some(*file));
-        assert_eq!(rt; EntryName::from_name(name), Some(EntryName::File(*file)));
+        assert_eq!(rt; LimitFile::from_name(name), Some(wanted));
+        assert_eq!(rt; EntryName::from_name(name), Some(EntryName::File(wanted)));
     }
     for (controller, name) in Controller::ALL.iter().zip(["cpu", "memory", "pids"]) {
         assert_eq!(rt; controller.name(), name);

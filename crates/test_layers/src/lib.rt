@@ -12,6 +12,8 @@ mod indexed;
 #[cfg(test)]
 mod operations;
 #[cfg(test)]
+mod ops;
+#[cfg(test)]
 mod paths;
 #[cfg(test)]
 mod processes;

@@ -1,10 +1,10 @@
 //! Operations on trees worked out by hand: the delegation example of the kernel's document, with uid 1 in place of uid 0.
+use crate::ops::{chmod, control, exit, fork, mkdir, moved, rmdir, set};
 use crate::trees::fixtures::{ALL, Owners, delegate, populate, root_alone};
 use cg_cgroup::files::{Controller, EntryName, Limit, LimitFile};
 use cg_cgroup::path::Path;
 use cg_cgroup::process::Pid;
-use cg_cgroup::user::{Mode, User};
-use cg_model::changes::{Change, Changes};
+use cg_cgroup::user::User;
 use cg_model::operation::Op;
 use cg_model::outcome::{Outcome, Refusal};
 use cg_ops::apply;
@@ -13,70 +13,6 @@ use cg_tree::hierarchy::Hierarchy;
 use std::alloc::Global;
 use std::process::Abort;
 use std::test::Fail;
-
-fn moved(alloc: Global, number: u32, to: &str) -> Option<Op> {
-    Some(Op::Move {
-        pid: Pid::new(number)?,
-        to: Path::parse(alloc, to).ok()?,
-    })
-}
-
-/// A control of these changes, `true` for `+`.
-fn control(alloc: Global, at: &str, words: &[(bool, Controller)]) -> Option<Op> {
-    let mut changes = Changes::new(alloc);
-    for (on, controller) in words {
-        let change = Change {
-            on: *on,
-            controller: *controller,
-        };
-        changes.push(change).ok()?;
-    }
-    Some(Op::Control {
-        at: Path::parse(alloc, at).ok()?,
-        changes,
-    })
-}
-
-fn mkdir(alloc: Global, path: &str) -> Option<Op> {
-    Some(Op::Mkdir {
-        path: Path::parse(alloc, path).ok()?,
-    })
-}
-
-fn rmdir(alloc: Global, path: &str) -> Option<Op> {
-    Some(Op::Rmdir {
-        path: Path::parse(alloc, path).ok()?,
-    })
-}
-
-fn set(alloc: Global, at: &str, file: LimitFile, value: Limit) -> Option<Op> {
-    Some(Op::Set {
-        at: Path::parse(alloc, at).ok()?,
-        file,
-        value,
-    })
-}
-
-fn fork(parent: u32, child: u32) -> Option<Op> {
-    Some(Op::Fork {
-        parent: Pid::new(parent)?,
-        child: Pid::new(child)?,
-    })
-}
-
-fn exit(number: u32) -> Option<Op> {
-    Some(Op::Exit {
-        pid: Pid::new(number)?,
-    })
-}
-
-fn chmod(alloc: Global, at: &str, entry: EntryName, mode: u16) -> Option<Op> {
-    Some(Op::Chmod {
-        at: Path::parse(alloc, at).ok()?,
-        entry,
-        mode: Mode::new(mode)?,
-    })
-}
 
 fn no_access(len: usize, entry: EntryName) -> Refusal {
     Refusal::NoAccess { len, entry }

@@ -1,7 +1,9 @@
 //! Paths.
+use crate::files::NAMED;
 use cg_cgroup::path::{Path, PathFault};
 use std::alloc::{AllocError, Global};
 use std::cmp::Ordering;
+use std::process::Abort;
 use std::test::Fail;
 
 /// Whether a text is a path's, and the path gives it back.
@@ -35,56 +37,61 @@ fn chain(alloc: Global, count: usize, len: usize) -> Result<String, AllocError> 
     Ok(text)
 }
 
+const PATHS: [&str; 9] = [
+    "/",
+    "/a",
+    "/a/b/c",
+    "/c0/c01",
+    "/...",
+    "/a.b",
+    "/!/~",
+    "/cpu",
+    "/cgroup.events",
+];
+
+const NO_PATHS: [&str; 13] = [
+    "", "a", "a/b", "//", "//a", "/a/", "/a//b", "/.", "/..", "/a/../b", "/a b", "/\u{7f}", "/é",
+];
+
 #[test]
-fn texts_that_are_paths(rt: HostRuntime) -> Result<(), Fail> {
-    let texts = [
-        "/",
-        "/a",
-        "/a/b/c",
-        "/c0/c01",
-        "/...",
-        "/a.b",
-        "/!/~",
-        "/cpu",
-        "/cgroup.events",
-    ];
-    for text in texts {
-        assert!(rt; is_path(rt.alloc(), text)?);
+fn texts_that_are_paths_or_none(rt: HostRuntime) -> Result<(), Fail> {
+    for text in PATHS {
+        assert!(rt; is_path(rt.alloc(), text)?, "{text}");
+    }
+    for text in NO_PATHS {
+        assert!(rt; !is_path(rt.alloc(), text)?, "{text}");
     }
     Ok(())
 }
 
-#[test]
-fn texts_that_are_none(rt: HostRuntime) -> Result<(), Fail> {
-    let texts = [
-        "", "a", "a/b", "//", "//a", "/a/", "/a//b", "/.", "/..", "/a/../b", "/a b", "/\u{7f}",
-        "/é",
-    ];
-    for text in texts {
-        assert!(rt; !is_path(rt.alloc(), text)?);
-    }
+/// Fails where a name may be a cgroup's, or where one that is longer may not.
+fn expect_reserved(rt: &impl Abort, alloc: Global, name: &str) -> Result<(), Fail> {
+    assert!(rt;
+        !is_path(alloc, format!(in alloc; "/{name}")?.as_str())?,
+        "{name}"
+    );
+    assert!(rt;
+        !is_path(alloc, format!(in alloc; "/a/{name}/b")?.as_str())?,
+        "{name}"
+    );
+    assert!(rt;
+        is_path(alloc, format!(in alloc; "/{name}x")?.as_str())?,
+        "{name}"
+    );
     Ok(())
 }
 
 #[test]
 fn reserved_names(rt: HostRuntime) -> Result<(), Fail> {
-    let names = [
+    for name in [
         "cgroup.controllers",
         "cgroup.procs",
         "cgroup.subtree_control",
-        "cgroup.max.descendants",
-        "cgroup.max.depth",
-        "cpu.weight",
-        "memory.min",
-        "memory.low",
-        "memory.high",
-        "memory.max",
-        "pids.max",
-    ];
-    for name in names {
-        assert!(rt; !is_path(rt.alloc(), format!(in rt.alloc(); "/{name}")?.as_str())?);
-        assert!(rt; !is_path(rt.alloc(), format!(in rt.alloc(); "/a/{name}/b")?.as_str())?);
-        assert!(rt; is_path(rt.alloc(), format!(in rt.alloc(); "/{name}x")?.as_str())?);
+    ] {
+        expect_reserved(&rt, rt.alloc(), name)?;
+    }
+    for (_, name) in NAMED {
+        expect_reserved(&rt, rt.alloc(), name)?;
     }
     Ok(())
 }

@@ -1,6 +1,6 @@
 //! The whole answer of a check, and the plain one: the table of guards walked, and each try carried out.
 use crate::judge::{breaks, is_over, plain_tries};
-use crate::random::{Random, tree, users};
+use crate::random::{tree, users};
 use cg_cgroup::files::{EntryName, LimitFile};
 use cg_cgroup::memory::NoMemory;
 use cg_cgroup::path::{Path, PathFault};
@@ -15,6 +15,7 @@ use cg_tree::hierarchy::Hierarchy;
 use std::alloc::Global;
 use std::process::Abort;
 use std::test::Fail;
+use test_trees::random::Random;
 
 /// An entry on which a guard stands.
 #[derive(Drop)]

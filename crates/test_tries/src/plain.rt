@@ -4,7 +4,7 @@ ghost use Rattle.cg_model.specs.WellFormed.{has_row};
 ghost use Rattle.cg_model.specs.Limits.{is_within_limit, fits_descendants, fits_depth};
 
 use crate::judge;
-use crate::random::{Random, tree, users};
+use crate::random::{tree, users};
 use cg_cgroup::files::Limit;
 use cg_cgroup::path::Path;
 use cg_cgroup::user::User;
@@ -15,6 +15,7 @@ use cg_tries::plain::first_plain_try;
 use std::alloc::Global;
 use std::process::Abort;
 use std::test::Fail;
+use test_trees::random::Random;
 
 /// Whether so many are within a limit.
 fn is_within(count: u64, limit: Limit) -> bool

@@ -1,6 +1,4 @@
 //! Small random trees, the same ones each time.
-ghost use Rattle.std.specs.Prelude.{◌<◌};
-
 use cg_cgroup::cgroup::Cgroup;
 use cg_cgroup::files::{Controller, ControllerSet, EntryName, Limit, LimitFile};
 use cg_cgroup::memory::NoMemory;
@@ -14,46 +12,7 @@ use cg_ops::apply;
 use cg_rows::rows::Rows;
 use cg_tree::hierarchy::Hierarchy;
 use std::alloc::Global;
-
-/// Numbers that follow from a seed.
-#[derive(Drop)]
-pub struct Random {
-    state: u64,
-}
-
-impl Random {
-    /// The numbers of a seed other than 0.
-    pub fn new(seed: u64) -> Random {
-        Random { state: seed }
-    }
-
-    /// The next number, below a bound.
-    pub fn below(&mut self, bound: u64) -> u64
-        requires { 0 < bound }
-        ensures { result < bound }
-    {
-        let mut state = self.state;
-        state ^= state << 13;
-        state ^= state >> 7;
-        state ^= state << 17;
-        self.state = state;
-        state % bound
-    }
-
-    /// The place of one of so many things; 0 where there is none.
-    fn place(&mut self, count: usize) -> usize {
-        if count == 0 {
-            return 0;
-        }
-        self.below(count as u64) as usize
-    }
-
-    /// One of these values, or another where there is none.
-    fn one_of<T: Copy>(&mut self, values: &[T], otherwise: T) -> T {
-        let place = self.place(values.len());
-        values.get(place).copied().unwrap_or(otherwise)
-    }
-}
+use test_trees::random::Random;
 
 /// The modes that entries get: who writes depends on owner, group and others in turn.
 const MODES: [u16; 8] = [0o000, 0o200, 0o020, 0o002, 0o220, 0o202, 0o022, 0o222];

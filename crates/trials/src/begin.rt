@@ -39,59 +39,23 @@ impl<T: Drop> From<AllocFailed<T>> for Stopped {
     }
 }
 
-impl From<PathFault> for Stopped {
-    fn from(fault: PathFault) -> Stopped {
-        match fault {
-            PathFault::BadPath => Stopped::BadWords,
-            PathFault::NoMemory => Stopped::NoMemory,
-        }
-    }
+/// Each of these faults is want of memory, or of other words.
+macro_rules! stopped_by {
+    ($($fault:ident),*) => {
+        $(
+            impl From<$fault> for Stopped {
+                fn from(fault: $fault) -> Stopped {
+                    match fault {
+                        $fault::NoMemory => Stopped::NoMemory,
+                        _ => Stopped::BadWords,
+                    }
+                }
+            }
+        )*
+    };
 }
 
-impl From<LineFault> for Stopped {
-    fn from(fault: LineFault) -> Stopped {
-        match fault {
-            LineFault::NoMemory => Stopped::NoMemory,
-            _ => Stopped::BadWords,
-        }
-    }
-}
-
-impl From<TreeFault> for Stopped {
-    fn from(fault: TreeFault) -> Stopped {
-        match fault {
-            TreeFault::NoMemory => Stopped::NoMemory,
-            _ => Stopped::BadWords,
-        }
-    }
-}
-
-impl From<CheckFault> for Stopped {
-    fn from(fault: CheckFault) -> Stopped {
-        match fault {
-            CheckFault::NoMemory => Stopped::NoMemory,
-            _ => Stopped::BadWords,
-        }
-    }
-}
-
-impl From<StepFault> for Stopped {
-    fn from(fault: StepFault) -> Stopped {
-        match fault {
-            StepFault::NoMemory => Stopped::NoMemory,
-            StepFault::TooManySteps => Stopped::BadWords,
-        }
-    }
-}
-
-impl From<CliFault> for Stopped {
-    fn from(fault: CliFault) -> Stopped {
-        match fault {
-            CliFault::NoMemory => Stopped::NoMemory,
-            _ => Stopped::BadWords,
-        }
-    }
-}
+stopped_by!(PathFault, LineFault, TreeFault, CheckFault, StepFault, CliFault);
 
 /// How many allocations are made for their number: before all, where the call begins, and at the end.
 #[derive(Drop)]

@@ -1,7 +1,8 @@
 //! The calls over bytes.
-use crate::begin::{Begin, Stopped};
+use crate::begin::Stopped;
 use crate::reader::Bytewise;
 use crate::said::{Said, wants_memory};
+use crate::trial::{Ended, Trial};
 use crate::words::Words;
 use cg_cli::advise::advise_bytes;
 use cg_cli::arguments::UserIds;
@@ -124,15 +125,11 @@ fn call_told<'a>(alloc: Global, words: &mut Words<'a>) -> Result<Call<'a>, Stopp
 }
 
 /// `bytes CALL WORD ..`. Nothing but bytes is lent, so where memory was wanted what was said is what was written by then.
-pub fn reported(
-    alloc: Global,
-    tree: &[u8],
-    words: &mut Words<'_>,
-    begin: &mut Begin,
-) -> Result<Said, Stopped> {
-    let call = call_told(alloc, words)?;
+pub fn reported(tree: &[u8], trial: &mut Trial<'_>) -> Ended {
+    let alloc = trial.alloc;
+    let call = call_told(alloc, &mut trial.words)?;
     let mut text = Vec::with_capacity(alloc, ROOM)?;
-    begin.begin(alloc)?;
+    trial.begin()?;
     let ended = call.make(alloc, tree, &mut text);
     let wanted = wants_memory(&ended);
     match ended {

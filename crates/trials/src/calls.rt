@@ -1,87 +1,70 @@
 //! Which call the words tell.
-use crate::begin::{Begin, Stopped};
-use crate::said::Said;
-use crate::words::Words;
+use crate::begin::Stopped;
+use crate::trial::{Ended, Trial};
 use crate::{bytes, checks, operations, paths, texts, trees};
 use cg_indexed::indexed::Indexed;
 use cg_text::tree::read_tree;
 use cg_tree::hierarchy::Hierarchy;
-use std::alloc::Global;
 
 /// Prepares a call, makes it, and makes it again where it wanted memory.
-pub fn made(
-    alloc: Global,
-    tree: &[u8],
-    words: &mut Words<'_>,
-    begin: &mut Begin,
-) -> Result<Said, Stopped> {
-    match words.next()? {
-        "path" => of_path(alloc, words, begin),
-        "text" => of_text(alloc, tree, words, begin),
-        "bytes" => bytes::reported(alloc, tree, words, begin),
-        "new" => trees::made_new(alloc, words, begin),
-        "from_rows" => trees::made_of_rows(alloc, tree, begin),
-        "rows" => of_tree(alloc, read_tree(alloc, tree)?, words, begin),
+pub fn made(tree: &[u8], trial: &mut Trial<'_>) -> Ended {
+    match trial.words.next()? {
+        "path" => of_path(trial),
+        "text" => of_text(tree, trial),
+        "bytes" => bytes::reported(tree, trial),
+        "new" => trees::made_new(trial),
+        "from_rows" => trees::made_of_rows(tree, trial),
+        "rows" => of_tree(read_tree(trial.alloc, tree)?, trial),
         "indexed" => {
-            let rows = read_tree(alloc, tree)?;
-            of_tree(alloc, Indexed::from_rows(alloc, rows)?, words, begin)
+            let rows = read_tree(trial.alloc, tree)?;
+            of_tree(Indexed::from_rows(trial.alloc, rows)?, trial)
         }
         _ => Err(Stopped::BadWords),
     }
 }
 
-fn of_path(alloc: Global, words: &mut Words<'_>, begin: &mut Begin) -> Result<Said, Stopped> {
-    match words.next()? {
-        "parse" => paths::parsed(alloc, words, begin),
-        "try_clone" => paths::cloned(alloc, words, begin),
-        "try_prefix" => paths::prefix_made(alloc, words, begin),
-        "with_child" => paths::child_made(alloc, words, begin),
+fn of_path(trial: &mut Trial<'_>) -> Ended {
+    match trial.words.next()? {
+        "parse" => paths::parsed(trial),
+        "try_clone" => paths::cloned(trial),
+        "try_prefix" => paths::prefix_made(trial),
+        "with_child" => paths::child_made(trial),
         _ => Err(Stopped::BadWords),
     }
 }
 
-fn of_text(
-    alloc: Global,
-    tree: &[u8],
-    words: &mut Words<'_>,
-    begin: &mut Begin,
-) -> Result<Said, Stopped> {
-    match words.next()? {
-        "read_tree" => texts::tree_read(alloc, tree, begin),
-        "read_long_tree" => texts::long_tree_read(alloc, begin),
-        "read_op" => texts::operation_read(alloc, words, begin),
-        "read_long_op" => texts::long_operation_read(alloc, begin),
-        "op_text" => texts::operation_written(alloc, words, begin),
-        "outcome_text" => texts::outcome_written(alloc, tree, words, begin),
-        "answer_text" => texts::answer_written(alloc, tree, words, begin),
-        "verdict_text" => texts::verdict_written(alloc, tree, words, begin),
-        "fault_text" => texts::fault_written(alloc, tree, words, begin),
+fn of_text(tree: &[u8], trial: &mut Trial<'_>) -> Ended {
+    match trial.words.next()? {
+        "read_tree" => texts::tree_read(tree, trial),
+        "read_long_tree" => texts::long_tree_read(trial),
+        "read_op" => texts::operation_read(trial),
+        "read_long_op" => texts::long_operation_read(trial),
+        "op_text" => texts::operation_written(trial),
+        "outcome_text" => texts::outcome_written(tree, trial),
+        "answer_text" => texts::answer_written(tree, trial),
+        "verdict_text" => texts::verdict_written(tree, trial),
+        "fault_text" => texts::fault_written(tree, trial),
         _ => Err(Stopped::BadWords),
     }
 }
 
 /// A call on a tree, however it is kept.
-fn of_tree<H: Hierarchy + Drop>(
-    alloc: Global,
-    tree: H,
-    words: &mut Words<'_>,
-    begin: &mut Begin,
-) -> Result<Said, Stopped> {
-    match words.next()? {
-        "paths" => trees::paths_given(alloc, tree, begin),
-        "pids" => trees::pids_given(alloc, tree, begin),
-        "try_clone" => trees::cloned(alloc, tree, begin),
-        "add" => trees::added(alloc, tree, words, begin),
-        "add_process" => trees::process_added(alloc, tree, words, begin),
-        "set_place" => trees::process_moved(alloc, tree, words, begin),
-        "readings" => trees::read(alloc, tree, words, begin),
-        "refusal" => operations::refused(alloc, tree, words, begin),
-        "apply" => operations::applied(alloc, tree, words, begin),
-        "step" => operations::stepped(alloc, tree, words, begin),
-        "start" => operations::started(alloc, tree, words, begin),
-        "failed_guard" => checks::guarded(alloc, tree, words, begin),
-        "check" => checks::checked(alloc, tree, words, begin),
-        "check_all" => checks::all_checked(alloc, tree, words, begin),
+fn of_tree<H: Hierarchy + Drop>(tree: H, trial: &mut Trial<'_>) -> Ended {
+    match trial.words.next()? {
+        "paths" => trees::paths_given(tree, trial),
+        "pids" => trees::pids_given(tree, trial),
+        "try_clone" => trees::cloned(tree, trial),
+        "add" => trees::added(tree, trial),
+        "add_process" => trees::process_added(tree, trial),
+        "set_place" => trees::process_moved(tree, trial),
+        "readings" => trees::read(tree, trial),
+        "refusal" => operations::refused(tree, trial),
+        "apply" => operations::applied(tree, trial),
+        "step" => operations::stepped(tree, trial),
+        "start" => operations::started(tree, trial),
+        "failed_guard" => checks::guarded(tree, trial),
+        "check" => checks::checked(tree, trial),
+        "check_all" => checks::all_checked(tree, trial),
         _ => Err(Stopped::BadWords),
     }
 }

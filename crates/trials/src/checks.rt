@@ -1,8 +1,8 @@
 //! The checks of subtrees.
-use crate::begin::{Begin, Stopped};
-use crate::lent::reads_alike;
-use crate::said::{Said, text_said};
-use crate::words::Words;
+use crate::begin::Stopped;
+use crate::lent::asked;
+use crate::said::answer_said;
+use crate::trial::{Ended, Trial};
 use cg_cgroup::path::Path;
 use cg_cgroup::user::User;
 use cg_check::{check, check_all};
@@ -12,40 +12,29 @@ use cg_tree::hierarchy::Hierarchy;
 use std::alloc::Global;
 
 /// `failed_guard UID SUBTREE`
-pub fn guarded<H: Hierarchy + Drop>(
-    alloc: Global,
-    tree: H,
-    words: &mut Words<'_>,
-    begin: &mut Begin,
-) -> Result<Said, Stopped> {
-    let user = words.user()?;
-    let subtree = words.path(alloc)?;
+pub fn guarded<H: Hierarchy + Drop>(tree: H, trial: &mut Trial<'_>) -> Ended {
+    let alloc = trial.alloc;
+    let user = trial.words.user()?;
+    let subtree = trial.words.path(alloc)?;
     if subtree.depth() == 0 || tree.get(&subtree, subtree.depth()).is_none() {
         return Err(Stopped::BadWords);
     }
-    begin.begin(alloc)?;
+    trial.begin()?;
     let failed = failed_guard(&tree, &user, &subtree);
-    Ok(text_said(false, true, format!(in alloc; "{failed:?}")?))
+    answer_said(alloc, false, true, &failed)
 }
 
 /// `check UID SUBTREE`
-pub fn checked<H: Hierarchy + Drop>(
-    alloc: Global,
-    tree: H,
-    words: &mut Words<'_>,
-    begin: &mut Begin,
-) -> Result<Said, Stopped> {
-    let user = words.user()?;
-    let subtree = words.path(alloc)?;
-    let copy = tree.try_clone(alloc)?;
-    begin.begin(alloc)?;
-    let mut answered = check(alloc, &tree, &user, &subtree);
-    let wanted = answered == Err(CheckFault::NoMemory);
-    if wanted {
-        answered = check(alloc, &tree, &user, &subtree);
-    }
-    let kept = reads_alike(alloc, &tree, &copy)?;
-    Ok(text_said(wanted, kept, format!(in alloc; "{answered:?}")?))
+pub fn checked<H: Hierarchy + Drop>(tree: H, trial: &mut Trial<'_>) -> Ended {
+    let alloc = trial.alloc;
+    let user = trial.words.user()?;
+    let subtree = trial.words.path(alloc)?;
+    asked(
+        trial,
+        &tree,
+        CheckFault::NoMemory,
+        || check(alloc, &tree, &user, &subtree),
+    )
 }
 
 /// The users and the subtrees of an audit.
@@ -62,20 +51,14 @@ fn audited(alloc: Global, words: &[String]) -> Result<(Vec<User>, Vec<Path>), St
 }
 
 /// `check_all UID .. SUBTREE ..`
-pub fn all_checked<H: Hierarchy + Drop>(
-    alloc: Global,
-    tree: H,
-    words: &mut Words<'_>,
-    begin: &mut Begin,
-) -> Result<Said, Stopped> {
-    let (users, subtrees) = audited(alloc, words.rest())?;
-    let copy = tree.try_clone(alloc)?;
-    begin.begin(alloc)?;
-    let mut answered = check_all(alloc, &tree, users.as_slice(), subtrees.as_slice());
-    let wanted = answered == Err(CheckFault::NoMemory);
-    if wanted {
-        answered = check_all(alloc, &tree, users.as_slice(), subtrees.as_slice());
-    }
-    let kept = reads_alike(alloc, &tree, &copy)?;
-    Ok(text_said(wanted, kept, format!(in alloc; "{answered:?}")?))
+pub fn all_checked<H: Hierarchy + Drop>(tree: H, trial: &mut Trial<'_>) -> Ended {
+    let alloc = trial.alloc;
+    let (users, subtrees) = audited(alloc, trial.words.rest())?;
+    let (users, subtrees) = (users.as_slice(), subtrees.as_slice());
+    asked(
+        trial,
+        &tree,
+        CheckFault::NoMemory,
+        || check_all(alloc, &tree, users, subtrees),
+    )
 }

@@ -1,12 +1,29 @@
-//! Whether a tree reads as another.
+//! What is lent to a call: whether it is then as it was.
+use crate::said::answer_said;
+use crate::trial::{Ended, Trial, answered};
 use cg_cgroup::memory::NoMemory;
 use cg_cgroup::path::Path;
 use cg_cgroup::process::Pid;
 use cg_tree::hierarchy::Hierarchy;
 use std::alloc::Global;
+use std::fmt::Debug;
 
 /// Beyond the PIDs of every tree and row.
 const PIDS: u32 = 100;
+
+/// Asks a tree, which is to stay as it is; `want` is the fault of a call that wants memory.
+pub fn asked<H: Hierarchy + Drop, T: Debug + Drop, E: Debug + Drop + PartialEq>(
+    trial: &mut Trial<'_>,
+    tree: &H,
+    want: E,
+    ask: impl Fn() -> Result<T, E>,
+) -> Ended {
+    let copy = tree.try_clone(trial.alloc)?;
+    trial.begin()?;
+    let (wanted, answer) = answered(want, ask);
+    let kept = reads_alike(trial.alloc, tree, &copy)?;
+    answer_said(trial.alloc, wanted, kept, &answer)
+}
 
 /// Whether two trees read alike: their paths, the cgroups there, their live PIDs, and of the first hundred PIDs and the live
 /// ones the places, owners and whether they were used.

@@ -17,6 +17,7 @@ mod reader;
 mod said;
 mod texts;
 mod trees;
+mod trial;
 mod words;
 
 use begin::{Begin, Stopped};
@@ -27,7 +28,7 @@ use std::io::{Read, Write};
 use std::process::ExitCode;
 use std::rt::Env;
 use std::{env, io};
-use words::Words;
+use trial::{Ended, Trial};
 
 /// The call came to no answer: its words aren't those of a call.
 const BAD_WORDS: u8 = 3;
@@ -40,25 +41,18 @@ fn main(rt: HostRuntime) -> ExitCode {
     if words.is_empty() {
         return ExitCode::from(0);
     }
-    let alloc = rt.alloc();
-    let mut words = Words::new(words.as_slice());
-    let Ok(mut begin) = Begin::new(&mut words) else {
+    let Ok(mut trial) = Trial::new(rt.alloc(), words.as_slice()) else {
         return ExitCode::from(BAD_WORDS);
     };
-    let ended = tried(alloc, rt.stdin(), &mut words, &mut begin);
-    ExitCode::from(told(alloc, &begin, ended, &mut out))
+    let ended = tried(rt.stdin(), &mut trial);
+    ExitCode::from(told(rt.alloc(), &trial.begin, ended, &mut out))
 }
 
 /// Makes the call that the words tell, on the tree that is read.
-fn tried<R: Read + Drop>(
-    alloc: Global,
-    input: R,
-    words: &mut Words<'_>,
-    begin: &mut Begin,
-) -> Result<Said, Stopped> {
-    begin.start(alloc)?;
-    let tree = read_input(alloc, input)?;
-    calls::made(alloc, tree.as_slice(), words, begin)
+fn tried<R: Read + Drop>(input: R, trial: &mut Trial<'_>) -> Ended {
+    trial.begin.start(trial.alloc)?;
+    let tree = read_input(trial.alloc, input)?;
+    calls::made(tree.as_slice(), trial)
 }
 
 fn words_of<R: AllocGlobal + Env>(rt: &R) -> io::Result<Vec<String>> {
@@ -66,7 +60,7 @@ fn words_of<R: AllocGlobal + Env>(rt: &R) -> io::Result<Vec<String>> {
 }
 
 /// Writes how the trial ended, and how many allocations went through at its end.
-fn told<W: Write>(alloc: Global, begin: &Begin, ended: Result<Said, Stopped>, out: &mut W) -> u8 {
+fn told<W: Write>(alloc: Global, begin: &Begin, ended: Ended, out: &mut W) -> u8 {
     match ended {
         Ok(said) => {
             let made = begin.end(alloc);

@@ -1,8 +1,8 @@
 //! Operations on a tree: which refusal each meets, what each changes, and steps of a replay.
-use crate::begin::{Begin, Stopped};
+use crate::begin::Stopped;
 use crate::lent::reads_alike;
-use crate::said::{Said, text_said};
-use crate::words::Words;
+use crate::said::{answer_said, text_said};
+use crate::trial::{Ended, Trial};
 use cg_cgroup::path::Path;
 use cg_cgroup::user::User;
 use cg_lines::lines::read_op;
@@ -18,51 +18,54 @@ pub fn operation(alloc: Global, line: &str) -> Result<Op, Stopped> {
     Ok(read_op(alloc, line.as_bytes())?)
 }
 
-/// Applies all lines but the last, and gives that one's operation.
-fn applied_before<H: Hierarchy>(
+/// Makes the operations of all lines but the last, and gives that one's.
+fn last_of(
     alloc: Global,
-    tree: &mut H,
-    user: &User,
     lines: &[String],
+    mut make: impl FnMut(&Op) -> Result<(), Stopped>,
 ) -> Result<Op, Stopped> {
     let [before @ .., last] = lines else {
         return Err(Stopped::BadWords);
     };
     for line in before {
-        let op = operation(alloc, line.as_str())?;
-        let _ = apply(alloc, tree, user, &op)?;
+        make(&operation(alloc, line.as_str())?)?;
     }
     operation(alloc, last.as_str())
 }
 
-/// `refusal UID LINE ..`, of the last line in the tree that those before leave
-pub fn refused<H: Hierarchy + Drop>(
+/// Applies all lines but the last, and gives that one's operation.
+pub fn applied_before<H: Hierarchy>(
     alloc: Global,
-    mut tree: H,
-    words: &mut Words<'_>,
-    begin: &mut Begin,
-) -> Result<Said, Stopped> {
-    let user = words.user()?;
-    let op = applied_before(alloc, &mut tree, &user, words.rest())?;
+    tree: &mut H,
+    user: &User,
+    lines: &[String],
+) -> Result<Op, Stopped> {
+    last_of(alloc, lines, |op| {
+        let _ = apply(alloc, tree, user, op)?;
+        Ok(())
+    })
+}
+
+/// `refusal UID LINE ..`, of the last line in the tree that those before leave
+pub fn refused<H: Hierarchy + Drop>(mut tree: H, trial: &mut Trial<'_>) -> Ended {
+    let alloc = trial.alloc;
+    let user = trial.words.user()?;
+    let op = applied_before(alloc, &mut tree, &user, trial.words.rest())?;
     let copy = tree.try_clone(alloc)?;
-    begin.begin(alloc)?;
+    trial.begin()?;
     let refusal = refusal(&tree, &user, &op);
     let kept = reads_alike(alloc, &tree, &copy)?;
-    Ok(text_said(false, kept, format!(in alloc; "{refusal:?}")?))
+    answer_said(alloc, false, kept, &refusal)
 }
 
 /// `apply UID LINE ..`, of the last line in the tree that those before leave. At last the tree has to read as one that the
 /// same operation was applied to.
-pub fn applied<H: Hierarchy + Drop>(
-    alloc: Global,
-    mut tree: H,
-    words: &mut Words<'_>,
-    begin: &mut Begin,
-) -> Result<Said, Stopped> {
-    let user = words.user()?;
-    let op = applied_before(alloc, &mut tree, &user, words.rest())?;
+pub fn applied<H: Hierarchy + Drop>(mut tree: H, trial: &mut Trial<'_>) -> Ended {
+    let alloc = trial.alloc;
+    let user = trial.words.user()?;
+    let op = applied_before(alloc, &mut tree, &user, trial.words.rest())?;
     let mut copy = tree.try_clone(alloc)?;
-    begin.begin(alloc)?;
+    trial.begin()?;
     let (wanted, kept, outcome) = match apply(alloc, &mut tree, &user, &op) {
         Ok(outcome) => (false, true, outcome),
         Err(_) => {
@@ -82,34 +85,16 @@ fn outcome_shown(alloc: Global, outcome: Outcome) -> Result<String, Stopped> {
     }
 }
 
-/// Makes a step of each line but the last, and gives that one's operation.
-fn stepped_before<H: Hierarchy + Drop>(
-    alloc: Global,
-    replay: &mut Replay<H>,
-    user: &User,
-    lines: &[String],
-) -> Result<Op, Stopped> {
-    let [before @ .., last] = lines else {
-        return Err(Stopped::BadWords);
-    };
-    for line in before {
-        let op = operation(alloc, line.as_str())?;
-        let _ = replay.step(alloc, user, &op)?;
-    }
-    operation(alloc, last.as_str())
-}
-
 /// `step UID SUBTREE LINE ..`, of the last line behind those before
-pub fn stepped<H: Hierarchy + Drop>(
-    alloc: Global,
-    tree: H,
-    words: &mut Words<'_>,
-    begin: &mut Begin,
-) -> Result<Said, Stopped> {
-    let user = words.user()?;
-    let mut replay = Replay::start(tree, words.path(alloc)?)?;
-    let op = stepped_before(alloc, &mut replay, &user, words.rest())?;
-    begin.begin(alloc)?;
+pub fn stepped<H: Hierarchy + Drop>(tree: H, trial: &mut Trial<'_>) -> Ended {
+    let alloc = trial.alloc;
+    let user = trial.words.user()?;
+    let mut replay = Replay::start(tree, trial.words.path(alloc)?)?;
+    let op = last_of(alloc, trial.words.rest(), |op| {
+        let _ = replay.step(alloc, &user, op)?;
+        Ok(())
+    })?;
+    trial.begin()?;
     let before = replay.verdict();
     let (wanted, kept, outcome) = match replay.step(alloc, &user, &op) {
         Ok(outcome) => (false, true, outcome),
@@ -124,19 +109,15 @@ pub fn stepped<H: Hierarchy + Drop>(
 }
 
 /// `start SUBTREE`
-pub fn started<H: Hierarchy + Drop>(
-    alloc: Global,
-    tree: H,
-    words: &mut Words<'_>,
-    begin: &mut Begin,
-) -> Result<Said, Stopped> {
-    let subtree: Path = words.path(alloc)?;
-    begin.begin(alloc)?;
+pub fn started<H: Hierarchy + Drop>(tree: H, trial: &mut Trial<'_>) -> Ended {
+    let alloc = trial.alloc;
+    let subtree: Path = trial.words.path(alloc)?;
+    trial.begin()?;
     match Replay::start(tree, subtree) {
         Ok(replay) => {
             let verdict = replay.verdict();
-            Ok(text_said(false, true, format!(in alloc; "{verdict:?}")?))
+            answer_said(alloc, false, true, &verdict)
         }
-        Err(fault) => Ok(text_said(false, true, format!(in alloc; "{fault:?}")?)),
+        Err(fault) => answer_said(alloc, false, true, &fault),
     }
 }

@@ -1,58 +1,51 @@
 //! Calls that make paths.
-use crate::begin::{Begin, Stopped};
-use crate::said::{Said, fault_said, text_said, wants_memory};
-use crate::words::Words;
+use crate::said::{fault_said, text_said};
+use crate::trial::{Ended, Trial, answered};
 use cg_cgroup::path::Path;
 use cg_cli::fault::CliFault;
 use std::alloc::Global;
 
-/// What was said where a call gave a path.
+/// Makes a call that gives a path; `is_kept` says whether what was lent to it is as before.
 fn path_said(
-    alloc: Global,
-    wanted: bool,
-    kept: bool,
-    answered: Result<Path, CliFault>,
-) -> Result<Said, Stopped> {
-    match answered {
+    trial: &mut Trial<'_>,
+    make: impl Fn() -> Result<Path, CliFault>,
+    is_kept: impl Fn() -> bool,
+) -> Ended {
+    trial.begin()?;
+    let (wanted, answer) = answered(CliFault::NoMemory, make);
+    match answer {
         Ok(path) => {
-            let text = format!(in alloc; "{} {}", path.depth(), path.prefix(path.depth()))?;
-            Ok(text_said(wanted, kept, text))
+            let text = path.prefix(path.depth());
+            let text = format!(in trial.alloc; "{} {text}", path.depth())?;
+            Ok(text_said(wanted, is_kept(), text))
         }
-        Err(fault) => fault_said(alloc, wanted, kept, &fault),
+        Err(fault) => fault_said(trial.alloc, wanted, is_kept(), &fault),
     }
-}
-
-fn parse(alloc: Global, text: &str) -> Result<Path, CliFault> {
-    Ok(Path::parse(alloc, text)?)
 }
 
 /// `path parse TEXT`
-pub fn parsed(alloc: Global, words: &mut Words<'_>, begin: &mut Begin) -> Result<Said, Stopped> {
-    let text = words.next()?;
-    begin.begin(alloc)?;
-    let mut answered = parse(alloc, text);
-    let wanted = wants_memory(&answered);
-    if wanted {
-        answered = parse(alloc, text);
-    }
-    path_said(alloc, wanted, true, answered)
+pub fn parsed(trial: &mut Trial<'_>) -> Ended {
+    let alloc = trial.alloc;
+    let text = trial.words.next()?;
+    path_said(trial, || Ok(Path::parse(alloc, text)?), || true)
 }
 
-fn clone(alloc: Global, path: &Path) -> Result<Path, CliFault> {
-    Ok(path.try_clone(alloc)?)
+/// Makes a call on the path of a text.
+fn made_of_path(
+    trial: &mut Trial<'_>,
+    text: &str,
+    make: impl Fn(&Path) -> Result<Path, CliFault>,
+) -> Ended {
+    let path = Path::parse(trial.alloc, text)?;
+    let is_kept = || path.prefix(path.depth()) == text;
+    path_said(trial, || make(&path), is_kept)
 }
 
 /// `path try_clone PATH`
-pub fn cloned(alloc: Global, words: &mut Words<'_>, begin: &mut Begin) -> Result<Said, Stopped> {
-    let text = words.next()?;
-    let path = Path::parse(alloc, text)?;
-    begin.begin(alloc)?;
-    let mut answered = clone(alloc, &path);
-    let wanted = wants_memory(&answered);
-    if wanted {
-        answered = clone(alloc, &path);
-    }
-    path_said(alloc, wanted, path.prefix(path.depth()) == text, answered)
+pub fn cloned(trial: &mut Trial<'_>) -> Ended {
+    let alloc = trial.alloc;
+    let text = trial.words.next()?;
+    made_of_path(trial, text, |path| Ok(path.try_clone(alloc)?))
 }
 
 fn prefix(alloc: Global, path: &Path, len: usize) -> Result<Path, CliFault> {
@@ -63,21 +56,11 @@ fn prefix(alloc: Global, path: &Path, len: usize) -> Result<Path, CliFault> {
 }
 
 /// `path try_prefix PATH LEN`
-pub fn prefix_made(
-    alloc: Global,
-    words: &mut Words<'_>,
-    begin: &mut Begin,
-) -> Result<Said, Stopped> {
-    let text = words.next()?;
-    let path = Path::parse(alloc, text)?;
-    let len = words.number()?;
-    begin.begin(alloc)?;
-    let mut answered = prefix(alloc, &path, len);
-    let wanted = wants_memory(&answered);
-    if wanted {
-        answered = prefix(alloc, &path, len);
-    }
-    path_said(alloc, wanted, path.prefix(path.depth()) == text, answered)
+pub fn prefix_made(trial: &mut Trial<'_>) -> Ended {
+    let alloc = trial.alloc;
+    let text = trial.words.next()?;
+    let len = trial.words.number()?;
+    made_of_path(trial, text, |path| prefix(alloc, path, len))
 }
 
 fn child(alloc: Global, path: &Path, len: usize, name: &str) -> Result<Path, CliFault> {
@@ -88,20 +71,10 @@ fn child(alloc: Global, path: &Path, len: usize, name: &str) -> Result<Path, Cli
 }
 
 /// `path with_child PATH LEN NAME`
-pub fn child_made(
-    alloc: Global,
-    words: &mut Words<'_>,
-    begin: &mut Begin,
-) -> Result<Said, Stopped> {
-    let text = words.next()?;
-    let path = Path::parse(alloc, text)?;
-    let len = words.number()?;
-    let name = words.next()?;
-    begin.begin(alloc)?;
-    let mut answered = child(alloc, &path, len, name);
-    let wanted = wants_memory(&answered);
-    if wanted {
-        answered = child(alloc, &path, len, name);
-    }
-    path_said(alloc, wanted, path.prefix(path.depth()) == text, answered)
+pub fn child_made(trial: &mut Trial<'_>) -> Ended {
+    let alloc = trial.alloc;
+    let text = trial.words.next()?;
+    let len = trial.words.number()?;
+    let name = trial.words.next()?;
+    made_of_path(trial, text, |path| child(alloc, path, len, name))
 }

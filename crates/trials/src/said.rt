@@ -2,6 +2,7 @@
 use crate::begin::Stopped;
 use cg_cli::fault::{CliFault, fault_text};
 use std::alloc::Global;
+use std::fmt::Debug;
 
 /// What a call said.
 #[derive(Drop)]
@@ -34,6 +35,16 @@ pub fn fault_said(
         kept,
         text: fault_text(alloc, fault)?,
     })
+}
+
+/// An answer, written as a derived `Debug` does.
+pub fn answer_said<T: Debug>(
+    alloc: Global,
+    wanted: bool,
+    kept: bool,
+    answer: &T,
+) -> Result<Said, Stopped> {
+    Ok(text_said(wanted, kept, format!(in alloc; "{answer:?}")?))
 }
 
 /// A text that was made of an answer.

@@ -1,8 +1,8 @@
 //! Calls of a tree.
-use crate::begin::{Begin, Stopped};
-use crate::lent::reads_alike;
-use crate::said::{Said, text_said};
-use crate::words::Words;
+use crate::begin::Stopped;
+use crate::lent::{asked, reads_alike};
+use crate::said::text_said;
+use crate::trial::{Ended, Trial};
 use cg_cgroup::cgroup::Cgroup;
 use cg_cgroup::files::{Controller, ControllerSet};
 use cg_cgroup::memory::NoMemory;
@@ -39,11 +39,12 @@ fn new_indexed(alloc: Global, root: Cgroup) -> Result<Indexed, NoMemory> {
 }
 
 /// `new rows` and `new indexed`
-pub fn made_new(alloc: Global, words: &mut Words<'_>, begin: &mut Begin) -> Result<Said, Stopped> {
-    let kind = words.next()?;
-    let user = words.user()?;
+pub fn made_new(trial: &mut Trial<'_>) -> Ended {
+    let alloc = trial.alloc;
+    let kind = trial.words.next()?;
+    let user = trial.words.user()?;
     let root = Cgroup::made_by(&user, ControllerSet::none());
-    begin.begin(alloc)?;
+    trial.begin()?;
     match kind {
         "rows" => match new_rows(alloc, root) {
             Ok(tree) => Ok(text_said(false, true, listed(alloc, &tree)?)),
@@ -58,10 +59,11 @@ pub fn made_new(alloc: Global, words: &mut Words<'_>, begin: &mut Begin) -> Resu
 }
 
 /// `from_rows`. The rows are given away, so they are read anew for a second call.
-pub fn made_of_rows(alloc: Global, tree: &[u8], begin: &mut Begin) -> Result<Said, Stopped> {
+pub fn made_of_rows(tree: &[u8], trial: &mut Trial<'_>) -> Ended {
+    let alloc = trial.alloc;
     let rows = read_tree(alloc, tree)?;
     let more = read_tree(alloc, tree)?;
-    begin.begin(alloc)?;
+    trial.begin()?;
     match Indexed::from_rows(alloc, rows) {
         Ok(tree) => Ok(text_said(false, true, listed(alloc, &tree)?)),
         Err(_) => {
@@ -72,51 +74,44 @@ pub fn made_of_rows(alloc: Global, tree: &[u8], begin: &mut Begin) -> Result<Sai
 }
 
 /// `paths`
-pub fn paths_given<H: Hierarchy + Drop>(
-    alloc: Global,
-    tree: H,
-    begin: &mut Begin,
-) -> Result<Said, Stopped> {
-    let copy = tree.try_clone(alloc)?;
-    begin.begin(alloc)?;
-    let (wanted, paths) = match tree.paths(alloc) {
-        Ok(paths) => (false, paths),
-        Err(_) => (true, tree.paths(alloc)?),
-    };
-    let kept = reads_alike(alloc, &tree, &copy)?;
-    Ok(text_said(wanted, kept, format!(in alloc; "{paths:?}")?))
+pub fn paths_given<H: Hierarchy + Drop>(tree: H, trial: &mut Trial<'_>) -> Ended {
+    let alloc = trial.alloc;
+    asked(trial, &tree, NoMemory, || tree.paths(alloc))
 }
 
 /// `pids`
-pub fn pids_given<H: Hierarchy + Drop>(
-    alloc: Global,
-    tree: H,
-    begin: &mut Begin,
-) -> Result<Said, Stopped> {
-    let copy = tree.try_clone(alloc)?;
-    begin.begin(alloc)?;
-    let (wanted, pids) = match tree.pids(alloc) {
-        Ok(pids) => (false, pids),
-        Err(_) => (true, tree.pids(alloc)?),
-    };
-    let kept = reads_alike(alloc, &tree, &copy)?;
-    Ok(text_said(wanted, kept, format!(in alloc; "{pids:?}")?))
+pub fn pids_given<H: Hierarchy + Drop>(tree: H, trial: &mut Trial<'_>) -> Ended {
+    let alloc = trial.alloc;
+    asked(trial, &tree, NoMemory, || tree.pids(alloc))
 }
 
 /// `try_clone`
-pub fn cloned<H: Hierarchy + Drop>(
-    alloc: Global,
-    tree: H,
-    begin: &mut Begin,
-) -> Result<Said, Stopped> {
+pub fn cloned<H: Hierarchy + Drop>(tree: H, trial: &mut Trial<'_>) -> Ended {
+    let alloc = trial.alloc;
     let copy = tree.try_clone(alloc)?;
-    begin.begin(alloc)?;
+    trial.begin()?;
     let (wanted, other) = match tree.try_clone(alloc) {
         Ok(other) => (false, other),
         Err(_) => (true, tree.try_clone(alloc)?),
     };
     let kept = reads_alike(alloc, &tree, &copy)? && reads_alike(alloc, &other, &copy)?;
     Ok(text_said(wanted, kept, listed(alloc, &other)?))
+}
+
+/// Makes a call that changes a tree. Whether it wanted memory first, and whether the tree was then as before.
+fn changed<H: Hierarchy + Drop>(
+    trial: &mut Trial<'_>,
+    tree: &mut H,
+    change: impl Fn(&mut H) -> Result<(), NoMemory>,
+) -> Result<(bool, bool), Stopped> {
+    let copy = tree.try_clone(trial.alloc)?;
+    trial.begin()?;
+    if change(tree).is_ok() {
+        return Ok((false, true));
+    }
+    let kept = reads_alike(trial.alloc, tree, &copy)?;
+    change(tree)?;
+    Ok((true, kept))
 }
 
 /// Adds a cgroup. Nothing is done where it is there, or its parent isn't.
@@ -138,22 +133,13 @@ fn add<H: Hierarchy>(
 }
 
 /// `add UID PATH`
-pub fn added<H: Hierarchy + Drop>(
-    alloc: Global,
-    mut tree: H,
-    words: &mut Words<'_>,
-    begin: &mut Begin,
-) -> Result<Said, Stopped> {
-    let user = words.user()?;
-    let path = words.path(alloc)?;
-    let copy = tree.try_clone(alloc)?;
-    begin.begin(alloc)?;
-    if add(alloc, &mut tree, &path, &user).is_ok() {
-        return Ok(text_said(false, true, listed(alloc, &tree)?));
-    }
-    let kept = reads_alike(alloc, &tree, &copy)?;
-    add(alloc, &mut tree, &path, &user)?;
-    Ok(text_said(true, kept, listed(alloc, &tree)?))
+pub fn added<H: Hierarchy + Drop>(mut tree: H, trial: &mut Trial<'_>) -> Ended {
+    let alloc = trial.alloc;
+    let user = trial.words.user()?;
+    let path = trial.words.path(alloc)?;
+    let change = |tree: &mut H| add(alloc, tree, &path, &user);
+    let (wanted, kept) = changed(trial, &mut tree, change)?;
+    Ok(text_said(wanted, kept, listed(alloc, &tree)?))
 }
 
 /// Whether a process may be placed at a cgroup.
@@ -164,39 +150,28 @@ fn may_hold<H: Hierarchy>(tree: &H, path: &Path) -> bool {
     }
 }
 
-/// Adds a process. Nothing is done where its PID was used, or it may not be placed there.
-fn add_process<H: Hierarchy>(
-    alloc: Global,
-    tree: &mut H,
-    pid: Pid,
-    path: &Path,
-) -> Result<(), NoMemory> {
-    let Some(cgroup) = tree.get(path, path.depth()) else {
-        return Ok(());
-    };
-    if !cgroup.enabled.is_empty() || tree.is_used(pid) {
-        return Ok(());
-    }
-    tree.add_process(alloc, pid, 1000, path)
+/// Makes a call that places a process at a cgroup, which the words tell both.
+fn process_placed<H: Hierarchy + Drop>(
+    mut tree: H,
+    trial: &mut Trial<'_>,
+    place: impl Fn(&mut H, Pid, &Path) -> Result<(), NoMemory>,
+) -> Ended {
+    let pid = trial.words.pid()?;
+    let path = trial.words.path(trial.alloc)?;
+    let change = |tree: &mut H| place(tree, pid, &path);
+    let (wanted, kept) = changed(trial, &mut tree, change)?;
+    Ok(text_said(wanted, kept, placed(trial.alloc, &tree, pid)?))
 }
 
-/// `add_process PID PATH`
-pub fn process_added<H: Hierarchy + Drop>(
-    alloc: Global,
-    mut tree: H,
-    words: &mut Words<'_>,
-    begin: &mut Begin,
-) -> Result<Said, Stopped> {
-    let pid = words.pid()?;
-    let path = words.path(alloc)?;
-    let copy = tree.try_clone(alloc)?;
-    begin.begin(alloc)?;
-    if add_process(alloc, &mut tree, pid, &path).is_ok() {
-        return Ok(text_said(false, true, placed(alloc, &tree, pid)?));
-    }
-    let kept = reads_alike(alloc, &tree, &copy)?;
-    add_process(alloc, &mut tree, pid, &path)?;
-    Ok(text_said(true, kept, placed(alloc, &tree, pid)?))
+/// `add_process PID PATH`: nothing is done where the PID was used, or the process may not be placed there.
+pub fn process_added<H: Hierarchy + Drop>(tree: H, trial: &mut Trial<'_>) -> Ended {
+    let alloc = trial.alloc;
+    process_placed(tree, trial, |tree, pid, path| {
+        if !may_hold(tree, path) || tree.is_used(pid) {
+            return Ok(());
+        }
+        tree.add_process(alloc, pid, 1000, path)
+    })
 }
 
 /// Whose a process is, where it is, and whether its PID was used.
@@ -207,39 +182,15 @@ fn placed<H: Hierarchy>(alloc: Global, tree: &H, pid: Pid) -> Result<String, Sto
     Ok(format!(in alloc; "{owner:?} {place:?} {is_used}")?)
 }
 
-/// Moves a process. Nothing is done where it isn't live, or it may not be placed there.
-fn set_place<H: Hierarchy>(
-    alloc: Global,
-    tree: &mut H,
-    pid: Pid,
-    path: &Path,
-) -> Result<(), NoMemory> {
-    let Some(cgroup) = tree.get(path, path.depth()) else {
-        return Ok(());
-    };
-    if !cgroup.enabled.is_empty() || tree.owner(pid).is_none() {
-        return Ok(());
-    }
-    tree.set_place(alloc, pid, path)
-}
-
-/// `set_place PID PATH`
-pub fn process_moved<H: Hierarchy + Drop>(
-    alloc: Global,
-    mut tree: H,
-    words: &mut Words<'_>,
-    begin: &mut Begin,
-) -> Result<Said, Stopped> {
-    let pid = words.pid()?;
-    let path = words.path(alloc)?;
-    let copy = tree.try_clone(alloc)?;
-    begin.begin(alloc)?;
-    if set_place(alloc, &mut tree, pid, &path).is_ok() {
-        return Ok(text_said(false, true, placed(alloc, &tree, pid)?));
-    }
-    let kept = reads_alike(alloc, &tree, &copy)?;
-    set_place(alloc, &mut tree, pid, &path)?;
-    Ok(text_said(true, kept, placed(alloc, &tree, pid)?))
+/// `set_place PID PATH`: nothing is done where the process isn't live, or may not be placed there.
+pub fn process_moved<H: Hierarchy + Drop>(tree: H, trial: &mut Trial<'_>) -> Ended {
+    let alloc = trial.alloc;
+    process_placed(tree, trial, |tree, pid, path| {
+        if !may_hold(tree, path) || tree.owner(pid).is_none() {
+            return Ok(());
+        }
+        tree.set_place(alloc, pid, path)
+    })
 }
 
 /// What a tree tells of a cgroup and a process without memory.
@@ -288,16 +239,12 @@ fn all_read<H: Hierarchy>(tree: &H, path: &Path, pid: Pid) -> Readings {
 }
 
 /// `readings PATH PID`: what is read before the call is what it has to read.
-pub fn read<H: Hierarchy + Drop>(
-    alloc: Global,
-    tree: H,
-    words: &mut Words<'_>,
-    begin: &mut Begin,
-) -> Result<Said, Stopped> {
-    let path = words.path(alloc)?;
-    let pid = words.pid()?;
+pub fn read<H: Hierarchy + Drop>(tree: H, trial: &mut Trial<'_>) -> Ended {
+    let alloc = trial.alloc;
+    let path = trial.words.path(alloc)?;
+    let pid = trial.words.pid()?;
     let wanted = all_read(&tree, &path, pid);
-    begin.begin(alloc)?;
+    trial.begin()?;
     let read = all_read(&tree, &path, pid);
     let text = format!(in alloc;
         "{:?} {:?} {:?}",

@@ -1,8 +1,7 @@
 //! Owners, modes and values of a cgroup's directory and files.
-use super::{BASE, Parts, READ, cgroup_in, expect, text_of};
+use super::{BASE, Parts, READ, cgroup_of, entry_keys, expect, expect_keys};
 use cg_cgroup::files::{Limit, LimitFile};
 use cg_cgroup::user::Entry;
-use std::alloc::{AllocError, Global};
 use std::test::Fail;
 
 const BAD_VALUE: &str = "fault: tree bad-value cgroup 2";
@@ -11,61 +10,44 @@ const BAD_ENTRY: &str = "fault: tree bad-entry cgroup 2";
 
 const SHAPE: &str = "fault: tree shape cgroup 2";
 
-/// `files` with one file.
-fn one_file(alloc: Global, name: &str, keys: &str) -> Result<String, AllocError> {
-    format!(in alloc; "files = {{ {name} = {{ {keys} }} }}")
-}
+/// A file, a value that a text gives it, and what is said.
+const VALUES: [(&str, &str, &str); 18] = [
+    ("'cpu.weight'", "10000", READ),
+    ("'cpu.weight'", "1", READ),
+    ("'cpu.weight'", "10001", BAD_VALUE),
+    ("'cpu.weight'", "0", BAD_VALUE),
+    ("'cpu.weight'", "-1", BAD_VALUE),
+    ("'cpu.weight'", "'max'", BAD_VALUE),
+    ("'cpu.weight'", "'Max'", BAD_VALUE),
+    (
+        "'cpu.weight'",
+        "9223372036854775808",
+        "fault: tree not-toml",
+    ),
+    ("'cpu.weight'", "1.0", SHAPE),
+    ("'cpu.weight'", "true", SHAPE),
+    ("'cgroup.max.depth'", "9223372036854775807", READ),
+    ("'cgroup.max.depth'", "0", READ),
+    ("'cgroup.max.depth'", "'max'", READ),
+    ("'cgroup.max.depth'", "-1", BAD_VALUE),
+    ("'cgroup.max.depth'", "'Max'", BAD_VALUE),
+    ("'cgroup.max.depth'", "'0'", BAD_VALUE),
+    ("'cgroup.max.depth'", "''", BAD_VALUE),
+    ("'cgroup.max.depth'", "[]", SHAPE),
+];
 
 #[test]
-fn values_of_a_weight(rt: HostRuntime) -> Result<(), Fail> {
-    for (value, line) in [
-        ("10000", READ),
-        ("1", READ),
-        ("10001", BAD_VALUE),
-        ("0", BAD_VALUE),
-        ("-1", BAD_VALUE),
-        ("'max'", BAD_VALUE),
-        ("'Max'", BAD_VALUE),
-        ("9223372036854775808", "fault: tree not-toml"),
-        ("1.0", SHAPE),
-        ("true", SHAPE),
-    ] {
+fn values_of_a_weight_and_of_a_limit(rt: HostRuntime) -> Result<(), Fail> {
+    for (name, value, line) in VALUES {
         let value = format!(in rt.alloc(); "value = {value}")?;
-        let keys = one_file(rt.alloc(), "'cpu.weight'", value.as_str())?;
-        let parts = Parts {
-            keys: keys.as_str(),
-            ..BASE
-        };
-        expect(&rt, rt.alloc(), parts, line)?;
-    }
-    Ok(())
-}
-
-#[test]
-fn values_of_a_limit(rt: HostRuntime) -> Result<(), Fail> {
-    for (value, line) in [
-        ("9223372036854775807", READ),
-        ("0", READ),
-        ("'max'", READ),
-        ("-1", BAD_VALUE),
-        ("'Max'", BAD_VALUE),
-        ("'0'", BAD_VALUE),
-        ("''", BAD_VALUE),
-        ("[]", SHAPE),
-    ] {
-        let value = format!(in rt.alloc(); "value = {value}")?;
-        let keys = one_file(rt.alloc(), "'cgroup.max.depth'", value.as_str())?;
-        let parts = Parts {
-            keys: keys.as_str(),
-            ..BASE
-        };
-        expect(&rt, rt.alloc(), parts, line)?;
+        let keys = entry_keys(rt.alloc(), name, value.as_str())?;
+        expect_keys(&rt, rt.alloc(), keys.as_str(), line)?;
     }
     Ok(())
 }
 
 /// A file and its name, what a text says of it, and its value.
-const VALUES: [(LimitFile, &str, &str, Limit); 5] = [
+const KEPT: [(LimitFile, &str, &str, Limit); 5] = [
     (
         LimitFile::CpuWeight,
         "'cpu.weight'",
@@ -95,16 +77,10 @@ const VALUES: [(LimitFile, &str, &str, Limit); 5] = [
 
 #[test]
 fn a_value_is_kept(rt: HostRuntime) -> Result<(), Fail> {
-    for (file, name, value, wanted) in VALUES {
-        let keys = one_file(rt.alloc(), name, value)?;
-        let text = text_of(
-            rt.alloc(),
-            Parts {
-                keys: keys.as_str(),
-                ..BASE
-            },
-        )?;
-        let cgroup = cgroup_in(rt.alloc(), text.as_str(), "/a")?.ok_or("no /a")?;
+    for (file, name, value, wanted) in KEPT {
+        let keys = entry_keys(rt.alloc(), name, value)?;
+        let keys = keys.as_str();
+        let cgroup = cgroup_of(rt.alloc(), Parts { keys, ..BASE })?;
         assert_eq!(rt; cgroup.limit(file), Some(wanted));
     }
     Ok(())
@@ -129,19 +105,12 @@ fn files_that_may_be_named(rt: HostRuntime) -> Result<(), Fail> {
         ("'cpu.weight'", "uid = 1, mode = 0o600, value = 7", READ),
         ("'cpu.weight'", "owner = 1", SHAPE),
     ] {
-        let keys = one_file(rt.alloc(), name, keys)?;
-        let parts = Parts {
-            keys: keys.as_str(),
-            ..BASE
-        };
-        expect(&rt, rt.alloc(), parts, line)?;
+        let keys = entry_keys(rt.alloc(), name, keys)?;
+        expect_keys(&rt, rt.alloc(), keys.as_str(), line)?;
     }
-    let root = one_file(rt.alloc(), "'cpu.weight'", "")?;
-    let parts = Parts {
-        root: root.as_str(),
-        ..BASE
-    };
-    expect(&rt, rt.alloc(), parts, "fault: tree no-such-file cgroup 1")
+    let root = "files = { 'cpu.weight' = {} }";
+    let line = "fault: tree no-such-file cgroup 1";
+    expect(&rt, rt.alloc(), Parts { root, ..BASE }, line)
 }
 
 #[test]
@@ -161,18 +130,10 @@ fn owners_and_modes(rt: HostRuntime) -> Result<(), Fail> {
         ("uid = 0.0", SHAPE),
         ("gid = 0", SHAPE),
     ] {
-        let keys = format!(in rt.alloc(); "dir = {{ {entry} }}")?;
-        let parts = Parts {
-            keys: keys.as_str(),
-            ..BASE
-        };
-        expect(&rt, rt.alloc(), parts, line)?;
-        let file = one_file(rt.alloc(), "'cpu.weight'", entry)?;
-        let parts = Parts {
-            keys: file.as_str(),
-            ..BASE
-        };
-        expect(&rt, rt.alloc(), parts, line)?;
+        for name in ["dir", "'cpu.weight'"] {
+            let keys = entry_keys(rt.alloc(), name, entry)?;
+            expect_keys(&rt, rt.alloc(), keys.as_str(), line)?;
+        }
     }
     Ok(())
 }
@@ -180,8 +141,7 @@ fn owners_and_modes(rt: HostRuntime) -> Result<(), Fail> {
 #[test]
 fn an_owner_and_a_mode_are_kept(rt: HostRuntime) -> Result<(), Fail> {
     let keys = "dir = { uid = 4294967295, mode = 0o757 }";
-    let text = text_of(rt.alloc(), Parts { keys, ..BASE })?;
-    let cgroup = cgroup_in(rt.alloc(), text.as_str(), "/a")?.ok_or("no /a")?;
+    let cgroup = cgroup_of(rt.alloc(), Parts { keys, ..BASE })?;
     let wanted = Entry {
         uid: 4294967295,
         gid: 0,

@@ -1,43 +1,38 @@
 //! Single migrations: what is said of one, and of arguments that are none's.
 use super::{Asked, expect_line};
-use crate::samples::{DELEGATION, INTERNAL_PROCESS, NO_PARENT, PARENT_DELEGATED};
+use crate::users::MANY_GROUPS;
 use cg_cli::arguments::UserIds;
 use cg_cli::fault::fault_text;
 use cg_cli::may::may_bytes;
 use std::alloc::Global;
 use std::str::from_utf8;
 use std::test::Fail;
+use test_trees::texts::{DELEGATION, INTERNAL_PROCESS, NO_PARENT, PARENT_DELEGATED};
+
+const NO_ACCESS: &str = "refused no-access / cgroup.procs";
+
+const NO_ACCESS_BELOW: &str = "refused no-access /p/s cgroup.procs";
+
+const INTERNAL: &str = "fault: tree internal-process process 1";
+
+/// A tree, a process and where user 1000 moves it, and what is said.
+const MOVES: [(&[u8], u32, &str, &str); 11] = [
+    (DELEGATION, 10, "/", NO_ACCESS),
+    (DELEGATION, 10, "/c0/c00", NO_ACCESS),
+    (DELEGATION, 11, "/c0/c01", "granted"),
+    (DELEGATION, 11, "/c0/c00", "granted"),
+    (DELEGATION, 11, "/c0", "granted"),
+    (DELEGATION, 99, "/c0/c00", "refused no-such-process 99"),
+    (DELEGATION, 11, "/zz", "refused no-such-cgroup /zz"),
+    (PARENT_DELEGATED, 20, "/p", "refused internal-process /p"),
+    (PARENT_DELEGATED, 20, "/p/s", NO_ACCESS_BELOW),
+    (NO_PARENT, 10, "/a", "fault: tree no-parent cgroup 2"),
+    (INTERNAL_PROCESS, 10, "/a", INTERNAL),
+];
 
 #[test]
 fn moves_within_and_over_an_edge(rt: HostRuntime) -> Result<(), Fail> {
-    for (tree, pid, to, line) in [
-        (DELEGATION, 10, "/", "refused no-access / cgroup.procs"),
-        (
-            DELEGATION,
-            10,
-            "/c0/c00",
-            "refused no-access / cgroup.procs",
-        ),
-        (DELEGATION, 11, "/c0/c01", "granted"),
-        (DELEGATION, 11, "/c0/c00", "granted"),
-        (DELEGATION, 11, "/c0", "granted"),
-        (DELEGATION, 99, "/c0/c00", "refused no-such-process 99"),
-        (DELEGATION, 11, "/zz", "refused no-such-cgroup /zz"),
-        (PARENT_DELEGATED, 20, "/p", "refused internal-process /p"),
-        (
-            PARENT_DELEGATED,
-            20,
-            "/p/s",
-            "refused no-access /p/s cgroup.procs",
-        ),
-        (NO_PARENT, 10, "/a", "fault: tree no-parent cgroup 2"),
-        (
-            INTERNAL_PROCESS,
-            10,
-            "/a",
-            "fault: tree internal-process process 1",
-        ),
-    ] {
+    for (tree, pid, to, line) in MOVES {
         let asked = Asked { gids: &[], pid, to };
         expect_line(&rt, rt.alloc(), tree, asked, line)?;
     }
@@ -61,12 +56,11 @@ fn fault_line(
 
 #[test]
 fn arguments_that_are_no_migration(rt: HostRuntime) -> Result<(), Fail> {
-    let gids = [7; 33];
     for (uid, gids, pid, to, line) in [
         (0, [].as_slice(), 11, "/c0/c01", "fault: uid\n"),
-        (0, gids.as_slice(), 0, "c0", "fault: uid\n"),
-        (1000, gids.as_slice(), 0, "c0", "fault: gid\n"),
-        (1000, &gids[..32], 0, "/c0/c01", "fault: pid\n"),
+        (0, MANY_GROUPS, 0, "c0", "fault: uid\n"),
+        (1000, MANY_GROUPS, 0, "c0", "fault: gid\n"),
+        (1000, &MANY_GROUPS[..32], 0, "/c0/c01", "fault: pid\n"),
         (1000, [].as_slice(), 4194304, "c0", "fault: pid\n"),
         (1000, [].as_slice(), 11, "c0", "fault: path\n"),
         (1000, [].as_slice(), 4194303, "", "fault: path\n"),

@@ -1,5 +1,5 @@
 //! Processes of a tree text.
-use super::{Asked, BASE, Parts, READ, TO_A, expect, expect_line, text_of};
+use super::{Asked, BASE, Parts, READ, TO_A, expect_line, expect_rest, text_of};
 use cg_cgroup::process::Pid;
 use cg_text::tree::read_tree;
 use cg_tree::hierarchy::Hierarchy;
@@ -42,11 +42,7 @@ const ALONE: [(&str, &str, &str, &str); 16] = [
 fn processes_alone(rt: HostRuntime) -> Result<(), Fail> {
     for (pid, uid, at, line) in ALONE {
         let rest = process(rt.alloc(), pid, uid, at)?;
-        let parts = Parts {
-            rest: rest.as_str(),
-            ..BASE
-        };
-        expect(&rt, rt.alloc(), parts, line)?;
+        expect_rest(&rt, rt.alloc(), rest.as_str(), line)?;
     }
     Ok(())
 }
@@ -59,12 +55,7 @@ fn keys_that_are_missing(rt: HostRuntime) -> Result<(), Fail> {
         "[[process]]\nuid = 4294967295\nat = '/a'",
         "[[process]]",
     ] {
-        expect(
-            &rt,
-            rt.alloc(),
-            Parts { rest, ..BASE },
-            "fault: tree shape process 1",
-        )?;
+        expect_rest(&rt, rt.alloc(), rest, SHAPE)?;
     }
     Ok(())
 }
@@ -73,27 +64,11 @@ fn keys_that_are_missing(rt: HostRuntime) -> Result<(), Fail> {
 fn a_process_twice(rt: HostRuntime) -> Result<(), Fail> {
     let one = process(rt.alloc(), "4194303", "4294967295", "'/a'")?;
     let rest = format!(in rt.alloc(); "{one}{one}")?;
-    let parts = Parts {
-        rest: rest.as_str(),
-        ..BASE
-    };
-    expect(
-        &rt,
-        rt.alloc(),
-        parts,
-        "fault: tree duplicate-pid process 2",
-    )?;
+    let line = "fault: tree duplicate-pid process 2";
+    expect_rest(&rt, rt.alloc(), rest.as_str(), line)?;
     let other = process(rt.alloc(), "4194302", "4294967295", "'/a'")?;
     let rest = format!(in rt.alloc(); "{one}{other}")?;
-    expect(
-        &rt,
-        rt.alloc(),
-        Parts {
-            rest: rest.as_str(),
-            ..BASE
-        },
-        READ,
-    )
+    expect_rest(&rt, rt.alloc(), rest.as_str(), READ)
 }
 
 #[test]
@@ -103,12 +78,8 @@ fn a_process_where_a_controller_is_enabled(rt: HostRuntime) -> Result<(), Fail> 
         ("'/'", READ),
     ] {
         let rest = process(rt.alloc(), "4194303", "4294967295", at)?;
-        let parts = Parts {
-            keys: "enabled = ['cpu']",
-            rest: rest.as_str(),
-            ..BASE
-        };
-        expect(&rt, rt.alloc(), parts, line)?;
+        let rest = format!(in rt.alloc(); "enabled = ['cpu']\n{rest}")?;
+        expect_rest(&rt, rt.alloc(), rest.as_str(), line)?;
     }
     Ok(())
 }
@@ -117,13 +88,8 @@ fn a_process_where_a_controller_is_enabled(rt: HostRuntime) -> Result<(), Fail> 
 fn a_process_is_kept(rt: HostRuntime) -> Result<(), Fail> {
     let alloc = rt.alloc();
     let rest = process(alloc, "4194303", "4294967295", "'/a'")?;
-    let text = text_of(
-        alloc,
-        Parts {
-            rest: rest.as_str(),
-            ..BASE
-        },
-    )?;
+    let rest = rest.as_str();
+    let text = text_of(alloc, Parts { rest, ..BASE })?;
     let tree = read_tree(alloc, text.as_bytes())?;
     let pid = Pid::new(4194303).ok_or("a PID")?;
     assert_eq!(rt; tree.owner(pid), Some(4294967295));

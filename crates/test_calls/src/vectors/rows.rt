@@ -1,8 +1,13 @@
 //! Paths of cgroups, and what they enable.
-use super::{Asked, BASE, Parts, READ, TO_A, expect, expect_line, repeated, text_of};
+use super::{
+    Asked, BASE, Parts, READ, TO_A, expect, expect_keys, expect_line, expect_path, expect_rest,
+    repeated, text_of,
+};
 use std::alloc::{AllocError, Global};
 use std::process::Abort;
 use std::test::Fail;
+
+const BAD_PATH: &str = "fault: tree bad-path cgroup 2";
 
 #[test]
 fn paths_that_are_none(rt: HostRuntime) -> Result<(), Fail> {
@@ -20,18 +25,13 @@ fn paths_that_are_none(rt: HostRuntime) -> Result<(), Fail> {
         "/\\u007f",
         "/\\n",
     ] {
-        expect(
-            &rt,
-            rt.alloc(),
-            Parts { path, ..BASE },
-            "fault: tree bad-path cgroup 2",
-        )?;
+        expect_path(&rt, rt.alloc(), path, BAD_PATH)?;
     }
     Ok(())
 }
 
 /// Fails where a text that has the path isn't read, or where its cgroup isn't found.
-fn expect_path(rt: &impl Abort, alloc: Global, text: &str, path: &str) -> Result<(), Fail> {
+fn expect_found(rt: &impl Abort, alloc: Global, text: &str, path: &str) -> Result<(), Fail> {
     let asked = Asked { to: path, ..TO_A };
     let line = format!(in alloc; "refused no-access {path} cgroup.procs")?;
     expect_line(rt, alloc, text.as_bytes(), asked, line.as_str())
@@ -45,14 +45,12 @@ fn paths_of_dots_and_escapes(rt: HostRuntime) -> Result<(), Fail> {
         ("/\\u0061!~", "/a!~"),
         ("/cpu.max", "/cpu.max"),
     ] {
-        let text = text_of(
-            rt.alloc(),
-            Parts {
-                path: written,
-                ..BASE
-            },
-        )?;
-        expect_path(&rt, rt.alloc(), text.as_str(), path)?;
+        let parts = Parts {
+            path: written,
+            ..BASE
+        };
+        let text = text_of(rt.alloc(), parts)?;
+        expect_found(&rt, rt.alloc(), text.as_str(), path)?;
     }
     Ok(())
 }
@@ -61,20 +59,14 @@ fn paths_of_dots_and_escapes(rt: HostRuntime) -> Result<(), Fail> {
 fn the_longest_name(rt: HostRuntime) -> Result<(), Fail> {
     let mut path = repeated(rt.alloc(), "n", 254)?;
     path = format!(in rt.alloc(); "/{path}n")?;
-    let text = text_of(
-        rt.alloc(),
-        Parts {
-            path: path.as_str(),
-            ..BASE
-        },
-    )?;
-    expect_path(&rt, rt.alloc(), text.as_str(), path.as_str())?;
-    path.push('n')?;
     let parts = Parts {
         path: path.as_str(),
         ..BASE
     };
-    expect(&rt, rt.alloc(), parts, "fault: tree bad-path cgroup 2")
+    let text = text_of(rt.alloc(), parts)?;
+    expect_found(&rt, rt.alloc(), text.as_str(), path.as_str())?;
+    path.push('n')?;
+    expect_path(&rt, rt.alloc(), path.as_str(), BAD_PATH)
 }
 
 /// A chain of 15 cgroups with names of 255 bytes: the path of the last, and the text with a root above them.
@@ -99,7 +91,7 @@ fn the_longest_path(rt: HostRuntime) -> Result<(), Fail> {
     let path = format!(in rt.alloc(); "{above}/{last}")?;
     assert_eq!(rt; path.len(), 4095);
     let whole = format!(in rt.alloc(); "{text}[[cgroup]]\npath = \"{path}\"\n")?;
-    expect_path(&rt, rt.alloc(), whole.as_str(), path.as_str())?;
+    expect_found(&rt, rt.alloc(), whole.as_str(), path.as_str())?;
     let longer = format!(in rt.alloc(); "{text}[[cgroup]]\npath = \"{path}n\"\n")?;
     let line = "fault: tree bad-path cgroup 17";
     expect_line(&rt, rt.alloc(), longer.as_bytes(), TO_A, line)
@@ -120,7 +112,7 @@ fn rows_that_do_not_go_together(rt: HostRuntime) -> Result<(), Fail> {
             READ,
         ),
     ] {
-        expect(&rt, rt.alloc(), Parts { rest, ..BASE }, line)?;
+        expect_rest(&rt, rt.alloc(), rest, line)?;
     }
     Ok(())
 }
@@ -140,7 +132,7 @@ fn what_cgroups_enable(rt: HostRuntime) -> Result<(), Fail> {
         ("enabled = ['memory']", "fault: tree top-down cgroup 2"),
         ("enabled = ['cpu', 'pids']", "fault: tree top-down cgroup 2"),
     ] {
-        expect(&rt, rt.alloc(), Parts { keys, ..BASE }, line)?;
+        expect_keys(&rt, rt.alloc(), keys, line)?;
     }
     Ok(())
 }

@@ -1,5 +1,5 @@
 //! The top table, the form of the text, and how much it may hold.
-use super::{Asked, BASE, Parts, READ, TO_A, expect, expect_line, repeated, text_of};
+use super::{Asked, BASE, READ, TO_A, expect_keys, expect_line, repeated, text_of};
 use cg_cgroup::process::Pid;
 use cg_text::tree::read_tree;
 use cg_tree::hierarchy::Hierarchy;
@@ -7,6 +7,8 @@ use std::alloc::{AllocError, Global};
 use std::test::Fail;
 
 const SHAPE: &str = "fault: tree shape top";
+
+const TOO_MANY: &str = "fault: tree too-many";
 
 const NO_ROOT: &str = "fault: tree no-root";
 
@@ -68,19 +70,12 @@ fn bytes_that_are_no_document(rt: HostRuntime) -> Result<(), Fail> {
     ] {
         expect_line(&rt, rt.alloc(), text, TO_A, "fault: tree not-toml")?;
     }
-    let parts = Parts {
-        keys: "path = '/a'",
-        ..BASE
-    };
-    expect(&rt, rt.alloc(), parts, "fault: tree not-toml")
+    expect_keys(&rt, rt.alloc(), "path = '/a'", "fault: tree not-toml")
 }
 
 #[test]
 fn rows_of_nothing(rt: HostRuntime) -> Result<(), Fail> {
-    for (count, line) in [
-        (4096, "fault: tree shape cgroup 1"),
-        (4097, "fault: tree too-many"),
-    ] {
+    for (count, line) in [(4096, "fault: tree shape cgroup 1"), (4097, TOO_MANY)] {
         let rows = repeated(rt.alloc(), "[[cgroup]]\n", count)?;
         let text = format!(in rt.alloc(); "format = 1\ncontrollers = []\n{rows}")?;
         expect_line(&rt, rt.alloc(), text.as_bytes(), TO_A, line)?;
@@ -120,13 +115,7 @@ fn the_most_cgroups(rt: HostRuntime) -> Result<(), Fail> {
     let tree = read_tree(rt.alloc(), text.as_bytes())?;
     assert_eq!(rt; tree.paths(rt.alloc())?.len(), 4096);
     let text = with_cgroups(rt.alloc(), 4097)?;
-    expect_line(
-        &rt,
-        rt.alloc(),
-        text.as_bytes(),
-        asked,
-        "fault: tree too-many",
-    )
+    expect_line(&rt, rt.alloc(), text.as_bytes(), asked, TOO_MANY)
 }
 
 #[test]
@@ -138,13 +127,7 @@ fn the_most_processes(rt: HostRuntime) -> Result<(), Fail> {
     assert_eq!(rt; tree.owner(last), Some(1000));
     assert_eq!(rt; tree.pids(rt.alloc())?.len(), 4096);
     let text = with_processes(rt.alloc(), 4097)?;
-    expect_line(
-        &rt,
-        rt.alloc(),
-        text.as_bytes(),
-        TO_A,
-        "fault: tree too-many",
-    )
+    expect_line(&rt, rt.alloc(), text.as_bytes(), TO_A, TOO_MANY)
 }
 
 #[test]
@@ -153,11 +136,6 @@ fn the_longest_text(rt: HostRuntime) -> Result<(), Fail> {
     text.resize(16777216, b'\n')?;
     expect_line(&rt, rt.alloc(), text.as_slice(), TO_A, READ)?;
     text.push(b'\n')?;
-    expect_line(
-        &rt,
-        rt.alloc(),
-        text.as_slice(),
-        TO_A,
-        "fault: tree too-long",
-    )
+    let line = "fault: tree too-long";
+    expect_line(&rt, rt.alloc(), text.as_slice(), TO_A, line)
 }

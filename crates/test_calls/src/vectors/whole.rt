@@ -1,6 +1,4 @@
 //! Whole trees: every cgroup with its owners, modes and values, and every process.
-use super::delegation_with;
-use crate::samples::PARENT_DELEGATED;
 use cg_cgroup::cgroup::{Cgroup, LimitEntry};
 use cg_cgroup::files::{ControllerSet, Limit};
 use cg_cgroup::path::Path;
@@ -13,6 +11,7 @@ use std::alloc::{AllocError, Global};
 use std::process::Abort;
 use std::str::from_utf8;
 use std::test::Fail;
+use test_trees::texts::{DELEGATION, PARENT_DELEGATED};
 
 const MEMORY: ControllerSet = ControllerSet {
     cpu: false,
@@ -136,8 +135,7 @@ fn expect_process(
 #[test]
 fn the_delegation_example(rt: HostRuntime) -> Result<(), Fail> {
     let alloc = rt.alloc();
-    let text = delegation_with(alloc, &[])?;
-    let tree = read_tree(alloc, text.as_bytes())?;
+    let tree = read_tree(alloc, DELEGATION)?;
     let all = ControllerSet {
         cpu: true,
         memory: true,
@@ -174,8 +172,7 @@ fn the_delegation_example(rt: HostRuntime) -> Result<(), Fail> {
 
 #[test]
 fn the_processes_of_the_delegation_example(rt: HostRuntime) -> Result<(), Fail> {
-    let text = delegation_with(rt.alloc(), &[])?;
-    let tree = read_tree(rt.alloc(), text.as_bytes())?;
+    let tree = read_tree(rt.alloc(), DELEGATION)?;
     for (pid, uid, place) in [
         (10, Some(1000), Some("/c1/c10")),
         (11, Some(1000), Some("/c0/c00")),

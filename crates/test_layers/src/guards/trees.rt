@@ -1,4 +1,4 @@
-//! Trees as texts, and the first guard that fails in one.
+//! Trees of texts, and the first guard that fails in one.
 ghost use Rattle.std.specs.Prelude.{◌≡◌, false};
 ghost use Rattle.cg_cgroup.specs.Paths.{is_root};
 
@@ -12,117 +12,35 @@ use cg_text::tree::read_tree;
 use cg_tree::hierarchy::Hierarchy;
 use std::alloc::Global;
 use std::test::Fail;
+use test_trees::changes::changed;
 
-/// User 1000 was handed `/c0` and `/c1`; their limits and the root are of uid 0. There are two cgroups below `/c0`, of four
-/// that its limit allows, and one below `/c1`, with process 10.
-pub const DELEGATION: &str = "
-format = 2
-controllers = [\"cpu\", \"memory\", \"pids\"]
+/// The row of the root, which stands first in every text.
+const ROOT: &str = "path = \"/\"\n";
 
-[[cgroup]]
-path = \"/\"
-enabled = [\"memory\"]
-# root
+/// Others write `cgroup.procs` of the root.
+pub const ROOT_PROCS_OPEN: (&str, &str) = (
+    ROOT,
+    "path = \"/\"\nfiles = { \"cgroup.procs\" = { mode = 0o646 } }\n",
+);
 
-[[cgroup]]
-path = \"/c0\"
-dir = { uid = 1000 }
-[cgroup.files]
-\"cgroup.procs\" = { uid = 1000 }
-\"cgroup.subtree_control\" = { uid = 1000 }
-\"cgroup.max.depth\" = { value = 2 }
-\"cgroup.max.descendants\" = { value = 4 }
-\"memory.max\" = { value = 1073741824 }
+/// User 1000 owns `cgroup.subtree_control` of the root.
+pub const ROOT_CONTROL_OWNED: (&str, &str) = (
+    ROOT,
+    "path = \"/\"\nfiles = { \"cgroup.subtree_control\" = { uid = 1000 } }\n",
+);
 
-[[cgroup]]
-path = \"/c1\"
-dir = { uid = 1000 }
-[cgroup.files]
-\"cgroup.procs\" = { uid = 1000 }
-\"cgroup.subtree_control\" = { uid = 1000 }
+/// User 1000 owns the root's directory.
+pub const ROOT_DIR_OWNED: (&str, &str) = (ROOT, "path = \"/\"\ndir = { uid = 1000 }\n");
 
-[[cgroup]]
-path = \"/c0/c00\"
-dir = { uid = 1000 }
-[cgroup.files]
-\"cgroup.procs\" = { uid = 1000 }
-\"cgroup.subtree_control\" = { uid = 1000 }
-\"cgroup.max.depth\" = { uid = 1000 }
-\"cgroup.max.descendants\" = { uid = 1000 }
+/// User 1000 owns `memory.max` of the first cgroup whose row names it.
+pub const MEMORY_MAX_OWNED: (&str, &str) = ("\"memory.max\" = {", "\"memory.max\" = { uid = 1000,");
 
-[[cgroup]]
-path = \"/c0/c01\"
-dir = { uid = 1000 }
-[cgroup.files]
-\"cgroup.procs\" = { uid = 1000 }
-\"cgroup.subtree_control\" = { uid = 1000 }
+/// The first cgroup with so many descendants at most has room for one alone.
+pub const ROOM_FOR_ONE: (&str, &str) = ("value = 4", "value = 1");
 
-[[cgroup]]
-path = \"/c1/c10\"
-dir = { uid = 1000 }
-[cgroup.files]
-\"cgroup.procs\" = { uid = 1000 }
-\"cgroup.subtree_control\" = { uid = 1000 }
-
-[[process]]
-pid = 10
-uid = 1000
-at = \"/c1/c10\"
-
-[[process]]
-pid = 11
-uid = 1000
-at = \"/c0/c00\"
-";
-
-/// One cgroup below the root.
-pub const SINGLE: &str = "
-format = 2
-controllers = []
-
-[[cgroup]]
-path = \"/\"
-# root
-
-[[cgroup]]
-path = \"/c0\"
-";
-
-/// User 1000 has the `cgroup.procs` of `/p`, which enables memory; process 20 is below it.
-pub const PARENT_DELEGATED: &str = "
-format = 2
-controllers = [\"memory\"]
-
-[[cgroup]]
-path = \"/\"
-enabled = [\"memory\"]
-
-[[cgroup]]
-path = \"/p\"
-enabled = [\"memory\"]
-# parent
-[cgroup.files]
-\"cgroup.procs\" = { uid = 1000 }
-
-[[cgroup]]
-path = \"/p/s\"
-
-[[process]]
-pid = 20
-uid = 1000
-at = \"/p/s\"
-";
-
-/// The tree of a text in which the first of each pair, where it stands first, is changed to the second.
-pub fn tree_with(alloc: Global, text: &str, changes: &[(&str, &str)]) -> Result<Rows, Fail> {
-    let mut text = String::from_str(alloc, text)?;
-    for (old, new) in changes {
-        let (before, after) = text
-            .as_str()
-            .split_once(*old)
-            .ok_or("a part that isn't there")?;
-        text = format!(in alloc; "{before}{new}{after}")?;
-    }
+/// The tree of a text with a change, in the format that has groups.
+pub fn tree_with(alloc: Global, text: &[u8], change: (&str, &str)) -> Result<Rows, Fail> {
+    let text = changed(alloc, text, &[("format = 1", "format = 2"), change])?;
     Ok(read_tree(alloc, text.as_bytes())?)
 }
 

@@ -1,6 +1,4 @@
 //! Random operations on few paths and PIDs, the same ones each time.
-ghost use Rattle.std.specs.Prelude.{◌<◌};
-
 use cg_cgroup::files::{Controller, EntryName, Limit, LimitFile};
 use cg_cgroup::path::{Path, PathFault};
 use cg_cgroup::process::Pid;
@@ -9,41 +7,7 @@ use cg_model::changes::{Change, Changes};
 use cg_model::operation::Op;
 use std::alloc::Global;
 use std::test::Fail;
-
-/// Numbers that follow from a seed.
-#[derive(Drop)]
-pub struct Random {
-    state: u64,
-}
-
-impl Random {
-    /// The numbers of a seed other than 0.
-    pub fn new(seed: u64) -> Random {
-        Random { state: seed }
-    }
-
-    /// The next number, below a bound.
-    pub fn below(&mut self, bound: u64) -> u64
-        requires { 0 < bound }
-        ensures { result < bound }
-    {
-        let mut state = self.state;
-        state ^= state << 13;
-        state ^= state >> 7;
-        state ^= state << 17;
-        self.state = state;
-        state % bound
-    }
-
-    /// One of these values, or another where there is none.
-    fn one_of<T: Copy>(&mut self, values: &[T], otherwise: T) -> T {
-        if values.is_empty() {
-            return otherwise;
-        }
-        let place = self.below(values.len() as u64) as usize;
-        values.get(place).copied().unwrap_or(otherwise)
-    }
-}
+use test_trees::random::Random;
 
 /// The paths that operations are on. Some texts stand between a path's and its children's, and two never are in a tree.
 const PATHS: [&str; 18] = [

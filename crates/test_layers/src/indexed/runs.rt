@@ -1,6 +1,6 @@
 //! Random runs on both kinds of trees.
 use crate::indexed::alike::hold;
-use crate::indexed::random::{PIDS, Random, operation, paths};
+use crate::indexed::random::{PIDS, operation, paths};
 use cg_cgroup::cgroup::Cgroup;
 use cg_cgroup::files::ControllerSet;
 use cg_cgroup::memory::NoMemory;
@@ -16,6 +16,7 @@ use cg_tree::hierarchy::Hierarchy;
 use std::alloc::Global;
 use std::process::Abort;
 use std::test::Fail;
+use test_trees::random::Random;
 
 /// All controllers.
 const ALL: ControllerSet = ControllerSet {

@@ -1,127 +1,96 @@
 //! Each clause, at the start where it can be broken there, and at a later step where it can be broken there.
-use crate::runs::trees::{replay_of, replay_with, verdict_after};
+use crate::runs::trees::{SAME, replay_with, verdict_after};
 use cg_cgroup::process::Pid;
 use cg_model::verdict::{Clause, Verdict};
 use std::test::Fail;
 
+/// What a run is, a change of the tree, the lines of the run, and the step after which a clause is broken, if one is.
+type Run = (
+    &'static str,
+    (&'static str, &'static str),
+    &'static [&'static str],
+    Option<(usize, Clause)>,
+);
+
+const INSIDE: [&str; 6] = [
+    "mkdir /s/b",
+    "move 10 /s/b",
+    "set /s/a cgroup.max.depth 0",
+    "rmdir /s/a",
+    "fork 11 12",
+    "exit 12",
+];
+
+const AND_BACK: [&str; 3] = [
+    "set /s memory.max max",
+    "set /s memory.max 5",
+    "set /s memory.max max",
+];
+
+const NO_DESCENDANTS: (&str, &str) = ("value = 2", "value = 0");
+
+const NO_DEPTH: (&str, &str) = ("value = 1", "value = 0");
+
+const GOING: [&str; 4] = ["exit 10", "rmdir /s/a", "rmdir /s", "mkdir /s"];
+
+const FULL: [&str; 3] = ["mkdir /s/b", "mkdir /s/c", "mkdir /s/b/d"];
+
+const LOW: [&str; 1] = ["set /s cgroup.max.descendants 0"];
+
+const RUNS: [Run; 9] = [
+    ("nothing is done", SAME, &[], None),
+    ("all is done inside", SAME, &INSIDE, None),
+    (
+        "too many at the start",
+        NO_DESCENDANTS,
+        &[],
+        Some((0, Clause::Descendants)),
+    ),
+    (
+        "too deep at the start",
+        NO_DEPTH,
+        &["exit 11"],
+        Some((0, Clause::Depth)),
+    ),
+    ("counts at no later step", SAME, &FULL, None),
+    ("but limits", SAME, &LOW, Some((1, Clause::Limits))),
+    ("it goes", SAME, &GOING, Some((3, Clause::Gone))),
+    (
+        "a limit changes and back",
+        SAME,
+        &AND_BACK,
+        Some((2, Clause::Limits)),
+    ),
+    (
+        "limit files go",
+        SAME,
+        &["control / -memory"],
+        Some((1, Clause::Limits)),
+    ),
+];
+
 #[test]
-fn nothing_is_broken(rt: HostRuntime) -> Result<(), Fail> {
-    let alloc = rt.alloc();
-    assert_eq!(rt;
-        verdict_after(alloc, replay_of(alloc)?, &[])?,
-        Verdict::Kept
-    );
-    let inside = [
-        "mkdir /s/b",
-        "move 10 /s/b",
-        "set /s/a cgroup.max.depth 0",
-        "rmdir /s/a",
-        "fork 11 12",
-        "exit 12",
-    ];
-    assert_eq!(rt;
-        verdict_after(alloc, replay_of(alloc)?, &inside)?,
-        Verdict::Kept
-    );
+fn a_clause_is_broken_or_none(rt: HostRuntime) -> Result<(), Fail> {
+    for (name, change, lines, broken) in RUNS {
+        let replay = replay_with(rt.alloc(), change)?;
+        let wanted = match broken {
+            Some((after, clause)) => Verdict::Broken { after, clause },
+            None => Verdict::Kept,
+        };
+        let verdict = verdict_after(rt.alloc(), replay, lines)?;
+        assert_eq!(rt; verdict, wanted, "{name}");
+    }
     Ok(())
 }
 
 #[test]
-fn counts_at_the_start(rt: HostRuntime) -> Result<(), Fail> {
-    let alloc = rt.alloc();
-    let wide = replay_with(alloc, "value = 2", "value = 0")?;
-    let after = 0;
-    let clause = Clause::Descendants;
-    assert_eq!(rt;
-        verdict_after(alloc, wide, &[])?,
-        Verdict::Broken { after, clause }
-    );
-    let deep = replay_with(alloc, "value = 1", "value = 0")?;
-    let clause = Clause::Depth;
-    assert_eq!(rt;
-        verdict_after(alloc, deep, &["exit 11"])?,
-        Verdict::Broken { after, clause }
-    );
-    Ok(())
-}
-
-#[test]
-fn counts_at_no_later_step(rt: HostRuntime) -> Result<(), Fail> {
-    let alloc = rt.alloc();
-    let full = ["mkdir /s/b", "mkdir /s/c", "mkdir /s/b/d"];
-    assert_eq!(rt;
-        verdict_after(alloc, replay_of(alloc)?, &full)?,
-        Verdict::Kept
-    );
-    let low = ["set /s cgroup.max.descendants 0"];
-    let (after, clause) = (1, Clause::Limits);
-    assert_eq!(rt;
-        verdict_after(alloc, replay_of(alloc)?, &low)?,
-        Verdict::Broken { after, clause }
-    );
-    Ok(())
-}
-
-#[test]
-fn it_goes(rt: HostRuntime) -> Result<(), Fail> {
-    let alloc = rt.alloc();
-    let lines = ["exit 10", "rmdir /s/a", "rmdir /s", "mkdir /s"];
-    let (after, clause) = (3, Clause::Gone);
-    assert_eq!(rt;
-        verdict_after(alloc, replay_of(alloc)?, &lines)?,
-        Verdict::Broken { after, clause }
-    );
-    Ok(())
-}
-
-#[test]
-fn a_process_leaves(rt: HostRuntime) -> Result<(), Fail> {
-    let alloc = rt.alloc();
-    let lines = ["fork 10 20", "move 20 /", "move 20 /s/a"];
-    let after = 2;
-    let clause = Clause::Crossed(Pid::new(20).ok_or("pid")?);
-    assert_eq!(rt;
-        verdict_after(alloc, replay_of(alloc)?, &lines)?,
-        Verdict::Broken { after, clause }
-    );
-    Ok(())
-}
-
-#[test]
-fn a_process_enters(rt: HostRuntime) -> Result<(), Fail> {
-    let alloc = rt.alloc();
-    let after = 1;
-    let clause = Clause::Crossed(Pid::new(11).ok_or("pid")?);
-    assert_eq!(rt;
-        verdict_after(alloc, replay_of(alloc)?, &["move 11 /s/a"])?,
-        Verdict::Broken { after, clause }
-    );
-    Ok(())
-}
-
-#[test]
-fn a_limit_changes_and_back(rt: HostRuntime) -> Result<(), Fail> {
-    let alloc = rt.alloc();
-    let lines = [
-        "set /s memory.max max",
-        "set /s memory.max 5",
-        "set /s memory.max max",
-    ];
-    let (after, clause) = (2, Clause::Limits);
-    assert_eq!(rt;
-        verdict_after(alloc, replay_of(alloc)?, &lines)?,
-        Verdict::Broken { after, clause }
-    );
-    Ok(())
-}
-
-#[test]
-fn limit_files_go(rt: HostRuntime) -> Result<(), Fail> {
-    let alloc = rt.alloc();
-    let (after, clause) = (1, Clause::Limits);
-    assert_eq!(rt;
-        verdict_after(alloc, replay_of(alloc)?, &["control / -memory"])?,
-        Verdict::Broken { after, clause }
-    );
+fn a_process_leaves_or_enters(rt: HostRuntime) -> Result<(), Fail> {
+    let leaving = ["fork 10 20", "move 20 /", "move 20 /s/a"];
+    for (number, lines, after) in [(20, leaving.as_slice(), 2), (11, &["move 11 /s/a"], 1)] {
+        let clause = Clause::Crossed(Pid::new(number).ok_or("pid")?);
+        let replay = replay_with(rt.alloc(), SAME)?;
+        let verdict = verdict_after(rt.alloc(), replay, lines)?;
+        assert_eq!(rt; verdict, Verdict::Broken { after, clause }, "{number}");
+    }
     Ok(())
 }

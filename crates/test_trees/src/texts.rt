@@ -65,7 +65,7 @@ at = \"/c0/c00\"
 ";
 
 /// The same with process 13 at `/c0` itself.
-pub const DELEGATION_AND_PROCESS: &str = "
+pub const DELEGATION_AND_PROCESS: &[u8] = b"
 [[process]]
 pid = 13
 uid = 1000
@@ -94,6 +94,46 @@ path = \"/p/s\"
 pid = 20
 uid = 1000
 at = \"/p/s\"
+";
+
+/// User 1000 has all that the guards of `/s` ask for, and a process on each side of its edge.
+pub const OPEN: &[u8] = b"
+format = 2
+controllers = [\"memory\"]
+
+[[cgroup]]
+path = \"/\"
+dir = { uid = 1000 }
+enabled = [\"memory\"]
+[cgroup.files]
+\"cgroup.procs\" = { uid = 1000 }
+\"cgroup.subtree_control\" = { uid = 1000 }
+
+[[cgroup]]
+path = \"/s\"
+dir = { uid = 1000 }
+[cgroup.files]
+\"cgroup.procs\" = { uid = 1000 }
+\"cgroup.max.descendants\" = { uid = 1000, value = 2 }
+\"cgroup.max.depth\" = { uid = 1000, value = 1 }
+\"memory.max\" = { uid = 1000 }
+
+[[cgroup]]
+path = \"/s/a\"
+dir = { uid = 1000 }
+[cgroup.files]
+\"cgroup.procs\" = { uid = 1000 }
+\"cgroup.max.depth\" = { uid = 1000 }
+
+[[process]]
+pid = 10
+uid = 1000
+at = \"/s/a\"
+
+[[process]]
+pid = 11
+uid = 1000
+at = \"/\"
 ";
 
 /// The parent of `/a/b` isn't there.
