@@ -84,7 +84,7 @@ fn owners_of_their_own_are_told_apart(rt: HostRuntime) -> Result<(), Fail> {
         ),
         (
             &[stranger, member, owner],
-            "pair 1001:51,302 /p2/s\nunsettled common-ancestor /p2\n",
+            "pair 1001 /p2/s\nunsettled common-ancestor /p2\n",
             2,
         ),
     ] {
