@@ -18,7 +18,7 @@ pub enum Tally {
 }
 
 impl Tally {
-    /// A count once it is so.
+    /// What a count becomes by it.
     pub fn of(self, count: u64) -> u64
         ensures { result ≡ tallied self count }
     {

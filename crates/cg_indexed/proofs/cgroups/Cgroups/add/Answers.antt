@@ -52,7 +52,7 @@ put_is c = is_put_new _ c.in_ok-put_new.ensures.ok
 
 pub recount-requires : goal.recount-requires
 recount-requires c =
-    let l = c.self.invariant.placed.within _ c.number-above.result (c.number-above.ensures) in
+    let l = c.self.invariant.placed.within _ c.number-above.result c.number-above.ensures in
     let put = is_put_new _ c.in_ok-put_new.ensures.ok in
     omega (arith, l, c.self.invariant.paired, ap length put.put, put_longer c.self.inside.nodes c.place_for-place.result (new_node c.args.cgroup put.kin))
 
