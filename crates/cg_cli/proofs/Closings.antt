@@ -64,7 +64,8 @@ module _ {first lines : Reporting} (same : first ≡ lines) (ops : List ℕ) (ol
         )
 
     pub close_part : (new : Option (List ℕ)) {text shown : List ℕ} {status : ℕ} → Says course text status → shown ≡ text
-        → AppendsPart mid new shown → (result : Result ℕ CliFault) → IsErrAnd result (λ found. found ≡ Write) → Replays closed lines ops old new result
+        → AppendsPart mid new shown → (result : Result ℕ CliFault) → IsErrAnd result (λ found. found ≡ Write)
+        → Replays closed lines ops old new result
     close_part new {text} {shown} {status} said is_shown part result is =
         handed_on (Replays closed lines ops old new) Write result is
         (subst (AppendsPart old new) (sym (ap (λ (r : Report). r.text) (said_is text status said)))
@@ -93,7 +94,8 @@ module _ {first lines : Reporting} (same : first ≡ lines) (before left old : O
     from_close_whole new said is_shown wrote = (came.0, came.1, close_whole same came.0 old mid course came.2 new said is_shown wrote)
 
     pub from_close_part : (new : Option (List ℕ)) {text shown : List ℕ} {status : ℕ} → Says course text status → shown ≡ text
-        → AppendsPart mid new shown → (result : Result ℕ CliFault) → IsErrAnd result (λ found. found ≡ Write) → ReplaysFrom closed lines before left old new result
+        → AppendsPart mid new shown → (result : Result ℕ CliFault) → IsErrAnd result (λ found. found ≡ Write)
+        → ReplaysFrom closed lines before left old new result
     from_close_part new said is_shown part result is =
         handed_on (ReplaysFrom closed lines before left old new) Write result is
         (came.0, came.1, close_part same came.0 old mid course came.2 new said is_shown part (Err Write) refl)

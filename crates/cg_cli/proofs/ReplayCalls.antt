@@ -146,4 +146,5 @@ module _ (tree : Reading) (uid : ℕ) (gids : List ℕ) (subtree : Option (List 
       → (result : Result ℕ CliFault) → IsErrAnd result (λ found. found ≡ fault) → ReplaysFrom closed lines given given known known result
   user_fault_from given known fault read result handed =
       handed_on (ReplaysFrom closed lines given given known known) fault result handed
-      (not_asked lines given known known (Err fault) (λ ops. user_fault_by ops known fault (nat_eq uid 0) (user_of uid gids) refl (sym read)))
+      (not_asked lines given known known (Err fault)
+      (λ ops. user_fault_by ops known fault (nat_eq uid 0) (user_of uid gids) refl (sym read)))

@@ -11,7 +11,7 @@ use Rattle.std.proofs.BufReadLemmas.{Consumes_shown}
 use Rattle.std.proofs.KnownBytes.{Keeps-refl, Consumes-nil, Consumes-kept, Consumes-trans, Appends-kept, starts_with_rest}
 use Rattle.cg_cli.specs.Reports.{Said}
 use Rattle.cg_cli.specs.Courses.{Course, came_to}
-use Rattle.cg_cli.specs.Replays.{end_read, end_said}
+use Rattle.cg_cli.specs.Replays.{end_read}
 use Rattle.cg_cli.specs.Replaying.{Reporting, whole, AreOf, Replays, ReplaysFrom, coming, goes_on, IsWaiting, Leads, Fed, ReadOn}
 use Rattle.cg_cli.specs.declared.fault.CliFault.{CliFault}
 use Rattle.cg_cli.specs.declared.fault.CliFault.TheVariants.{Read, NoMemory}

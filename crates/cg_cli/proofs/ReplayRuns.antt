@@ -96,20 +96,26 @@ module _ (course : Course) (user : Identity) (done : ℕ) (line piece : List ℕ
 
   -- an answer to a line that is whole: it was begun, and its newline is in the piece
   module _ (held : List ℕ) (is : held ≡ whole) (one_line : All (λ b. is_newline b ≡ false) line)
-      (more : All (λ b. is_newline b ≡ false) (take end piece)) (within : end < length piece) (newline : end < length piece → get_or piece end 0 ≡ 10)
+      (more : All (λ b. is_newline b ≡ false) (take end piece)) (within : end < length piece)
+      (newline : end < length piece → get_or piece end 0 ≡ 10)
       (now : Course) (old new : Option (List ℕ)) where
+    all_one_line : All (λ b. is_newline b ≡ false) whole
+    all_one_line = All-append (λ b. is_newline b ≡ false) line (take end piece) one_line more
+
     pub fed_answer : Answered (operation_read done held) course now user old new (Ok tt) → (left : List ℕ) → left ≡ []
         → Leads (coming course user done line) (coming now user (done + 1) left) (take (end + 1) piece) old new
     fed_answer answered left none =
-        let leads = line_answered (All-append (λ b. is_newline b ≡ false) line (take end piece) one_line more) within (newline within) now old new
+        let leads = line_answered all_one_line within (newline within) now old new
         (subst (λ bytes. Answered (operation_read done bytes) course now user old new (Ok tt)) is answered) in
-        subst (λ l. Leads (coming course user done line) (coming now user (done + 1) l) (take (end + 1) piece) old new) (sym {A = List ℕ} none) leads
+        subst (λ l. Leads (coming course user done line) (coming now user (done + 1) l) (take (end + 1) piece) old new)
+        (sym {A = List ℕ} none) leads
 
     pub fed_fault : (then : Reporting) (fault : CliFault) → Answered (operation_read done held) course now user old new (Err fault)
-        → (result : Result ℕ CliFault) → IsErrAnd result (λ found. found ≡ fault) → Fed (coming course user done line) then piece old new result
+        → (result : Result ℕ CliFault) → IsErrAnd result (λ found. found ≡ fault)
+        → Fed (coming course user done line) then piece old new result
     fed_fault then fault answered result handed =
         handed_on (Fed (coming course user done line) then piece old new) fault result handed
-        (line_failed (All-append (λ b. is_newline b ≡ false) line (take end piece) one_line more) within (newline within) now old new then fault
+        (line_failed all_one_line within (newline within) now old new then fault
         (subst (λ bytes. Answered (operation_read done bytes) course now user old new (Err fault)) is answered))
 
   -- the line is too long

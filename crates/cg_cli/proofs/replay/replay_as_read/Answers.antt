@@ -18,8 +18,8 @@ returns-in_ok-unwatched-in-None-clause-replays g c =
     lines_are (tree_of c.args.tree.now) c.args.user.uid c.args.user.gids.now _
     (ap (option_map (λ text. text.now)) c.in-None.is) c.in_ok-user.user c.in_ok-user.ensures
     _ c.in_ok-unwatched-in-None.ensures
-    (λ lines. Replays closed lines c.args.ops.now (g.W.Write.contents c.args.out.now) (g.W.Write.contents c.slice_closed.new.out) c.slice_closed.result)
-    c.slice_closed.ensures
+    (λ lines. Replays closed lines c.args.ops.now (g.W.Write.contents c.args.out.now)
+    (g.W.Write.contents c.slice_closed.new.out) c.slice_closed.result) c.slice_closed.ensures
 
 pub returns-in_err-watched-in-Some-clause-replays : goal.returns-in_err-watched-in-Some-clause-replays
 returns-in_err-watched-in-Some-clause-replays g c =
@@ -33,8 +33,8 @@ returns-in_ok-watched-in-Some-clause-replays g c =
     lines_are (tree_of c.args.tree.now) c.args.user.uid c.args.user.gids.now _
     (ap (option_map (λ text. text.now)) c.in-Some.is) c.in_ok-user.user c.in_ok-user.ensures
     _ c.in_ok-watched-in-Some.ensures.read
-    (λ lines. Replays closed lines c.args.ops.now (g.W.Write.contents c.args.out.now) (g.W.Write.contents c.slice_closed-in-Some.new.out) c.slice_closed-in-Some.result)
-    c.slice_closed-in-Some.ensures
+    (λ lines. Replays closed lines c.args.ops.now (g.W.Write.contents c.args.out.now)
+    (g.W.Write.contents c.slice_closed-in-Some.new.out) c.slice_closed-in-Some.result) c.slice_closed-in-Some.ensures
 
 pub slice_closed-requires-in-Some : goal.slice_closed-requires-in-Some
 slice_closed-requires-in-Some g c = c.in_ok-watched-in-Some.ensures.made
