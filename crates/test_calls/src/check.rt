@@ -4,7 +4,7 @@ use super::changed::{
     Change, FORMAT_2, GROUP_WRITES, MEMORY_MAX, MEMORY_MAX_OWNED, ROOT, ROOT_PROCS_OPEN,
     ROOT_PROCS_OWNED, TOO_MANY, delegation_with,
 };
-use crate::users::{MANY_GROUPS, USER, user};
+use crate::users::{MANY_GROUPS, MOST_GROUPS, USER, user};
 use cg_cli::fault::{CliFault, fault_text};
 use cg_model::fault::CheckFault;
 use cg_text::tree::{Place, TreeFault};
@@ -167,7 +167,7 @@ fn expect_line(
 
 #[test]
 fn the_first_fault_is_said_and_nothing_written(rt: HostRuntime) -> Result<(), Fail> {
-    let most = &MANY_GROUPS[..32];
+    let most = MOST_GROUPS;
     let root = CliFault::Subtree(CheckFault::RootSubtree);
     let missing = CliFault::Subtree(CheckFault::NoSuchSubtree);
     for (uid, gids, subtree, fault, line) in [

@@ -1,6 +1,6 @@
 //! `may_bytes` on rows worked out by hand, and on faults.
 use super::calls::{Call, expect, expect_fault};
-use crate::users::{MANY_GROUPS, USER, user};
+use crate::users::{MANY_GROUPS, MOST_GROUPS, USER, user};
 use cg_cli::fault::{CliFault, fault_text};
 use cg_text::tree::{Place, TreeFault};
 use std::test::Fail;
@@ -46,7 +46,7 @@ fn moves_are_granted_or_refused(rt: HostRuntime) {
 
 #[test]
 fn the_first_fault_is_said_and_nothing_written(rt: HostRuntime) {
-    let most = &MANY_GROUPS[..32];
+    let most = MOST_GROUPS;
     for (uid, gids, pid, to, fault) in [
         (0, MANY_GROUPS, 0, "c0", CliFault::Uid),
         (1000, MANY_GROUPS, 0, "c0", CliFault::Gids),

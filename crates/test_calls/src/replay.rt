@@ -8,6 +8,7 @@ use cg_cli::replay::{replay_bytes, replay_from};
 use cg_lines::lines::LineFault;
 use cg_model::fault::CheckFault;
 use std::alloc::Global;
+use std::io::BufRead;
 use std::process::Abort;
 use std::test::Fail;
 use test_trees::texts::{DELEGATION, DELEGATION_AND_PROCESS};
@@ -78,46 +79,53 @@ const OF_A_PROCESS: (&str, &str) = (
     "refused internal-process /c0\nok\nok\nrefused internal-process /c0\n",
 );
 
-/// Fails where a replay says or writes something else: over bytes, in pieces of each of some sizes, and of uneven sizes.
-fn expect_replay(
-    rt: &impl Abort,
-    alloc: Global,
-    tree: &[u8],
-    (user, subtree, ops): (UserIds<'_>, Option<&str>, &str),
-    report: &str,
+/// A replay, what it writes and how it ends.
+#[derive(Clone, Copy)]
+struct Replayed<'a> {
+    user: UserIds<'a>,
+    subtree: Option<&'a str>,
+    ops: &'a str,
+    report: &'a str,
     ending: Result<u8, CliFault>,
-) {
-    let mut out = Vec::new(alloc);
-    let ended = replay_bytes(alloc, tree, user, subtree, ops.as_bytes(), &mut out);
-    assert_eq!(rt; ended, ending, "{ops}");
-    assert_eq!(rt; out.as_slice(), report.as_bytes(), "{ops}");
-    for size in [1, 2, 7, 8, 13, 8192] {
+}
+
+impl Replayed<'_> {
+    /// Fails where the operations that a reader gives end otherwise, or where something else is written.
+    fn expect_from<R: BufRead>(&self, rt: &impl Abort, alloc: Global, tree: &[u8], ops: &mut R) {
         let mut out = Vec::new(alloc);
-        let mut pieces = Pieces::new(ops.as_bytes(), size);
-        let ended = replay_from(alloc, tree, user, subtree, &mut pieces, &mut out);
-        assert_eq!(rt; ended, ending, "{ops}");
-        assert_eq!(rt; out.as_slice(), report.as_bytes(), "{ops}");
+        let ended = replay_from(alloc, tree, self.user, self.subtree, ops, &mut out);
+        assert_eq!(rt; ended, self.ending, "{}", self.ops);
+        assert_eq!(rt; out.as_slice(), self.report.as_bytes());
     }
-    for seed in 1..20 {
+
+    /// The same over bytes, in pieces of each of some sizes, and in pieces of uneven sizes.
+    fn expect(&self, rt: &impl Abort, alloc: Global, tree: &[u8]) {
+        let ops = self.ops.as_bytes();
         let mut out = Vec::new(alloc);
-        let rest = ops.as_bytes();
-        let ended = replay_from(
-            alloc,
-            tree,
-            user,
-            subtree,
-            &mut Uneven { rest, seed },
-            &mut out,
-        );
-        assert_eq!(rt;
-            (ended, out.as_slice()),
-            (ending, report.as_bytes()),
-            "{ops}"
-        );
+        let ended = replay_bytes(alloc, tree, self.user, self.subtree, ops, &mut out);
+        assert_eq!(rt; ended, self.ending, "{}", self.ops);
+        assert_eq!(rt; out.as_slice(), self.report.as_bytes());
+        for size in [1, 2, 7, 8, 13, 8192] {
+            self.expect_from(rt, alloc, tree, &mut Pieces::new(ops, size));
+        }
+        for seed in 1..20 {
+            self.expect_from(rt, alloc, tree, &mut Uneven { rest: ops, seed });
+        }
     }
 }
 
-/// The same where `/c0` is watched too, and kept.
+/// A replay of user 1000 where `/c0` is watched.
+fn watched<'a>(ops: &'a str, report: &'a str, ending: Result<u8, CliFault>) -> Replayed<'a> {
+    Replayed {
+        user: USER,
+        subtree: Some("/c0"),
+        ops,
+        report,
+        ending,
+    }
+}
+
+/// Fails where a user's operations are answered otherwise, and where `/c0` is watched too, and not kept.
 fn expect_kept(
     rt: &impl Abort,
     alloc: Global,
@@ -125,10 +133,15 @@ fn expect_kept(
     user: UserIds<'_>,
     (ops, report): (&str, &str),
 ) -> Result<(), Fail> {
-    expect_replay(rt, alloc, tree, (user, None, ops), report, Ok(0));
-    let report = format!(in alloc; "{report}kept\n")?;
-    let watched = (user, Some("/c0"), ops);
-    expect_replay(rt, alloc, tree, watched, report.as_str(), Ok(0));
+    let kept = format!(in alloc; "{report}kept\n")?;
+    for (subtree, report) in [(None, report), (Some("/c0"), kept.as_str())] {
+        let replayed = Replayed {
+            user,
+            subtree,
+            ..watched(ops, report, Ok(0))
+        };
+        replayed.expect(rt, alloc, tree);
+    }
     Ok(())
 }
 
@@ -147,8 +160,11 @@ fn a_line_that_is_none_ends_a_replay(rt: HostRuntime) {
     for (ops, report, number, fault) in CUT_OFF {
         let ending = Err(CliFault::Line { number, fault });
         for subtree in [None, Some("/c0")] {
-            let call = (USER, subtree, ops);
-            expect_replay(&rt, rt.alloc(), DELEGATION, call, report, ending);
+            let replayed = Replayed {
+                subtree,
+                ..watched(ops, report, ending)
+            };
+            replayed.expect(&rt, rt.alloc(), DELEGATION);
         }
     }
 }
@@ -169,8 +185,11 @@ const PARENT_DIRECTORY: &str =
 #[test]
 fn verdicts_stand_behind_the_outcomes(rt: HostRuntime) -> Result<(), Fail> {
     let open = open_delegation(rt.alloc())?;
-    let crossing = (USER, None, "move 14 /c0\n");
-    expect_replay(&rt, rt.alloc(), open.as_bytes(), crossing, "ok\n", Ok(0));
+    let unwatched = Replayed {
+        subtree: None,
+        ..watched("move 14 /c0\n", "ok\n", Ok(0))
+    };
+    unwatched.expect(&rt, rt.alloc(), open.as_bytes());
     let owned = delegation_with(rt.alloc(), &[MEMORY_MAX_OWNED])?;
     let set = "set /c0 memory.max max\nset /c0 memory.max 1073741824\n";
     let full = delegation_with(rt.alloc(), &[TOO_MANY])?;
@@ -184,8 +203,7 @@ fn verdicts_stand_behind_the_outcomes(rt: HostRuntime) -> Result<(), Fail> {
         (owned.as_str(), set, "ok\nok\nbroken 1 limits\n"),
         (full.as_str(), "exit 11\n", "ok\nbroken 0 descendants\n"),
     ] {
-        let watched = (USER, Some("/c0"), ops);
-        expect_replay(&rt, rt.alloc(), tree.as_bytes(), watched, report, Ok(1));
+        watched(ops, report, Ok(1)).expect(&rt, rt.alloc(), tree.as_bytes());
     }
     Ok(())
 }
@@ -197,7 +215,10 @@ fn subtrees_that_cannot_be_watched(rt: HostRuntime) {
         ("/", CliFault::Subtree(CheckFault::RootSubtree)),
         ("/zz", CliFault::Subtree(CheckFault::NoSuchSubtree)),
     ] {
-        let watched = (USER, Some(subtree), "exit 11\n");
-        expect_replay(&rt, rt.alloc(), DELEGATION, watched, "", Err(fault));
+        let refused = Replayed {
+            subtree: Some(subtree),
+            ..watched("exit 11\n", "", Err(fault))
+        };
+        refused.expect(&rt, rt.alloc(), DELEGATION);
     }
 }

@@ -2,7 +2,7 @@
 use super::answers_written::REPLAYS;
 use super::calls::{Call, expect_fault};
 use super::readers::{Again, Pieces};
-use crate::users::{MANY_GROUPS, USER, user};
+use crate::users::{MANY_GROUPS, MOST_GROUPS, USER, user};
 use cg_cli::fault::{CliFault, fault_text};
 use cg_cli::replay::replay_from;
 use cg_lines::lines::LineFault;
@@ -38,7 +38,7 @@ fn a_fault_before_the_lines_leaves_nothing_written(rt: HostRuntime) {
     for (uid, gids, tree, fault) in [
         (0, MANY_GROUPS, b"".as_slice(), CliFault::Uid),
         (1000, MANY_GROUPS, b"".as_slice(), CliFault::Gids),
-        (1000, &MANY_GROUPS[..32], NO_PARENT, no_parent),
+        (1000, MOST_GROUPS, NO_PARENT, no_parent),
     ] {
         let user = user(uid, gids);
         expect_fault(&rt, rt.alloc(), tree, Call::Replay(user, None, b"x"), fault);

@@ -7,7 +7,10 @@ pub const USER: UserIds<'static> = UserIds {
     gids: &[],
 };
 
-/// More groups than a user may have.
+/// As many groups as a user may have.
+pub const MOST_GROUPS: &[u32] = &[7; 32];
+
+/// One more.
 pub const MANY_GROUPS: &[u32] = &[7; 33];
 
 pub fn user(uid: u32, gids: &[u32]) -> UserIds<'_> {

@@ -138,12 +138,17 @@ pub fn expect_path(rt: &impl Abort, alloc: Global, path: &str, line: &str) -> Re
     expect(rt, alloc, Parts { path, ..BASE }, line)
 }
 
-/// What a row says of one entry: `dir`, or a file, quoted.
+/// What a row says of one file, whose name is written as a key.
+pub fn file_keys(alloc: Global, name: &str, keys: &str) -> Result<String, AllocError> {
+    format!(in alloc; "files = {{ {name} = {{ {keys} }} }}")
+}
+
+/// The same of the directory, by the name `dir`, or of a file.
 pub fn entry_keys(alloc: Global, name: &str, keys: &str) -> Result<String, AllocError> {
     if name == "dir" {
         return format!(in alloc; "dir = {{ {keys} }}");
     }
-    format!(in alloc; "files = {{ {name} = {{ {keys} }} }}")
+    file_keys(alloc, name, keys)
 }
 
 /// A text `count` times.

@@ -1,5 +1,5 @@
 //! Owners, modes and values of a cgroup's directory and files.
-use super::{BASE, Parts, READ, cgroup_of, entry_keys, expect, expect_keys};
+use super::{BASE, Parts, READ, cgroup_of, entry_keys, expect, expect_keys, file_keys};
 use cg_cgroup::files::{Limit, LimitFile};
 use cg_cgroup::user::Entry;
 use std::test::Fail;
@@ -7,6 +7,8 @@ use std::test::Fail;
 const BAD_VALUE: &str = "fault: tree bad-value cgroup 2";
 
 const BAD_ENTRY: &str = "fault: tree bad-entry cgroup 2";
+
+const NO_FILE: &str = "fault: tree no-such-file cgroup 2";
 
 const SHAPE: &str = "fault: tree shape cgroup 2";
 
@@ -40,7 +42,7 @@ const VALUES: [(&str, &str, &str); 18] = [
 fn values_of_a_weight_and_of_a_limit(rt: HostRuntime) -> Result<(), Fail> {
     for (name, value, line) in VALUES {
         let value = format!(in rt.alloc(); "value = {value}")?;
-        let keys = entry_keys(rt.alloc(), name, value.as_str())?;
+        let keys = file_keys(rt.alloc(), name, value.as_str())?;
         expect_keys(&rt, rt.alloc(), keys.as_str(), line)?;
     }
     Ok(())
@@ -78,7 +80,7 @@ const KEPT: [(LimitFile, &str, &str, Limit); 5] = [
 #[test]
 fn a_value_is_kept(rt: HostRuntime) -> Result<(), Fail> {
     for (file, name, value, wanted) in KEPT {
-        let keys = entry_keys(rt.alloc(), name, value)?;
+        let keys = file_keys(rt.alloc(), name, value)?;
         let keys = keys.as_str();
         let cgroup = cgroup_of(rt.alloc(), Parts { keys, ..BASE })?;
         assert_eq!(rt; cgroup.limit(file), Some(wanted));
@@ -86,26 +88,25 @@ fn a_value_is_kept(rt: HostRuntime) -> Result<(), Fail> {
     Ok(())
 }
 
+/// A file as a key, what stands in its table, and what is said.
+const NAMES: [(&str, &str, &str); 11] = [
+    ("cpu.weight", "value = 1", SHAPE),
+    ("'cgroup.procs'", "value = 1", SHAPE),
+    ("'cgroup.subtree_control'", "value = 1", SHAPE),
+    ("'cgroup.procs'", "uid = 1, mode = 0o600", READ),
+    ("'cgroup.controllers'", "", SHAPE),
+    ("dir", "", SHAPE),
+    ("'memory.max'", "", NO_FILE),
+    ("'pids.max'", "uid = 1000", NO_FILE),
+    ("'cpu.weight'", "", READ),
+    ("'cpu.weight'", "uid = 1, mode = 0o600, value = 7", READ),
+    ("'cpu.weight'", "owner = 1", SHAPE),
+];
+
 #[test]
 fn files_that_may_be_named(rt: HostRuntime) -> Result<(), Fail> {
-    for (name, keys, line) in [
-        ("cpu.weight", "value = 1", SHAPE),
-        ("'cgroup.procs'", "value = 1", SHAPE),
-        ("'cgroup.subtree_control'", "value = 1", SHAPE),
-        ("'cgroup.procs'", "uid = 1, mode = 0o600", READ),
-        ("'cgroup.controllers'", "", SHAPE),
-        ("dir", "", SHAPE),
-        ("'memory.max'", "", "fault: tree no-such-file cgroup 2"),
-        (
-            "'pids.max'",
-            "uid = 1000",
-            "fault: tree no-such-file cgroup 2",
-        ),
-        ("'cpu.weight'", "", READ),
-        ("'cpu.weight'", "uid = 1, mode = 0o600, value = 7", READ),
-        ("'cpu.weight'", "owner = 1", SHAPE),
-    ] {
-        let keys = entry_keys(rt.alloc(), name, keys)?;
+    for (name, keys, line) in NAMES {
+        let keys = file_keys(rt.alloc(), name, keys)?;
         expect_keys(&rt, rt.alloc(), keys.as_str(), line)?;
     }
     let root = "files = { 'cpu.weight' = {} }";

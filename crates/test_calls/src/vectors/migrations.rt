@@ -1,6 +1,6 @@
 //! Single migrations: what is said of one, and of arguments that are none's.
 use super::{Asked, expect_line};
-use crate::users::MANY_GROUPS;
+use crate::users::{MANY_GROUPS, MOST_GROUPS};
 use cg_cli::arguments::UserIds;
 use cg_cli::fault::fault_text;
 use cg_cli::may::may_bytes;
@@ -60,7 +60,7 @@ fn arguments_that_are_no_migration(rt: HostRuntime) -> Result<(), Fail> {
         (0, [].as_slice(), 11, "/c0/c01", "fault: uid\n"),
         (0, MANY_GROUPS, 0, "c0", "fault: uid\n"),
         (1000, MANY_GROUPS, 0, "c0", "fault: gid\n"),
-        (1000, &MANY_GROUPS[..32], 0, "/c0/c01", "fault: pid\n"),
+        (1000, MOST_GROUPS, 0, "/c0/c01", "fault: pid\n"),
         (1000, [].as_slice(), 4194304, "c0", "fault: pid\n"),
         (1000, [].as_slice(), 11, "c0", "fault: path\n"),
         (1000, [].as_slice(), 4194303, "", "fault: path\n"),

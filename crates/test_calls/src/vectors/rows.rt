@@ -9,25 +9,32 @@ use std::test::Fail;
 
 const BAD_PATH: &str = "fault: tree bad-path cgroup 2";
 
+const BAD_PATHS: [&str; 12] = [
+    "/cgroup.procs",
+    "/a/",
+    "//a",
+    "/.",
+    "/..",
+    "a",
+    "",
+    "/a b",
+    "/\u{e9}",
+    "/a/cpu.weight/b",
+    "/\\u007f",
+    "/\\n",
+];
+
 #[test]
 fn paths_that_are_none(rt: HostRuntime) -> Result<(), Fail> {
-    for path in [
-        "/cgroup.procs",
-        "/a/",
-        "//a",
-        "/.",
-        "/..",
-        "a",
-        "",
-        "/a b",
-        "/\u{e9}",
-        "/a/cpu.weight/b",
-        "/\\u007f",
-        "/\\n",
-    ] {
+    for path in BAD_PATHS {
         expect_path(&rt, rt.alloc(), path, BAD_PATH)?;
     }
     Ok(())
+}
+
+/// The base text with another path of `/a`.
+fn text_with(alloc: Global, path: &str) -> Result<String, AllocError> {
+    text_of(alloc, Parts { path, ..BASE })
 }
 
 /// Fails where a text that has the path isn't read, or where its cgroup isn't found.
@@ -45,11 +52,7 @@ fn paths_of_dots_and_escapes(rt: HostRuntime) -> Result<(), Fail> {
         ("/\\u0061!~", "/a!~"),
         ("/cpu.max", "/cpu.max"),
     ] {
-        let parts = Parts {
-            path: written,
-            ..BASE
-        };
-        let text = text_of(rt.alloc(), parts)?;
+        let text = text_with(rt.alloc(), written)?;
         expect_found(&rt, rt.alloc(), text.as_str(), path)?;
     }
     Ok(())
@@ -59,11 +62,7 @@ fn paths_of_dots_and_escapes(rt: HostRuntime) -> Result<(), Fail> {
 fn the_longest_name(rt: HostRuntime) -> Result<(), Fail> {
     let mut path = repeated(rt.alloc(), "n", 254)?;
     path = format!(in rt.alloc(); "/{path}n")?;
-    let parts = Parts {
-        path: path.as_str(),
-        ..BASE
-    };
-    let text = text_of(rt.alloc(), parts)?;
+    let text = text_with(rt.alloc(), path.as_str())?;
     expect_found(&rt, rt.alloc(), text.as_str(), path.as_str())?;
     path.push('n')?;
     expect_path(&rt, rt.alloc(), path.as_str(), BAD_PATH)
@@ -117,22 +116,24 @@ fn rows_that_do_not_go_together(rt: HostRuntime) -> Result<(), Fail> {
     Ok(())
 }
 
+const BAD_CONTROLLER: &str = "fault: tree bad-controller cgroup 2";
+
+const TOP_DOWN: &str = "fault: tree top-down cgroup 2";
+
 #[test]
 fn what_cgroups_enable(rt: HostRuntime) -> Result<(), Fail> {
-    for (keys, line) in [
-        ("enabled = ['cpu']", READ),
-        ("enabled = ['cpu', 'cpu']", READ),
-        ("enabled = []", READ),
-        ("enabled = ['io']", "fault: tree bad-controller cgroup 2"),
-        ("enabled = ['Cpu']", "fault: tree bad-controller cgroup 2"),
-        (
-            "enabled = ['cpu', '']",
-            "fault: tree bad-controller cgroup 2",
-        ),
-        ("enabled = ['memory']", "fault: tree top-down cgroup 2"),
-        ("enabled = ['cpu', 'pids']", "fault: tree top-down cgroup 2"),
+    for (enabled, line) in [
+        ("['cpu']", READ),
+        ("['cpu', 'cpu']", READ),
+        ("[]", READ),
+        ("['io']", BAD_CONTROLLER),
+        ("['Cpu']", BAD_CONTROLLER),
+        ("['cpu', '']", BAD_CONTROLLER),
+        ("['memory']", TOP_DOWN),
+        ("['cpu', 'pids']", TOP_DOWN),
     ] {
-        expect_keys(&rt, rt.alloc(), keys, line)?;
+        let keys = format!(in rt.alloc(); "enabled = {enabled}")?;
+        expect_keys(&rt, rt.alloc(), keys.as_str(), line)?;
     }
     Ok(())
 }

@@ -112,13 +112,13 @@ fn others_are_reached(rt: HostRuntime) -> Result<(), Fail> {
 fn guards_come_in_order(rt: HostRuntime) -> Result<(), Fail> {
     let user = User::new(1000).ok_or("user")?;
     let guarded = guarded(rt.alloc())?;
-    for (first, (guard, (len, name))) in guarded.iter().enumerate() {
+    for first in 0..guarded.len() {
         let mut entries = Vec::new(rt.alloc());
         for (_, entry) in &guarded[first..] {
             entries.push(*entry)?;
         }
         let tree = tree_of(rt.alloc(), entries.as_slice(), OWNED)?;
-        let (guard, len) = (*guard, *len);
+        let (guard, (len, name)) = guarded[first];
         assert_eq!(rt;
             first_failed(rt.alloc(), tree, &user, "/a/b")?,
             Some(Failed { guard, len }),

@@ -1,6 +1,6 @@
 //! The first guard that fails for user 1000, on trees worked out by hand.
 use crate::guards::trees::{
-    MEMORY_MAX_OWNED, ROOM_FOR_ONE, ROOT_CONTROL_OWNED, ROOT_DIR_OWNED, ROOT_PROCS_OPEN,
+    MEMORY_MAX_OWNED, ROOM_FOR_ONE, ROOT, ROOT_CONTROL_OWNED, ROOT_DIR_OWNED, ROOT_PROCS_OPEN,
     first_failed, tree_with,
 };
 use cg_cgroup::files::LimitFile;
@@ -36,13 +36,13 @@ const SAME: (&str, &str) = ("", "");
 
 /// User 1000 owns `cgroup.procs` of the root, and may not write it.
 const ROOT_PROCS_OWNED: (&str, &str) = (
-    "path = \"/\"\n",
+    ROOT,
     "path = \"/\"\nfiles = { \"cgroup.procs\" = { uid = 1000, mode = 0o446 } }\n",
 );
 
 /// User 1000 owns the root's directory, and may not write it.
 const ROOT_DIR_OWNED_ALONE: (&str, &str) = (
-    "path = \"/\"\n",
+    ROOT,
     "path = \"/\"\ndir = { uid = 1000, mode = 0o555 }\n",
 );
 
@@ -132,7 +132,7 @@ fn groups(rt: HostRuntime) -> Result<(), Fail> {
         let root = format!(in rt.alloc();
             "path = \"/\"\nfiles = {{ \"cgroup.procs\" = {{ {entry} }} }}\n"
         )?;
-        let change = ("path = \"/\"\n", root.as_str());
+        let change = (ROOT, root.as_str());
         expect(&rt, rt.alloc(), DELEGATION, change, gids, "/c0", wanted)?;
     }
     Ok(())

@@ -15,7 +15,7 @@ use std::test::Fail;
 use test_trees::changes::changed;
 
 /// The row of the root, which stands first in every text.
-const ROOT: &str = "path = \"/\"\n";
+pub const ROOT: &str = "path = \"/\"\n";
 
 /// Others write `cgroup.procs` of the root.
 pub const ROOT_PROCS_OPEN: (&str, &str) = (
