@@ -1,5 +1,6 @@
 //! Why a call of this crate gives no status, and the line that says so.
-ghost use Rattle.std.specs.Prelude.{◌≡◌, ◌⊎◌, IfOk, string_bytes};
+ghost use Rattle.std.specs.Prelude.{◌≡◌, ◌≢◌, ◌⊎◌, IfOk, string_bytes};
+ghost use Rattle.std.specs.IoError.{error_kind};
 ghost use Rattle.cg_cli.specs.FaultLines.{fault_line, plain_line, tree_fault_line, tree_fault_parts, subtree_words, operation_fault_line, numbered_line};
 ghost use Rattle.cg_cli.specs.Faults.{lifted, lifted_path, lifted_line, lifted_check};
 ghost use Rattle.cg_cli.specs.declared.fault.CliFault.TheVariants.{Write as WriteFault, NoMemory as MemoryFault};
@@ -120,7 +121,8 @@ impl CliFault {
 
     /// Why a file can't be opened or read.
     pub fn of_read(error: &io::Error) -> CliFault
-        ensures { (result ≡ CliFault.Read) ⊎ (result ≡ CliFault.NoMemory) }
+        ensures { ((result ≡ CliFault.Read) × (error_kind error.now ≢ ErrorKind.OutOfMemory))
+            ⊎ ((result ≡ CliFault.NoMemory) × (error_kind error.now ≡ ErrorKind.OutOfMemory)) }
     {
         if error.kind() == ErrorKind::OutOfMemory {
             CliFault::NoMemory

@@ -1,2 +1,3 @@
 mod BufferedLaws
+mod FaultLaws
 mod RequestLaws

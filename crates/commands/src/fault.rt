@@ -1,6 +1,7 @@
 //! Why the program ends without a command's status.
-ghost use Rattle.std.specs.Prelude.{◌≡◌};
-ghost use Rattle.commands.specs.Faults.{lifted};
+ghost use Rattle.std.specs.Prelude.{◌≡◌, ◌≢◌, ◌⊎◌};
+ghost use Rattle.std.specs.IoError.{error_kind};
+ghost use Rattle.commands.specs.Faults.{lifted, Prints};
 ghost use Rattle.commands.specs.declared.fault.Fault.TheVariants.{Cli};
 ghost use Rattle.cg_cli.specs.declared.fault.CliFault.TheVariants.{NoMemory as MemoryFault};
 
@@ -9,7 +10,7 @@ use cg_cli::fault::{CliFault, fault_text};
 use cg_cli::write::write_whole;
 use std::alloc::{AllocError, Global};
 use std::io;
-use std::io::Write;
+use std::io::{ErrorKind, Write};
 
 /// Why the program ends without a command's status.
 #[derive(Clone, Copy, Debug, PartialEq, Eq)]
@@ -22,8 +23,11 @@ pub enum Fault {
 
 impl Fault {
     /// Why the words of the command line can't be had: words that are no text are none of the program's.
-    pub fn of_words(error: io::Error) -> Fault {
-        if error.kind() == io::ErrorKind::OutOfMemory {
+    pub fn of_words(error: io::Error) -> Fault
+        ensures { ((result ≡ Fault.Usage) × (error_kind error ≢ ErrorKind.OutOfMemory))
+            ⊎ ((result ≡ Cli MemoryFault) × (error_kind error ≡ ErrorKind.OutOfMemory)) }
+    {
+        if error.kind() == ErrorKind::OutOfMemory {
             Fault::Cli(CliFault::NoMemory)
         } else {
             Fault::Usage
@@ -32,7 +36,9 @@ impl Fault {
 
     /// Writes the fault's line, or that of want of memory where there is none for it, and says whether its own was written.
     /// Where even that fails there is nobody left to tell.
-    pub fn print<W: Write>(self, alloc: Global, out: &mut W) -> bool {
+    pub fn print<W: Write>(self, alloc: Global, out: &mut W) -> bool
+        ensures { Prints self (W.contents out.old) (W.contents out.new) result }
+    {
         let fault = match self {
             Fault::Usage => {
                 return write_whole(out, b"fault: usage\n").is_ok();

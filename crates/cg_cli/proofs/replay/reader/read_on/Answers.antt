@@ -1,8 +1,9 @@
-use Rattle.std.proofs.Common.{◌≡◌, length, subst, arith}
+use Rattle.std.proofs.Common.{◌≡◌, ◌⊎◌, length, subst, arith}
 use Rattle.std.proofs.lemmas.Bool.Decides.{nat_tests}
 use Rattle.std.proofs.lemmas.Result.{err_from_is_err_and}
 use Rattle.std.specs.Io.BufRead.{FillKeeps}
 use Rattle.cg_cli.specs.Replaying.{coming}
+use Rattle.cg_cli.specs.declared.fault.CliFault.TheVariants.{Read, NoMemory}
 use Rattle.cg_cli.proofs.ReplayReads.{read_failed, read_end, read_fault, read_some}
 use Rattle.cg_cli.proofs.replay.reader.read_on.Goals as goal
 
@@ -10,8 +11,9 @@ pub returns-in-Err-clause-read : goal.returns-in-Err-clause-read
 returns-in-Err-clause-read g c =
     let run = c.args.run.now in
     let before = coming (g.C.OnCourse.course run.course) run.user run.done run.line.items in
+    let failed : (c.of_read.result ≡ Read) ⊎ (c.of_read.result ≡ NoMemory) = grind arith in
     read_failed before before (g.R.Read.remaining c.args.ops.now) (g.R.Read.remaining c.fill_buf.follows.lender-at-none) (g.W.Write.contents c.args.out.now) c.of_read.result
-    c.of_read.ensures c.fill_buf.follows.holds-at-none.0
+    failed c.fill_buf.follows.holds-at-none.0
 
 pub returns-then-is_empty-clause-read : goal.returns-then-is_empty-clause-read
 returns-then-is_empty-clause-read g c =
