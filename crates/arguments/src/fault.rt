@@ -1,5 +1,7 @@
 //! Why words are no request.
-ghost use Rattle.std.specs.Prelude.{◌≡◌, ◌⊎◌};
+ghost use Rattle.std.specs.Prelude.{◌≡◌, ◌≢◌, ◌⊎◌};
+ghost use Rattle.clap.specs.Values.{kind_of};
+ghost use Rattle.clap.specs.declared.error.kind.ErrorKind.TheVariants.{OutOfMemory};
 ghost use Rattle.arguments.specs.declared.fault.ArgumentsFault.TheVariants.{Usage, NoMemory as MemoryFault};
 
 use clap::error::ErrorKind;
@@ -29,7 +31,8 @@ impl<T: Drop> From<AllocFailed<T>> for ArgumentsFault {
 }
 
 impl From<clap::Error> for ArgumentsFault {
-    ghost from_gives = { λ _ fault. (fault ≡ Usage) ⊎ (fault ≡ MemoryFault) };
+    ghost from_gives = { λ error fault. ((fault ≡ Usage) × (kind_of error ≢ OutOfMemory))
+        ⊎ ((fault ≡ MemoryFault) × (kind_of error ≡ OutOfMemory)) };
 
     fn from(error: clap::Error) -> ArgumentsFault {
         if error.kind() == ErrorKind::OutOfMemory {
