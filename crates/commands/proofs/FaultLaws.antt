@@ -16,5 +16,6 @@ writes_front (Ok done) text old new all part = inl all
 writes_front (Err failed) text old new all part = inr part
 
 pub prints_memory : {E : Type 0} (fault : CliFault) (written : Result (Unit {0}) E) (old new : Option (List ℕ))
-    → OnOk written (Appends old new (fault_line NoMemory)) → OnErr written (AppendsPart old new (fault_line NoMemory)) → Prints (Cli fault) old new false
+    → OnOk written (Appends old new (fault_line NoMemory)) → OnErr written (AppendsPart old new (fault_line NoMemory))
+    → Prints (Cli fault) old new false
 prints_memory fault written old new all part = inr (writes_front written (fault_line NoMemory) old new all part)
