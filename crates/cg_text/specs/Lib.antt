@@ -12,3 +12,5 @@ pub mod TextFaults
 pub mod Readings
 pub mod Tables
 pub mod HasState
+pub mod Keys
+pub mod Rows

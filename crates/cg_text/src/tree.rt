@@ -10,12 +10,15 @@ ghost use Rattle.cg_text.specs.declared.tree.fault.TreeFault.TheVariants.{NotTom
 
 mod document;
 mod fault;
+mod form;
 mod index;
 pub mod laws;
 mod named;
 mod processes;
 mod records;
+mod row;
 mod rows;
+mod said;
 mod state;
 mod together;
 mod written;
