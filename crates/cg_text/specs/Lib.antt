@@ -14,3 +14,4 @@ pub mod Tables
 pub mod HasState
 pub mod Keys
 pub mod Rows
+pub mod Walk

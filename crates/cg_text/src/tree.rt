@@ -21,6 +21,7 @@ mod rows;
 mod said;
 mod state;
 mod together;
+mod walk;
 mod written;
 
 use cg_rows::rows::Rows;
