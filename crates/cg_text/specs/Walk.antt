@@ -1,8 +1,9 @@
 -- How it is read and written: nobody has to believe it.
 -- The reader's walk over rows in the order of their paths: what is above each, and which test it fails. Own.
-use Rattle.std.specs.Prelude.{◌≡◌, ℕ, ◌+◌, ◌≤◌, ◌<◌, nat_lt, nat_eq, Bool, true, false, ◌&&◌, not, cond, List, [], ◌∷◌, ◌++◌, length, take, Option, Some, None, is_some, unwrap_or, find, reverse, last, lookup, codes, slice_index_or, zero, suc}
+use Rattle.std.specs.Prelude.{◌≡◌, ℕ, ◌+◌, ◌≤◌, ◌<◌, nat_lt, nat_eq, Bool, true, false, ◌&&◌, not, cond, List, [], ◌∷◌, ◌++◌, length, take, Option, Some, None, is_some, unwrap_or, find, reverse, codes, slice_index_or, zero, suc}
 use Rattle.std.specs.Option.{option_map}
-use Rattle.std.specs.List.{list_any}
+use Rattle.std.specs.List.{list_any, last_or}
+use Rattle.std.specs.Map.{lookup}
 use Rattle.std.specs.List.Sorted.{IsSortedByKey}
 use Rattle.std.specs.FinMap.{is_sorted}
 use Rattle.toml.specs.Data.{Members}
@@ -85,10 +86,19 @@ lesser (Some least) number = Some (cond (nat_lt least number) least number)
 -- the first fault of the least numbers
 abbrev pub least_fault : Least → Bool → Option TreeFault
 least_fault least has_root =
-    elim least.twice [ Some number ↦ Some (Duplicate (AtCgroup number)) | None ↦ cond has_root
-    (elim least.orphan [ Some number ↦ Some (NoParent (AtCgroup number)) | None ↦
-    elim least.not_within [ Some number ↦ Some (TopDown (AtCgroup number)) | None ↦
-    option_map (λ number. NoSuchFile (AtCgroup number)) least.no_file ] ]) (Some NoRoot) ]
+    elim least.twice [
+      | Some number ↦ Some (Duplicate (AtCgroup number))
+      | None ↦ cond has_root
+          (elim least.orphan [
+            | Some number ↦ Some (NoParent (AtCgroup number))
+            | None ↦
+                elim least.not_within [
+                  | Some number ↦ Some (TopDown (AtCgroup number))
+                  | None ↦
+                      option_map (λ number. NoSuchFile (AtCgroup number)) least.no_file
+                ]
+          ]) (Some NoRoot)
+    ]
 
 -- ---- how far the walk has come
 
@@ -118,7 +128,7 @@ fronts met path = fronts_from 0 (length path + 1) met path
 -- whether the last of these cgroups has a path that is a front of this one and of the last path
 abbrev pub is_front : List Above → List Names → Names → Bool
 is_front [] paths path = false
-is_front (top ∷ []) paths path = elim (last paths) [ None ↦ false | Some other ↦ nat_lt top.len (length path) && inside (take top.len path) other ]
+is_front (top ∷ []) paths path = elim (last_or None paths) [ None ↦ false | Some other ↦ nat_lt top.len (length path) && inside (take top.len path) other ]
 is_front (top ∷ next ∷ above) paths path = is_front (next ∷ above) paths path
 
 abbrev pub has_root : List (Names × Cgroup) → Bool
@@ -155,7 +165,7 @@ pub record IsEntryOf (format : Format) (tables : List Members) (table : Members)
   pub entries : (name : EntryName) (entry : Entry) → entry_in cgroup name ≡ Some entry → entry_said format table name ≡ Some entry
   pub values : (file : LimitFile) (held : LimitEntry) → file_of cgroup file ≡ Some held → value_said table file ≡ Some held.value
   pub files : (path : Names) (above : ControllerSet) → path_said (codes "path") table ≡ Some path → over (Some no_controllers) tables path ≡ Some above
-    → (file : LimitFile) → is_some (file_of cgroup file) ≡ stands_under above file
+      → (file : LimitFile) → is_some (file_of cgroup file) ≡ stands_under above file
 
 -- the entries rise by their paths, and are those of the tables
 pub record AreEntriesOf (format : Format) (tables : List Members) (entries : List (Names × Cgroup)) : Type 0 where

@@ -55,8 +55,9 @@ fn tree_of(alloc: Global, document: &Table) -> Result<Rows, TreeFault>
         (λ fault. fault ≢ TreeFault.NoMemory → first (document_faults (table_view document.now)) ≡ Some fault) }
 {
     let format = in_form(document)?;
-    let controllers = controllers_at(document, "controllers")
-        .ok_or(TreeFault::BadController(Place::Top))?;
+    let controllers = controllers_at(document, "controllers").ok_or(TreeFault::BadController(
+        Place::Top,
+    ))?;
     let rows = rows_of(alloc, format, elements_at(document, "cgroup"))?;
     let cgroups = PathTable::from_sorted(walked(alloc, rows, controllers)?);
     let processes = processes_of(alloc, &cgroups, elements_at(document, "process"))?;

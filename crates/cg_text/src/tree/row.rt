@@ -60,8 +60,9 @@ impl<'a> Entries<'a> {
             EntryName::Dir => Mode::DIRECTORY,
             _ => Mode::FILE,
         };
-        owner_of(self.format, missing.get(), self.table(name))
-            .ok_or(TreeFault::BadEntry(self.place))
+        owner_of(self.format, missing.get(), self.table(name)).ok_or(TreeFault::BadEntry(
+            self.place,
+        ))
     }
 
     fn file(self, file: LimitFile) -> Result<Entry, TreeFault>

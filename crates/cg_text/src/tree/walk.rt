@@ -181,7 +181,11 @@ impl Walk {
             self.least.orphan = lesser(self.least.orphan, row.number);
             return;
         };
-        let available = if row.path.depth() == 0 { controllers } else { over };
+        let available = if row.path.depth() == 0 {
+            controllers
+        } else {
+            over
+        };
         if !row.cgroup.enabled.is_within(&available) {
             self.least.not_within = lesser(self.least.not_within, row.number);
         }
