@@ -1,3 +1,4 @@
+pub mod SaidLaws
 pub mod FaultLaws
 pub mod TreeLaws
 pub mod FoundLaws

@@ -1,6 +1,6 @@
 -- How it is read and written: nobody has to believe it.
 -- The reader's row of a cgroup, held against what the cgroup's table says.
-use Rattle.std.specs.Prelude.{◌≡◌, ℕ, ◌+◌, Bool, ◌||◌, List, [], ◌∷◌, ◌++◌, String, codes, Option, Some, None, is_some, unwrap_or, option_and_then, Unit, Empty}
+use Rattle.std.specs.Prelude.{◌≡◌, ℕ, ◌+◌, Bool, ◌||◌, List, [], ◌∷◌, ◌++◌, String, codes, Option, Some, None, is_some, unwrap_or, option_and_then}
 use Rattle.std.specs.Option.{option_map}
 use Rattle.std.specs.List.{list_all}
 use Rattle.std.specs.Borrow.{Bor}
@@ -64,14 +64,14 @@ entry_faults entries =
     ++ unless (list_all (λ file. is_some (value_in entries file)) all_files) (BadValue entries.place)
 
 -- a cgroup with all files, as these tables and the defaults say
-pub record IsCgroupOf (entries : Entries) (enabled : ControllerSet) (cgroup : Cgroup) : Type 0 where
-  pub enabled : cgroup.enabled ≡ enabled
-  pub entries : (name : EntryName) → entry_in cgroup name ≡ owner_in entries name
-  pub values : (file : LimitFile) → value_at cgroup file ≡ value_in entries file
+pub record IsCgroupOf (said : Entries) (controllers : ControllerSet) (cgroup : Cgroup) : Type 0 where
+  pub enabled : cgroup.enabled ≡ controllers
+  pub entries : (name : EntryName) → entry_in cgroup name ≡ owner_in said name
+  pub values : (file : LimitFile) → value_at cgroup file ≡ value_in said file
 
 -- a row as a table says it
-pub record IsReadAs (format : Format) (number : ℕ) (table : Members) (row : Row) : Type 0 where
-  pub number : row.number ≡ number
+pub record IsReadAs (format : Format) (i : ℕ) (table : Members) (row : Row) : Type 0 where
+  pub number : row.number ≡ i
   pub path : path_said (codes "path") table ≡ Some row.path
   pub enabled : controllers_said (codes "enabled") table ≡ Some row.cgroup.enabled
   pub entries : (name : EntryName) → entry_said format table name ≡ entry_in row.cgroup name
@@ -84,4 +84,4 @@ pub record IsReadAs (format : Format) (number : ℕ) (table : Members) (row : Ro
 abbrev pub AreReadAs : Format → ℕ → List Members → List Row → Type 0
 AreReadAs format i [] [] = Unit {0}
 AreReadAs format i (table ∷ tables) (row ∷ rows) = IsReadAs format i table row × AreReadAs format (i + 1) tables rows
-AreReadAs format i tables rows = Empty {0}
+AreReadAs format i tables rows = ⊥

@@ -1,10 +1,11 @@
 //! The form of a document: the keys of its tables, and the types of what stands at them.
 ghost use Rattle.std.specs.Prelude.{◌≡◌, ◌≤◌, ◌<◌, ◌+◌, length, map};
+ghost use Rattle.std.specs.List.{list_all};
 ghost use Rattle.cg_model.specs.Clauses.{first, unless};
 ghost use Rattle.toml.specs.Data.{table};
 ghost use Rattle.toml.specs.View.{view, table_view};
 ghost use Rattle.cg_text.specs.declared.tree.fault.TreeFault.TheVariants.{Shape};
-ghost use Rattle.cg_text.specs.Form.{are_texts, document_keys, owner_keys, limit_keys, file_keys_of, row_keys, live_keys, is_table};
+ghost use Rattle.cg_text.specs.Form.{is_text, are_texts, document_keys, owner_keys, limit_keys, file_keys_of, row_keys, live_keys, is_table};
 ghost use Rattle.cg_text.specs.TextFaults.{each_cgroup, each_process, form_faults};
 ghost use Rattle.cg_text.specs.TextOf.{IsInForm};
 ghost use Rattle.cg_text.specs.Faults.{Passes};
@@ -27,11 +28,17 @@ pub fn row_number(index: usize) -> u32
     index as u32 + 1
 }
 
+fn are_all_texts(values: &[Value]) -> bool
+    ensures { result ≡ list_all (λ value. is_text (view value)) values.now }
+{
+    values.iter().all(|value| value.is_str())
+}
+
 fn are_texts(value: &Value) -> bool
     ensures { result ≡ are_texts (view value.now) }
 {
     match value {
-        Value::Array(items) => items.iter().all(|item| item.is_str()),
+        Value::Array(items) => are_all_texts(items),
         _ => false,
     }
 }

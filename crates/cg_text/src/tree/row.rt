@@ -44,7 +44,7 @@ struct Entries<'a> {
 
 impl<'a> Entries<'a> {
     fn table(self, name: EntryName) -> Option<&'a Table>
-        ensures { option_map (λ t. table_view t.now) result ≡ table_in self name }
+        ensures { option_map (λ t. table_view t.now) result ≡ table_in self.entry name }
     {
         match name {
             EntryName::Dir => self.dir,
@@ -54,7 +54,7 @@ impl<'a> Entries<'a> {
 
     /// The owner, the group and the mode of an entry.
     fn owner(self, name: EntryName) -> Result<Entry, TreeFault>
-        ensures { result ≡ or_fault (owner_in self name) (BadEntry self.place) }
+        ensures { result ≡ or_fault (owner_in self.entry name) (BadEntry self.entry.place) }
     {
         let missing = match name {
             EntryName::Dir => Mode::DIRECTORY,
@@ -66,14 +66,14 @@ impl<'a> Entries<'a> {
     }
 
     fn file(self, file: LimitFile) -> Result<Entry, TreeFault>
-        ensures { result ≡ or_fault (owner_in self (File file)) (BadEntry self.place) }
+        ensures { result ≡ or_fault (owner_in self.entry (File file)) (BadEntry self.entry.place) }
     {
         self.owner(EntryName::File(file))
     }
 
     /// A limit file of this owner.
     fn held(self, entry: Entry, file: LimitFile) -> Result<LimitEntry, TreeFault>
-        ensures { result ≡ or_fault (option_map (with_value entry) (value_in self file)) (BadValue self.place) }
+        ensures { result ≡ or_fault (option_map (with_value entry) (value_in self.entry file)) (BadValue self.entry.place) }
     {
         match limit_of(file, self.table(EntryName::File(file))) {
             None => Err(TreeFault::BadValue(self.place)),
@@ -82,14 +82,14 @@ impl<'a> Entries<'a> {
     }
 
     fn names(self, file: LimitFile) -> bool
-        ensures { result ≡ is_some (table_in self (File file)) }
+        ensures { result ≡ is_some (table_in self.entry (File file)) }
     {
         self.table(EntryName::File(file)).is_some()
     }
 
     /// The controllers whose files are named.
     fn needed(self) -> ControllerSet
-        ensures { result ≡ needed_by self }
+        ensures { result ≡ needed_by self.entry }
     {
         ControllerSet {
             cpu: self.names(LimitFile::CpuWeight),
@@ -103,7 +103,7 @@ impl<'a> Entries<'a> {
 
     /// The cgroup that has these entries, or the first fault of an entry, and then of a value.
     fn cgroup(self, enabled: ControllerSet) -> Result<Cgroup, TreeFault>
-        ensures { Passes (IsCgroupOf self enabled) (first (entry_faults self)) result }
+        ensures { Passes (IsCgroupOf self.entry enabled) (first (entry_faults self.entry)) result }
     {
         let dir = self.owner(EntryName::Dir)?;
         let procs = self.owner(EntryName::Procs)?;

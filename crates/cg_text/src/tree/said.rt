@@ -1,9 +1,9 @@
 //! What a table says at its keys, as far as it is in range.
-ghost use Rattle.std.specs.Prelude.{◌≡◌, map, Some};
+ghost use Rattle.std.specs.Prelude.{◌≡◌, map, Some, option_and_then};
 ghost use Rattle.std.specs.Option.{option_map, option_copied};
 ghost use Rattle.cg_model.specs.Clauses.{first, absent};
-ghost use Rattle.toml.specs.Data.{get_member};
-ghost use Rattle.toml.specs.View.{view, table_view};
+ghost use Rattle.toml.specs.Data.{get_member, as_array};
+ghost use Rattle.toml.specs.View.{view, array_view, table_view};
 ghost use Rattle.cg_text.specs.Said.{id_read, mode_read, pid_read, controllers_said, elements_at, text_at, integer_at, table_at, format_said, path_said, owner_said, limit_of, limit_said};
 ghost use Rattle.cg_text.specs.Faults.{Passes};
 ghost use Rattle.cg_text.specs.Rows.{written};
@@ -15,34 +15,50 @@ use cg_cgroup::path::{Path, PathFault};
 use cg_cgroup::process::Pid;
 use cg_cgroup::user::Entry;
 use std::alloc::Global;
+use toml::value::Array;
 use toml::{Table, Value};
 
+/// The value at a key.
+fn member<'a>(table: &'a Table, key: &str) -> Option<&'a Value>
+    ensures { option_map (λ v. view v.now) result ≡ get_member key.now (table_view table.now) }
+{
+    table.get(key)
+}
+
+fn array_at<'a>(table: &'a Table, key: &str) -> Option<&'a Array>
+    ensures { option_map (λ items. array_view items.now) result
+        ≡ option_and_then as_array (get_member key.now (table_view table.now)) }
+{
+    member(table, key)?.as_array()
+}
+
 /// The elements of the array at a key, and none where it is left out.
+#[tactic(auto, using(crate::proofs::SaidLaws::elements_view))]
 pub fn elements_at<'a>(table: &'a Table, key: &str) -> &'a [Value]
     ensures { map view result.now ≡ elements_at key.now (table_view table.now) }
 {
-    match table.get(key) {
-        Some(Value::Array(items)) => items.as_slice(),
-        _ => &[],
+    match array_at(table, key) {
+        None => &[],
+        Some(items) => items.as_slice(),
     }
 }
 
 pub fn text_at<'a>(table: &'a Table, key: &str) -> Option<&'a str>
     ensures { option_copied result ≡ text_at key.now (table_view table.now) }
 {
-    table.get(key)?.as_str()
+    member(table, key)?.as_str()
 }
 
 pub fn integer_at(table: &Table, key: &str) -> Option<i64>
     ensures { result ≡ integer_at key.now (table_view table.now) }
 {
-    table.get(key)?.as_integer()
+    member(table, key)?.as_integer()
 }
 
 pub fn table_at<'a>(table: &'a Table, key: &str) -> Option<&'a Table>
     ensures { option_map (λ t. table_view t.now) result ≡ table_at key.now (table_view table.now) }
 {
-    table.get(key)?.as_table()
+    member(table, key)?.as_table()
 }
 
 pub fn format_at(document: &Table) -> Option<Format>
@@ -59,8 +75,9 @@ pub fn format_at(document: &Table) -> Option<Format>
 pub fn controllers_at(table: &Table, key: &str) -> Option<ControllerSet>
     ensures { result ≡ controllers_said key.now (table_view table.now) }
 {
+    let elements = elements_at(table, key);
     let mut controllers = ControllerSet::none();
-    for element in elements_at(table, key) {
+    for element in elements {
         if let Some(text) = element.as_str() {
             controllers = controllers.with(Controller::from_name(text)?, true);
         }
@@ -115,14 +132,14 @@ pub fn pid_read(written: i64) -> Option<Pid>
 
 /// The integer at a key of a table that may be left out.
 fn number_at(table: Option<&Table>, key: &str) -> Option<i64>
-    ensures { result ≡ integer_at key.now (written table) }
+    ensures { result ≡ integer_at key.now (written table.entry) }
 {
     integer_at(table?, key)
 }
 
 /// The owner, the group and the mode of an entry, as its table says them.
 pub fn owner_of(format: Format, missing: u16, table: Option<&Table>) -> Option<Entry>
-    ensures { result ≡ owner_said format missing (written table) }
+    ensures { result ≡ owner_said format missing (written table.entry) }
 {
     let uid = id_read(number_at(table, "uid"))?;
     let gid = id_read(number_at(table, "gid"))?;
@@ -143,7 +160,7 @@ fn limit_read(value: &Value) -> Option<Limit>
 
 /// The value of a limit file, as its table says it. `None` where the file doesn't accept it.
 pub fn limit_of(file: LimitFile, table: Option<&Table>) -> Option<Limit>
-    ensures { result ≡ limit_said file (written table) }
+    ensures { result ≡ limit_said file (written table.entry) }
 {
     let Some(value) = member_of(table, "value") else {
         return Some(file.default_value());
@@ -158,7 +175,7 @@ pub fn limit_of(file: LimitFile, table: Option<&Table>) -> Option<Limit>
 
 /// What stands at a key of a table that may be left out.
 fn member_of<'a>(table: Option<&'a Table>, key: &str) -> Option<&'a Value>
-    ensures { option_map (λ v. view v.now) result ≡ get_member key.now (written table) }
+    ensures { option_map (λ v. view v.now) result ≡ get_member key.now (written table.entry) }
 {
-    table?.get(key)
+    member(table?, key)
 }
