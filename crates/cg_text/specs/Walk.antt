@@ -1,8 +1,8 @@
 -- How it is read and written: nobody has to believe it.
 -- The reader's walk over rows in the order of their paths: what is above each, and which test it fails. Own.
-use Rattle.std.specs.Prelude.{◌≡◌, ℕ, ◌+◌, ◌≤◌, ◌<◌, nat_lt, nat_eq, Bool, true, false, ◌&&◌, not, cond, List, [], ◌∷◌, ◌++◌, length, take, Option, Some, None, is_some, unwrap_or, find, reverse, codes, slice_index_or, zero, suc}
+use Rattle.std.specs.Prelude.{◌≡◌, ℕ, ◌+◌, ◌-◌, option_and_then, ◌≤◌, ◌<◌, nat_lt, nat_eq, Bool, true, false, ◌&&◌, not, cond, List, [], ◌∷◌, ◌++◌, length, take, Option, Some, None, is_some, unwrap_or, find, reverse, codes, slice_get, slice_index_or, zero, suc}
 use Rattle.std.specs.Option.{option_map}
-use Rattle.std.specs.List.{list_any, last_or}
+use Rattle.std.specs.List.{list_any}
 use Rattle.std.specs.Map.{lookup}
 use Rattle.std.specs.List.Sorted.{IsSortedByKey}
 use Rattle.std.specs.FinMap.{is_sorted}
@@ -102,15 +102,13 @@ least_fault least has_root =
 
 -- ---- how far the walk has come
 
--- what the last of these cgroups enables, where it is the parent of a path of so many names
-abbrev pub top_at : List Above → ℕ → Option ControllerSet
-top_at [] len = None
-top_at (top ∷ []) len = cond (nat_eq (top.len + 1) len) (Some top.enabled) None
-top_at (top ∷ next ∷ above) len = top_at (next ∷ above) len
+abbrev pub last_of : {A : Type 0} → List A → Option A
+last_of xs = slice_get xs (length xs - 1)
 
--- what is enabled over a path of so many names; nothing is over the root
+-- what the last of these cgroups enables, where it is the parent of a path of so many names; nothing is over the root
 abbrev pub over_at : List Above → ℕ → Option ControllerSet
-over_at above len = cond (nat_eq len 0) (Some no_controllers) (top_at above len)
+over_at above len =
+    cond (nat_eq len 0) (Some no_controllers) (option_and_then (λ (top : Above). cond (nat_eq top.len (len - 1)) (Some top.enabled) None) (last_of above))
 
 -- the fronts of a path that were met, from the root down, each with what it enables: those of at least so many names, and of so many more at most
 abbrev pub fronts_from : ℕ → ℕ → List Row → Names → List Above
@@ -127,13 +125,11 @@ fronts met path = fronts_from 0 (length path + 1) met path
 
 -- whether the last of these cgroups has a path that is a front of this one and of the last path
 abbrev pub is_front : List Above → List Names → Names → Bool
-is_front [] paths path = false
-is_front (top ∷ []) paths path = elim (last_or None paths) [ None ↦ false | Some other ↦ nat_lt top.len (length path) && inside (take top.len path) other ]
-is_front (top ∷ next ∷ above) paths path = is_front (next ∷ above) paths path
+is_front above paths path =
+    elim (last_of above) [ None ↦ false | Some top ↦ elim (last_of paths) [ None ↦ false | Some other ↦ nat_lt top.len (length path) && inside (take top.len path) other ] ]
 
 abbrev pub has_root : List (Names × Cgroup) → Bool
-has_root [] = false
-has_root (entry ∷ entries) = is_root entry.0
+has_root entries = elim (slice_get entries 0) [ None ↦ false | Some entry ↦ is_root entry.0 ]
 
 -- For each test the number is kept of the first row in the text that fails it.
 pub record HasTested (controllers : ControllerSet) (met : List Row) (least : Least) : Type 0 where

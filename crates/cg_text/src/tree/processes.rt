@@ -10,11 +10,12 @@ ghost use Rattle.cg_model.specs.Clauses.{first};
 ghost use Rattle.cg_text.specs.Said.{pid_said, uid_said, path_said};
 ghost use Rattle.cg_text.specs.TextFaults.{each_process, process_faults};
 ghost use Rattle.cg_text.specs.Faults.{Passes};
-ghost use Rattle.cg_text.specs.Live.{IsAmong, AreEarlier, IsLive, AreLive, place_faults};
+ghost use Rattle.cg_text.specs.Live.{IsAmong, AreEarlier, IsLive, AreLive, AreProcesses, place_faults};
 
 use crate::tree::fault::{Place, TreeFault};
 use crate::tree::form::row_number;
 use crate::tree::said::{id_read, integer_at, path_at, pid_read};
+use crate::tree::walk::is_root;
 use cg_cgroup::cgroup::Cgroup;
 use cg_cgroup::path::Path;
 use cg_cgroup::process::{Pid, Process};
@@ -51,7 +52,7 @@ fn place_of(
     let Some(cgroup) = cgroups.get(&at, at.depth()) else {
         return Err(nowhere);
     };
-    if at.depth() > 0 && !cgroup.enabled.is_empty() {
+    if !is_root(&at) && !cgroup.enabled.is_empty() {
         return Err(TreeFault::InternalProcess(place));
     }
     Ok(at)

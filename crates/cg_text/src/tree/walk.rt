@@ -2,7 +2,7 @@
 ghost use Rattle.std.specs.Prelude.{◌≡◌, List, [], ◌∷◌, ◌++◌, map, Some, None, cond, IfOk, OnOk};
 ghost use Rattle.std.specs.List.Sorted.{IsPermutation, IsStableByKey};
 ghost use Rattle.toml.specs.Data.{Members};
-ghost use Rattle.cg_cgroup.specs.Paths.{path_cmp};
+ghost use Rattle.cg_cgroup.specs.Paths.{path_cmp, is_root};
 ghost use Rattle.cg_cgroup.specs.Files.{no_controllers, stands_under};
 ghost use Rattle.cg_cgroup.specs.declared.files.ControllerSet.{ControllerSet};
 ghost use Rattle.cg_model.specs.Clauses.{first};
@@ -66,6 +66,12 @@ impl Least {
     }
 }
 
+pub fn is_root(path: &Path) -> bool
+    ensures { result ≡ is_root path.now }
+{
+    path.depth() == 0
+}
+
 fn lesser(least: Option<u32>, number: u32) -> Option<u32>
     ensures { result ≡ lesser least number }
 {
@@ -83,7 +89,7 @@ fn over(above: &[Above], len: usize) -> Option<ControllerSet>
         return Some(ControllerSet::none());
     }
     let parent = above.last()?;
-    if parent.len + 1 == len {
+    if parent.len == len - 1 {
         Some(parent.enabled)
     } else {
         None
@@ -181,7 +187,7 @@ impl Walk {
             self.least.orphan = lesser(self.least.orphan, row.number);
             return;
         };
-        let available = if row.path.depth() == 0 {
+        let available = if is_root(&row.path) {
             controllers
         } else {
             over
@@ -196,8 +202,8 @@ impl Walk {
 
     /// Goes on to a row, whose path is that of the last one or comes after it.
     fn step(&mut self, row: Row, controllers: ControllerSet) -> Result<(), NoMemory>
-        ensures { (met : List Row) → HasMet controllers met self.old → IsNext met row.entry
-            → OnOk result (HasMet controllers (met ++ row.entry ∷ []) self.new) }
+        ensures { (met : List Row) → HasMet controllers met self.old → IsNext met row
+            → OnOk result (HasMet controllers (met ++ row ∷ []) self.new) }
     {
         self.leave(&row.path);
         let len = row.path.depth();
@@ -215,11 +221,11 @@ impl Walk {
 
     /// The cgroups, or the first fault of the rows.
     fn end(self) -> Result<Vec<(Path, Cgroup)>, TreeFault>
-        ensures { Passes (λ entries. entries ≡ self.entry.entries) (least_fault self.entry.least (has_root self.entry.entries.items)) result }
+        ensures { Passes (λ entries. entries ≡ self.entries) (least_fault self.least (has_root self.entries.items)) result }
     {
         let has_root = match self.entries.first() {
             None => false,
-            Some((path, _)) => path.depth() == 0,
+            Some((path, _)) => is_root(path),
         };
         match self.least.fault(has_root) {
             None => Ok(self.entries),
@@ -246,7 +252,7 @@ pub fn walked(
     rows: Vec<Row>,
     controllers: ControllerSet,
 ) -> Result<Vec<(Path, Cgroup)>, TreeFault>
-    ensures { (format : Format) (tables : List Members) → AreReadAs format 1 tables rows.entry.items
+    ensures { (format : Format) (tables : List Members) → AreReadAs format 1 tables rows.items
         → Passes (λ entries. AreEntriesOf format tables entries.items) (first (cgroup_faults (Some controllers) tables)) result }
 {
     let mut rows = rows;
