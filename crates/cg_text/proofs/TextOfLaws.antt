@@ -33,10 +33,6 @@ use Rattle.cg_text.proofs.RowSaid.{place_is, pid_is, uid_is, itself_there}
 use Rattle.cg_text.proofs.RowState.{path_ties, row_of_state, written_back, row_back, stand_back}
 use Rattle.cg_text.proofs.OnceLaws.{counted, counted_is, counted_same, counted-map, IsFresh, fresh_once, once_fresh, found_fresh, once_counted, counted_fresh, none_counted}
 
-at_most_one : (b : Bool) → cond b 1 0 ≤ 1
-at_most_one true = omega arith
-at_most_one false = omega arith
-
 none_there : (b : Bool) → cond {A = ℕ} b 1 0 ≡ 0 → b ≡ false
 none_there true is = absurd (omega (arith, is))
 none_there false is = refl
