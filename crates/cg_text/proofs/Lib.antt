@@ -1,12 +1,10 @@
+pub mod SaidLaws
 pub mod FaultLaws
-pub mod DocumentLaws
 pub mod TreeLaws
-pub mod Levels
 pub mod FoundLaws
 pub mod FormedTree
 pub mod SoundRows
 pub mod TableLaws
-pub mod TablesLaws
 pub mod TextLaws
 pub mod StateLaws
 pub mod NamedLaws

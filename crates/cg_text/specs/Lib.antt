@@ -3,12 +3,13 @@ pub mod Records
 pub mod Form
 pub mod Said
 pub mod Document
-pub mod TopView
 pub mod Tree
-pub mod Levels
 pub mod TreeTexts
 pub mod TextOf
 pub mod TextFaults
 pub mod Readings
-pub mod Tables
 pub mod HasState
+pub mod Keys
+pub mod Rows
+pub mod Walk
+pub mod Live

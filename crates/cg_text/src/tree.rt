@@ -2,30 +2,33 @@
 ghost use Rattle.std.specs.Prelude.{◌≡◌, ◌≢◌, ◌<◌, length, Some, Err, MatchResult};
 ghost use Rattle.toml.specs.View.{table_view};
 ghost use Rattle.cg_text.specs.Faults.{Reads, or_fault};
-ghost use Rattle.cg_text.specs.TreeTexts.{longest_text, document_of, tree_of};
+ghost use Rattle.cg_text.specs.TreeTexts.{longest_text, document_of};
 ghost use Rattle.cg_model.specs.Clauses.{first};
-ghost use Rattle.cg_text.specs.TextOf.{IsTextOf};
-ghost use Rattle.cg_text.specs.TextFaults.{text_faults};
+ghost use Rattle.cg_text.specs.TextOf.{IsDocumentOf, IsTextOf};
+ghost use Rattle.cg_text.specs.TextFaults.{document_faults, text_faults};
 ghost use Rattle.cg_text.specs.declared.tree.fault.TreeFault.TheVariants.{NotToml};
 
 mod document;
 mod fault;
-mod index;
+mod form;
 pub mod laws;
 mod named;
 mod processes;
 mod records;
-mod rows;
-mod state;
-mod together;
-mod written;
+mod row;
+mod said;
+mod walk;
 
 use cg_rows::rows::Rows;
-use document::records_of;
+use cg_rows::tables::path_table::PathTable;
 pub use fault::{Place, TreeFault};
-use state::tree_of_records;
+use form::in_form;
+use processes::processes_of;
+use row::rows_of;
+use said::{controllers_at, elements_at};
 use std::alloc::Global;
 use toml::Table;
+use walk::walked;
 
 /// The largest number of bytes of a tree text.
 const LONGEST_TEXT: usize = 16777216;
@@ -46,18 +49,19 @@ fn document_of(alloc: Global, bytes: &[u8]) -> Result<Table, TreeFault>
     }
 }
 
-/// The tree of a text, or its first fault, as the reader comes to it.
-#[tactic(auto, unfolding(crate::specs::TreeTexts::tree_of))]
-fn tree_of_text(alloc: Global, bytes: &[u8]) -> Result<Rows, TreeFault>
-    ensures read { Reads (λ rows. rows) result (tree_of bytes.now) }
-    ensures too_long { longest_text < length bytes.now → result ≡ Err TreeFault.TooLong }
+/// The tree that a document says, or the document's first fault.
+fn tree_of(alloc: Global, document: &Table) -> Result<Rows, TreeFault>
+    ensures { MatchResult result (λ rows. IsDocumentOf rows (table_view document.now))
+        (λ fault. fault ≢ TreeFault.NoMemory → first (document_faults (table_view document.now)) ≡ Some fault) }
 {
-    if bytes.len() > LONGEST_TEXT {
-        return Err(TreeFault::TooLong);
-    }
-    let table = document_of(alloc, bytes)?;
-    let records = records_of(alloc, &table)?;
-    tree_of_records(alloc, &records)
+    let format = in_form(document)?;
+    let controllers = controllers_at(document, "controllers").ok_or(TreeFault::BadController(
+        Place::Top,
+    ))?;
+    let rows = rows_of(alloc, format, elements_at(document, "cgroup"))?;
+    let cgroups = PathTable::from_sorted(walked(alloc, rows, controllers)?);
+    let processes = processes_of(alloc, &cgroups, elements_at(document, "process"))?;
+    Ok(Rows::from_tables(cgroups, processes, controllers))
 }
 
 /// The tree that a text of format 1 or 2 is of, or the text's first fault. `NoMemory` where an allocation was refused.
@@ -67,5 +71,9 @@ pub fn read_tree(alloc: Global, bytes: &[u8]) -> Result<Rows, TreeFault>
         (λ fault. fault ≢ TreeFault.NoMemory → first (text_faults bytes.now) ≡ Some fault) }
     ensures too_long { longest_text < length bytes.now → result ≡ Err TreeFault.TooLong }
 {
-    tree_of_text(alloc, bytes)
+    if bytes.len() > LONGEST_TEXT {
+        return Err(TreeFault::TooLong);
+    }
+    let document = document_of(alloc, bytes)?;
+    tree_of(alloc, &document)
 }

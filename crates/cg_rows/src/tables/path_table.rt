@@ -166,4 +166,12 @@ impl<V: Drop> PathTable<V> {
         let entries = entries_of(alloc, rows)?;
         Ok(Self { entries })
     }
+
+    /// The table of entries whose paths rise.
+    pub fn from_sorted(entries: Vec<(Path, V)>) -> Self
+        requires { is_sorted path_cmp entries.items ≡ true }
+        ensures { result ≡ map.from_sorted entries.items }
+    {
+        Self { entries }
+    }
 }

@@ -1,100 +1,120 @@
 //! The processes of a tree text.
-ghost use Rattle.std.specs.Prelude.{◌≡◌, ◌≤◌, ◌<◌, ◌||◌, ℕ, length, Some};
+ghost use Rattle.std.specs.Prelude.{◌≡◌, ◌≤◌, true, List, length, map, filter_map, is_some, Some, codes};
 ghost use Rattle.std.specs.Ordering.{nat_cmp};
-ghost use Rattle.std.specs.BTreeMap.{get, IsOrdered};
-ghost use Rattle.std.specs.FinMap as map;
-ghost use Rattle.cg_cgroup.specs.Paths.{is_root, path_at};
-ghost use Rattle.cg_cgroup.specs.Files.{enables_nothing};
+ghost use Rattle.std.specs.BTreeMap.{get, BTreeMap};
+ghost use Rattle.std.specs.List.{list_all};
+ghost use Rattle.toml.specs.Data.{Members, as_table};
+ghost use Rattle.toml.specs.View.{view, table_view};
+ghost use Rattle.cg_cgroup.specs.Paths.{path_at};
+ghost use Rattle.cg_model.specs.Clauses.{first};
+ghost use Rattle.cg_text.specs.Said.{pid_said, uid_said, path_said};
+ghost use Rattle.cg_text.specs.TextFaults.{each_process, process_faults};
 ghost use Rattle.cg_text.specs.Faults.{Passes};
-ghost use Rattle.cg_text.specs.Tree.{or_else, first_row, pid_read, live_process, no_such_place, internal_process, process_row_fault, process_fault, process_at};
+ghost use Rattle.cg_text.specs.Live.{IsAmong, AreEarlier, IsLive, AreLive, AreProcesses, place_faults};
 
-use crate::tree::document::row_number;
 use crate::tree::fault::{Place, TreeFault};
-use crate::tree::records::ProcessRecord;
-use crate::tree::rows::path_of;
-use crate::tree::together::is_root;
-use crate::tree::written::id_read;
+use crate::tree::form::row_number;
+use crate::tree::said::{id_read, integer_at, path_at, pid_read};
+use crate::tree::walk::is_root;
 use cg_cgroup::cgroup::Cgroup;
-use cg_cgroup::files::ControllerSet;
 use cg_cgroup::path::Path;
 use cg_cgroup::process::{Pid, Process};
+use cg_rows::processes::Processes;
 use cg_rows::tables::path_table::PathTable;
 use std::alloc::Global;
-use std::collections::BTreeMap;
+use std::collections::{BTreeMap, BTreeSet};
+use toml::{Table, Value};
 
-fn pid_read(written: i64) -> Option<Pid>
-    ensures { result ≡ pid_read written }
+fn pid_of(row: &Table) -> Option<Pid>
+    ensures { result ≡ pid_said (table_view row.now) }
 {
-    Pid::new(u32::try_from(written).ok()?)
+    pid_read(integer_at(row, "pid")?)
 }
 
-/// Whether processes may be at a cgroup that enables these controllers.
-fn holds_processes(path: &Path, enabled: ControllerSet) -> bool
-    ensures { result ≡ (is_root path.now || enables_nothing enabled) }
+fn uid_of(row: &Table) -> Option<u32>
+    ensures { result ≡ uid_said (table_view row.now) }
 {
-    is_root(path) || enabled.is_empty()
+    id_read(Some(integer_at(row, "uid")?))
 }
 
-/// The place of a row: a cgroup that may hold processes.
+/// The place of a process: a cgroup that may hold processes.
 fn place_of(
     alloc: Global,
     cgroups: &PathTable<Cgroup>,
-    row: &ProcessRecord,
-    number: usize,
+    row: &Table,
+    place: Place,
 ) -> Result<Path, TreeFault>
-    requires { number < 4096 }
-    ensures { Passes (λ at. path_at row.now.at ≡ Some at)
-        (or_else (no_such_place (map.get cgroups.now) number row.now) (internal_process (map.get cgroups.now) number row.now)) result }
+    ensures { (tables : List Members) → IsAmong tables cgroups.now
+        → Passes (λ at. path_said (codes "at") (table_view row.now) ≡ Some at) (first (place_faults tables place (table_view row.now))) result }
 {
-    let place = Place::Process(row_number(number));
     let nowhere = TreeFault::NoSuchPlace(place);
-    let at = path_of(alloc, row.at, nowhere)?;
+    let at = path_at(alloc, row, "at", nowhere)?;
     let Some(cgroup) = cgroups.get(&at, at.depth()) else {
         return Err(nowhere);
     };
-    if !holds_processes(&at, cgroup.enabled) {
+    if !is_root(&at) && !cgroup.enabled.is_empty() {
         return Err(TreeFault::InternalProcess(place));
     }
     Ok(at)
 }
 
-/// The process of a row, or its first fault.
-#[tactic(auto, unfolding(crate::specs::Tree::process_row_fault))]
+/// The process of a table, behind those before it, or its first fault.
 fn process_of(
     alloc: Global,
     cgroups: &PathTable<Cgroup>,
-    earlier: &BTreeMap<Pid, Process>,
-    row: &ProcessRecord,
-    number: usize,
+    live: &BTreeMap<Pid, Process>,
+    row: &Table,
+    place: Place,
 ) -> Result<(Pid, Process), TreeFault>
-    requires { number < 4096 }
-    ensures { Passes (λ live. live ≡ live_process row.now)
-        (process_row_fault (map.get cgroups.now) (get nat_cmp earlier.now) number row.now) result }
+    ensures { (tables earlier : List Members) → IsAmong tables cgroups.now → AreEarlier earlier live.now
+        → Passes (IsLive (table_view row.now)) (first (process_faults tables earlier place (table_view row.now))) result }
 {
-    let place = Place::Process(row_number(number));
-    let pid = pid_read(row.pid).ok_or(TreeFault::BadPid(place))?;
-    let uid = id_read(Some(row.uid)).ok_or(TreeFault::BadEntry(place))?;
-    if earlier.contains_key(&pid) {
+    let pid = pid_of(row).ok_or(TreeFault::BadPid(place))?;
+    let uid = uid_of(row).ok_or(TreeFault::BadEntry(place))?;
+    if live.contains_key(&pid) {
         return Err(TreeFault::DuplicatePid(place));
     }
-    let place = place_of(alloc, cgroups, row, number)?;
+    let place = place_of(alloc, cgroups, row, place)?;
     Ok((pid, Process { uid, place }))
 }
 
-/// The processes by their PIDs, or the first fault of the first row that has one.
-pub fn processes_by_pid(
+/// The processes of tables, or the first fault of the first that has one.
+fn live_of(
     alloc: Global,
     cgroups: &PathTable<Cgroup>,
-    rows: &[ProcessRecord],
+    elements: &[Value],
 ) -> Result<BTreeMap<Pid, Process>, TreeFault>
-    requires { length rows.now ≤ 4096 }
-    ensures { Passes (λ live. IsOrdered nat_cmp live × ((pid : ℕ) → get nat_cmp live pid ≡ process_at rows.now pid))
-        (first_row (process_fault (map.get cgroups.now) rows.now) 0 rows.now) result }
+    requires few { length elements.now ≤ 4096 }
+    requires tables { list_all (λ held. is_some (as_table (view held))) elements.now ≡ true }
+    ensures { (tables : List Members) → IsAmong tables cgroups.now
+        → Passes (AreLive (filter_map as_table (map view elements.now)))
+        (first (each_process (process_faults tables) (filter_map as_table (map view elements.now)))) result }
 {
     let mut live = BTreeMap::new(alloc);
-    for (number, row) in rows.iter().enumerate() {
-        let (pid, process) = process_of(alloc, cgroups, &live, row, number)?;
+    for (index, element) in elements.iter().enumerate() {
+        let Some(row) = element.as_table() else {
+            unreachable!()
+        };
+        let place = Place::Process(row_number(index));
+        let (pid, process) = process_of(alloc, cgroups, &live, row, place)?;
         live.insert(pid, process)?;
     }
     Ok(live)
+}
+
+/// The processes of tables, whose PIDs are the used ones, or the first fault of the first table that has one.
+pub fn processes_of(
+    alloc: Global,
+    cgroups: &PathTable<Cgroup>,
+    elements: &[Value],
+) -> Result<Processes, TreeFault>
+    requires few { length elements.now ≤ 4096 }
+    requires tables { list_all (λ held. is_some (as_table (view held))) elements.now ≡ true }
+    ensures { (tables : List Members) → IsAmong tables cgroups.now
+        → Passes (AreProcesses (filter_map as_table (map view elements.now)))
+        (first (each_process (process_faults tables) (filter_map as_table (map view elements.now)))) result }
+{
+    let live = live_of(alloc, cgroups, elements)?;
+    let used: BTreeSet<Pid> = live.keys().copied().collect(alloc)?;
+    Ok(Processes::from_maps(live, used))
 }

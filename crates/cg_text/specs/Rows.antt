@@ -1,0 +1,87 @@
+-- How it is read and written: nobody has to believe it.
+-- The reader's row of a cgroup, held against what the cgroup's table says.
+use Rattle.std.specs.Prelude.{◌≡◌, ℕ, ◌+◌, Bool, ◌||◌, List, [], ◌∷◌, ◌++◌, String, codes, Option, Some, None, is_some, unwrap_or, option_and_then}
+use Rattle.std.specs.Option.{option_map}
+use Rattle.std.specs.List.{list_all}
+use Rattle.std.specs.Borrow.{Bor}
+use Rattle.std.specs.BTreeMap.{BTreeMap}
+use Rattle.std.specs.declared.alloc.Global.{Global}
+use Rattle.toml.specs.Data.{Members, no_members}
+use Rattle.toml.specs.View.{table_view}
+use Rattle.toml.specs.declared.value.Value.{Value}
+use Rattle.cg_cgroup.specs.Files.{all_files, all_entries, entry_text}
+use Rattle.cg_cgroup.specs.Cgroups.{entry_in, value_in as value_at}
+use Rattle.cg_cgroup.specs.declared.user.Entry.{Entry}
+use Rattle.cg_cgroup.specs.declared.files.Limit.{Limit}
+use Rattle.cg_cgroup.specs.declared.files.ControllerSet.{ControllerSet}
+use Rattle.cg_cgroup.specs.declared.files.LimitFile.{LimitFile}
+use Rattle.cg_cgroup.specs.declared.files.LimitFile.TheVariants.{CpuWeight, MemoryMin, MemoryLow, MemoryHigh, MemoryMax, PidsMax}
+use Rattle.cg_cgroup.specs.declared.files.EntryName.{EntryName}
+use Rattle.cg_cgroup.specs.declared.files.EntryName.TheVariants.{Dir, File}
+use Rattle.cg_cgroup.specs.declared.cgroup.LimitEntry.{LimitEntry}
+use Rattle.cg_cgroup.specs.declared.cgroup.Cgroup.{Cgroup}
+use Rattle.cg_model.specs.Clauses.{unless}
+use Rattle.cg_text.specs.Said.{table_at, path_said, controllers_said, owner_said, limit_said, mode_missing, entry_said, value_said, is_named}
+use Rattle.cg_text.specs.declared.tree.records.Format.{Format}
+use Rattle.cg_text.specs.declared.tree.fault.TreeFault.{TreeFault}
+use Rattle.cg_text.specs.declared.tree.fault.TreeFault.TheVariants.{BadEntry, BadValue}
+use Rattle.cg_text.specs.declared.tree.row.Entries.{Entries}
+use Rattle.cg_text.specs.declared.tree.row.Row.{Row}
+
+-- the members of a table that may be left out
+abbrev pub written : Option (Bor (BTreeMap (String Global) Value)) → Members
+written table = elim table [ None ↦ no_members | Some held ↦ table_view held.now ]
+
+-- the table of an entry
+abbrev pub table_in : Entries → EntryName → Option Members
+table_in entries Dir = option_map (λ table. table_view table.now) entries.dir
+table_in entries name = option_and_then (table_at (entry_text name)) (option_map (λ table. table_view table.now) entries.files)
+
+abbrev pub owner_in : Entries → EntryName → Option Entry
+owner_in entries name = owner_said entries.format (mode_missing name) (unwrap_or (table_in entries name) no_members)
+
+abbrev pub value_in : Entries → LimitFile → Option Limit
+value_in entries file = limit_said file (unwrap_or (table_in entries (File file)) no_members)
+
+abbrev pub with_value : Entry → Limit → LimitEntry
+with_value entry value = record { entry = entry; value = value }
+
+abbrev pub names : Entries → LimitFile → Bool
+names entries file = is_some (table_in entries (File file))
+
+-- the controllers whose files are named
+abbrev pub needed_by : Entries → ControllerSet
+needed_by entries = record {
+  cpu = names entries CpuWeight;
+  memory = names entries MemoryMin || names entries MemoryLow || names entries MemoryHigh || names entries MemoryMax;
+  pids = names entries PidsMax;
+}
+
+-- the clauses on entries and values, which are the last of a row's own
+abbrev pub entry_faults : Entries → List TreeFault
+entry_faults entries =
+    unless (list_all (λ name. is_some (owner_in entries name)) all_entries) (BadEntry entries.place)
+    ++ unless (list_all (λ file. is_some (value_in entries file)) all_files) (BadValue entries.place)
+
+-- a cgroup with all files, as these tables and the defaults say
+pub record IsCgroupOf (said : Entries) (controllers : ControllerSet) (cgroup : Cgroup) : Type 0 where
+  pub enabled : cgroup.enabled ≡ controllers
+  pub entries : (name : EntryName) → entry_in cgroup name ≡ owner_in said name
+  pub values : (file : LimitFile) → value_at cgroup file ≡ value_in said file
+
+-- a row as a table says it
+pub record IsReadAs (format : Format) (i : ℕ) (table : Members) (row : Row) : Type 0 where
+  pub number : row.number ≡ i
+  pub path : path_said (codes "path") table ≡ Some row.path
+  pub enabled : controllers_said (codes "enabled") table ≡ Some row.cgroup.enabled
+  pub entries : (name : EntryName) → entry_said format table name ≡ entry_in row.cgroup name
+  pub values : (file : LimitFile) → value_said table file ≡ value_at row.cgroup file
+  pub cpu : row.needed.cpu ≡ is_named (File CpuWeight) table
+  pub memory : row.needed.memory ≡ (is_named (File MemoryMin) table || is_named (File MemoryLow) table || is_named (File MemoryHigh) table || is_named (File MemoryMax) table)
+  pub pids : row.needed.pids ≡ is_named (File PidsMax) table
+
+-- rows as tables say them, the first of which has the number i
+abbrev pub AreReadAs : Format → ℕ → List Members → List Row → Type 0
+AreReadAs format i [] [] = Unit {0}
+AreReadAs format i (table ∷ tables) (row ∷ rows) = IsReadAs format i table row × AreReadAs format (i + 1) tables rows
+AreReadAs format i tables rows = ⊥

@@ -1,0 +1,170 @@
+-- How it is read and written: nobody has to believe it.
+-- The reader's walk over rows in the order of their paths: what is above each, and which test it fails. Own.
+use Rattle.std.specs.Prelude.{◌≡◌, ℕ, ◌+◌, ◌-◌, option_and_then, ◌≤◌, ◌<◌, nat_lt, nat_eq, Bool, true, false, ◌&&◌, not, cond, List, [], ◌∷◌, ◌++◌, length, take, Option, Some, None, is_some, unwrap_or, find, reverse, codes, slice_get, slice_index_or, zero, suc}
+use Rattle.std.specs.Option.{option_map}
+use Rattle.std.specs.List.{list_any}
+use Rattle.std.specs.Map.{lookup}
+use Rattle.std.specs.List.Sorted.{IsSortedByKey}
+use Rattle.std.specs.FinMap.{is_sorted}
+use Rattle.toml.specs.Data.{Members}
+use Rattle.cg_cgroup.specs.Paths.{Names, path_cmp, same_path, is_root, parent, inside}
+use Rattle.cg_cgroup.specs.Files.{no_controllers, is_within, stands_under}
+use Rattle.cg_cgroup.specs.Cgroups.{file_of, entry_in}
+use Rattle.cg_cgroup.specs.declared.user.Entry.{Entry}
+use Rattle.cg_cgroup.specs.declared.files.ControllerSet.{ControllerSet}
+use Rattle.cg_cgroup.specs.declared.files.EntryName.{EntryName}
+use Rattle.cg_cgroup.specs.declared.files.LimitFile.{LimitFile}
+use Rattle.cg_cgroup.specs.declared.files.LimitFile.TheVariants.{CpuWeight, MemoryMin, MemoryLow, MemoryHigh, MemoryMax, PidsMax}
+use Rattle.cg_cgroup.specs.declared.cgroup.LimitEntry.{LimitEntry}
+use Rattle.cg_cgroup.specs.declared.cgroup.Cgroup.{Cgroup}
+use Rattle.cg_text.specs.Said.{path_said, controllers_said, entry_said, value_said, has_path}
+use Rattle.cg_text.specs.TextFaults.{is_there, over}
+use Rattle.cg_text.specs.declared.tree.records.Format.{Format}
+use Rattle.cg_text.specs.declared.tree.fault.Place.TheVariants.{Cgroup as AtCgroup}
+use Rattle.cg_text.specs.declared.tree.fault.TreeFault.{TreeFault}
+use Rattle.cg_text.specs.declared.tree.fault.TreeFault.TheVariants.{Duplicate, NoRoot, NoParent, TopDown, NoSuchFile}
+use Rattle.cg_text.specs.declared.tree.row.Row.{Row}
+use Rattle.cg_text.specs.declared.tree.walk.Above.{Above}
+use Rattle.cg_text.specs.declared.tree.walk.Least.{Least}
+use Rattle.cg_text.specs.declared.tree.walk.Walk.{Walk}
+
+-- ---- a row among those that were met
+
+abbrev pub has_met : List Row → Names → Bool
+has_met met path = list_any (λ row. same_path path row.path) met
+
+-- what the cgroup enables that was met last at a path
+abbrev pub enabled_by : List Row → Names → Option ControllerSet
+enabled_by met path = option_map (λ row. row.cgroup.enabled) (find (λ row. same_path path row.path) (reverse met))
+
+-- what the parent enables, and at the root what there is
+abbrev pub over_in : ControllerSet → List Row → Names → Option ControllerSet
+over_in at_root met path = cond (is_root path) (Some at_root) (enabled_by met (parent path))
+
+-- a limit file where it stands
+abbrev pub standing : ControllerSet → LimitFile → Option LimitEntry → Option LimitEntry
+standing over file held = cond (stands_under over file) held None
+
+abbrev pub fitted_to : ControllerSet → Cgroup → Cgroup
+fitted_to over cgroup = record cgroup {
+  cpu_weight = standing over CpuWeight cgroup.cpu_weight;
+  memory_min = standing over MemoryMin cgroup.memory_min;
+  memory_low = standing over MemoryLow cgroup.memory_low;
+  memory_high = standing over MemoryHigh cgroup.memory_high;
+  memory_max = standing over MemoryMax cgroup.memory_max;
+  pids_max = standing over PidsMax cgroup.pids_max;
+}
+
+-- the rows' entries, each behind those before it
+abbrev pub entries_from : List Row → List Row → List (Names × Cgroup)
+entries_from met [] = []
+entries_from met (row ∷ rows) = (row.path, fitted_to (unwrap_or (over_in no_controllers met row.path) no_controllers) row.cgroup) ∷ entries_from (met ++ row ∷ []) rows
+
+-- ---- the tests
+
+abbrev pub is_orphan : List Row → Row → Bool
+is_orphan met row = not (is_some (over_in no_controllers met row.path))
+
+abbrev pub is_past : ControllerSet → Option ControllerSet → Bool
+is_past set over = elim over [ None ↦ false | Some other ↦ not (is_within set other) ]
+
+abbrev pub is_not_within : ControllerSet → List Row → Row → Bool
+is_not_within controllers met row = is_past row.cgroup.enabled (over_in controllers met row.path)
+
+abbrev pub has_no_file : List Row → Row → Bool
+has_no_file met row = is_past row.needed (over_in no_controllers met row.path)
+
+-- The least number of a row that fails a test behind those before it.
+pub record IsLeast (fails : List Row → Row → Bool) (rows : List Row) (least : Option ℕ) : Type 0 where
+  pub found : (number : ℕ) → least ≡ Some number → (i : ℕ) × (row : Row) × (i < length rows) × (row ≡ slice_index_or rows i row) × (fails (take i rows) row ≡ true) × (row.number ≡ number)
+  pub below : (i : ℕ) (row : Row) → i < length rows → row ≡ slice_index_or rows i row → fails (take i rows) row ≡ true → (number : ℕ) × (least ≡ Some number) × (number ≤ row.number)
+
+abbrev pub lesser : Option ℕ → ℕ → Option ℕ
+lesser None number = Some number
+lesser (Some least) number = Some (cond (nat_lt least number) least number)
+
+-- the first fault of the least numbers
+abbrev pub least_fault : Least → Bool → Option TreeFault
+least_fault least has_root =
+    elim least.twice [
+      | Some number ↦ Some (Duplicate (AtCgroup number))
+      | None ↦ cond has_root
+          (elim least.orphan [
+            | Some number ↦ Some (NoParent (AtCgroup number))
+            | None ↦
+                elim least.not_within [
+                  | Some number ↦ Some (TopDown (AtCgroup number))
+                  | None ↦
+                      option_map (λ number. NoSuchFile (AtCgroup number)) least.no_file
+                ]
+          ]) (Some NoRoot)
+    ]
+
+-- ---- how far the walk has come
+
+abbrev pub last_of : {A : Type 0} → List A → Option A
+last_of xs = slice_get xs (length xs - 1)
+
+-- what the last of these cgroups enables, where it is the parent of a path of so many names; nothing is over the root
+abbrev pub over_at : List Above → ℕ → Option ControllerSet
+over_at above len =
+    cond (nat_eq len 0) (Some no_controllers) (option_and_then (λ (top : Above). cond (nat_eq top.len (len - 1)) (Some top.enabled) None) (last_of above))
+
+-- the fronts of a path that were met, from the root down, each with what it enables: those of at least so many names, and of so many more at most
+abbrev pub fronts_from : ℕ → ℕ → List Row → Names → List Above
+fronts_from len zero met path = []
+fronts_from len (suc more) met path =
+    elim (enabled_by met (take len path)) [ None ↦ fronts_from (len + 1) more met path | Some enabled ↦ record { len = len; enabled = enabled } ∷ fronts_from (len + 1) more met path ]
+
+-- those of fewer names than the path, and all
+abbrev pub fronts_above : List Row → Names → List Above
+fronts_above met path = fronts_from 0 (length path) met path
+
+abbrev pub fronts : List Row → Names → List Above
+fronts met path = fronts_from 0 (length path + 1) met path
+
+-- whether the last of these cgroups has a path that is a front of this one and of the last path
+abbrev pub is_front : List Above → List Names → Names → Bool
+is_front above paths path =
+    elim (last_of above) [ None ↦ false | Some top ↦ elim (last_of paths) [ None ↦ false | Some other ↦ nat_lt top.len (length path) && inside (take top.len path) other ] ]
+
+abbrev pub has_root : List (Names × Cgroup) → Bool
+has_root entries = elim (slice_get entries 0) [ None ↦ false | Some entry ↦ is_root entry.0 ]
+
+-- For each test the number is kept of the first row in the text that fails it.
+pub record HasTested (controllers : ControllerSet) (met : List Row) (least : Least) : Type 0 where
+  pub twice : IsLeast (λ earlier row. has_met earlier row.path) met least.twice
+  pub orphan : IsLeast is_orphan met least.orphan
+  pub not_within : IsLeast (is_not_within controllers) met least.not_within
+  pub no_file : IsLeast has_no_file met least.no_file
+
+-- The walk has met these rows.
+pub record HasMet (controllers : ControllerSet) (met : List Row) (walk : Walk) : Type 0 where
+  pub entries : walk.entries.items ≡ entries_from [] met
+  pub none : met ≡ [] → walk.above.items ≡ []
+  pub above : (row : Row) (rows : List Row) → met ≡ rows ++ row ∷ [] → walk.above.items ≡ fronts met row.path
+  pub tested : HasTested controllers met walk.least
+
+-- no row is before the one before it
+abbrev pub AreInOrder : List Row → Type 0
+AreInOrder rows = IsSortedByKey (λ row. row.path) path_cmp rows
+
+-- the rows are in order, and so they are with this one behind them
+abbrev pub IsNext : List Row → Row → Type 0
+IsNext met row = AreInOrder (met ++ row ∷ [])
+
+-- ---- what the walk leads to
+
+-- a cgroup as a table says it, with the files that stand at it
+pub record IsEntryOf (format : Format) (tables : List Members) (table : Members) (cgroup : Cgroup) : Type 0 where
+  pub enabled : controllers_said (codes "enabled") table ≡ Some cgroup.enabled
+  pub entries : (name : EntryName) (entry : Entry) → entry_in cgroup name ≡ Some entry → entry_said format table name ≡ Some entry
+  pub values : (file : LimitFile) (held : LimitEntry) → file_of cgroup file ≡ Some held → value_said table file ≡ Some held.value
+  pub files : (path : Names) (above : ControllerSet) → path_said (codes "path") table ≡ Some path → over (Some no_controllers) tables path ≡ Some above
+      → (file : LimitFile) → is_some (file_of cgroup file) ≡ stands_under above file
+
+-- the entries rise by their paths, and are those of the tables
+pub record AreEntriesOf (format : Format) (tables : List Members) (entries : List (Names × Cgroup)) : Type 0 where
+  pub sorted : is_sorted path_cmp entries ≡ true
+  pub there : (path : Names) → is_some (lookup (same_path path) entries) ≡ is_there tables path
+  pub each : (path : Names) (cgroup : Cgroup) (table : Members) → lookup (same_path path) entries ≡ Some cgroup → find (has_path path) tables ≡ Some table → IsEntryOf format tables table cgroup

@@ -1,0 +1,225 @@
+//! The form of a document: the keys of its tables, and the types of what stands at them.
+ghost use Rattle.std.specs.Prelude.{◌≡◌, ◌≤◌, ◌<◌, ◌+◌, length, map};
+ghost use Rattle.std.specs.List.{list_all};
+ghost use Rattle.cg_model.specs.Clauses.{first, unless};
+ghost use Rattle.toml.specs.Data.{table};
+ghost use Rattle.toml.specs.View.{view, table_view};
+ghost use Rattle.cg_text.specs.declared.tree.fault.TreeFault.TheVariants.{Shape};
+ghost use Rattle.cg_text.specs.Form.{is_text, are_texts, document_keys, owner_keys, limit_keys, file_keys_of, row_keys, live_keys, is_table};
+ghost use Rattle.cg_text.specs.TextFaults.{each_cgroup, each_process, form_faults};
+ghost use Rattle.cg_text.specs.TextOf.{IsInForm};
+ghost use Rattle.cg_text.specs.Faults.{Passes};
+ghost use Rattle.cg_text.specs.Keys.{flat_keys, takes, takes_all, takes_table};
+
+use crate::tree::fault::{Place, TreeFault};
+use crate::tree::records::Format;
+use crate::tree::said::{elements_at, format_at};
+use cg_cgroup::files::EntryName;
+use toml::{Table, Value};
+
+/// The largest number of cgroups, and of processes.
+const MOST_ROWS: usize = 4096;
+
+/// The number of a row that stands at `index` in its array.
+pub fn row_number(index: usize) -> u32
+    requires { index < 4096 }
+    ensures { result ≡ index + 1 }
+{
+    index as u32 + 1
+}
+
+fn are_all_texts(values: &[Value]) -> bool
+    ensures { result ≡ list_all (λ value. is_text (view value)) values.now }
+{
+    values.iter().all(|value| value.is_str())
+}
+
+fn are_texts(value: &Value) -> bool
+    ensures { result ≡ are_texts (view value.now) }
+{
+    match value {
+        Value::Array(items) => are_all_texts(items),
+        _ => false,
+    }
+}
+
+/// A table in which no table stands.
+#[derive(Clone, Copy, Debug, PartialEq, Eq)]
+enum FlatTable {
+    Document,
+    Process,
+    Owner(Format),
+    Limit(Format),
+}
+
+/// Whether an owner, a group or a mode may be written so.
+fn takes_owner(format: Format, key: &str, value: &Value) -> bool
+    ensures { result ≡ takes (owner_keys format) key.now (view value.now) }
+{
+    match key {
+        "uid" | "mode" => value.is_integer(),
+        "gid" => format == Format::Two && value.is_integer(),
+        _ => false,
+    }
+}
+
+/// Whether a table of this kind may have a value at a key.
+fn takes_flat(kind: FlatTable, key: &str, value: &Value) -> bool
+    ensures { result ≡ takes (flat_keys kind) key.now (view value.now) }
+{
+    match (kind, key) {
+        (FlatTable::Document, "format") => value.is_integer(),
+        (FlatTable::Document, "controllers") => are_texts(value),
+        (FlatTable::Document, "cgroup" | "process") => value.is_array(),
+        (FlatTable::Process, "pid" | "uid") => value.is_integer(),
+        (FlatTable::Process, "at") => value.is_str(),
+        (FlatTable::Limit(_), "value") => value.is_integer() || value.is_str(),
+        (FlatTable::Owner(format) | FlatTable::Limit(format), _) => takes_owner(format, key, value),
+        _ => false,
+    }
+}
+
+/// Whether a table has only what its kind may have.
+fn is_flat(kind: FlatTable, table: &Table) -> bool
+    ensures { result ≡ takes_all (flat_keys kind) (table_view table.now) }
+{
+    for (key, value) in table {
+        if !takes_flat(kind, key.as_str(), value) {
+            return false;
+        }
+    }
+    true
+}
+
+/// Whether a value is a table of this kind, none of whose keys has to be there.
+fn is_entry(kind: FlatTable, value: &Value) -> bool
+    ensures { result ≡ takes_table (flat_keys kind) (view value.now) }
+{
+    match value {
+        Value::Table(table) => is_flat(kind, table),
+        _ => false,
+    }
+}
+
+/// Whether a table of files may have a value at a key.
+fn takes_file(format: Format, key: &str, value: &Value) -> bool
+    ensures { result ≡ takes (file_keys_of format) key.now (view value.now) }
+{
+    match EntryName::from_name(key) {
+        None | Some(EntryName::Dir) => false,
+        Some(EntryName::Procs | EntryName::SubtreeControl) => {
+            is_entry(FlatTable::Owner(format), value)
+        }
+        Some(EntryName::File(_)) => is_entry(FlatTable::Limit(format), value),
+    }
+}
+
+fn are_files(format: Format, value: &Value) -> bool
+    ensures { result ≡ is_table (file_keys_of format) (view value.now) }
+{
+    let Value::Table(table) = value else {
+        return false;
+    };
+    for (key, value) in table {
+        if !takes_file(format, key.as_str(), value) {
+            return false;
+        }
+    }
+    true
+}
+
+/// Whether a cgroup's table may have a value at a key.
+fn takes_row(format: Format, key: &str, value: &Value) -> bool
+    ensures { result ≡ takes (row_keys format) key.now (view value.now) }
+{
+    match key {
+        "path" => value.is_str(),
+        "enabled" => are_texts(value),
+        "dir" => is_entry(FlatTable::Owner(format), value),
+        "files" => are_files(format, value),
+        _ => false,
+    }
+}
+
+/// Whether a value is a cgroup's table.
+fn is_cgroup(format: Format, value: &Value) -> bool
+    ensures { result ≡ is_table (row_keys format) (view value.now) }
+{
+    let Value::Table(table) = value else {
+        return false;
+    };
+    for (key, value) in table {
+        if !takes_row(format, key.as_str(), value) {
+            return false;
+        }
+    }
+    table.contains_key("path")
+}
+
+/// Whether a value is a process's table.
+fn is_process(value: &Value) -> bool
+    ensures { result ≡ is_table live_keys (view value.now) }
+{
+    let Value::Table(table) = value else {
+        return false;
+    };
+    is_flat(FlatTable::Process, table)
+        && table.contains_key("pid")
+        && table.contains_key("uid")
+        && table.contains_key("at")
+}
+
+/// Whether a document has the keys of the top table.
+fn is_document(document: &Table) -> bool
+    ensures { result ≡ is_table document_keys (table (table_view document.now)) }
+{
+    is_flat(FlatTable::Document, document)
+        && document.contains_key("format")
+        && document.contains_key("controllers")
+}
+
+/// Tests the form of each cgroup.
+fn cgroups_in_form(format: Format, cgroups: &[Value]) -> Result<(), TreeFault>
+    requires { length cgroups.now ≤ 4096 }
+    ensures { Passes (λ _. Unit {0})
+        (first (each_cgroup (λ _ place held. unless (is_table (row_keys format) held) (Shape place)) (map view cgroups.now))) result }
+{
+    for (index, row) in cgroups.iter().enumerate() {
+        if !is_cgroup(format, row) {
+            return Err(TreeFault::Shape(Place::Cgroup(row_number(index))));
+        }
+    }
+    Ok(())
+}
+
+/// Tests the form of each process.
+fn processes_in_form(processes: &[Value]) -> Result<(), TreeFault>
+    requires { length processes.now ≤ 4096 }
+    ensures { Passes (λ _. Unit {0})
+        (first (each_process (λ _ place held. unless (is_table live_keys held) (Shape place)) (map view processes.now))) result }
+{
+    for (index, row) in processes.iter().enumerate() {
+        if !is_process(row) {
+            return Err(TreeFault::Shape(Place::Process(row_number(index))));
+        }
+    }
+    Ok(())
+}
+
+/// The format of a document that is in form, or the first fault of its form.
+pub fn in_form(document: &Table) -> Result<Format, TreeFault>
+    ensures { Passes (λ format. IsInForm format (table_view document.now)) (first (form_faults (table_view document.now))) result }
+{
+    if !is_document(document) {
+        return Err(TreeFault::Shape(Place::Top));
+    }
+    let format = format_at(document).ok_or(TreeFault::Format)?;
+    let cgroups = elements_at(document, "cgroup");
+    let processes = elements_at(document, "process");
+    if cgroups.len() > MOST_ROWS || processes.len() > MOST_ROWS {
+        return Err(TreeFault::TooMany);
+    }
+    cgroups_in_form(format, cgroups)?;
+    processes_in_form(processes)?;
+    Ok(format)
+}

@@ -1,0 +1,173 @@
+//! A cgroup's row, read into what the tree keeps of it.
+ghost use Rattle.std.specs.Prelude.{◌≡◌, ◌≤◌, true, length, map, filter_map, is_some};
+ghost use Rattle.std.specs.Option.{option_map};
+ghost use Rattle.std.specs.List.{list_all};
+ghost use Rattle.toml.specs.Data.{as_table};
+ghost use Rattle.toml.specs.View.{view, table_view};
+ghost use Rattle.cg_cgroup.specs.declared.files.EntryName.TheVariants.{File};
+ghost use Rattle.cg_model.specs.Clauses.{first};
+ghost use Rattle.cg_text.specs.declared.tree.fault.Place.TheVariants.{Cgroup as AtCgroup};
+ghost use Rattle.cg_text.specs.declared.tree.fault.TreeFault.TheVariants.{BadEntry, BadValue};
+ghost use Rattle.cg_text.specs.TextFaults.{each_cgroup, row_faults};
+ghost use Rattle.cg_text.specs.Faults.{Passes, or_fault};
+ghost use Rattle.cg_text.specs.Rows.{table_in, owner_in, value_in, with_value, needed_by, entry_faults, IsCgroupOf, IsReadAs, AreReadAs};
+
+use crate::tree::fault::{Place, TreeFault};
+use crate::tree::form::row_number;
+use crate::tree::records::Format;
+use crate::tree::said::{controllers_at, limit_of, owner_of, path_at, table_at};
+use cg_cgroup::cgroup::{Cgroup, LimitEntry};
+use cg_cgroup::files::{ControllerSet, EntryName, LimitFile};
+use cg_cgroup::path::Path;
+use cg_cgroup::user::{Entry, Mode};
+use std::alloc::Global;
+use toml::{Table, Value};
+
+/// A cgroup as its row says it, with all limit files, whether or not they stand.
+#[derive(Debug, Drop)]
+pub struct Row {
+    pub number: u32,
+    pub path: Path,
+    pub cgroup: Cgroup,
+    /// The controllers whose files the row names.
+    pub needed: ControllerSet,
+}
+
+/// What is written of a cgroup's entries, and where.
+#[derive(Clone, Copy, Debug)]
+struct Entries<'a> {
+    place: Place,
+    format: Format,
+    dir: Option<&'a Table>,
+    files: Option<&'a Table>,
+}
+
+impl<'a> Entries<'a> {
+    fn table(self, name: EntryName) -> Option<&'a Table>
+        ensures { option_map (λ t. table_view t.now) result ≡ table_in self.entry name }
+    {
+        match name {
+            EntryName::Dir => self.dir,
+            file => table_at(self.files?, file.name()),
+        }
+    }
+
+    /// The owner, the group and the mode of an entry.
+    fn owner(self, name: EntryName) -> Result<Entry, TreeFault>
+        ensures { result ≡ or_fault (owner_in self.entry name) (BadEntry self.entry.place) }
+    {
+        let missing = match name {
+            EntryName::Dir => Mode::DIRECTORY,
+            _ => Mode::FILE,
+        };
+        owner_of(self.format, missing.get(), self.table(name)).ok_or(TreeFault::BadEntry(
+            self.place,
+        ))
+    }
+
+    fn file(self, file: LimitFile) -> Result<Entry, TreeFault>
+        ensures { result ≡ or_fault (owner_in self.entry (File file)) (BadEntry self.entry.place) }
+    {
+        self.owner(EntryName::File(file))
+    }
+
+    /// A limit file of this owner.
+    fn held(self, entry: Entry, file: LimitFile) -> Result<LimitEntry, TreeFault>
+        ensures { result ≡ or_fault (option_map (with_value entry) (value_in self.entry file)) (BadValue self.entry.place) }
+    {
+        match limit_of(file, self.table(EntryName::File(file))) {
+            None => Err(TreeFault::BadValue(self.place)),
+            Some(value) => Ok(LimitEntry { entry, value }),
+        }
+    }
+
+    fn names(self, file: LimitFile) -> bool
+        ensures { result ≡ is_some (table_in self.entry (File file)) }
+    {
+        self.table(EntryName::File(file)).is_some()
+    }
+
+    /// The controllers whose files are named.
+    fn needed(self) -> ControllerSet
+        ensures { result ≡ needed_by self.entry }
+    {
+        ControllerSet {
+            cpu: self.names(LimitFile::CpuWeight),
+            memory: self.names(LimitFile::MemoryMin)
+                || self.names(LimitFile::MemoryLow)
+                || self.names(LimitFile::MemoryHigh)
+                || self.names(LimitFile::MemoryMax),
+            pids: self.names(LimitFile::PidsMax),
+        }
+    }
+
+    /// The cgroup that has these entries, or the first fault of an entry, and then of a value.
+    fn cgroup(self, enabled: ControllerSet) -> Result<Cgroup, TreeFault>
+        ensures { Passes (IsCgroupOf self.entry enabled) (first (entry_faults self.entry)) result }
+    {
+        let dir = self.owner(EntryName::Dir)?;
+        let procs = self.owner(EntryName::Procs)?;
+        let subtree_control = self.owner(EntryName::SubtreeControl)?;
+        let max_descendants = self.file(LimitFile::MaxDescendants)?;
+        let max_depth = self.file(LimitFile::MaxDepth)?;
+        let cpu_weight = self.file(LimitFile::CpuWeight)?;
+        let memory_min = self.file(LimitFile::MemoryMin)?;
+        let memory_low = self.file(LimitFile::MemoryLow)?;
+        let memory_high = self.file(LimitFile::MemoryHigh)?;
+        let memory_max = self.file(LimitFile::MemoryMax)?;
+        let pids_max = self.file(LimitFile::PidsMax)?;
+        Ok(Cgroup {
+            dir,
+            procs,
+            subtree_control,
+            max_descendants: self.held(max_descendants, LimitFile::MaxDescendants)?,
+            max_depth: self.held(max_depth, LimitFile::MaxDepth)?,
+            cpu_weight: Some(self.held(cpu_weight, LimitFile::CpuWeight)?),
+            memory_min: Some(self.held(memory_min, LimitFile::MemoryMin)?),
+            memory_low: Some(self.held(memory_low, LimitFile::MemoryLow)?),
+            memory_high: Some(self.held(memory_high, LimitFile::MemoryHigh)?),
+            memory_max: Some(self.held(memory_max, LimitFile::MemoryMax)?),
+            pids_max: Some(self.held(pids_max, LimitFile::PidsMax)?),
+            enabled,
+        })
+    }
+}
+
+/// The row of a cgroup's table, or its first fault.
+fn row_of(alloc: Global, format: Format, number: u32, table: &Table) -> Result<Row, TreeFault>
+    ensures { Passes (IsReadAs format number (table_view table.now))
+        (first (row_faults format (AtCgroup number) (table_view table.now))) result }
+{
+    let place = Place::Cgroup(number);
+    let path = path_at(alloc, table, "path", TreeFault::BadPath(place))?;
+    let enabled = controllers_at(table, "enabled").ok_or(TreeFault::BadController(place))?;
+    let entries = Entries {
+        place,
+        format,
+        dir: table_at(table, "dir"),
+        files: table_at(table, "files"),
+    };
+    Ok(Row {
+        number,
+        path,
+        cgroup: entries.cgroup(enabled)?,
+        needed: entries.needed(),
+    })
+}
+
+/// The rows of cgroups' tables, or the first fault of the first that has one.
+pub fn rows_of(alloc: Global, format: Format, elements: &[Value]) -> Result<Vec<Row>, TreeFault>
+    requires few { length elements.now ≤ 4096 }
+    requires tables { list_all (λ held. is_some (as_table (view held))) elements.now ≡ true }
+    ensures { Passes (λ rows. AreReadAs format 1 (filter_map as_table (map view elements.now)) rows.items)
+        (first (each_cgroup (λ _. row_faults format) (filter_map as_table (map view elements.now)))) result }
+{
+    let mut rows = Vec::with_capacity(alloc, elements.len())?;
+    for (index, element) in elements.iter().enumerate() {
+        let Some(table) = element.as_table() else {
+            unreachable!()
+        };
+        rows.push(row_of(alloc, format, row_number(index), table)?)?;
+    }
+    Ok(rows)
+}

@@ -1,0 +1,181 @@
+//! What a table says at its keys, as far as it is in range.
+ghost use Rattle.std.specs.Prelude.{◌≡◌, map, Some, option_and_then};
+ghost use Rattle.std.specs.Option.{option_map, option_copied};
+ghost use Rattle.cg_model.specs.Clauses.{first, absent};
+ghost use Rattle.toml.specs.Data.{get_member, as_array};
+ghost use Rattle.toml.specs.View.{view, array_view, table_view};
+ghost use Rattle.cg_text.specs.Said.{id_read, mode_read, pid_read, controllers_said, elements_at, text_at, integer_at, table_at, format_said, path_said, owner_said, limit_of, limit_said};
+ghost use Rattle.cg_text.specs.Faults.{Passes};
+ghost use Rattle.cg_text.specs.Rows.{written};
+
+use crate::tree::fault::TreeFault;
+use crate::tree::records::Format;
+use cg_cgroup::files::{Controller, ControllerSet, Limit, LimitFile};
+use cg_cgroup::path::{Path, PathFault};
+use cg_cgroup::process::Pid;
+use cg_cgroup::user::Entry;
+use std::alloc::Global;
+use toml::value::Array;
+use toml::{Table, Value};
+
+/// The value at a key.
+fn member<'a>(table: &'a Table, key: &str) -> Option<&'a Value>
+    ensures { option_map (λ v. view v.now) result ≡ get_member key.now (table_view table.now) }
+{
+    table.get(key)
+}
+
+fn array_at<'a>(table: &'a Table, key: &str) -> Option<&'a Array>
+    ensures { option_map (λ items. array_view items.now) result
+        ≡ option_and_then as_array (get_member key.now (table_view table.now)) }
+{
+    member(table, key)?.as_array()
+}
+
+/// The elements of the array at a key, and none where it is left out.
+#[tactic(auto, using(crate::proofs::SaidLaws::elements_view))]
+pub fn elements_at<'a>(table: &'a Table, key: &str) -> &'a [Value]
+    ensures { map view result.now ≡ elements_at key.now (table_view table.now) }
+{
+    match array_at(table, key) {
+        None => &[],
+        Some(items) => items.as_slice(),
+    }
+}
+
+pub fn text_at<'a>(table: &'a Table, key: &str) -> Option<&'a str>
+    ensures { option_copied result ≡ text_at key.now (table_view table.now) }
+{
+    member(table, key)?.as_str()
+}
+
+pub fn integer_at(table: &Table, key: &str) -> Option<i64>
+    ensures { result ≡ integer_at key.now (table_view table.now) }
+{
+    member(table, key)?.as_integer()
+}
+
+pub fn table_at<'a>(table: &'a Table, key: &str) -> Option<&'a Table>
+    ensures { option_map (λ t. table_view t.now) result ≡ table_at key.now (table_view table.now) }
+{
+    member(table, key)?.as_table()
+}
+
+pub fn format_at(document: &Table) -> Option<Format>
+    ensures { result ≡ format_said (table_view document.now) }
+{
+    match integer_at(document, "format")? {
+        1 => Some(Format::One),
+        2 => Some(Format::Two),
+        _ => None,
+    }
+}
+
+/// The controllers that the texts at a key name. `None` where one names none.
+pub fn controllers_at(table: &Table, key: &str) -> Option<ControllerSet>
+    ensures { result ≡ controllers_said key.now (table_view table.now) }
+{
+    let elements = elements_at(table, key);
+    let mut controllers = ControllerSet::none();
+    for element in elements {
+        if let Some(text) = element.as_str() {
+            controllers = controllers.with(Controller::from_name(text)?, true);
+        }
+    }
+    Some(controllers)
+}
+
+/// The path at a key, or `fault` where there is none.
+pub fn path_at(alloc: Global, table: &Table, key: &str, fault: TreeFault) -> Result<Path, TreeFault>
+    ensures { Passes (λ path. path_said key.now (table_view table.now) ≡ Some path)
+        (first (absent (path_said key.now (table_view table.now)) fault)) result }
+{
+    let Some(text) = text_at(table, key) else {
+        return Err(fault);
+    };
+    match Path::parse(alloc, text) {
+        Ok(path) => Ok(path),
+        Err(PathFault::BadPath) => Err(fault),
+        Err(PathFault::NoMemory) => Err(TreeFault::NoMemory),
+    }
+}
+
+/// A uid or a gid, 0 where it is missing. `None` where it is out of range.
+pub fn id_read(written: Option<i64>) -> Option<u32>
+    ensures { result ≡ id_read written }
+{
+    match written {
+        None => Some(0),
+        Some(number) => u32::try_from(number).ok(),
+    }
+}
+
+/// A mode. `None` where it is out of range or has a bit that its format has not.
+fn mode_read(format: Format, missing: u16, written: Option<i64>) -> Option<u16>
+    ensures { result ≡ mode_read format missing written }
+{
+    let mode = match written {
+        None => missing,
+        Some(number) => u16::try_from(number).ok()?,
+    };
+    if mode > 0o777 || (format == Format::One && mode & 0o020 == 0o020) {
+        return None;
+    }
+    Some(mode)
+}
+
+pub fn pid_read(written: i64) -> Option<Pid>
+    ensures { result ≡ pid_read written }
+{
+    Pid::new(u32::try_from(written).ok()?)
+}
+
+/// The integer at a key of a table that may be left out.
+fn number_at(table: Option<&Table>, key: &str) -> Option<i64>
+    ensures { result ≡ integer_at key.now (written table.entry) }
+{
+    integer_at(table?, key)
+}
+
+/// The owner, the group and the mode of an entry, as its table says them.
+pub fn owner_of(format: Format, missing: u16, table: Option<&Table>) -> Option<Entry>
+    ensures { result ≡ owner_said format missing (written table.entry) }
+{
+    let uid = id_read(number_at(table, "uid"))?;
+    let gid = id_read(number_at(table, "gid"))?;
+    let mode = mode_read(format, missing, number_at(table, "mode"))?;
+    Some(Entry { uid, gid, mode })
+}
+
+/// The value that a key of a limit file's table has: a number from 0 on, or no limit.
+fn limit_read(value: &Value) -> Option<Limit>
+    ensures { result ≡ limit_of (view value.now) }
+{
+    match value {
+        Value::Integer(number) => Some(Limit::At(u64::try_from(*number).ok()?)),
+        Value::String(text) if text.as_str() == "max" => Some(Limit::Max),
+        _ => None,
+    }
+}
+
+/// The value of a limit file, as its table says it. `None` where the file doesn't accept it.
+pub fn limit_of(file: LimitFile, table: Option<&Table>) -> Option<Limit>
+    ensures { result ≡ limit_said file (written table.entry) }
+{
+    let Some(value) = member_of(table, "value") else {
+        return Some(file.default_value());
+    };
+    let limit = limit_read(value)?;
+    if file.accepts(limit) {
+        Some(limit)
+    } else {
+        None
+    }
+}
+
+/// What stands at a key of a table that may be left out.
+fn member_of<'a>(table: Option<&'a Table>, key: &str) -> Option<&'a Value>
+    ensures { option_map (λ v. view v.now) result ≡ get_member key.now (written table.entry) }
+{
+    member(table?, key)
+}

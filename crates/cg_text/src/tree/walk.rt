@@ -1,0 +1,265 @@
+//! The rows together: one walk over them in the order of their paths.
+ghost use Rattle.std.specs.Prelude.{◌≡◌, List, [], ◌∷◌, ◌++◌, map, Some, None, cond, IfOk, OnOk};
+ghost use Rattle.std.specs.List.Sorted.{IsPermutation, IsStableByKey};
+ghost use Rattle.toml.specs.Data.{Members};
+ghost use Rattle.cg_cgroup.specs.Paths.{path_cmp, is_root};
+ghost use Rattle.cg_cgroup.specs.Files.{no_controllers, stands_under};
+ghost use Rattle.cg_cgroup.specs.declared.files.ControllerSet.{ControllerSet};
+ghost use Rattle.cg_model.specs.Clauses.{first};
+ghost use Rattle.cg_text.specs.declared.tree.records.Format.{Format};
+ghost use Rattle.cg_text.specs.declared.tree.row.Row.{Row};
+ghost use Rattle.cg_text.specs.TextFaults.{cgroup_faults};
+ghost use Rattle.cg_text.specs.Faults.{Passes};
+ghost use Rattle.cg_text.specs.Rows.{AreReadAs};
+ghost use Rattle.cg_text.specs.Walk.{has_met, over_in, over_at, fitted_to, entries_from, lesser, least_fault, has_root, is_front, fronts_above, HasMet, HasTested, AreInOrder, IsNext, AreEntriesOf};
+
+use crate::tree::fault::{Place, TreeFault};
+use crate::tree::row::Row;
+use cg_cgroup::cgroup::{Cgroup, LimitEntry};
+use cg_cgroup::files::{ControllerSet, LimitFile};
+use cg_cgroup::memory::NoMemory;
+use cg_cgroup::path::Path;
+use std::alloc::{AllocError, Global};
+
+/// A cgroup above others: how many names its path has, and what it enables.
+#[derive(Clone, Copy, Debug, PartialEq, Eq)]
+struct Above {
+    len: usize,
+    enabled: ControllerSet,
+}
+
+/// For each test of rows together the least number of a row that fails it.
+#[derive(Clone, Copy, Debug, PartialEq, Eq)]
+struct Least {
+    twice: Option<u32>,
+    orphan: Option<u32>,
+    not_within: Option<u32>,
+    no_file: Option<u32>,
+}
+
+impl Least {
+    const NONE: Least = Least {
+        twice: None,
+        orphan: None,
+        not_within: None,
+        no_file: None,
+    };
+
+    /// The fault of the first test that a row fails.
+    fn fault(self, has_root: bool) -> Option<TreeFault>
+        ensures { result ≡ least_fault self has_root }
+    {
+        if let Some(number) = self.twice {
+            return Some(TreeFault::Duplicate(Place::Cgroup(number)));
+        }
+        if !has_root {
+            return Some(TreeFault::NoRoot);
+        }
+        if let Some(number) = self.orphan {
+            return Some(TreeFault::NoParent(Place::Cgroup(number)));
+        }
+        if let Some(number) = self.not_within {
+            return Some(TreeFault::TopDown(Place::Cgroup(number)));
+        }
+        let number = self.no_file?;
+        Some(TreeFault::NoSuchFile(Place::Cgroup(number)))
+    }
+}
+
+pub fn is_root(path: &Path) -> bool
+    ensures { result ≡ is_root path.now }
+{
+    path.depth() == 0
+}
+
+fn lesser(least: Option<u32>, number: u32) -> Option<u32>
+    ensures { result ≡ lesser least number }
+{
+    match least {
+        Some(least) if least < number => Some(least),
+        _ => Some(number),
+    }
+}
+
+/// What is enabled over a path of so many names, and nothing over the root. `None` where its parent isn't there.
+fn over(above: &[Above], len: usize) -> Option<ControllerSet>
+    ensures { result ≡ over_at above.now len }
+{
+    if len == 0 {
+        return Some(ControllerSet::none());
+    }
+    let parent = above.last()?;
+    if parent.len == len - 1 {
+        Some(parent.enabled)
+    } else {
+        None
+    }
+}
+
+/// A limit file where it stands under a parent that enables `over`.
+fn standing(over: ControllerSet, file: LimitFile, held: Option<LimitEntry>) -> Option<LimitEntry>
+    ensures { result ≡ cond (stands_under over file) held None }
+{
+    if file.stands_under(over) { held } else { None }
+}
+
+/// A cgroup with the files that stand at it.
+fn fitted(over: ControllerSet, cgroup: Cgroup) -> Cgroup
+    ensures { result ≡ fitted_to over cgroup }
+{
+    Cgroup {
+        cpu_weight: standing(over, LimitFile::CpuWeight, cgroup.cpu_weight),
+        memory_min: standing(over, LimitFile::MemoryMin, cgroup.memory_min),
+        memory_low: standing(over, LimitFile::MemoryLow, cgroup.memory_low),
+        memory_high: standing(over, LimitFile::MemoryHigh, cgroup.memory_high),
+        memory_max: standing(over, LimitFile::MemoryMax, cgroup.memory_max),
+        pids_max: standing(over, LimitFile::PidsMax, cgroup.pids_max),
+        ..cgroup
+    }
+}
+
+/// How far a walk has come.
+#[derive(Drop)]
+struct Walk {
+    /// The cgroups that were met, with the files that stand at them.
+    entries: Vec<(Path, Cgroup)>,
+    /// Those of them whose path is a front of the last one's, from the root down.
+    above: Vec<Above>,
+    least: Least,
+}
+
+impl Walk {
+    fn new(alloc: Global, rows: usize) -> Result<Walk, AllocError>
+        ensures { (controllers : ControllerSet) → IfOk result (HasMet controllers []) }
+    {
+        Ok(Walk {
+            entries: Vec::with_capacity(alloc, rows)?,
+            above: Vec::new(alloc),
+            least: Least::NONE,
+        })
+    }
+
+    /// Whether the last cgroup that was met has this path.
+    fn has_met(&self, path: &Path) -> bool
+        ensures { (met : List Row) (row : Row) → self.now.entries.items ≡ entries_from [] met → IsNext met row → row.path ≡ path.now
+            → result ≡ has_met met path.now }
+    {
+        match self.entries.last() {
+            None => false,
+            Some((last, _)) => last == path,
+        }
+    }
+
+    /// Whether the last of the cgroups above has a path that is a front of this one.
+    fn is_below(&self, path: &Path) -> bool
+        ensures { result ≡ is_front self.now.above.items (map (λ entry. entry.0) self.now.entries.items) path.now }
+    {
+        match (self.above.last(), self.entries.last()) {
+            (Some(top), Some((last, _))) => top.len < path.depth() && path.holds(top.len, last),
+            _ => false,
+        }
+    }
+
+    /// Takes off the cgroups that aren't above a path.
+    fn leave(&mut self, path: &Path)
+        ensures left { (controllers : ControllerSet) (met : List Row) (row : Row) → HasMet controllers met self.old → IsNext met row → row.path ≡ path.now
+            → self.new.above.items ≡ fronts_above met path.now }
+        ensures entries { self.new.entries ≡ self.old.entries }
+        ensures least { self.new.least ≡ self.old.least }
+    {
+        while !self.above.is_empty() && !self.is_below(path) {
+            self.above.pop();
+        }
+    }
+
+    /// Keeps the row's number for each test that it fails.
+    fn test(&mut self, row: &Row, over: Option<ControllerSet>, controllers: ControllerSet)
+        ensures tested { (met : List Row) → self.old.entries.items ≡ entries_from [] met → IsNext met row.now
+            → over ≡ over_in no_controllers met row.now.path
+            → HasTested controllers met self.old.least → HasTested controllers (met ++ row.now ∷ []) self.new.least }
+        ensures entries { self.new.entries ≡ self.old.entries }
+        ensures above { self.new.above ≡ self.old.above }
+    {
+        if self.has_met(&row.path) {
+            self.least.twice = lesser(self.least.twice, row.number);
+        }
+        let Some(over) = over else {
+            self.least.orphan = lesser(self.least.orphan, row.number);
+            return;
+        };
+        let available = if is_root(&row.path) {
+            controllers
+        } else {
+            over
+        };
+        if !row.cgroup.enabled.is_within(&available) {
+            self.least.not_within = lesser(self.least.not_within, row.number);
+        }
+        if !row.needed.is_within(&over) {
+            self.least.no_file = lesser(self.least.no_file, row.number);
+        }
+    }
+
+    /// Goes on to a row, whose path is that of the last one or comes after it.
+    fn step(&mut self, row: Row, controllers: ControllerSet) -> Result<(), NoMemory>
+        ensures { (met : List Row) → HasMet controllers met self.old → IsNext met row
+            → OnOk result (HasMet controllers (met ++ row ∷ []) self.new) }
+    {
+        self.leave(&row.path);
+        let len = row.path.depth();
+        let over = over(&self.above, len);
+        self.test(&row, over, controllers);
+        let Row { path, cgroup, .. } = row;
+        self.above.push(Above {
+            len,
+            enabled: cgroup.enabled,
+        })?;
+        let over = over.unwrap_or(ControllerSet::none());
+        self.entries.push((path, fitted(over, cgroup)))?;
+        Ok(())
+    }
+
+    /// The cgroups, or the first fault of the rows.
+    fn end(self) -> Result<Vec<(Path, Cgroup)>, TreeFault>
+        ensures { Passes (λ entries. entries ≡ self.entries) (least_fault self.least (has_root self.entries.items)) result }
+    {
+        let has_root = match self.entries.first() {
+            None => false,
+            Some((path, _)) => is_root(path),
+        };
+        match self.least.fault(has_root) {
+            None => Ok(self.entries),
+            Some(fault) => Err(fault),
+        }
+    }
+}
+
+/// Puts rows in the order of their paths. Those of one path stay as they were.
+fn sort(rows: &mut Vec<Row>) -> Result<(), AllocError>
+    ensures order { OnOk result (AreInOrder rows.new.items) }
+    ensures same { IsPermutation rows.old.items rows.new.items }
+    ensures stable { IsStableByKey (λ row. row.path) path_cmp rows.old.items rows.new.items }
+{
+    if rows.is_sorted_by(|row, next| row.path <= next.path) {
+        return Ok(());
+    }
+    rows.sort_by(|row, other| row.path.cmp(&other.path))
+}
+
+/// The cgroups of rows in the order of their paths, with the files that stand at them, or the first fault of the rows together.
+pub fn walked(
+    alloc: Global,
+    rows: Vec<Row>,
+    controllers: ControllerSet,
+) -> Result<Vec<(Path, Cgroup)>, TreeFault>
+    ensures { (format : Format) (tables : List Members) → AreReadAs format 1 tables rows.items
+        → Passes (λ entries. AreEntriesOf format tables entries.items) (first (cgroup_faults (Some controllers) tables)) result }
+{
+    let mut rows = rows;
+    sort(&mut rows)?;
+    let mut walk = Walk::new(alloc, rows.len())?;
+    for row in rows {
+        walk.step(row, controllers)?;
+    }
+    walk.end()
+}
