@@ -19,3 +19,5 @@ pub mod SaidTogether
 pub mod SaidProcesses
 pub mod TextFaultLaws
 pub mod EntriesLaws
+pub mod Cuts
+pub mod LeastLaws
