@@ -21,3 +21,4 @@ pub mod TextFaultLaws
 pub mod EntriesLaws
 pub mod Cuts
 pub mod LeastLaws
+pub mod WalkEnd
