@@ -32,7 +32,7 @@ module _ (format : Format) (controllers : ControllerSet) (tables : List Members)
       let none : least_fault walk.least root ≡ None = ap (λ some. least_fault walk.least (has_root some)) (sym met.entries) ∙ passes.0 in (
         fault_is ∙ none,
         subst (λ some. AreEntriesOf format tables some) (sym (ap (λ (entries : Entries). entries.items) passes.1 ∙ met.entries))
-        (entries_of_tables format tables rows sorted controllers walk.least root read same order met.tested none),
+            (entries_of_tables format tables rows sorted controllers walk.least root read same order met.tested none),
       )
   walked_is (Err fault) read same order stable met passes = λ found.
       least_fault_is_first format controllers tables rows sorted walk.least read same order stable met.tested
