@@ -133,6 +133,47 @@ module _ (fails : List Row → Row → Bool) where
   pub least_lesser : (met : List Row) (row : Row) (least : Option ℕ) → IsLeast fails met least → fails met row ≡ true → IsLeast fails (met ++ row ∷ []) (lesser least row.number)
   least_lesser met row least is failed = cut_least (met ++ row ∷ []) (lesser least row.number) (less_cut met row least (least_cut met least is) failed)
 
+-- ---- what a row adds to the least numbers
+
+noted : (fails : List Row → Row → Bool) (met : List Row) (row : Row) (least after : Option ℕ) (b : Bool) → IsLeast fails met least → fails met row ≡ b → after ≡ cond b (lesser least row.number) least
+    → IsLeast fails (met ++ row ∷ []) after
+noted fails met row least after true is failed same = subst (IsLeast fails (met ++ row ∷ [])) (sym same) (least_lesser fails met row least is failed)
+noted fails met row least after false is passed same = subst (IsLeast fails (met ++ row ∷ [])) (sym same) (least_kept fails met row least is passed)
+
+over_none : (root : Bool) (at_root other : ControllerSet) (found : Option ControllerSet) → cond root (Some at_root) found ≡ None → cond root (Some other) found ≡ None
+over_none true at_root other found is = absurd (true≢false (ap is_some is))
+over_none false at_root other found is = is
+
+over_some : (root : Bool) (at_root other above : ControllerSet) (found : Option ControllerSet) → cond root (Some at_root) found ≡ Some above → cond root (Some other) found ≡ Some (cond root other above)
+over_some true at_root other above found is = refl
+over_some false at_root other above found is = is
+
+module _ (controllers : ControllerSet) (met : List Row) (row : Row) (least : Least) (tested : HasTested controllers met least) (twice : Bool) (twice_is : twice ≡ has_met met row.path) where
+  -- of a row without a parent
+  pub tested_alone : (after : Least) → over_in no_controllers met row.path ≡ None → after.twice ≡ cond twice (lesser least.twice row.number) least.twice → after.orphan ≡ lesser least.orphan row.number
+      → after.not_within ≡ least.not_within → after.no_file ≡ least.no_file → HasTested controllers (met ++ row ∷ []) after
+  tested_alone after none own orphan within file = record {
+    twice = noted (λ earlier row. has_met earlier row.path) met row least.twice after.twice twice tested.twice (sym twice_is) own;
+    orphan = noted is_orphan met row least.orphan after.orphan true tested.orphan (ap (λ o. not (is_some o)) none) orphan;
+    not_within =
+      noted (is_not_within controllers) met row least.not_within after.not_within false tested.not_within
+      (ap (is_past row.cgroup.enabled) (over_none (is_root row.path) no_controllers controllers (enabled_by met (parent row.path)) none)) within;
+    no_file = noted has_no_file met row least.no_file after.no_file false tested.no_file (ap (is_past row.needed) none) file;
+  }
+
+  -- of a row with these above it
+  pub tested_over : (above : ControllerSet) (after : Least) → over_in no_controllers met row.path ≡ Some above → after.twice ≡ cond twice (lesser least.twice row.number) least.twice → after.orphan ≡ least.orphan
+      → after.not_within ≡ cond (not (is_within row.cgroup.enabled (cond (is_root row.path) controllers above))) (lesser least.not_within row.number) least.not_within
+      → after.no_file ≡ cond (not (is_within row.needed above)) (lesser least.no_file row.number) least.no_file → HasTested controllers (met ++ row ∷ []) after
+  tested_over above after some own orphan within file = record {
+    twice = noted (λ earlier row. has_met earlier row.path) met row least.twice after.twice twice tested.twice (sym twice_is) own;
+    orphan = noted is_orphan met row least.orphan after.orphan false tested.orphan (ap (λ o. not (is_some o)) some) orphan;
+    not_within =
+      noted (is_not_within controllers) met row least.not_within after.not_within (not (is_within row.cgroup.enabled (cond (is_root row.path) controllers above))) tested.not_within
+      (ap (is_past row.cgroup.enabled) (over_some (is_root row.path) no_controllers controllers above (enabled_by met (parent row.path)) some)) within;
+    no_file = noted has_no_file met row least.no_file after.no_file (not (is_within row.needed above)) tested.no_file (ap (is_past row.needed) some) file;
+  }
+
 -- ---- rows as their tables say them
 
 -- what the first row at a path enables
