@@ -1,13 +1,13 @@
 -- The fronts of a path that were met, what a row behind all others does to them, and what the walk takes off before it.
 use Rattle.std.proofs.Common.{◌≡◌, ℕ, zero, suc, ◌+◌, ◌-◌, ◌<◌, ◌≤◌, min, Bool, true, false, ◌&&◌, ◌||◌, cond, List, [], ◌∷◌, ◌++◌, length, take, drop, get_or, map as map_list, reverse, Option, Some, None, is_some, refl, sym, ap, subst, ◌∙◌, true≢false, arith, ltb, eqb, ◌⊎◌, inl, inr, ⊎_elim, add-one}
 use Rattle.std.specs.Prelude.{find, slice_get, option_and_then, unwrap_or}
-use Rattle.std.specs.Option.{option_map}
+use Rattle.std.specs.Option.{option_map, option_to_list}
 use Rattle.std.specs.List.{list_any, list_all}
 use Rattle.std.specs.Ordering.{is_lt, is_gt, ordering_reverse}
 use Rattle.std.specs.declared.cmp.Ordering.{Ordering}
 use Rattle.std.specs.declared.cmp.Ordering.TheVariants.{Less, Equal, Greater}
-use Rattle.std.proofs.lemmas.Bool.{and_parts, and_from, and_left, and_right, or_parts, cases_Bool, cases_lt, false_from_ne_true, lt-ltb, le-ltb, eq-eqb, ne_eqb}
-use Rattle.std.proofs.lemmas.List.{append-nil, append_assoc, reverse-append, length-append, length_push, get_or_push, get_or_append_left, take_all, take-take, length-take-le, take-append-drop, get_or-drop, get_or_default, length-drop}
+use Rattle.std.proofs.lemmas.Bool.{and_parts, and_from, and_left, and_right, or_parts, or_from, cases_Bool, cases_lt, false_from_ne_true, lt-ltb, le-ltb, eq-eqb, ne_eqb}
+use Rattle.std.proofs.lemmas.List.{append-nil, append_assoc, reverse-append, length-append, length_push, get_or_push, get_or_append_left, take_all, take-take, length-take-le, take-append-drop, get_or-drop, get_or_default, length-drop, map_push}
 use Rattle.std.proofs.lemmas.List.Folds.{Any-from_list_any, list_any-append, list_any_at}
 use Rattle.std.proofs.lemmas.List.Sorted.{sorted_far, ranks_by, IsPermutation-reverse, list_any-IsPermutation}
 use Rattle.std.proofs.lemmas.Option.{slice_get-get_or}
@@ -18,7 +18,8 @@ use Rattle.cg_cgroup.specs.declared.cgroup.Cgroup.{Cgroup}
 use Rattle.cg_cgroup.proofs.PathOrder.{path_cmp_total, path_cmp-IsAntisymmetric, same_path-is, same_path_refl, same_path_comm, same_path-not}
 use Rattle.cg_cgroup.proofs.PathParents.{inside-take, inside-is, length-parent}
 use Rattle.cg_cgroup.proofs.PathLaws.{inside-first, inside_between, inside-length, common-longest, common-take, common-take_first, common-inside_first, common-inside_second}
-use Rattle.cg_text.specs.Walk.{has_met, enabled_by, over_in, over_at, fitted_to, entries_from, last_of, fronts_from, fronts_above, fronts, is_front, AreInOrder, IsNext}
+use Rattle.cg_text.specs.declared.tree.walk.Walk.{Walk}
+use Rattle.cg_text.specs.Walk.{HasMet, has_met, enabled_by, over_in, over_at, fitted_to, entries_from, last_of, fronts_from, fronts_above, fronts, is_front, AreInOrder, IsNext}
 use Rattle.cg_text.specs.declared.tree.row.Row.{Row}
 use Rattle.cg_text.specs.declared.tree.walk.Above.{Above}
 
@@ -446,4 +447,64 @@ met_by_last entries met row last are order some =
           let path : last.0 ≡ w.1.path = ap (entry_path []) is in
           ap (λ (p : Names). same_path p row.path) path ∙ met_last w.0 w.1 row (subst (λ (rows : List Row). AreInOrder (rows ++ row ∷ [])) w.2 order)
           ∙ ap (λ (rows : List Row). has_met rows row.path) (sym w.2)
+    ]
+
+-- ---- the walk's leaving
+
+-- whether a cgroup above the last entry is above the next, where there is a last entry
+abbrev pub holds_after : Option Names → Names → Above → Bool
+holds_after last path top = elim last [ None ↦ false | Some other ↦ holds_next path other top ]
+
+pub none_left : {X : Type 0} (test : X → Bool) (all : List X) → HasLeft test all all
+none_left test all = record { left = []; is = sym (append-nil all); fails = refl }
+
+-- the last of them is asked
+front_last : (stays : List Above) (paths : List Names) (path : Names) (xs : List Above) (top : Above) → stays ≡ xs ++ top ∷ [] → is_front stays paths path ≡ holds_after (last_of paths) path top
+front_last stays paths path xs top e =
+    ap (λ (o : Option Above). elim o [ None ↦ false | Some top ↦ holds_after (last_of paths) path top ]) (ap last_of e ∙ last_push xs top)
+
+pub leaves_one : (paths : List Names) (path : Names) (all stays next : List Above) (o : Option Above) → is_front stays paths path ≡ false → stays ≡ next ++ option_to_list o → HasLeft (holds_after (last_of paths) path) all stays
+    → HasLeft (holds_after (last_of paths) path) all next
+leaves_one paths path all stays next None below e has = record {
+  left = has.left;
+  is = has.is ∙ ap (λ (xs : List Above). xs ++ has.left) (e ∙ append-nil next);
+  fails = has.fails;
+}
+leaves_one paths path all stays next (Some top) below e has = record {
+  left = top ∷ has.left;
+  is = has.is ∙ ap (λ (xs : List Above). xs ++ has.left) e ∙ append_assoc next (top ∷ []) has.left;
+  fails = or_from (holds_after (last_of paths) path top) (list_any (holds_after (last_of paths) path) has.left) (sym (front_last stays paths path next top e) ∙ below) has.fails;
+}
+
+-- where the last of them holds the next path, or there is none, no more is taken off
+pub ends_at_front : (stays : List Above) (paths : List Names) (path : Names) → is_front stays paths path ≡ true → (xs : List Above) (top : Above) → stays ≡ xs ++ top ∷ [] → holds_after (last_of paths) path top ≡ true
+ends_at_front stays paths path front xs top e = sym (front_last stays paths path xs top e) ∙ front
+
+pub ends_at_none : (stays : List Above) (P : Type 0) → length stays ≡ 0 → (xs : List Above) (top : Above) → stays ≡ xs ++ top ∷ [] → P
+ends_at_none stays P none xs top e = absurd (omega (arith, none, ap length e, length_push xs top))
+
+nothing_left : {X : Type 0} (stays left : List X) → [] ≡ stays ++ left → stays ≡ []
+nothing_left [] left e = refl
+nothing_left (x ∷ stays) left e = absurd (omega (arith, ap length e))
+
+pub leaves : (controllers : ControllerSet) (met : List Row) (row : Row) (old : Walk) (stays : List Above) (path : Names) → HasMet controllers met old → IsNext met row → row.path ≡ path
+    → HasLeft (holds_after (last_of (map_list (λ entry. entry.0) old.entries.items)) path) old.above.items stays
+    → ((xs : List Above) (top : Above) → stays ≡ xs ++ top ∷ [] → holds_after (last_of (map_list (λ entry. entry.0) old.entries.items)) path top ≡ true) → stays ≡ fronts_above met path
+leaves controllers met row old stays path has order is gone ends =
+    elim (ended met) [
+      | inl e ↦
+          nothing_left stays gone.left (sym (has.none e) ∙ gone.is)
+          ∙ sym (ap (λ (rows : List Row). fronts_above rows path) e ∙ fronts_are [] path (length path) ∙ fronts_until (met_at [] path) 0 (length path) (omega arith) (λ k l m. refl))
+      | inr w ↦
+          let last : last_of (map_list (λ (entry : Names × Cgroup). entry.0) old.entries.items) ≡ Some w.1.path =
+          ap (λ (es : List (Names × Cgroup)). last_of (map_list (λ (entry : Names × Cgroup). entry.0) es)) (has.entries ∙ ap (entries_from []) w.2 ∙ entries_push w.0 w.1)
+          ∙ ap last_of (map_push (λ (entry : Names × Cgroup). entry.0) (entries_from [] w.0) (entry_from w.0 w.1))
+          ∙ last_push (map_list (λ (entry : Names × Cgroup). entry.0) (entries_from [] w.0)) w.1.path in
+          let all : old.above.items ≡ fronts (w.0 ++ w.1 ∷ []) w.1.path = has.above w.1 w.0 w.2 ∙ ap (λ (rows : List Row). fronts rows w.1.path) w.2 in
+          let kept = subst (λ (o : Option Names). HasLeft (holds_after o row.path) (fronts (w.0 ++ w.1 ∷ []) w.1.path) stays) last
+          (subst (λ (p : Names). HasLeft (holds_after (last_of (map_list (λ (entry : Names × Cgroup). entry.0) old.entries.items)) p) (fronts (w.0 ++ w.1 ∷ []) w.1.path) stays) (sym is)
+          (subst (λ (xs : List Above). HasLeft (holds_after (last_of (map_list (λ (entry : Names × Cgroup). entry.0) old.entries.items)) path) xs stays) all gone)) in
+          left_above w.0 w.1 row stays (subst (λ (rows : List Row). AreInOrder (rows ++ row ∷ [])) w.2 order) kept
+          (λ xs top e. sym (λ i. holds_after (last i) (sym is i) top) ∙ ends xs top e)
+          ∙ (λ i. fronts_above (sym w.2 i) (is i))
     ]
