@@ -7,7 +7,7 @@ use Rattle.std.specs.Ordering.{is_lt, is_gt, ordering_reverse}
 use Rattle.std.specs.declared.cmp.Ordering.{Ordering}
 use Rattle.std.specs.declared.cmp.Ordering.TheVariants.{Less, Equal, Greater}
 use Rattle.std.proofs.lemmas.Bool.{and_parts, and_from, and_left, and_right, or_parts, or_from, cases_Bool, cases_lt, false_from_ne_true, lt-ltb, le-ltb, eq-eqb, ne_eqb}
-use Rattle.std.proofs.lemmas.List.{append-nil, append_assoc, reverse-append, length-append, length_push, get_or_push, get_or_append_left, take_all, take-take, length-take-le, take-append-drop, get_or-drop, get_or_default, length-drop, map_push}
+use Rattle.std.proofs.lemmas.List.{append-nil, append_assoc, reverse-append, length-append, length_push, get_or_push, get_or_append_left, take_all, take-take, length-take-le, take-append-drop, get_or-drop, get_or_default, length-drop, map_push, same_from_push}
 use Rattle.std.proofs.lemmas.List.Folds.{Any-from_list_any, list_any-append, list_any_at}
 use Rattle.std.proofs.lemmas.List.Sorted.{sorted_far, ranks_by, IsPermutation-reverse, list_any-IsPermutation}
 use Rattle.std.proofs.lemmas.Option.{slice_get-get_or}
@@ -19,7 +19,7 @@ use Rattle.cg_cgroup.proofs.PathOrder.{path_cmp_total, path_cmp-IsAntisymmetric,
 use Rattle.cg_cgroup.proofs.PathParents.{inside-take, inside-is, length-parent}
 use Rattle.cg_cgroup.proofs.PathLaws.{inside-first, inside_between, inside-length, common-longest, common-take, common-take_first, common-inside_first, common-inside_second}
 use Rattle.cg_text.specs.declared.tree.walk.Walk.{Walk}
-use Rattle.cg_text.specs.Walk.{HasMet, has_met, enabled_by, over_in, over_at, fitted_to, entries_from, last_of, fronts_from, fronts_above, fronts, is_front, AreInOrder, IsNext}
+use Rattle.cg_text.specs.Walk.{HasMet, HasTested, has_met, enabled_by, over_in, over_at, fitted_to, entries_from, last_of, fronts_from, fronts_above, fronts, is_front, AreInOrder, IsNext}
 use Rattle.cg_text.specs.declared.tree.row.Row.{Row}
 use Rattle.cg_text.specs.declared.tree.walk.Above.{Above}
 
@@ -508,3 +508,25 @@ leaves controllers met row old stays path has order is gone ends =
           (λ xs top e. sym (λ i. holds_after (last i) (sym is i) top) ∙ ends xs top e)
           ∙ (λ i. fronts_above (sym w.2 i) (is i))
     ]
+
+-- ---- the walk's step
+
+-- what is over a row, as the walk finds it
+pub over_next : (met : List Row) (path : Names) (above : List Above) (len : ℕ) (over : Option ControllerSet) → above ≡ fronts_above met path → len ≡ length path → over ≡ over_at above len → over ≡ over_in no_controllers met path
+over_next met path above len over fronts_are_above long is = is ∙ (λ i. over_at (fronts_are_above i) (long i)) ∙ over_fronts met path
+
+-- how far the walk has come with a row that was tested behind those before
+pub met_next : (controllers : ControllerSet) (met : List Row) (row : Row) (old new : Walk) (above : List Above) (len : ℕ) (over : Option ControllerSet) → HasMet controllers met old
+    → above ≡ fronts_above met row.path → len ≡ length row.path → over ≡ over_in no_controllers met row.path
+    → new.above.items ≡ above ++ record { len = len; enabled = row.cgroup.enabled } ∷ []
+    → new.entries.items ≡ old.entries.items ++ (row.path, fitted_to (unwrap_or over no_controllers) row.cgroup) ∷ []
+    → HasTested controllers (met ++ row ∷ []) new.least
+    → HasMet controllers (met ++ row ∷ []) new
+met_next controllers met row old new above len over has fronts_are_above long known pushed_above pushed_entries tested = record {
+  entries = pushed_entries ∙ (λ i. has.entries i ++ (row.path, fitted_to (unwrap_or (known i) no_controllers) row.cgroup) ∷ []) ∙ sym (entries_push met row);
+  none = λ e. absurd (omega (arith, ap length e, length_push met row));
+  above = λ other rows e.
+  pushed_above ∙ (λ i. fronts_are_above i ++ record { len = long i; enabled = row.cgroup.enabled } ∷ []) ∙ sym (fronts_step met row)
+  ∙ ap (λ (r : Row). fronts (met ++ row ∷ []) r.path) (same_from_push met rows row other e).1;
+  tested = tested;
+}
