@@ -22,3 +22,4 @@ pub mod EntriesLaws
 pub mod Cuts
 pub mod LeastLaws
 pub mod WalkEnd
+pub mod WalkFronts
