@@ -19,3 +19,4 @@ pub mod SaidTogether
 pub mod SaidProcesses
 pub mod TextFaultLaws
 pub mod EachRow
+pub mod TakesLaws
