@@ -23,3 +23,5 @@ pub mod Cuts
 pub mod LeastLaws
 pub mod WalkEnd
 pub mod WalkFronts
+pub mod EachRow
+pub mod TakesLaws
