@@ -18,3 +18,4 @@ pub mod SaidFaults
 pub mod SaidTogether
 pub mod SaidProcesses
 pub mod TextFaultLaws
+pub mod RowLaws
