@@ -25,3 +25,4 @@ pub mod WalkEnd
 pub mod WalkFronts
 pub mod EachRow
 pub mod TakesLaws
+pub mod RowLaws
