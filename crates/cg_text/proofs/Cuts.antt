@@ -1,6 +1,6 @@
 -- Lists cut at an element, and what a filter keeps of one.
 use Rattle.std.proofs.Common.{◌≡◌, ℕ, ◌+◌, ◌<◌, zero, suc, Bool, true, false, cond, ◌||◌, ◌⊎◌, inl, inr, ⊎_elim, List, [], ◌∷◌, ◌++◌,
-    length, get_or, take, drop, reverse, find, filter, Option, Some, None, is_some, refl, sym, ap, subst, ◌∙◌, true≢false, append-nil,
+    length, get_or, take, reverse, find, filter, Option, Some, None, is_some, refl, sym, ap, ◌∙◌, append-nil,
     length-append, arith}
 use Rattle.std.specs.List.{list_any}
 use Rattle.std.proofs.lemmas.List.{reverse-append}

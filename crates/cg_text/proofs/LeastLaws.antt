@@ -1,16 +1,17 @@
 -- The least number of a row that fails, over the rows in the order of their paths, is that of the first table in the text that fails.
-use Rattle.std.proofs.Common.{◌≡◌, ℕ, ◌+◌, ◌-◌, ◌<◌, ◌≤◌, zero, suc, Bool, true, false, not, cond, ◌||◌, ◌⊎◌, inl, inr, ⊎_elim, List, [],
+use Rattle.std.proofs.Common.{◌≡◌, ℕ, ◌+◌, ◌-◌, ◌<◌, ◌≤◌, Bool, true, false, not, cond, ◌||◌, ◌⊎◌, inl, inr, ⊎_elim, List, [],
     ◌∷◌, ◌++◌, length, get_or, take, reverse, find, filter, codes, Option, Some, None, is_some, is_lt, is_gt, is_eq, Ordering, Less, Equal,
     Greater, option_map, option_and_then, refl, sym, ap, subst, ◌∙◌, true≢false, length-append, append_assoc, append-nil, get_or-append-add,
     arith}
 use Rattle.std.specs.Prelude.{nat_lt, ◌&&◌}
+use Rattle.std.specs.Option.{option_or}
 use Rattle.std.specs.Ordering.{ordering_reverse}
-use Rattle.std.specs.List.{list_any, list_all}
+use Rattle.std.specs.List.{list_all}
 use Rattle.std.specs.List.Sorted.{IsPermutation, IsStableByKey, ties}
 use Rattle.std.proofs.lemmas.Bool.Decides.{nat_tests}
 use Rattle.std.proofs.lemmas.List.{length_push}
 use Rattle.std.proofs.lemmas.List.Elements.{filter-append, filter_agree}
-use Rattle.std.proofs.lemmas.List.Sorted.{sorted_far, ranks_by, length_permutation}
+use Rattle.std.proofs.lemmas.List.Sorted.{sorted_far, ranks_by}
 use Rattle.toml.specs.Data.{Members}
 use Rattle.cg_cgroup.specs.Paths.{Names, path_cmp, same_path, is_root, parent}
 use Rattle.cg_cgroup.specs.Files.{all_files, no_controllers, is_within, stands_under}
@@ -23,7 +24,6 @@ use Rattle.cg_cgroup.proofs.PathOrder.{path_cmp_total, same_path-ties, same_path
 use Rattle.cg_cgroup.proofs.PathParents.{inside-take, is_root-is, parent-other}
 use Rattle.cg_cgroup.proofs.PathLaws.{inside-first}
 use Rattle.cg_model.specs.Clauses.{unless, present, first}
-use Rattle.cg_text.specs.Tree.{or_else}
 use Rattle.cg_text.specs.Said.{path_said, controllers_said, has_path, is_named}
 use Rattle.cg_text.specs.TextFaults.{each, is_there, enabled_there, over, on_path, cgroup_faults}
 use Rattle.cg_text.specs.Rows.{IsReadAs, AreReadAs}
@@ -36,10 +36,18 @@ use Rattle.cg_text.specs.declared.tree.fault.TreeFault.TheVariants.{Duplicate, N
 use Rattle.cg_text.specs.declared.tree.records.Format.{Format}
 use Rattle.cg_text.specs.declared.tree.row.Row.{Row}
 use Rattle.cg_text.specs.declared.tree.walk.Least.{Least}
-use Rattle.cg_text.proofs.FormFaults.{right_five}
-use Rattle.cg_text.proofs.SaidFaults.{first_of_both}
 use Rattle.cg_text.proofs.Cuts.{not_empty, cut_at, place_of, cut_last, head_of, find_filter, any_filter, filter_reverse, filter_none,
-    filter_cut, cut_kept, cut_moved}
+    cut_kept, cut_moved}
+
+-- ---- clauses, one after another
+
+pub first_then : {A : Type 0} (one other : List A) (a b : Option A) → first one ≡ a → (a ≡ None → first other ≡ b)
+    → first (one ++ other) ≡ option_or a b
+first_then [] other a b is next = next (sym is) ∙ ap (λ o. option_or o b) is
+first_then (fault ∷ one) other a b is next = ap (λ o. option_or o b) is
+
+five_parts : {A : Type 0} (a b c d e : List A) → (((a ++ b) ++ c) ++ d) ++ e ≡ a ++ (b ++ (c ++ (d ++ e)))
+five_parts a b c d e = append_assoc ((a ++ b) ++ c) d e ∙ append_assoc (a ++ b) c (d ++ e) ∙ append_assoc a b (c ++ (d ++ e))
 
 -- ---- the lesser of two numbers
 
@@ -348,10 +356,10 @@ module _ (format : Format) where
         elim (fails met row) as (λ b. fails met row ≡ b → first here ≡ cond b (Some (fault (AtCgroup i))) None
         → first (here ++ later) ≡ option_map (λ number. fault (AtCgroup number)) least) [
           | true ↦ λ failed is_fault.
-              first_of_both here later (Some (fault (AtCgroup i))) (first later) is_fault (λ _. refl)
+              first_then here later (Some (fault (AtCgroup i))) (first later) is_fault (λ _. refl)
               ∙ ap (option_map (λ number. fault (AtCgroup number))) (sym (least_here i met table tables row rows least read failed is))
           | false ↦ λ passed is_none.
-              first_of_both here later None (option_map (λ number. fault (AtCgroup number)) least) is_none (λ _.
+              first_then here later None (option_map (λ number. fault (AtCgroup number)) least) is_none (λ _.
               first_from tells (i + 1) (earlier ++ table ∷ []) (met ++ row ∷ []) tables rows least
               (read_more 1 i earlier met table row before read.0 at) read.1
               (omega (arith, length_push met row)) (least_later met row rows least passed is))
@@ -629,9 +637,9 @@ mapped_none f (Some x) is = absurd (true≢false (ap is_some is))
 
 -- the faults in their order
 in_turn : (twice orphan within files : Option ℕ) (root : Bool)
-    → or_else (option_map (λ number. Duplicate (AtCgroup number)) twice) (or_else (cond root None (Some NoRoot))
-    (or_else (option_map (λ number. NoParent (AtCgroup number)) orphan)
-    (or_else (option_map (λ number. TopDown (AtCgroup number)) within) (option_map (λ number. NoSuchFile (AtCgroup number)) files))))
+    → option_or (option_map (λ number. Duplicate (AtCgroup number)) twice) (option_or (cond root None (Some NoRoot))
+    (option_or (option_map (λ number. NoParent (AtCgroup number)) orphan)
+    (option_or (option_map (λ number. TopDown (AtCgroup number)) within) (option_map (λ number. NoSuchFile (AtCgroup number)) files))))
     ≡ elim twice [
       | Some number ↦ Some (Duplicate (AtCgroup number))
       | None ↦ cond root
@@ -777,14 +785,14 @@ module _ (format : Format) (controllers : ControllerSet) (tables : List Members)
         let first_orphan : Option TreeFault = option_map (λ number. NoParent (AtCgroup number)) least.orphan in
         let first_within : Option TreeFault = option_map (λ number. TopDown (AtCgroup number)) least.not_within in
         let first_file : Option TreeFault = option_map (λ number. NoSuchFile (AtCgroup number)) least.no_file in
-        ap first (right_five twice root parents within files)
-        ∙ first_of_both twice (root ++ (parents ++ (within ++ files))) first_twice
-        (or_else first_root (or_else first_orphan (or_else first_within first_file))) twice_first
+        ap first (five_parts twice root parents within files)
+        ∙ first_then twice (root ++ (parents ++ (within ++ files))) first_twice
+        (option_or first_root (option_or first_orphan (option_or first_within first_file))) twice_first
         (λ none.
         let once = once_from rows least.twice twice_cut (mapped_none (λ number. Duplicate (AtCgroup number)) least.twice none) in
-        first_of_both root (parents ++ (within ++ files)) first_root (or_else first_orphan (or_else first_within first_file)) root_first_is
-        (λ _. first_of_both parents (within ++ files) first_orphan (or_else first_within first_file) (orphan_first once)
-        (λ _. first_of_both within files first_within first_file (within_first once) (λ _. files_first once))))
+        first_then root (parents ++ (within ++ files)) first_root (option_or first_orphan (option_or first_within first_file)) root_first_is
+        (λ _. first_then parents (within ++ files) first_orphan (option_or first_within first_file) (orphan_first once)
+        (λ _. first_then within files first_within first_file (within_first once) (λ _. files_first once))))
         ∙ in_turn least.twice least.orphan least.not_within least.no_file has_one
 
 
