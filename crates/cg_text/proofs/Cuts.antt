@@ -1,5 +1,7 @@
 -- Lists cut at an element, and what a filter keeps of one.
-use Rattle.std.proofs.Common.{◌≡◌, ℕ, ◌+◌, ◌<◌, zero, suc, Bool, true, false, cond, ◌||◌, ◌⊎◌, inl, inr, ⊎_elim, List, [], ◌∷◌, ◌++◌, length, get_or, take, drop, reverse, find, filter, Option, Some, None, is_some, refl, sym, ap, subst, ◌∙◌, true≢false, append-nil, length-append, arith}
+use Rattle.std.proofs.Common.{◌≡◌, ℕ, ◌+◌, ◌<◌, zero, suc, Bool, true, false, cond, ◌||◌, ◌⊎◌, inl, inr, ⊎_elim, List, [], ◌∷◌, ◌++◌,
+    length, get_or, take, reverse, find, filter, Option, Some, None, is_some, refl, sym, ap, ◌∙◌, append-nil,
+    length-append, arith}
 use Rattle.std.specs.List.{list_any}
 use Rattle.std.proofs.lemmas.List.{reverse-append}
 use Rattle.std.proofs.lemmas.List.Elements.{filter-append}
@@ -10,7 +12,8 @@ use Rattle.std.proofs.lemmas.List.Elements.{filter-append}
 pub not_empty : {A : Type 0} (front : List A) (x : A) (back : List A) → front ++ x ∷ back ≡ [] → ⊥
 not_empty front x back is = absurd (omega (arith, length-append front (x ∷ back), ap length is))
 
-pub cut_at : {A : Type 0} (all : List A) (i : ℕ) (x : A) → i < length all → x ≡ get_or all i x → (back : List A) × (take i all ++ x ∷ back ≡ all)
+pub cut_at : {A : Type 0} (all : List A) (i : ℕ) (x : A) → i < length all → x ≡ get_or all i x
+    → (back : List A) × (take i all ++ x ∷ back ≡ all)
 cut_at [] i x inside is = absurd (omega arith)
 cut_at (y ∷ all) zero x inside is = (all, ap (λ z. z ∷ all) is)
 cut_at (y ∷ all) (suc i) x inside is =
@@ -18,7 +21,8 @@ cut_at (y ∷ all) (suc i) x inside is =
     (later.0, ap (λ some. y ∷ some) later.1)
 
 pub place_of : {A : Type 0} (front : List A) (x : A) (back : List A)
-    → (length front < length (front ++ x ∷ back)) × (x ≡ get_or (front ++ x ∷ back) (length front) x) × (take (length front) (front ++ x ∷ back) ≡ front)
+    → (length front < length (front ++ x ∷ back)) × (x ≡ get_or (front ++ x ∷ back) (length front) x)
+    × (take (length front) (front ++ x ∷ back) ≡ front)
 place_of [] x back = (omega arith, refl, refl)
 place_of (y ∷ front) x back =
     let later = place_of front x back in
@@ -52,12 +56,18 @@ module _ {A : Type 0} (p : A → Bool) where
   pub find_filter : (xs : List A) → find p xs ≡ head_of (filter p xs)
   find_filter [] = refl
   find_filter (x ∷ xs) =
-      elim (p x) as (λ b. cond b (Some x) (find p xs) ≡ head_of (cond b (x ∷ filter p xs) (filter p xs))) [ true ↦ refl | false ↦ find_filter xs ]
+      elim (p x) as (λ b. cond b (Some x) (find p xs) ≡ head_of (cond b (x ∷ filter p xs) (filter p xs))) [
+        | true ↦ refl
+        | false ↦ find_filter xs
+      ]
 
   pub any_filter : (xs : List A) → list_any p xs ≡ is_some (head_of (filter p xs))
   any_filter [] = refl
   any_filter (x ∷ xs) =
-      elim (p x) as (λ b. (b || list_any p xs) ≡ is_some (head_of (cond b (x ∷ filter p xs) (filter p xs)))) [ true ↦ refl | false ↦ any_filter xs ]
+      elim (p x) as (λ b. (b || list_any p xs) ≡ is_some (head_of (cond b (x ∷ filter p xs) (filter p xs)))) [
+        | true ↦ refl
+        | false ↦ any_filter xs
+      ]
 
   pub filter_reverse : (xs : List A) → filter p (reverse xs) ≡ reverse (filter p xs)
   filter_reverse [] = refl
@@ -76,7 +86,8 @@ module _ {A : Type 0} (p : A → Bool) where
       ap (λ b. cond b (x ∷ filter p xs) (filter p xs)) (each zero x (omega arith) refl)
       ∙ filter_none xs (λ i y inside is. each (suc i) y (omega arith) is)
 
-  pub filter_cut : (front : List A) (y : A) (back : List A) → p y ≡ true → filter p (front ++ y ∷ back) ≡ filter p front ++ y ∷ filter p back
+  pub filter_cut : (front : List A) (y : A) (back : List A) → p y ≡ true
+      → filter p (front ++ y ∷ back) ≡ filter p front ++ y ∷ filter p back
   filter_cut front y back passes =
       filter-append p front (y ∷ back) ∙ ap (λ b. filter p front ++ cond b (y ∷ filter p back) (filter p back)) passes
 
@@ -93,7 +104,9 @@ module _ {A : Type 0} (p : A → Bool) where
       let same : x ≡ z = cc in
       let rest : filter p xs ≡ front ++ y ∷ back = cc in
       let cut : CutKept xs front y = later front rest in
-      (x ∷ cut.0, cut.1, ap (λ some. x ∷ some) cut.2, ap (λ b. cond b (x ∷ filter p cut.0) (filter p cut.0)) passes ∙ (λ i. same i ∷ cut.3 i), cut.4)
+      let kept : filter p (x ∷ cut.0) ≡ z ∷ front =
+          ap (λ b. cond b (x ∷ filter p cut.0) (filter p cut.0)) passes ∙ (λ i. same i ∷ cut.3 i) in
+      (x ∷ cut.0, cut.1, ap (λ some. x ∷ some) cut.2, kept, cut.4)
 
   kept_later : (x : A) (xs front : List A) (y : A) → p x ≡ false → CutKept xs front y → CutKept (x ∷ xs) front y
   kept_later x xs front y fails cut =
@@ -109,7 +122,7 @@ module _ {A : Type 0} (p : A → Bool) where
       ] refl is
 
   -- of two lists of which the filter keeps the same, the other is cut at the same element
-  pub cut_moved : (xs ys : List A) → filter p xs ≡ filter p ys → (front : List A) (y : A) (back : List A) → front ++ y ∷ back ≡ xs → p y ≡ true
-      → (before : List A) × (after : List A) × (before ++ y ∷ after ≡ ys) × (filter p before ≡ filter p front) × (p y ≡ true)
+  pub cut_moved : (xs ys : List A) → filter p xs ≡ filter p ys → (front : List A) (y : A) (back : List A) → front ++ y ∷ back ≡ xs
+      → p y ≡ true → (before : List A) × (after : List A) × (before ++ y ∷ after ≡ ys) × (filter p before ≡ filter p front) × (p y ≡ true)
   cut_moved xs ys same front y back is passes =
       cut_kept ys (filter p front) y (filter p back) (sym same ∙ ap (filter p) (sym is) ∙ filter_cut front y back passes)
