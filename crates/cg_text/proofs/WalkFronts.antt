@@ -3,7 +3,7 @@ use Rattle.std.proofs.Common.{◌≡◌, ℕ, zero, suc, ◌+◌, ◌-◌, ◌<�
 use Rattle.std.specs.Prelude.{find, slice_get, option_and_then, unwrap_or}
 use Rattle.std.specs.Option.{option_map, option_to_list}
 use Rattle.std.specs.List.{list_any, list_all}
-use Rattle.std.specs.Ordering.{is_lt, is_gt, ordering_reverse}
+use Rattle.std.specs.Ordering.{is_le, is_lt, is_gt, ordering_reverse}
 use Rattle.std.specs.declared.cmp.Ordering.{Ordering}
 use Rattle.std.specs.declared.cmp.Ordering.TheVariants.{Less, Equal, Greater}
 use Rattle.std.proofs.lemmas.Bool.{and_parts, and_from, and_left, and_right, or_parts, or_from, cases_Bool, cases_lt, false_from_ne_true, lt-ltb, le-ltb, eq-eqb, ne_eqb}
@@ -33,6 +33,15 @@ not_greater p q h = ap is_gt (path_cmp_total.antisymm p q) ∙ turned (path_cmp 
     turned Less = refl
     turned Equal = refl
     turned Greater = refl
+
+-- what isn't greater isn't less, the other way
+pub not_less : (p q : Names) → is_le (path_cmp p q) ≡ true → is_lt (path_cmp q p) ≡ false
+not_less p q h = ap is_lt (path_cmp_total.antisymm q p) ∙ turned (path_cmp p q) h
+  where
+    turned : (r : Ordering) → is_le r ≡ true → is_lt (ordering_reverse r) ≡ false
+    turned Less k = refl
+    turned Equal k = refl
+    turned Greater k = absurd (true≢false (sym k))
 
 -- what is neither greater than the other is the same
 not_apart : (p q : Names) → is_gt (path_cmp p q) ≡ false → is_gt (path_cmp q p) ≡ false → p ≡ q
