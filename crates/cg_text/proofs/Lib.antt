@@ -20,3 +20,4 @@ pub mod SaidProcesses
 pub mod TextFaultLaws
 pub mod EachRow
 pub mod TakesLaws
+pub mod FormInTurn
