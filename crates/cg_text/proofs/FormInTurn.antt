@@ -1,15 +1,15 @@
 -- The clauses on a document's form, as the reader asks them in turn.
-use Rattle.std.proofs.Common.{◌≡◌, ◌≤◌, ◌≢◌, Bool, true, List, [], ◌++◌, length, nat_le, le-leb, codes, Option, Some, None, refl, sym, ap, ◌∙◌, subst}
+use Rattle.std.proofs.Common.{◌≡◌, ◌≤◌, true, List, ◌++◌, length, nat_le, le-leb, codes, Some, None, sym, ap, ◌∙◌, subst}
 use Rattle.std.specs.Prelude.{◌&&◌}
 use Rattle.std.proofs.lemmas.Option.{same_Some}
 use Rattle.toml.specs.Data.{Data, Members, table}
 use Rattle.cg_model.specs.Clauses.{unless, absent, present, first}
-use Rattle.cg_text.specs.Form.{Key, most_rows, is_table, document_keys, row_keys, live_keys}
+use Rattle.cg_text.specs.Form.{most_rows, is_table, document_keys, row_keys, live_keys}
 use Rattle.cg_text.specs.Said.{elements_at, format_said}
 use Rattle.cg_text.specs.TextOf.{IsInForm}
 use Rattle.cg_text.specs.TextFaults.{each_cgroup, each_process, has_few, form_faults}
 use Rattle.cg_text.specs.declared.tree.fault.TreeFault.{TreeFault}
-use Rattle.cg_text.specs.declared.tree.fault.TreeFault.TheVariants.{Shape, Format as BadFormat, TooMany, NoMemory}
+use Rattle.cg_text.specs.declared.tree.fault.TreeFault.TheVariants.{Shape, Format as BadFormat, TooMany}
 use Rattle.cg_text.specs.declared.tree.fault.Place.TheVariants.{Top}
 use Rattle.cg_text.specs.declared.tree.records.Format.{Format}
 use Rattle.cg_text.proofs.FormFaults.{in_form}
@@ -22,8 +22,8 @@ abbrev pub process_shapes : List Data → List TreeFault
 process_shapes rows = each_process (λ _ place held. unless (is_table live_keys held) (Shape place)) rows
 
 module _ (document : Members) (format : Format) (cgroups processes : List Data) (top : is_table document_keys (table document) ≡ true) (said : format_said document ≡ Some format)
-         (are_cgroups : cgroups ≡ elements_at (codes "cgroup") document) (few_cgroups : length cgroups ≤ most_rows)
-         (are_processes : processes ≡ elements_at (codes "process") document) (few_processes : length processes ≤ most_rows) where
+    (are_cgroups : cgroups ≡ elements_at (codes "cgroup") document) (few_cgroups : length cgroups ≤ most_rows)
+    (are_processes : processes ≡ elements_at (codes "process") document) (few_processes : length processes ≤ most_rows) where
   few : has_few document ≡ true
   few =
       (λ i. nat_le (length (sym are_cgroups i)) most_rows && nat_le (length (sym are_processes i)) most_rows)

@@ -1,10 +1,8 @@
-use Rattle.std.proofs.Common.{◌≡◌, ◌≤◌, List, length, map, Some, sym, ap, ◌∙◌, true, arith}
+use Rattle.std.proofs.Common.{◌≡◌, List, map, Some, sym, ap, ◌∙◌, arith}
 use Rattle.std.proofs.lemmas.List.{length-map}
 use Rattle.std.proofs.lemmas.Result.{err_from_is_err_and}
-use Rattle.toml.specs.Data.{Data, Members, table}
+use Rattle.toml.specs.Data.{Data}
 use Rattle.toml.specs.View.{view, table_view}
-use Rattle.cg_text.specs.Form.{is_table, document_keys, most_rows}
-use Rattle.cg_text.specs.Said.{format_said}
 use Rattle.cg_text.proofs.FormInTurn.{at_cgroup, at_process, no_shape}
 use Rattle.cg_text.proofs.tree.form.in_form.Goals as goal
 

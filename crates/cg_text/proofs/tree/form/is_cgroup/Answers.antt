@@ -1,4 +1,4 @@
-use Rattle.std.proofs.Common.{◌≡◌, ap, sym, ◌∙◌, codes, is_some}
+use Rattle.std.proofs.Common.{ap, sym, ◌∙◌, codes, is_some}
 use Rattle.std.specs.Prelude.{◌&&◌}
 use Rattle.toml.specs.Data.{get_member}
 use Rattle.toml.specs.View.{view, table_view}

@@ -1,4 +1,4 @@
-use Rattle.std.proofs.Common.{◌≡◌, ◌+◌, List, map, Some, sym, ap, ◌∙◌}
+use Rattle.std.proofs.Common.{◌+◌, List, map, Some, sym, ap, ◌∙◌}
 use Rattle.toml.specs.Data.{Data}
 use Rattle.toml.specs.View.{view}
 use Rattle.cg_model.specs.Clauses.{first, unless}
