@@ -19,3 +19,5 @@ pub mod SaidTogether
 pub mod SaidProcesses
 pub mod TextFaultLaws
 pub mod RowLaws
+pub mod EachRow
+pub mod TakesLaws
