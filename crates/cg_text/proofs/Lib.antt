@@ -23,7 +23,7 @@ pub mod Cuts
 pub mod LeastLaws
 pub mod WalkEnd
 pub mod WalkFronts
+pub mod RowLaws
 pub mod EachRow
 pub mod TakesLaws
-pub mod RowLaws
 pub mod FormInTurn

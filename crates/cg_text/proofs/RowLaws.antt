@@ -1,5 +1,6 @@
 -- What a row's reader makes of its tables: entries and values, or the clause that fails.
 use Rattle.std.proofs.Common.{◌≡◌, ◌≢◌, ℕ, ◌+◌, Bool, true, false, ◌&&◌, ◌||◌, List, [], ◌∷◌, ◌++◌, length, zero, suc, codes, Option, Some, None, is_some, option_map, option_and_then, unwrap_or, Result, Ok, Err, refl, sym, ap, subst, ◌∙◌, arith}
+use Rattle.std.specs.Option.{ok_or}
 use Rattle.std.specs.Result.{IsErr, IsErrAnd}
 use Rattle.std.specs.List.{list_all, slice_get}
 use Rattle.std.proofs.lemmas.Bool.{and_from}
@@ -40,6 +41,14 @@ ok_of (Some y) fault x is = cc
 pub err_of : {A : Type 0} (o : Option A) (fault found : TreeFault) → Err found ≡ or_fault o fault → (o ≡ None) × (fault ≡ found)
 err_of None fault found is = (refl, cc)
 err_of (Some y) fault found is = cc
+
+pub ok_or_some : {A : Type 0} (o : Option A) (fault : TreeFault) (x : A) → Ok x ≡ ok_or o fault → o ≡ Some x
+ok_or_some None fault x is = cc
+ok_or_some (Some y) fault x is = cc
+
+pub ok_or_none : {A : Type 0} (o : Option A) (fault found : TreeFault) → Err found ≡ ok_or o fault → (o ≡ None) × (fault ≡ found)
+ok_or_none None fault found is = (refl, cc)
+ok_or_none (Some y) fault found is = cc
 
 -- the answer of a `?` that returns a fault
 pub passed_on : {X : Type 0} (P : X → Type 0) (fault : Option TreeFault) (answer : Result X TreeFault) (found : TreeFault)
@@ -243,7 +252,7 @@ pub no_path : {A : Type 0} (o : Option A) (fault found : TreeFault) (enabled ent
 no_path None fault found enabled entries values is = is
 no_path (Some x) fault found enabled entries values is = cc
 
-pub no_controllers : {A B : Type 0} (path : Option A) (o : Option B) (fault other : TreeFault) (entries values : List TreeFault) → is_some path ≡ true → o ≡ None
+pub no_enabled : {A B : Type 0} (path : Option A) (o : Option B) (fault other : TreeFault) (entries values : List TreeFault) → is_some path ≡ true → o ≡ None
     → first (absent path other ++ absent o fault ++ entries ++ values) ≡ Some fault
-no_controllers None o fault other entries values there none = cc
-no_controllers (Some x) o fault other entries values there none = ap (λ o. first (absent o fault ++ entries ++ values)) none
+no_enabled None o fault other entries values there none = cc
+no_enabled (Some x) o fault other entries values there none = ap (λ o. first (absent o fault ++ entries ++ values)) none
