@@ -18,3 +18,5 @@ pub mod SaidFaults
 pub mod SaidTogether
 pub mod SaidProcesses
 pub mod TextFaultLaws
+pub mod KeysOnce
+pub mod DocumentOfLaws
