@@ -20,3 +20,4 @@ pub mod SaidProcesses
 pub mod TextFaultLaws
 pub mod KeysOnce
 pub mod DocumentOfLaws
+pub mod LiveLaws
