@@ -12,12 +12,12 @@ pub mod FormLaws
 pub mod FormFaults
 pub mod RowSaid
 pub mod OnceLaws
+pub mod KeysOnce
+pub mod LiveLaws
+pub mod DocumentOfLaws
 pub mod RowState
 pub mod TextOfLaws
 pub mod SaidFaults
 pub mod SaidTogether
 pub mod SaidProcesses
 pub mod TextFaultLaws
-pub mod KeysOnce
-pub mod DocumentOfLaws
-pub mod LiveLaws
