@@ -21,3 +21,6 @@ pub mod SaidFaults
 pub mod SaidTogether
 pub mod SaidProcesses
 pub mod TextFaultLaws
+pub mod EachRow
+pub mod TakesLaws
+pub mod FormInTurn

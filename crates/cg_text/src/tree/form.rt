@@ -1,15 +1,15 @@
 //! The form of a document: the keys of its tables, and the types of what stands at them.
-ghost use Rattle.std.specs.Prelude.{◌≡◌, ◌≤◌, ◌<◌, ◌+◌, length, map};
+ghost use Rattle.std.specs.Prelude.{◌≡◌, ◌≤◌, ◌<◌, ◌+◌, length, map, is_some};
 ghost use Rattle.std.specs.List.{list_all};
 ghost use Rattle.cg_model.specs.Clauses.{first, unless};
-ghost use Rattle.toml.specs.Data.{table};
+ghost use Rattle.toml.specs.Data.{table, get_member};
 ghost use Rattle.toml.specs.View.{view, table_view};
 ghost use Rattle.cg_text.specs.declared.tree.fault.TreeFault.TheVariants.{Shape};
 ghost use Rattle.cg_text.specs.Form.{is_text, are_texts, document_keys, owner_keys, limit_keys, file_keys_of, row_keys, live_keys, is_table};
 ghost use Rattle.cg_text.specs.TextFaults.{each_cgroup, each_process, form_faults};
 ghost use Rattle.cg_text.specs.TextOf.{IsInForm};
 ghost use Rattle.cg_text.specs.Faults.{Passes};
-ghost use Rattle.cg_text.specs.Keys.{flat_keys, takes, takes_all, takes_table};
+ghost use Rattle.cg_text.specs.Keys.{flat_keys, takes, allows, allows_table};
 
 use crate::tree::fault::{Place, TreeFault};
 use crate::tree::records::Format;
@@ -81,7 +81,7 @@ fn takes_flat(kind: FlatTable, key: &str, value: &Value) -> bool
 
 /// Whether a table has only what its kind may have.
 fn is_flat(kind: FlatTable, table: &Table) -> bool
-    ensures { result ≡ takes_all (flat_keys kind) (table_view table.now) }
+    ensures { result ≡ allows (flat_keys kind) (table_view table.now) }
 {
     for (key, value) in table {
         if !takes_flat(kind, key.as_str(), value) {
@@ -93,7 +93,7 @@ fn is_flat(kind: FlatTable, table: &Table) -> bool
 
 /// Whether a value is a table of this kind, none of whose keys has to be there.
 fn is_entry(kind: FlatTable, value: &Value) -> bool
-    ensures { result ≡ takes_table (flat_keys kind) (view value.now) }
+    ensures { result ≡ allows_table (flat_keys kind) (view value.now) }
 {
     match value {
         Value::Table(table) => is_flat(kind, table),
@@ -107,25 +107,31 @@ fn takes_file(format: Format, key: &str, value: &Value) -> bool
 {
     match EntryName::from_name(key) {
         None | Some(EntryName::Dir) => false,
-        Some(EntryName::Procs | EntryName::SubtreeControl) => {
-            is_entry(FlatTable::Owner(format), value)
-        }
+        Some(EntryName::Procs) => is_entry(FlatTable::Owner(format), value),
+        Some(EntryName::SubtreeControl) => is_entry(FlatTable::Owner(format), value),
         Some(EntryName::File(_)) => is_entry(FlatTable::Limit(format), value),
     }
 }
 
-fn are_files(format: Format, value: &Value) -> bool
-    ensures { result ≡ is_table (file_keys_of format) (view value.now) }
+/// Whether a table of files has only what it may have.
+fn files_fit(format: Format, table: &Table) -> bool
+    ensures { result ≡ allows (file_keys_of format) (table_view table.now) }
 {
-    let Value::Table(table) = value else {
-        return false;
-    };
     for (key, value) in table {
         if !takes_file(format, key.as_str(), value) {
             return false;
         }
     }
     true
+}
+
+fn are_files(format: Format, value: &Value) -> bool
+    ensures { result ≡ is_table (file_keys_of format) (view value.now) }
+{
+    match value {
+        Value::Table(table) => files_fit(format, table),
+        _ => false,
+    }
 }
 
 /// Whether a cgroup's table may have a value at a key.
@@ -141,32 +147,47 @@ fn takes_row(format: Format, key: &str, value: &Value) -> bool
     }
 }
 
-/// Whether a value is a cgroup's table.
-fn is_cgroup(format: Format, value: &Value) -> bool
-    ensures { result ≡ is_table (row_keys format) (view value.now) }
+/// Whether a cgroup's table has only what it may have.
+fn row_fits(format: Format, table: &Table) -> bool
+    ensures { result ≡ allows (row_keys format) (table_view table.now) }
 {
-    let Value::Table(table) = value else {
-        return false;
-    };
     for (key, value) in table {
         if !takes_row(format, key.as_str(), value) {
             return false;
         }
     }
-    table.contains_key("path")
+    true
+}
+
+fn has_key(table: &Table, key: &str) -> bool
+    ensures { result ≡ is_some (get_member key.now (table_view table.now)) }
+{
+    table.contains_key(key)
+}
+
+/// Whether a value is a cgroup's table.
+fn is_cgroup(format: Format, value: &Value) -> bool
+    ensures { result ≡ is_table (row_keys format) (view value.now) }
+{
+    match value {
+        Value::Table(table) => row_fits(format, table) && has_key(table, "path"),
+        _ => false,
+    }
 }
 
 /// Whether a value is a process's table.
 fn is_process(value: &Value) -> bool
     ensures { result ≡ is_table live_keys (view value.now) }
 {
-    let Value::Table(table) = value else {
-        return false;
-    };
-    is_flat(FlatTable::Process, table)
-        && table.contains_key("pid")
-        && table.contains_key("uid")
-        && table.contains_key("at")
+    match value {
+        Value::Table(table) => {
+            is_flat(FlatTable::Process, table)
+                && has_key(table, "pid")
+                && has_key(table, "uid")
+                && has_key(table, "at")
+        }
+        _ => false,
+    }
 }
 
 /// Whether a document has the keys of the top table.
@@ -174,8 +195,8 @@ fn is_document(document: &Table) -> bool
     ensures { result ≡ is_table document_keys (table (table_view document.now)) }
 {
     is_flat(FlatTable::Document, document)
-        && document.contains_key("format")
-        && document.contains_key("controllers")
+        && has_key(document, "format")
+        && has_key(document, "controllers")
 }
 
 /// Tests the form of each cgroup.
