@@ -12,6 +12,9 @@ pub mod FormLaws
 pub mod FormFaults
 pub mod RowSaid
 pub mod OnceLaws
+pub mod KeysOnce
+pub mod LiveLaws
+pub mod DocumentOfLaws
 pub mod RowState
 pub mod TextOfLaws
 pub mod SaidFaults
