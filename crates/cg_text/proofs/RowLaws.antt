@@ -1,12 +1,15 @@
 -- What a row's reader makes of its tables: entries and values, or the clause that fails.
-use Rattle.std.proofs.Common.{◌≡◌, ◌≢◌, ℕ, ◌+◌, Bool, true, false, ◌&&◌, ◌||◌, List, [], ◌∷◌, ◌++◌, length, zero, suc, codes, Option, Some, None, is_some, option_map, option_and_then, unwrap_or, Result, Ok, Err, refl, sym, ap, subst, ◌∙◌, arith}
+use Rattle.std.proofs.Common.{◌≡◌, ◌≢◌, ℕ, ◌+◌, ◌<◌, ◌≤◌, Bool, true, false, ◌&&◌, ◌||◌, List, [], ◌∷◌, ◌++◌, length, zero, suc, get_or, take, map, filter_map, codes, Option, Some, None, is_some, option_map, option_and_then, unwrap_or, Result, Ok, Err, refl, sym, ap, subst, ◌∙◌, true≢false, arith}
 use Rattle.std.specs.Option.{ok_or}
 use Rattle.std.specs.Result.{IsErr, IsErrAnd}
 use Rattle.std.specs.List.{list_all, slice_get}
 use Rattle.std.proofs.lemmas.Bool.{and_from}
+use Rattle.std.proofs.lemmas.List.{take_more, take_all, length-take-le}
+use Rattle.std.proofs.lemmas.List.Folds.{list_all_at}
 use Rattle.std.proofs.lemmas.Option.{slice_get-map}
-use Rattle.toml.specs.Data.{Members, no_members}
-use Rattle.toml.specs.View.{table_view}
+use Rattle.toml.specs.Data.{Members, no_members, as_table}
+use Rattle.toml.specs.View.{view, table_view}
+use Rattle.toml.specs.declared.value.Value.{Value}
 use Rattle.cg_cgroup.specs.Paths.{Names}
 use Rattle.cg_cgroup.specs.Files.{all_files, all_entries, entry_text}
 use Rattle.cg_cgroup.specs.Cgroups.{file_of, entry_in, value_in as value_at}
@@ -22,14 +25,16 @@ use Rattle.cg_cgroup.specs.declared.cgroup.LimitEntry.{LimitEntry}
 use Rattle.cg_cgroup.specs.declared.cgroup.Cgroup.{Cgroup}
 use Rattle.cg_model.specs.Clauses.{first, unless, absent}
 use Rattle.cg_text.specs.Said.{table_at, path_said, controllers_said, owner_said, limit_said, table_of, mode_missing, entry_said, value_said, is_named}
-use Rattle.cg_text.specs.TextFaults.{row_faults}
+use Rattle.cg_text.specs.TextFaults.{each_cgroup, row_faults}
 use Rattle.cg_text.specs.Faults.{or_fault, Passes}
 use Rattle.cg_text.specs.Rows.{table_in, owner_in, value_in, with_value, names, needed_by, entry_faults, IsCgroupOf, IsReadAs, AreReadAs}
+use Rattle.cg_text.specs.declared.tree.fault.Place.TheVariants.{Cgroup as AtCgroup}
 use Rattle.cg_text.specs.declared.tree.fault.TreeFault.{TreeFault}
 use Rattle.cg_text.specs.declared.tree.fault.TreeFault.TheVariants.{BadPath, BadController, BadEntry, BadValue, NoMemory}
 use Rattle.cg_text.specs.declared.tree.records.Format.{Format}
 use Rattle.cg_text.specs.declared.tree.row.Entries.{Entries}
 use Rattle.cg_text.specs.declared.tree.row.Row.{Row}
+use Rattle.cg_text.proofs.EachRow.{HavePassed, more_passed, fault_found, all_passed, row_count, row_at}
 use Rattle.cg_text.proofs.RowSaid.{same_tests}
 
 -- ---- what `or_fault` answers
@@ -256,3 +261,64 @@ pub no_enabled : {A B : Type 0} (path : Option A) (o : Option B) (fault other : 
     → first (absent path other ++ absent o fault ++ entries ++ values) ≡ Some fault
 no_enabled None o fault other entries values there none = cc
 no_enabled (Some x) o fault other entries values there none = ap (λ o. first (absent o fault ++ entries ++ values)) none
+
+-- ---- rows in turn
+
+-- rows that are read, and the next one
+are_read_more : (format : Format) (i : ℕ) (tables : List Members) (rows : List Row) (table : Members) (row : Row) → AreReadAs format i tables rows
+    → IsReadAs format (i + length tables) table row → AreReadAs format i (tables ++ table ∷ []) (rows ++ row ∷ [])
+are_read_more format i [] [] table row are is = (subst (λ number. IsReadAs format number table row) (omega arith) is, tt)
+are_read_more format i [] (other ∷ rows) table row are is = absurd are
+are_read_more format i (other ∷ tables) [] table row are is = absurd are
+are_read_more format i (other ∷ tables) (before ∷ rows) table row are is =
+    (are.0, are_read_more format (i + 1) tables rows table row are.1 (subst (λ number. IsReadAs format number table row) (omega arith) is))
+
+module _ (format : Format) (elements : List Value) (tables_are : list_all (λ held. is_some (as_table (view held))) elements ≡ true) where
+  abbrev tables : List Members
+  tables = filter_map as_table (map view elements)
+
+  abbrev pub HavePassedSo : ℕ → Type 0
+  HavePassedSo index = HavePassed (λ _. row_faults format) AtCgroup tables index
+
+  module _ (index : ℕ) (element : Value) (below : index < length elements) (is : element ≡ get_or elements index element) where
+    -- each element is a table
+    pub no_other : None ≡ as_table (view element) → ⊥
+    no_other none =
+        let p : Value → Bool = λ held. is_some (as_table (view held)) in
+        let fails : p (get_or elements index element) ≡ false = ap p (sym is) ∙ ap is_some (sym none) in
+        true≢false (sym tables_are ∙ list_all_at p elements index element below fails)
+
+    module _ (table : Members) (held : Some table ≡ as_table (view element)) (number : ℕ) (counted : number ≡ index + 1) where
+      within : index < length tables
+      within = omega (arith, row_count as_table view elements tables_are)
+
+      there : table ≡ get_or tables index table
+      there = row_at as_table view elements tables_are index element table below is (sym held)
+
+      by_number : first (row_faults format (AtCgroup (index + 1)) table) ≡ first (row_faults format (AtCgroup number) table)
+      by_number = ap (λ place. first (row_faults format (AtCgroup place) table)) (sym counted)
+
+      pub row_passed : HavePassedSo index → first (row_faults format (AtCgroup number) table) ≡ None → HavePassedSo (index + 1)
+      row_passed passed none = more_passed (λ _. row_faults format) AtCgroup tables index table passed within there (by_number ∙ none)
+
+      pub row_found : (fault : TreeFault) → HavePassedSo index → first (row_faults format (AtCgroup number) table) ≡ Some fault
+          → first (each_cgroup (λ _. row_faults format) tables) ≡ Some fault
+      row_found fault passed found = fault_found (λ _. row_faults format) AtCgroup tables index table fault passed within there (by_number ∙ found)
+
+      pub row_added : (rows : List Row) (row : Row) → AreReadAs format 1 (take index tables) rows → IsReadAs format number table row
+          → AreReadAs format 1 (take (index + 1) tables) (rows ++ row ∷ [])
+      row_added rows row are read =
+          let short : length (take index tables) ≡ index = length-take-le index tables (omega (arith, within)) in
+          let place : number ≡ 1 + length (take index tables) = omega (arith, counted, short) in
+          let more = are_read_more format 1 (take index tables) rows table row are (subst (λ i. IsReadAs format i table row) place read) in
+          let grown : take index tables ++ table ∷ [] ≡ take (index + 1) tables =
+              ap (λ x. take index tables ++ x ∷ []) there ∙ sym (take_more tables index table within) in
+          subst (λ tables. AreReadAs format 1 tables (rows ++ row ∷ [])) grown more
+
+  module _ (index : ℕ) (past : length elements ≤ index) where
+    pub no_row_found : HavePassedSo index → first (each_cgroup (λ _. row_faults format) tables) ≡ None
+    no_row_found passed = all_passed (λ _. row_faults format) AtCgroup tables index passed (omega (arith, row_count as_table view elements tables_are))
+
+    pub all_read : (rows : List Row) → AreReadAs format 1 (take index tables) rows → AreReadAs format 1 tables rows
+    all_read rows are =
+        subst (λ tables. AreReadAs format 1 tables rows) (take_all index tables (omega (arith, row_count as_table view elements tables_are))) are
