@@ -5,12 +5,14 @@ use Rattle.cg_text.specs.Said.{path_said, controllers_said}
 use Rattle.cg_text.specs.declared.tree.row.Entries.{Entries}
 use Rattle.cg_text.specs.declared.tree.fault.Place.TheVariants.{Cgroup as AtCgroup}
 use Rattle.cg_text.specs.declared.tree.fault.TreeFault.TheVariants.{BadController}
-use Rattle.cg_text.proofs.RowLaws.{passed_on, ok_or_none, ok_or_some, no_path, no_enabled, faults_behind, row_read}
+use Rattle.cg_text.proofs.RowLaws.{ok_of, err_of, ok_or_is, passed_on, no_path, no_enabled, faults_behind, row_read}
 use Rattle.cg_text.proofs.tree.row.row_of.Goals as goal
 use Rattle.cg_text.proofs.tree.row.row_of.Goals.{In_ok-enabled}
 
 enabled_is : (c : In_ok-enabled) → controllers_said (codes "enabled") (table_view c.args.table.now) ≡ Some c.in_ok-enabled.enabled
-enabled_is c = sym c.controllers_at.ensures ∙ ok_or_some _ (BadController (AtCgroup c.args.number)) _ c.in_ok-enabled.ensures.value
+enabled_is c =
+    let fault = BadController (AtCgroup c.args.number) in
+    sym c.controllers_at.ensures ∙ ok_of _ fault _ (c.in_ok-enabled.ensures.value ∙ ok_or_is c.controllers_at.result fault)
 
 pub returns-in_err-path : goal.returns-in_err-path
 returns-in_err-path c =
@@ -19,7 +21,9 @@ returns-in_err-path c =
 
 pub returns-in_err-enabled : goal.returns-in_err-enabled
 returns-in_err-enabled c =
-    let refused = ok_or_none c.controllers_at.result (BadController (AtCgroup c.args.number)) _ c.in_err-enabled.ensures.value in
+    let fault = BadController (AtCgroup c.args.number) in
+    let found = c.controllers_at.result in
+    let refused = err_of found fault _ (c.in_err-enabled.ensures.value ∙ ok_or_is found fault) in
     let row = table_view c.args.table.now in
     passed_on _ _ _ c.in_err-enabled.field-0.0 c.from_residual-in_err-enabled.ensures
     (λ _.
@@ -29,7 +33,8 @@ returns-in_err-enabled c =
 
 pub returns-in_err-cgroup : goal.returns-in_err-cgroup
 returns-in_err-cgroup c =
-    let said : Entries = record { place = AtCgroup c.args.number; format = c.args.format; dir = c.table_at.result; files = c.table_at-2.result } in
+    let said : Entries =
+        record { place = AtCgroup c.args.number; format = c.args.format; dir = c.table_at.result; files = c.table_at-2.result } in
     let enabled = enabled_is (goal.at.returns-in_err-cgroup c).In_ok-enabled in
     passed_on _ _ _ c.in_err-cgroup.field-0.0 c.from_residual-in_err-cgroup.ensures
     (λ memory.
@@ -42,7 +47,8 @@ invariant_of-result c = c.path.invariant
 pub returns : goal.returns
 returns c =
     let row = table_view c.args.table.now in
-    let said : Entries = record { place = AtCgroup c.args.number; format = c.args.format; dir = c.table_at.result; files = c.table_at-2.result } in
+    let said : Entries =
+        record { place = AtCgroup c.args.number; format = c.args.format; dir = c.table_at.result; files = c.table_at-2.result } in
     let enabled = enabled_is (goal.at.returns c).In_ok-enabled in
     let path = c.in_ok-path.ensures.1 in
     (faults_behind said row c.table_at.ensures c.table_at-2.ensures _ _ path enabled ∙ c.in_ok-cgroup.ensures.0,
