@@ -3,14 +3,17 @@ use Rattle.std.proofs.Common.{◌≡◌, ℕ, ◌+◌, ◌<◌, ◌≤◌, Bool,
 use Rattle.std.specs.Prelude.{find, filter_map, nat_eq}
 use Rattle.std.specs.List.{list_all, list_any}
 use Rattle.std.specs.Map.{lookup}
-use Rattle.std.specs.BTreeMap.{BTreeMap, get, is_at}
+use Rattle.std.specs.BTreeMap.{BTreeMap, get, is_at, keys}
+use Rattle.std.specs.BTreeSet.{BTreeSet, IsFromIterResult}
 use Rattle.std.specs.Ordering.{nat_cmp}
 use Rattle.std.specs.Cmp.{nat_cmp_total, eq_by_cmp_equiv, unsigned_ties, Equal-is}
 use Rattle.std.specs.FinMap as map
+use Rattle.std.specs.FinSet as set
 use Rattle.std.specs.FinMap.{nat_cmp-IsAntisymmetric}
 use Rattle.std.proofs.lemmas.Bool.{not-true, or_left, or_right}
 use Rattle.std.proofs.lemmas.List.{take_all, take_more}
 use Rattle.std.proofs.lemmas.List.Folds.{list_any-append}
+use Rattle.std.proofs.lemmas.Map.Made.{is_some-lookup}
 use Rattle.std.proofs.Math.Bool.{or-false}
 use Rattle.toml.specs.Data.{Members, as_table}
 use Rattle.toml.specs.View.{view}
@@ -21,11 +24,13 @@ use Rattle.cg_cgroup.proofs.Options.{same_some}
 use Rattle.cg_cgroup.specs.declared.cgroup.Cgroup.{Cgroup}
 use Rattle.cg_cgroup.specs.declared.files.ControllerSet.{ControllerSet}
 use Rattle.cg_cgroup.specs.declared.process.Process.{Process}
+use Rattle.cg_rows.specs.Processes.{LiveAndUsed}
+use Rattle.cg_rows.proofs.StdMaps.{get-shown}
 use Rattle.cg_model.specs.Clauses.{unless, absent, present, first}
 use Rattle.cg_text.specs.Said.{path_said, has_path, pid_said, uid_said}
 use Rattle.cg_text.specs.TextOf.{has_pid}
 use Rattle.cg_text.specs.TextFaults.{each_process, enabled_there, process_faults}
-use Rattle.cg_text.specs.Live.{IsAmong, IsLive, AreLive, place_faults}
+use Rattle.cg_text.specs.Live.{IsAmong, IsLive, AreLive, AreProcesses, place_faults}
 use Rattle.cg_text.specs.declared.tree.fault.Place.{Place}
 use Rattle.cg_text.specs.declared.tree.fault.Place.TheVariants.{Process as AtProcess}
 use Rattle.cg_text.specs.declared.tree.fault.TreeFault.{TreeFault}
@@ -216,4 +221,18 @@ module _ (tables : List Members) (elements : List Value) (are : list_all (λ hel
       passed = more_passed (process_faults tables) AtProcess rows i row had.passed inside row_is (numbered ∙ none);
       are = subst (λ some. AreLive some after) (sym (take_more rows i row inside ∙ ap (λ x. take i rows ++ x ∷ []) (sym row_is)))
           (live_more (take i rows) row live after pid process is had.are (pid_is_new tables (take i rows) (AtProcess number) row pid is.pid none) updates);
+    }
+
+-- ---- the map of processes, with its keys
+
+pub are_processes : (rows : List Members) (live : BTreeMap ℕ Process) (used : BTreeSet ℕ) (all : LiveAndUsed) → AreLive rows live → all.live ≡ map.from_entries live.entries → all.used ≡ set.from_list used.keys
+    → IsFromIterResult nat_cmp (keys live) used → AreProcesses rows all
+are_processes tables live used all had live_is used_is made =
+    let got : (pid : ℕ) → map.get all.live pid ≡ get nat_cmp live pid = λ pid. ap (λ m. map.get m pid) live_is ∙ get-shown nat_cmp_total live.entries pid in
+    record {
+      pids = λ pid. ap is_some (got pid) ∙ had.pids pid;
+      processes = λ pid process is. had.processes pid process (sym (got pid) ∙ is);
+      used = λ pid.
+          ap (λ s. set.contains s pid) used_is ∙ set.contains-from_list nat_cmp_total used.keys pid ∙ made.0 pid ∙ sym (is_some-lookup (is_at (nat_cmp pid)) live.entries)
+          ∙ sym (ap is_some (got pid));
     }
