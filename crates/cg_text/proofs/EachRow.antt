@@ -23,15 +23,17 @@ first_before (found ∷ one) other fault is = is
 -- ---- a loop over rows
 
 -- The first i rows have no fault: the first fault of all is that of the others, which have the numbers from i + 1 on.
-pub record HavePassed {A : Type 0} (clauses : List A → Place → A → List TreeFault) (place : ℕ → Place) (rows : List A) (i : ℕ) : Type 0 where
-  pub left : first (each clauses place 1 [] rows) ≡ first (each clauses place (i + 1) (take i rows) (drop i rows))
+pub record HavePassed {A : Type 0} (clauses : List A → Place → A → List TreeFault) (place : ℕ → Place) (rows : List A) (i : ℕ) : Type 0
+  where
+    pub left : first (each clauses place 1 [] rows) ≡ first (each clauses place (i + 1) (take i rows) (drop i rows))
 
 module _ {A : Type 0} (clauses : List A → Place → A → List TreeFault) (place : ℕ → Place) (rows : List A) where
   pub none_passed : HavePassed clauses place rows 0
   none_passed = record { left = refl }
 
   at_row : (i : ℕ) (row : A) → i < length rows → row ≡ get_or rows i row
-      → each clauses place (i + 1) (take i rows) (drop i rows) ≡ clauses (take i rows) (place (i + 1)) row ++ each clauses place (i + 1 + 1) (take (i + 1) rows) (drop (i + 1) rows)
+      → each clauses place (i + 1) (take i rows) (drop i rows)
+      ≡ clauses (take i rows) (place (i + 1)) row ++ each clauses place (i + 1 + 1) (take (i + 1) rows) (drop (i + 1) rows)
   at_row i row below is =
       let earlier : take (i + 1) rows ≡ take i rows ++ row ∷ [] = take_more rows i row below ∙ ap (λ x. take i rows ++ x ∷ []) (sym is) in
       ap (each clauses place (i + 1) (take i rows)) (drop_more rows i row below ∙ ap (λ x. x ∷ drop (i + 1) rows) (sym is))
@@ -43,7 +45,8 @@ module _ {A : Type 0} (clauses : List A → Place → A → List TreeFault) (pla
   more_passed i row passed below is none = record {
     left =
         passed.left ∙ ap first (at_row i row below is)
-        ∙ first_behind (clauses (take i rows) (place (i + 1)) row) (each clauses place (i + 1 + 1) (take (i + 1) rows) (drop (i + 1) rows)) none;
+        ∙ first_behind (clauses (take i rows) (place (i + 1)) row)
+        (each clauses place (i + 1 + 1) (take (i + 1) rows) (drop (i + 1) rows)) none;
   }
 
   -- the first row that has one
@@ -51,7 +54,8 @@ module _ {A : Type 0} (clauses : List A → Place → A → List TreeFault) (pla
       → first (clauses (take i rows) (place (i + 1)) row) ≡ Some fault → first (each clauses place 1 [] rows) ≡ Some fault
   fault_found i row fault passed below is found =
       passed.left ∙ ap first (at_row i row below is)
-      ∙ first_before (clauses (take i rows) (place (i + 1)) row) (each clauses place (i + 1 + 1) (take (i + 1) rows) (drop (i + 1) rows)) fault found
+      ∙ first_before (clauses (take i rows) (place (i + 1)) row)
+      (each clauses place (i + 1 + 1) (take (i + 1) rows) (drop (i + 1) rows)) fault found
 
   pub all_passed : (i : ℕ) → HavePassed clauses place rows i → length rows ≤ i → first (each clauses place 1 [] rows) ≡ None
   all_passed i passed past = passed.left ∙ ap (λ left. first (each clauses place (i + 1) (take i rows) left)) (drop_all i rows past)
@@ -59,20 +63,28 @@ module _ {A : Type 0} (clauses : List A → Place → A → List TreeFault) (pla
 -- ---- rows that are seen of elements
 
 module _ {Y A : Type 0} (clauses : List A → Place → A → List TreeFault) (place : ℕ → Place) (see : Y → A) (elements : List Y) where
-  seen_at : (i : ℕ) (element : Y) → i < length elements → element ≡ get_or elements i element → see element ≡ get_or (map see elements) i (see element)
+  seen_at : (i : ℕ) (element : Y) → i < length elements → element ≡ get_or elements i element → see element
+      ≡ get_or (map see elements) i (see element)
   seen_at i element below is = ap see is ∙ sym (get_or-map see elements i element (see element) below)
 
-  pub more_seen : (i : ℕ) (element : Y) → HavePassed clauses place (map see elements) i → i < length elements → element ≡ get_or elements i element
-      → first (clauses (take i (map see elements)) (place (i + 1)) (see element)) ≡ None → HavePassed clauses place (map see elements) (i + 1)
+  pub more_seen : (i : ℕ) (element : Y) → HavePassed clauses place (map see elements) i → i < length elements → element
+      ≡ get_or elements i element
+      → first (clauses (take i (map see elements)) (place (i + 1)) (see element)) ≡ None
+      → HavePassed clauses place (map see elements) (i + 1)
   more_seen i element passed below is none =
-      more_passed clauses place (map see elements) i (see element) passed (omega (arith, length-map elements see)) (seen_at i element below is) none
+      more_passed clauses place (map see elements) i (see element) passed (omega (arith, length-map elements see))
+      (seen_at i element below is) none
 
-  pub fault_seen : (i : ℕ) (element : Y) (fault : TreeFault) → HavePassed clauses place (map see elements) i → i < length elements → element ≡ get_or elements i element
-      → first (clauses (take i (map see elements)) (place (i + 1)) (see element)) ≡ Some fault → first (each clauses place 1 [] (map see elements)) ≡ Some fault
+  pub fault_seen : (i : ℕ) (element : Y) (fault : TreeFault) → HavePassed clauses place (map see elements) i → i < length elements
+      → element ≡ get_or elements i element
+      → first (clauses (take i (map see elements)) (place (i + 1)) (see element)) ≡ Some fault
+      → first (each clauses place 1 [] (map see elements)) ≡ Some fault
   fault_seen i element fault passed below is found =
-      fault_found clauses place (map see elements) i (see element) fault passed (omega (arith, length-map elements see)) (seen_at i element below is) found
+      fault_found clauses place (map see elements) i (see element) fault passed (omega (arith, length-map elements see))
+      (seen_at i element below is) found
 
-  pub all_seen : (i : ℕ) → HavePassed clauses place (map see elements) i → length elements ≤ i → first (each clauses place 1 [] (map see elements)) ≡ None
+  pub all_seen : (i : ℕ) → HavePassed clauses place (map see elements) i → length elements ≤ i
+      → first (each clauses place 1 [] (map see elements)) ≡ None
   all_seen i passed past = all_passed clauses place (map see elements) i passed (omega (arith, length-map elements see))
 
 -- ---- rows that are read from elements, each of which gives one
@@ -81,7 +93,8 @@ some_of : {A : Type 0} (o : Option A) → is_some o ≡ true → (x : A) × (o �
 some_of None is = absurd (true≢false (sym is))
 some_of (Some x) is = (x, refl)
 
-at_next : {A : Type 0} (row : A) (o : Option A) (xs : List A) (i : ℕ) → is_some o ≡ true → row ≡ get_or xs i row → row ≡ get_or (cons_option o xs) (suc i) row
+at_next : {A : Type 0} (row : A) (o : Option A) (xs : List A) (i : ℕ) → is_some o ≡ true → row ≡ get_or xs i row → row
+    ≡ get_or (cons_option o xs) (suc i) row
 at_next row None xs i some is = absurd (true≢false (sym some))
 at_next row (Some x) xs i some is = is
 
@@ -93,7 +106,8 @@ module _ {X A : Type 0} (read : X → Option A) where
       let here = some_of (read x) parts.0 in
       ap (λ o. length (cons_option o (filter_map read xs))) here.1 ∙ ap suc (length_read xs parts.1)
 
-  read_at : (xs : List X) (i : ℕ) (x : X) (row : A) → list_all (λ x. is_some (read x)) xs ≡ true → i < length xs → x ≡ get_or xs i x → read x ≡ Some row
+  read_at : (xs : List X) (i : ℕ) (x : X) (row : A) → list_all (λ x. is_some (read x)) xs ≡ true → i < length xs → x ≡ get_or xs i x
+      → read x ≡ Some row
       → row ≡ get_or (filter_map read xs) i row
   read_at [] i x row are below is seen = absurd (omega arith)
   read_at (y ∷ xs) zero x row are below is seen = ap (λ o. get_or (cons_option o (filter_map read xs)) 0 row) (sym seen ∙ ap read is)
@@ -124,7 +138,8 @@ module _ {X A : Type 0} (read : X → Option A) where
     pub row_at : (i : ℕ) (element : Y) (row : A) → i < length elements → element ≡ get_or elements i element → read (see element) ≡ Some row
         → row ≡ get_or (filter_map read (map see elements)) i row
     row_at i element row below is seen =
-        let there : see element ≡ get_or (map see elements) i (see element) = ap see is ∙ sym (get_or-map see elements i element (see element) below) in
+        let there : see element ≡ get_or (map see elements) i (see element) = ap see is
+        ∙ sym (get_or-map see elements i element (see element) below) in
         read_at (map see elements) i (see element) row are_seen (omega (arith, length-map elements see)) there seen
 
     -- the rows of the elements so far

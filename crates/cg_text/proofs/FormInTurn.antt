@@ -21,26 +21,31 @@ cgroup_shapes format rows = each_cgroup (λ _ place held. unless (is_table (row_
 abbrev pub process_shapes : List Data → List TreeFault
 process_shapes rows = each_process (λ _ place held. unless (is_table live_keys held) (Shape place)) rows
 
-module _ (document : Members) (format : Format) (cgroups processes : List Data) (top : is_table document_keys (table document) ≡ true) (said : format_said document ≡ Some format)
+module _ (document : Members) (format : Format) (cgroups processes : List Data) (top : is_table document_keys (table document) ≡ true)
+    (said : format_said document ≡ Some format)
     (are_cgroups : cgroups ≡ elements_at (codes "cgroup") document) (few_cgroups : length cgroups ≤ most_rows)
     (are_processes : processes ≡ elements_at (codes "process") document) (few_processes : length processes ≤ most_rows) where
   few : has_few document ≡ true
   few =
       (λ i. nat_le (length (sym are_cgroups i)) most_rows && nat_le (length (sym are_processes i)) most_rows)
-      ∙ (let cgroups_few = le-leb (length cgroups) most_rows few_cgroups in let processes_few = le-leb (length processes) most_rows few_processes in λ i. cgroups_few i && processes_few i)
+      ∙ (let cgroups_few = le-leb (length cgroups) most_rows few_cgroups in let processes_few = le-leb (length processes) most_rows
+      few_processes in λ i. cgroups_few i && processes_few i)
 
   -- the rows are left
   rows_left : form_faults document ≡ cgroup_shapes format cgroups ++ process_shapes processes
   rows_left =
-      (λ i. unless (top i) (Shape Top) ++ absent (said i) BadFormat ++ unless (few i) TooMany ++ present (said i) (λ format. cgroup_shapes format (sym are_cgroups i)) ++ process_shapes (sym are_processes i))
+      (λ i. unless (top i) (Shape Top) ++ absent (said i) BadFormat ++ unless (few i) TooMany ++ present (said i)
+      (λ format. cgroup_shapes format (sym are_cgroups i)) ++ process_shapes (sym are_processes i))
 
   pub at_cgroup : (fault : TreeFault) → first (cgroup_shapes format cgroups) ≡ Some fault → first (form_faults document) ≡ Some fault
   at_cgroup fault found = ap first rows_left ∙ first_before (cgroup_shapes format cgroups) (process_shapes processes) fault found
 
-  pub at_process : (fault : TreeFault) → first (cgroup_shapes format cgroups) ≡ None → first (process_shapes processes) ≡ Some fault → first (form_faults document) ≡ Some fault
+  pub at_process : (fault : TreeFault) → first (cgroup_shapes format cgroups) ≡ None → first (process_shapes processes) ≡ Some fault
+      → first (form_faults document) ≡ Some fault
   at_process fault none found = ap first rows_left ∙ first_behind (cgroup_shapes format cgroups) (process_shapes processes) none ∙ found
 
-  pub no_shape : first (cgroup_shapes format cgroups) ≡ None → first (process_shapes processes) ≡ None → (first (form_faults document) ≡ None) × IsInForm format document
+  pub no_shape : first (cgroup_shapes format cgroups) ≡ None → first (process_shapes processes) ≡ None
+      → (first (form_faults document) ≡ None) × IsInForm format document
   no_shape none also =
       let passed = ap first rows_left ∙ first_behind (cgroup_shapes format cgroups) (process_shapes processes) none ∙ also in
       let form = in_form document passed in

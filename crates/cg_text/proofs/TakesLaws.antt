@@ -38,17 +38,21 @@ are_apart (key ∷ keys) = list_all (λ other. not (same_name key.name other.nam
 -- ---- a member before others
 
 -- no member behind it has the same name
-behind : (k : String Global) (es : List (String Global × Value)) → AllByRecursion (λ other. string_cmp k other ≡ Less) (keys_of es) → get_member (string_bytes k) (members_view es) ≡ None
+behind : (k : String Global) (es : List (String Global × Value)) → AllByRecursion (λ other. string_cmp k other ≡ Less) (keys_of es)
+    → get_member (string_bytes k) (members_view es) ≡ None
 behind k [] rise = refl
 behind k (e ∷ es) rise =
-    ap (λ o. match_ordering o (get_member (string_bytes k) (members_view es)) (Some (view e.1)) (get_member (string_bytes k) (members_view es))) rise.0 ∙ behind k es rise.1
+    ap (λ o. match_ordering o (get_member (string_bytes k) (members_view es)) (Some (view e.1))
+    (get_member (string_bytes k) (members_view es))) rise.0 ∙ behind k es rise.1
 
-tied : (o : Ordering) (b : Bool) (found : Option Data) (held : Data) → b ≡ is_eq o → match_ordering o found (Some held) found ≡ cond b (Some held) found
+tied : (o : Ordering) (b : Bool) (found : Option Data) (held : Data) → b ≡ is_eq o → match_ordering o found (Some held) found
+    ≡ cond b (Some held) found
 tied Less b found held is = sym (ap (λ b. cond b (Some held) found) is)
 tied Equal b found held is = sym (ap (λ b. cond b (Some held) found) is)
 tied Greater b found held is = sym (ap (λ b. cond b (Some held) found) is)
 
-get_first : (key name : List ℕ) (held : Data) (rest : Members) → get_member key (member name held rest) ≡ cond (same_name key name) (Some held) (get_member key rest)
+get_first : (key name : List ℕ) (held : Data) (rest : Members) → get_member key (member name held rest)
+    ≡ cond (same_name key name) (Some held) (get_member key rest)
 get_first key name held rest = tied (slice_cmp nat_cmp key name) (same_name key name) (get_member key rest) held (texts_ties key name)
 
 not_true : (b : Bool) → not b ≡ true → b ≡ false
@@ -80,29 +84,38 @@ allowed key found = elim found [ None ↦ true | Some held ↦ key.takes held ]
 module _ (name : List ℕ) (held : Data) (rest : Members) (none : get_member name rest ≡ None) where
   at_other : (key : Key) → same_name name key.name ≡ false → allows_at (member name held rest) key ≡ allows_at rest key
   at_other key other =
-      ap (allowed key) (get_first key.name name held rest ∙ ap (λ b. cond b (Some held) (get_member key.name rest)) (nat_list_eq_equiv.symm key.name name ∙ other))
+      ap (allowed key) (get_first key.name name held rest
+      ∙ ap (λ b. cond b (Some held) (get_member key.name rest)) (nat_list_eq_equiv.symm key.name name ∙ other))
 
   at_same : (key : Key) → same_name name key.name ≡ true → allows_at (member name held rest) key ≡ key.takes held
   at_same key same =
-      ap (allowed key) (get_first key.name name held rest ∙ ap (λ b. cond b (Some held) (get_member key.name rest)) (nat_list_eq_equiv.symm key.name name ∙ same))
+      ap (allowed key) (get_first key.name name held rest
+      ∙ ap (λ b. cond b (Some held) (get_member key.name rest)) (nat_list_eq_equiv.symm key.name name ∙ same))
 
   left_out : (key : Key) → same_name name key.name ≡ true → allows_at rest key ≡ true
   left_out key same = ap (allowed key) (ap (λ at. get_member at rest) (sym (name_is name key.name same)) ∙ none)
 
-  at_others : (key : Key) (keys : List Key) → same_name name key.name ≡ true → list_all (λ other. not (same_name key.name other.name)) keys ≡ true
+  at_others : (key : Key) (keys : List Key) → same_name name key.name ≡ true
+      → list_all (λ other. not (same_name key.name other.name)) keys ≡ true
       → list_all (allows_at (member name held rest)) keys ≡ list_all (allows_at rest) keys
   at_others key [] same apart = refl
   at_others key (other ∷ keys) same apart =
       let parts = and_parts (not (same_name key.name other.name)) (list_all (λ other. not (same_name key.name other.name)) keys) apart in
-      let here = at_other other (ap (λ at. same_name at other.name) (name_is name key.name same) ∙ not_true (same_name key.name other.name) parts.0) in
+      let here = at_other other (ap (λ at. same_name at other.name) (name_is name key.name same)
+      ∙ not_true (same_name key.name other.name) parts.0) in
       let later = at_others key keys same parts.1 in
       λ i. here i && later i
 
-  one_more : (keys : List Key) → are_apart keys ≡ true → (takes keys name held && list_all (allows_at rest) keys) ≡ (list_any (has_name name) keys && list_all (allows_at (member name held rest)) keys)
+  one_more : (keys : List Key) → are_apart keys ≡ true → (takes keys name held && list_all (allows_at rest) keys)
+      ≡ (list_any (has_name name) keys && list_all (allows_at (member name held rest)) keys)
   one_more [] apart = refl
   one_more (key ∷ keys) apart =
       let parts = and_parts (list_all (λ other. not (same_name key.name other.name)) keys) (are_apart keys) apart in
-      elim (same_name name key.name) as (λ b. same_name name key.name ≡ b → (taken (cond b (Some key) (find (has_name name) keys)) held && (allows_at rest key && list_all (allows_at rest) keys)) ≡ ((b || list_any (has_name name) keys) && (allows_at (member name held rest) key && list_all (allows_at (member name held rest)) keys))) [
+      elim (same_name name key.name) as
+      (λ b. same_name name key.name ≡ b
+      → (taken (cond b (Some key) (find (has_name name) keys)) held && (allows_at rest key && list_all (allows_at rest) keys))
+      ≡ ((b || list_any (has_name name) keys) &&
+      (allows_at (member name held rest) key && list_all (allows_at (member name held rest)) keys))) [
         | true ↦ λ same.
             let here = at_same key same in
             let others = at_others key keys same parts.0 in
@@ -121,25 +134,31 @@ none_allowed [] = refl
 none_allowed (key ∷ keys) = none_allowed keys
 
 -- for members whose keys rise
-pub takes_all_is : (keys : List Key) (es : List (String Global × Value)) → are_apart keys ≡ true → IsStrictlySortedBy string_cmp (keys_of es) → takes_all keys (members_view es) ≡ allows keys (members_view es)
+pub takes_all_is : (keys : List Key) (es : List (String Global × Value)) → are_apart keys ≡ true
+    → IsStrictlySortedBy string_cmp (keys_of es) → takes_all keys (members_view es) ≡ allows keys (members_view es)
 unfolding IsStrictlySortedBy
 takes_all_is keys [] apart rise = none_allowed keys
 takes_all_is keys (e ∷ es) apart rise =
     ap (λ b. takes keys (string_bytes e.0) (view e.1) && b) (takes_all_is keys es apart rise.1)
-    ∙ and_three (takes keys (string_bytes e.0) (view e.1)) (are_among keys (members_view es)) (list_any (has_name (string_bytes e.0)) keys) (list_all (allows_at (members_view es)) keys)
+    ∙ and_three (takes keys (string_bytes e.0) (view e.1)) (are_among keys (members_view es))
+    (list_any (has_name (string_bytes e.0)) keys) (list_all (allows_at (members_view es)) keys)
     (list_all (allows_at (members_view (e ∷ es))) keys)
     (one_more (string_bytes e.0) (view e.1) (members_view es) (behind e.0 es rise.0) keys apart)
 
 -- ---- a loop over members
 
-module _ (keys : List Key) (all : List (String Global × Value)) (apart : are_apart keys ≡ true) (rise : IsStrictlySortedBy string_cmp (keys_of all)) where
+module _ (keys : List Key) (all : List (String Global × Value)) (apart : are_apart keys ≡ true)
+    (rise : IsStrictlySortedBy string_cmp (keys_of all)) where
   -- at a member that isn't taken
-  pub not_taken : (left rest : List (String Global × Value)) (key : String Global) (value : Value) → takes_all keys (members_view left) ≡ takes_all keys (members_view all) → left ≡ (key, value) ∷ rest
+  pub not_taken : (left rest : List (String Global × Value)) (key : String Global) (value : Value) → takes_all keys (members_view left)
+      ≡ takes_all keys (members_view all) → left ≡ (key, value) ∷ rest
       → takes keys (string_bytes key) (view value) ≡ false → false ≡ allows keys (members_view all)
   not_taken left rest key value so_far is isnt =
-      sym (ap (λ es. takes_all keys (members_view es)) is ∙ ap (λ b. b && takes_all keys (members_view rest)) isnt) ∙ so_far ∙ takes_all_is keys all apart rise
+      sym (ap (λ es. takes_all keys (members_view es)) is ∙ ap (λ b. b && takes_all keys (members_view rest)) isnt) ∙ so_far
+      ∙ takes_all_is keys all apart rise
 
-  pub all_taken : (left : List (String Global × Value)) → takes_all keys (members_view left) ≡ takes_all keys (members_view all) → left ≡ [] → true ≡ allows keys (members_view all)
+  pub all_taken : (left : List (String Global × Value)) → takes_all keys (members_view left) ≡ takes_all keys (members_view all) → left
+      ≡ [] → true ≡ allows keys (members_view all)
   all_taken left so_far is = sym (ap (λ es. takes_all keys (members_view es)) is) ∙ so_far ∙ takes_all_is keys all apart rise
 
 -- ---- the keys of each table
@@ -179,9 +198,11 @@ and_true : (b : Bool) → b ≡ (b && true)
 and_true true = refl
 and_true false = refl
 
-needed_at : (members : Members) (name : List ℕ) (test : Data → Bool) → fits_at members (must_have name test) ≡ (allows_at members (must_have name test) && is_some (get_member name members))
+needed_at : (members : Members) (name : List ℕ) (test : Data → Bool) → fits_at members (must_have name test)
+    ≡ (allows_at members (must_have name test) && is_some (get_member name members))
 needed_at members name test =
-    elim (get_member name members) as (λ found. elim found [ None ↦ false | Some held ↦ test held ] ≡ (elim found [ None ↦ true | Some held ↦ test held ] && is_some found)) [
+    elim (get_member name members) as (λ found. elim found [ None ↦ false | Some held ↦ test held ]
+    ≡ (elim found [ None ↦ true | Some held ↦ test held ] && is_some found)) [
       | None ↦ refl
       | Some held ↦ and_true (test held)
     ]
@@ -192,7 +213,8 @@ one_needed w a p r = grind arith
 two_needed : (w a p b q r : Bool) → (w && ((a && p) && ((b && q) && r))) ≡ ((w && (a && (b && r))) && (p && q))
 two_needed w a p b q r = grind arith
 
-three_needed : (w a p b q c r : Bool) → (w && ((a && p) && ((b && q) && ((c && r) && true)))) ≡ ((w && (a && (b && (c && true)))) && (p && (q && r)))
+three_needed : (w a p b q c r : Bool) → (w && ((a && p) && ((b && q) && ((c && r) && true))))
+    ≡ ((w && (a && (b && (c && true)))) && (p && (q && r)))
 three_needed w a p b q c r = grind arith
 
 some_mapped : {A B : Type 0} (f : A → B) (o : Option A) → is_some o ≡ is_some (option_map f o)
@@ -200,36 +222,46 @@ some_mapped f None = refl
 some_mapped f (Some x) = refl
 
 -- a key that the map of a table has
-pub has_key : (name : List ℕ) (es : List (String Global × Value)) → is_some (lookup (is_at (λ key. slice_cmp nat_cmp name (string_bytes key))) es) ≡ is_some (get_member name (members_view es))
+pub has_key : (name : List ℕ) (es : List (String Global × Value))
+    → is_some (lookup (is_at (λ key. slice_cmp nat_cmp name (string_bytes key))) es) ≡ is_some (get_member name (members_view es))
 has_key name es = some_mapped view (lookup (is_at (λ key. slice_cmp nat_cmp name (string_bytes key))) es) ∙ ap is_some (view-lookup name es)
 
 -- ---- tables with keys that have to be there
 
-pub row_is : (format : Format) (members : Members) → is_table (row_keys format) (table members) ≡ (allows (row_keys format) members && is_some (get_member (codes "path") members))
+pub row_is : (format : Format) (members : Members) → is_table (row_keys format) (table members)
+    ≡ (allows (row_keys format) members && is_some (get_member (codes "path") members))
 row_is format members =
     let at : Key → Bool = allows_at members in
-    ap (λ b. are_among (row_keys format) members && (b && list_all (fits_at members) (drop 1 (row_keys format)))) (needed_at members (codes "path") is_text)
-    ∙ one_needed (are_among (row_keys format) members) (at (must_have (codes "path") is_text)) (is_some (get_member (codes "path") members)) (list_all at (drop 1 (row_keys format)))
+    ap (λ b. are_among (row_keys format) members && (b && list_all (fits_at members) (drop 1 (row_keys format))))
+    (needed_at members (codes "path") is_text)
+    ∙ one_needed (are_among (row_keys format) members) (at (must_have (codes "path") is_text))
+    (is_some (get_member (codes "path") members)) (list_all at (drop 1 (row_keys format)))
 
 pub live_is : (members : Members)
-    → is_table live_keys (table members) ≡ (allows live_keys members && (is_some (get_member (codes "pid") members) && (is_some (get_member (codes "uid") members) && is_some (get_member (codes "at") members))))
+    → is_table live_keys (table members)
+    ≡ (allows live_keys members && (is_some (get_member (codes "pid") members) &&
+    (is_some (get_member (codes "uid") members) && is_some (get_member (codes "at") members))))
 live_is members =
     let at : Key → Bool = allows_at members in
     let pid = needed_at members (codes "pid") is_integer in
     let uid = needed_at members (codes "uid") is_integer in
     let place = needed_at members (codes "at") is_text in
     (λ i. are_among live_keys members && (pid i && (uid i && (place i && true))))
-    ∙ three_needed (are_among live_keys members) (at (must_have (codes "pid") is_integer)) (is_some (get_member (codes "pid") members)) (at (must_have (codes "uid") is_integer)) (is_some (get_member (codes "uid") members))
+    ∙ three_needed (are_among live_keys members) (at (must_have (codes "pid") is_integer)) (is_some (get_member (codes "pid") members))
+    (at (must_have (codes "uid") is_integer)) (is_some (get_member (codes "uid") members))
     (at (must_have (codes "at") is_text)) (is_some (get_member (codes "at") members))
 
 pub document_is : (members : Members)
-    → is_table document_keys (table members) ≡ (allows document_keys members && (is_some (get_member (codes "format") members) && is_some (get_member (codes "controllers") members)))
+    → is_table document_keys (table members)
+    ≡ (allows document_keys members &&
+    (is_some (get_member (codes "format") members) && is_some (get_member (codes "controllers") members)))
 document_is members =
     let at : Key → Bool = allows_at members in
     let format = needed_at members (codes "format") is_integer in
     let controllers = needed_at members (codes "controllers") are_texts in
     (λ i. are_among document_keys members && (format i && (controllers i && list_all at (drop 2 document_keys))))
-    ∙ two_needed (are_among document_keys members) (at (must_have (codes "format") is_integer)) (is_some (get_member (codes "format") members)) (at (must_have (codes "controllers") are_texts))
+    ∙ two_needed (are_among document_keys members) (at (must_have (codes "format") is_integer))
+    (is_some (get_member (codes "format") members)) (at (must_have (codes "controllers") are_texts))
     (is_some (get_member (codes "controllers") members)) (list_all at (drop 2 document_keys))
 
 -- ---- the keys of a table of files
@@ -237,7 +269,8 @@ document_is members =
 find_map : {A B : Type 0} (test : B → Bool) (f : A → B) (xs : List A) → find test (map_list f xs) ≡ option_map f (find (λ x. test (f x)) xs)
 find_map test f [] = refl
 find_map test f (x ∷ xs) =
-    elim (test (f x)) as (λ b. cond b (Some (f x)) (find test (map_list f xs)) ≡ option_map f (cond b (Some x) (find (λ x. test (f x)) xs))) [ true ↦ refl | false ↦ find_map test f xs ]
+    elim (test (f x)) as (λ b. cond b (Some (f x)) (find test (map_list f xs))
+    ≡ option_map f (cond b (Some x) (find (λ x. test (f x)) xs))) [ true ↦ refl | false ↦ find_map test f xs ]
 
 -- what may stand at the name of an entry
 abbrev pub takes_entry : Format → Option EntryName → Data → Bool
@@ -247,7 +280,8 @@ takes_entry format (Some (File file)) held = is_table (limit_keys format) held
 takes_entry format (Some name) held = is_table (owner_keys format) held
 
 module _ (format : Format) (text : List ℕ) (held : Data) where
-  of_file : (found : Option LimitFile) → taken (option_map (λ file. may_have (file_name file) (is_table (limit_keys format))) found) held ≡ takes_entry format (option_map File found) held
+  of_file : (found : Option LimitFile) → taken (option_map (λ file. may_have (file_name file) (is_table (limit_keys format))) found)
+      held ≡ takes_entry format (option_map File found) held
   of_file None = refl
   of_file (Some file) = refl
 
@@ -264,7 +298,8 @@ module _ (format : Format) (text : List ℕ) (held : Data) where
       ∙ ap (λ found. takes_entry format found held) (sym (find_map (λ name. same_name text (entry_text name)) File all_files))
 
   owned_taken : (p s : Bool)
-      → taken (cond p (Some (may_have texts.cgroup_procs (is_table (owner_keys format)))) (cond s (Some (may_have texts.cgroup_subtree_control (is_table (owner_keys format)))) found_file)) held
+      → taken (cond p (Some (may_have texts.cgroup_procs (is_table (owner_keys format))))
+      (cond s (Some (may_have texts.cgroup_subtree_control (is_table (owner_keys format)))) found_file)) held
       ≡ takes_entry format (cond p (Some Procs) (cond s (Some SubtreeControl) named_file)) held
   owned_taken true s = refl
   owned_taken false true = refl
@@ -274,7 +309,10 @@ module _ (format : Format) (text : List ℕ) (held : Data) where
   pub file_taken : takes (file_keys_of format) text held ≡ takes_entry format (entry_named text) held
   file_taken =
       elim (same_name text (codes "dir")) as (λ b. same_name text (codes "dir") ≡ b
-      → takes (file_keys_of format) text held ≡ takes_entry format (cond b (Some Dir) (cond (same_name text texts.cgroup_procs) (Some Procs) (cond (same_name text texts.cgroup_subtree_control) (Some SubtreeControl) named_file))) held) [
+      → takes (file_keys_of format) text held
+      ≡ takes_entry format (cond b (Some Dir)
+      (cond (same_name text texts.cgroup_procs) (Some Procs)
+      (cond (same_name text texts.cgroup_subtree_control) (Some SubtreeControl) named_file))) held) [
         | true ↦ λ same. ap (λ name. takes (file_keys_of format) name held) (name_is text (codes "dir") same)
         | false ↦ λ other. owned_taken (same_name text texts.cgroup_procs) (same_name text texts.cgroup_subtree_control)
       ] refl

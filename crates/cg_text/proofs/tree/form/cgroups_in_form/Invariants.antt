@@ -8,4 +8,5 @@ use Rattle.cg_text.proofs.EachRow.{HavePassed}
 use Rattle.cg_text.proofs.tree.form.cgroups_in_form.Given as goal
 
 abbrev pub invariant-loop-index : goal.invariant-loop-index
-invariant-loop-index l = HavePassed (λ _ place held. unless (is_table (row_keys l.format) held) (Shape place)) Cgroup (map view l.cgroups) l.index
+invariant-loop-index l = HavePassed (λ _ place held. unless (is_table (row_keys l.format) held) (Shape place)) Cgroup
+    (map view l.cgroups) l.index

@@ -5,4 +5,5 @@ use Rattle.cg_text.specs.Keys.{takes_all}
 use Rattle.cg_text.proofs.tree.form.files_fit.Given as goal
 
 abbrev pub invariant-loop-key : goal.invariant-loop-key
-invariant-loop-key l = takes_all (file_keys_of l.format) (members_view l.key-iterator) ≡ takes_all (file_keys_of l.format) (table_view l.table)
+invariant-loop-key l = takes_all (file_keys_of l.format) (members_view l.key-iterator)
+    ≡ takes_all (file_keys_of l.format) (table_view l.table)

@@ -16,7 +16,8 @@ loop-index-init c = none_passed (λ _ place held. unless (is_table live_keys hel
 pub loop-index-preserved : goal.loop-index-preserved
 loop-index-preserved c =
     let clauses : List Data → Place → Data → List TreeFault = λ _ place held. unless (is_table live_keys held) (Shape place) in
-    more_seen clauses Process view c.args.processes.now c.loop-index.index c.index-processes-index.result c.loop-index.invariant c.loop-index-test.true c.index-processes-index.is
+    more_seen clauses Process view c.args.processes.now c.loop-index.index c.index-processes-index.result c.loop-index.invariant
+    c.loop-index-test.true c.index-processes-index.is
     (ap (λ b. first (unless b (Shape (Process (c.loop-index.index + 1))))) (sym c.is_process.ensures ∙ c.if-not-is_process.false))
 
 pub returns : goal.returns
@@ -27,6 +28,7 @@ returns c =
 pub returns-then-not-is_process : goal.returns-then-not-is_process
 returns-then-not-is_process c = λ _.
     let clauses : List Data → Place → Data → List TreeFault = λ _ place held. unless (is_table live_keys held) (Shape place) in
-    fault_seen clauses Process view c.args.processes.now c.loop-index.index c.index-processes-index.result (Shape (Process (c.loop-index.index + 1))) c.loop-index.invariant c.loop-index-test.true c.index-processes-index.is
+    fault_seen clauses Process view c.args.processes.now c.loop-index.index c.index-processes-index.result
+    (Shape (Process (c.loop-index.index + 1))) c.loop-index.invariant c.loop-index-test.true c.index-processes-index.is
     (ap (λ b. first (unless b (Shape (Process (c.loop-index.index + 1))))) (sym c.is_process.ensures ∙ c.if-not-is_process.true))
     ∙ ap (λ number. Some (Shape (Process number))) (sym c.row_number.ensures)
