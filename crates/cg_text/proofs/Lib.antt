@@ -21,6 +21,7 @@ pub mod SaidFaults
 pub mod SaidTogether
 pub mod SaidProcesses
 pub mod TextFaultLaws
+pub mod RowLaws
 pub mod EachRow
 pub mod TakesLaws
 pub mod FormInTurn

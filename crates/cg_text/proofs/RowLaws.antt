@@ -1,0 +1,334 @@
+-- What a row's reader makes of its tables: entries and values, or the clause that fails.
+use Rattle.std.proofs.Common.{◌≡◌, ◌≢◌, ℕ, ◌+◌, ◌<◌, ◌≤◌, Bool, true, false, ◌&&◌, ◌||◌, List, [], ◌∷◌, ◌++◌, length}
+use Rattle.std.proofs.Common.{get_or, take, map, filter_map, codes, Option, Some, None, is_some, option_map, option_and_then, unwrap_or}
+use Rattle.std.proofs.Common.{Result, Ok, Err, refl, sym, ap, subst, ◌∙◌, true≢false, arith}
+use Rattle.std.specs.Option.{ok_or}
+use Rattle.std.specs.Result.{IsErr, IsErrAnd}
+use Rattle.std.specs.List.{list_all}
+use Rattle.std.proofs.lemmas.Bool.{and_from}
+use Rattle.std.proofs.lemmas.List.{take_more, take_all, length-take-le}
+use Rattle.std.proofs.lemmas.List.Folds.{list_all_at}
+use Rattle.toml.specs.Data.{Members, no_members, as_table}
+use Rattle.toml.specs.View.{view, table_view}
+use Rattle.toml.specs.declared.value.Value.{Value}
+use Rattle.cg_cgroup.specs.Paths.{Names}
+use Rattle.cg_cgroup.specs.Files.{all_files, all_entries, entry_text}
+use Rattle.cg_cgroup.specs.Cgroups.{file_of, entry_in, value_in as value_at}
+use Rattle.cg_cgroup.proofs.Options.{mapped_from, is_some-mapped}
+use Rattle.cg_cgroup.specs.declared.user.Entry.{Entry}
+use Rattle.cg_cgroup.specs.declared.files.ControllerSet.{ControllerSet}
+use Rattle.cg_cgroup.specs.declared.files.LimitFile.{LimitFile}
+use Rattle.cg_cgroup.specs.declared.files.LimitFile.TheVariants.{MaxDescendants, MaxDepth, CpuWeight, MemoryMin, MemoryLow}
+use Rattle.cg_cgroup.specs.declared.files.LimitFile.TheVariants.{MemoryHigh, MemoryMax, PidsMax}
+use Rattle.cg_cgroup.specs.declared.files.EntryName.{EntryName}
+use Rattle.cg_cgroup.specs.declared.files.EntryName.TheVariants.{Dir, Procs, SubtreeControl, File}
+use Rattle.cg_cgroup.specs.declared.cgroup.LimitEntry.{LimitEntry}
+use Rattle.cg_cgroup.specs.declared.cgroup.Cgroup.{Cgroup}
+use Rattle.cg_model.specs.Clauses.{first, unless, absent}
+use Rattle.cg_text.specs.Said.{table_at, path_said, controllers_said, owner_said, limit_said, table_of, mode_missing}
+use Rattle.cg_text.specs.Said.{entry_said, value_said, is_named}
+use Rattle.cg_text.specs.TextFaults.{each_cgroup, row_faults}
+use Rattle.cg_text.specs.Faults.{or_fault, Passes}
+use Rattle.cg_text.specs.Rows.{table_in, owner_in, value_in, with_value, names, needed_by, entry_faults, IsCgroupOf, IsReadAs, AreReadAs}
+use Rattle.cg_text.specs.declared.tree.fault.Place.TheVariants.{Cgroup as AtCgroup}
+use Rattle.cg_text.specs.declared.tree.fault.TreeFault.{TreeFault}
+use Rattle.cg_text.specs.declared.tree.fault.TreeFault.TheVariants.{BadPath, BadController, BadEntry, BadValue, NoMemory}
+use Rattle.cg_text.specs.declared.tree.records.Format.{Format}
+use Rattle.cg_text.specs.declared.tree.row.Entries.{Entries}
+use Rattle.cg_text.specs.declared.tree.row.Row.{Row}
+use Rattle.cg_text.proofs.EachRow.{HavePassed, more_passed, fault_found, all_passed, row_count, row_at}
+
+-- ---- answers
+
+pub ok_of : {A : Type 0} (o : Option A) (fault : TreeFault) (x : A) → Ok x ≡ or_fault o fault → o ≡ Some x
+ok_of None fault x is = cc
+ok_of (Some y) fault x is = cc
+
+pub err_of : {A : Type 0} (o : Option A) (fault found : TreeFault) → Err found ≡ or_fault o fault → (o ≡ None) × (fault ≡ found)
+err_of None fault found is = (refl, cc)
+err_of (Some y) fault found is = cc
+
+pub ok_or_is : {A : Type 0} (o : Option A) (fault : TreeFault) → ok_or o fault ≡ or_fault o fault
+ok_or_is None fault = refl
+ok_or_is (Some x) fault = refl
+
+-- what a `?` returns
+abbrev pub Returns : {X : Type 0} → Result X TreeFault → TreeFault → Type 0
+Returns answer found = IsErr answer × IsErrAnd answer (λ other. other ≡ found)
+
+pub passed_on : {X : Type 0} (P : X → Type 0) (fault : Option TreeFault) (answer : Result X TreeFault) (found : TreeFault)
+    → Returns answer found → (found ≢ NoMemory → fault ≡ Some found) → Passes P fault answer
+passed_on P fault (Ok x) found is expected = absurd is.1
+passed_on P fault (Err other) found is expected = λ memory. rw is.1 (expected (rw is.1 at memory))
+
+-- ---- all entries and all limit files
+
+all_so : {A : Type 0} (p : A → Bool) → ((x : A) → p x ≡ true) → (xs : List A) → list_all p xs ≡ true
+all_so p each [] = refl
+all_so p each (x ∷ xs) = and_from (p x) (list_all p xs) (each x) (all_so p each xs)
+
+file_failed : (p : LimitFile → Bool) (file : LimitFile) → p file ≡ false → list_all p all_files ≡ false
+file_failed p MaxDescendants is = list_all_at p all_files 0 PidsMax (omega arith) is
+file_failed p MaxDepth is = list_all_at p all_files 1 PidsMax (omega arith) is
+file_failed p CpuWeight is = list_all_at p all_files 2 PidsMax (omega arith) is
+file_failed p MemoryMin is = list_all_at p all_files 3 PidsMax (omega arith) is
+file_failed p MemoryLow is = list_all_at p all_files 4 PidsMax (omega arith) is
+file_failed p MemoryHigh is = list_all_at p all_files 5 PidsMax (omega arith) is
+file_failed p MemoryMax is = list_all_at p all_files 6 PidsMax (omega arith) is
+file_failed p PidsMax is = list_all_at p all_files 7 PidsMax (omega arith) is
+
+three_and_false : (a b c : Bool) → (a && (b && (c && false))) ≡ false
+three_and_false true true true = refl
+three_and_false true true false = refl
+three_and_false true false c = refl
+three_and_false false b c = refl
+
+entry_failed : (p : EntryName → Bool) (name : EntryName) → p name ≡ false → list_all p all_entries ≡ false
+entry_failed p Dir is = list_all_at p all_entries 0 Dir (omega arith) is
+entry_failed p Procs is = list_all_at p all_entries 1 Dir (omega arith) is
+entry_failed p SubtreeControl is = list_all_at p all_entries 2 Dir (omega arith) is
+entry_failed p (File file) is =
+    ap (λ b. p Dir && (p Procs && (p SubtreeControl && b))) (file_failed (λ file. p (File file)) file is)
+    ∙ three_and_false (p Dir) (p Procs) (p SubtreeControl)
+
+pub by_entry : (P : EntryName → Type 0) → P Dir → P Procs → P SubtreeControl → ((file : LimitFile) → P (File file))
+    → (name : EntryName) → P name
+by_entry P dir procs control files Dir = dir
+by_entry P dir procs control files Procs = procs
+by_entry P dir procs control files SubtreeControl = control
+by_entry P dir procs control files (File file) = files file
+
+pub by_file : (P : LimitFile → Type 0) → P MaxDescendants → P MaxDepth → P CpuWeight → P MemoryMin → P MemoryLow → P MemoryHigh
+    → P MemoryMax → P PidsMax → (file : LimitFile) → P file
+by_file P descendants depth weight least low high most pids MaxDescendants = descendants
+by_file P descendants depth weight least low high most pids MaxDepth = depth
+by_file P descendants depth weight least low high most pids CpuWeight = weight
+by_file P descendants depth weight least low high most pids MemoryMin = least
+by_file P descendants depth weight least low high most pids MemoryLow = low
+by_file P descendants depth weight least low high most pids MemoryHigh = high
+by_file P descendants depth weight least low high most pids MemoryMax = most
+by_file P descendants depth weight least low high most pids PidsMax = pids
+
+-- ---- a cgroup of entries
+
+module _ (said : Entries) where
+  abbrev owned : EntryName → Bool
+  owned name = is_some (owner_in said name)
+
+  abbrev valued : LimitFile → Bool
+  valued file = is_some (value_in said file)
+
+  abbrev value_faults : List TreeFault
+  value_faults = unless (list_all valued all_files) (BadValue said.place)
+
+  -- the owner of an entry and the value of a limit file, as they are read
+  abbrev pub HasOwner : EntryName → Entry → Type 0
+  HasOwner name entry = Ok entry ≡ or_fault (owner_in said name) (BadEntry said.place)
+
+  abbrev pub HasValue : LimitFile → Entry → LimitEntry → Type 0
+  HasValue file entry held = Ok held ≡ or_fault (option_map (with_value entry) (value_in said file)) (BadValue said.place)
+
+  owner_is : (name : EntryName) (entry : Entry) → HasOwner name entry → owner_in said name ≡ Some entry
+  owner_is name entry is = ok_of (owner_in said name) (BadEntry said.place) entry is
+
+  pub has_owner : (name : EntryName) (entry : Entry) → HasOwner name entry → is_some (owner_in said name) ≡ true
+  has_owner name entry is = ap is_some (owner_is name entry is)
+
+  pub no_owner : (name : EntryName) {X : Type 0} (P : X → Type 0) (answer : Result X TreeFault) (found : TreeFault) → Returns answer found
+      → Err found ≡ or_fault (owner_in said name) (BadEntry said.place) → Passes P (first (entry_faults said)) answer
+  no_owner name P answer found returns is =
+      let missing = err_of (owner_in said name) (BadEntry said.place) found is in
+      passed_on P (first (entry_faults said)) answer found returns
+      (λ _.
+      ap (λ b. first (unless b (BadEntry said.place) ++ value_faults)) (entry_failed owned name (ap is_some missing.0))
+      ∙ ap (λ fault. Some fault) missing.1)
+
+  no_entry_fault : ((name : EntryName) → is_some (owner_in said name) ≡ true) → first (entry_faults said) ≡ first value_faults
+  no_entry_fault are = ap (λ b. first (unless b (BadEntry said.place) ++ value_faults)) (all_so owned are all_entries)
+
+  pub no_value : ((name : EntryName) → is_some (owner_in said name) ≡ true) → (file : LimitFile) (entry : Entry)
+      {X : Type 0} (P : X → Type 0) (answer : Result X TreeFault) (found : TreeFault) → Returns answer found
+      → Err found ≡ or_fault (option_map (with_value entry) (value_in said file)) (BadValue said.place)
+      → Passes P (first (entry_faults said)) answer
+  no_value are file entry P answer found returns is =
+      let missing = err_of (option_map (with_value entry) (value_in said file)) (BadValue said.place) found is in
+      let none : valued file ≡ false = sym (is_some-mapped (with_value entry) (value_in said file)) ∙ ap is_some missing.0 in
+      passed_on P (first (entry_faults said)) answer found returns
+      (λ _.
+      no_entry_fault are ∙ ap (λ b. first (unless b (BadValue said.place))) (file_failed valued file none)
+      ∙ ap (λ fault. Some fault) missing.1)
+
+  -- a limit file of the cgroup that was read so
+  pub record HasFile (cgroup : Cgroup) (file : LimitFile) : Type 0 where
+    pub held : LimitEntry
+    pub stands : file_of cgroup file ≡ Some held
+    pub owner : owner_in said (File file) ≡ Some held.entry
+    pub value : value_in said file ≡ Some held.value
+
+  pub has_file : (cgroup : Cgroup) (file : LimitFile) (entry : Entry) (held : LimitEntry) → file_of cgroup file ≡ Some held
+      → HasOwner (File file) entry → HasValue file entry held → HasFile cgroup file
+  has_file cgroup file entry held stands owner value =
+      let o = option_map (with_value entry) (value_in said file) in
+      let from = mapped_from (with_value entry) (value_in said file) held (ok_of o (BadValue said.place) held value) in
+      record {
+        held = held;
+        stands = stands;
+        owner = owner_is (File file) entry owner ∙ ap (λ (h : LimitEntry). Some h.entry) from.2;
+        value = from.1 ∙ ap (λ (h : LimitEntry). Some h.value) from.2;
+      }
+
+  pub cgroup_read : (controllers : ControllerSet) (cgroup : Cgroup) → cgroup.enabled ≡ controllers
+      → HasOwner Dir cgroup.dir → HasOwner Procs cgroup.procs → HasOwner SubtreeControl cgroup.subtree_control
+      → ((file : LimitFile) → HasFile cgroup file) → (first (entry_faults said) ≡ None) × IsCgroupOf said controllers cgroup
+  cgroup_read controllers cgroup enabled dir procs control files =
+      let values : (file : LimitFile) → value_in said file ≡ value_at cgroup file =
+          λ file. (files file).value ∙ sym (ap (option_map (λ (f : LimitEntry). f.value)) (files file).stands) in
+      let owners : (file : LimitFile) → owner_in said (File file) ≡ entry_in cgroup (File file) =
+          λ file. (files file).owner ∙ sym (ap (option_map (λ (f : LimitEntry). f.entry)) (files file).stands) in
+      let entries : (name : EntryName) → owner_in said name ≡ entry_in cgroup name =
+          by_entry (λ name. owner_in said name ≡ entry_in cgroup name)
+          (owner_is Dir cgroup.dir dir) (owner_is Procs cgroup.procs procs)
+          (owner_is SubtreeControl cgroup.subtree_control control) owners in
+      let are : (name : EntryName) → is_some (owner_in said name) ≡ true =
+          by_entry (λ name. is_some (owner_in said name) ≡ true)
+          (has_owner Dir cgroup.dir dir) (has_owner Procs cgroup.procs procs)
+          (has_owner SubtreeControl cgroup.subtree_control control)
+          (λ file. ap is_some (files file).owner) in
+      (no_entry_fault are
+      ∙ ap (λ b. first (unless b (BadValue said.place))) (all_so valued (λ file. ap is_some (files file).value) all_files),
+      record { enabled = enabled; entries = λ name. sym (entries name); values = λ file. sym (values file) })
+
+-- ---- a row's table
+
+module _ (said : Entries) (row : Members) (dir : option_map (λ table. table_view table.now) said.dir ≡ table_at (codes "dir") row)
+    (files : option_map (λ table. table_view table.now) said.files ≡ table_at (codes "files") row) where
+  table_is : (name : EntryName) → table_in said name ≡ table_of name row
+  table_is Dir = dir
+  table_is name = ap (option_and_then (table_at (entry_text name))) files
+
+  entry_is : (name : EntryName) → owner_in said name ≡ entry_said said.format row name
+  entry_is name = ap (λ table. owner_said said.format (mode_missing name) (unwrap_or table no_members)) (table_is name)
+
+  value_is : (file : LimitFile) → value_in said file ≡ value_said row file
+  value_is file = ap (λ table. limit_said file (unwrap_or table no_members)) (table_is (File file))
+
+  named_is : (file : LimitFile) → names said file ≡ is_named (File file) row
+  named_is file = ap is_some (table_is (File file))
+
+  -- with a path and controllers, a row's faults are those of its entries and values
+  pub faults_behind : (path : Names) (enabled : ControllerSet) → path_said (codes "path") row ≡ Some path
+      → controllers_said (codes "enabled") row ≡ Some enabled → first (row_faults said.format said.place row) ≡ first (entry_faults said)
+  faults_behind path enabled has_path has_enabled =
+      let entries = unless (list_all (λ name. is_some (entry_said said.format row name)) all_entries) (BadEntry said.place) in
+      let values = unless (list_all (λ file. is_some (value_said row file)) all_files) (BadValue said.place) in
+      let controllers = absent (controllers_said (codes "enabled") row) (BadController said.place) in
+      ap (λ o. first (absent o (BadPath said.place) ++ controllers ++ entries ++ values)) has_path
+      ∙ ap (λ o. first (absent o (BadController said.place) ++ entries ++ values)) has_enabled
+      ∙ sym
+      (λ i.
+      first
+      (unless (list_all (λ name. is_some (entry_is name i)) all_entries) (BadEntry said.place)
+      ++ unless (list_all (λ file. is_some (value_is file i)) all_files) (BadValue said.place)))
+
+  pub row_read : (i : ℕ) (enabled : ControllerSet) (made : Row) → made.number ≡ i → path_said (codes "path") row ≡ Some made.path
+      → controllers_said (codes "enabled") row ≡ Some enabled → IsCgroupOf said enabled made.cgroup → made.needed ≡ needed_by said
+      → IsReadAs said.format i row made
+  row_read i enabled made number path has_enabled is needed = record {
+    number = number;
+    path = path;
+    enabled = has_enabled ∙ ap (λ (set : ControllerSet). Some set) (sym is.enabled);
+    entries = λ name. sym (entry_is name) ∙ sym (is.entries name);
+    values = λ file. sym (value_is file) ∙ sym (is.values file);
+    cpu = ap (λ (set : ControllerSet). set.cpu) needed ∙ named_is CpuWeight;
+    memory =
+      let least = named_is MemoryMin in
+      let low = named_is MemoryLow in
+      let high = named_is MemoryHigh in
+      let most = named_is MemoryMax in
+      ap (λ (set : ControllerSet). set.memory) needed ∙ (λ i. least i || low i || high i || most i);
+    pids = ap (λ (set : ControllerSet). set.pids) needed ∙ named_is PidsMax;
+  }
+
+-- a row without a path, or whose controllers aren't
+pub no_path : {A : Type 0} (o : Option A) (fault found : TreeFault) (enabled entries values : List TreeFault)
+    → first (absent o fault) ≡ Some found → first (absent o fault ++ enabled ++ entries ++ values) ≡ Some found
+no_path None fault found enabled entries values is = is
+no_path (Some x) fault found enabled entries values is = cc
+
+pub no_enabled : {A B : Type 0} (path : Option A) (o : Option B) (other fault : TreeFault) (entries values : List TreeFault)
+    → is_some path ≡ true → o ≡ None → first (absent path other ++ absent o fault ++ entries ++ values) ≡ Some fault
+no_enabled None o other fault entries values there none = cc
+no_enabled (Some x) o other fault entries values there none = ap (λ o. first (absent o fault ++ entries ++ values)) none
+
+-- ---- rows in turn
+
+-- rows that are read, and the next one
+are_read_more : (format : Format) (i : ℕ) (tables : List Members) (rows : List Row) (table : Members) (row : Row)
+    → AreReadAs format i tables rows → IsReadAs format (i + length tables) table row
+    → AreReadAs format i (tables ++ table ∷ []) (rows ++ row ∷ [])
+are_read_more format i [] [] table row are is = (subst (λ number. IsReadAs format number table row) (omega arith) is, tt)
+are_read_more format i [] (other ∷ rows) table row are is = absurd are
+are_read_more format i (other ∷ tables) [] table row are is = absurd are
+are_read_more format i (other ∷ tables) (before ∷ rows) table row are is =
+    (are.0, are_read_more format (i + 1) tables rows table row are.1 (subst (λ number. IsReadAs format number table row) (omega arith) is))
+
+-- the table that stands at an index, and the number of its row
+pub record IsNext (tables : List Members) (index : ℕ) (table : Members) (number : ℕ) : Type 0 where
+  pub within : index < length tables
+  pub there : table ≡ get_or tables index table
+  pub counted : number ≡ index + 1
+
+module _ (format : Format) (tables : List Members) (index : ℕ) (table : Members) (number : ℕ)
+    (next : IsNext tables index table number) where
+  by_number : first (row_faults format (AtCgroup (index + 1)) table) ≡ first (row_faults format (AtCgroup number) table)
+  by_number = ap (λ i. first (row_faults format (AtCgroup i) table)) (sym next.counted)
+
+  pub row_passed : HavePassed (λ _. row_faults format) AtCgroup tables index → first (row_faults format (AtCgroup number) table) ≡ None
+      → HavePassed (λ _. row_faults format) AtCgroup tables (index + 1)
+  row_passed passed none = more_passed (λ _. row_faults format) AtCgroup tables index table passed next.within next.there (by_number ∙ none)
+
+  pub row_found : (fault : TreeFault) → HavePassed (λ _. row_faults format) AtCgroup tables index
+      → first (row_faults format (AtCgroup number) table) ≡ Some fault → first (each_cgroup (λ _. row_faults format) tables) ≡ Some fault
+  row_found fault passed found =
+      fault_found (λ _. row_faults format) AtCgroup tables index table fault passed next.within next.there (by_number ∙ found)
+
+  pub row_added : (rows : List Row) (row : Row) → AreReadAs format 1 (take index tables) rows → IsReadAs format number table row
+      → AreReadAs format 1 (take (index + 1) tables) (rows ++ row ∷ [])
+  row_added rows row are read =
+      let before : length (take index tables) ≡ index = length-take-le index tables (omega (arith, next.within)) in
+      let place : number ≡ 1 + length (take index tables) = omega (arith, next.counted, before) in
+      let grown : take index tables ++ table ∷ [] ≡ take (index + 1) tables =
+          ap (λ x. take index tables ++ x ∷ []) next.there ∙ sym (take_more tables index table next.within) in
+      subst (λ tables. AreReadAs format 1 tables (rows ++ row ∷ [])) grown
+      (are_read_more format 1 (take index tables) rows table row are (subst (λ i. IsReadAs format i table row) place read))
+
+-- the elements of which each is a table
+module _ (elements : List Value) (tables_are : list_all (λ held. is_some (as_table (view held))) elements ≡ true) (index : ℕ) where
+  module _ (element : Value) (below : index < length elements) (is : element ≡ get_or elements index element) where
+    pub no_other : None ≡ as_table (view element) → ⊥
+    no_other none =
+        let p : Value → Bool = λ held. is_some (as_table (view held)) in
+        let fails : p (get_or elements index element) ≡ false = ap p (sym is) ∙ ap is_some (sym none) in
+        true≢false (sym tables_are ∙ list_all_at p elements index element below fails)
+
+    pub is_next : (table : Members) (number : ℕ) → Some table ≡ as_table (view element) → number ≡ index + 1
+        → IsNext (filter_map as_table (map view elements)) index table number
+    is_next table number held counted = record {
+      within = omega (arith, row_count as_table view elements tables_are);
+      there = row_at as_table view elements tables_are index element table below is (sym held);
+      counted = counted;
+    }
+
+  module _ (format : Format) (past : length elements ≤ index) where
+    abbrev tables : List Members
+    tables = filter_map as_table (map view elements)
+
+    pub no_row_found : HavePassed (λ _. row_faults format) AtCgroup tables index
+        → first (each_cgroup (λ _. row_faults format) tables) ≡ None
+    no_row_found passed =
+        all_passed (λ _. row_faults format) AtCgroup tables index passed (omega (arith, row_count as_table view elements tables_are))
+
+    pub all_read : (rows : List Row) → AreReadAs format 1 (take index tables) rows → AreReadAs format 1 tables rows
+    all_read rows are =
+        let past_all : length tables ≤ index = omega (arith, row_count as_table view elements tables_are) in
+        subst (λ tables. AreReadAs format 1 tables rows) (take_all index tables past_all) are

@@ -1,0 +1,56 @@
+-- A row without a path, without controllers, or with a fault of its entries or values; else it is read.
+use Rattle.std.proofs.Common.{◌≡◌, Some, codes, is_some, refl, ap, sym, ◌∙◌}
+use Rattle.toml.specs.View.{table_view}
+use Rattle.cg_text.specs.Said.{path_said, controllers_said}
+use Rattle.cg_text.specs.declared.tree.row.Entries.{Entries}
+use Rattle.cg_text.specs.declared.tree.fault.Place.TheVariants.{Cgroup as AtCgroup}
+use Rattle.cg_text.specs.declared.tree.fault.TreeFault.TheVariants.{BadController}
+use Rattle.cg_text.proofs.RowLaws.{ok_of, err_of, ok_or_is, passed_on, no_path, no_enabled, faults_behind, row_read}
+use Rattle.cg_text.proofs.tree.row.row_of.Goals as goal
+use Rattle.cg_text.proofs.tree.row.row_of.Goals.{In_ok-enabled}
+
+enabled_is : (c : In_ok-enabled) → controllers_said (codes "enabled") (table_view c.args.table.now) ≡ Some c.in_ok-enabled.enabled
+enabled_is c =
+    let fault = BadController (AtCgroup c.args.number) in
+    sym c.controllers_at.ensures ∙ ok_of _ fault _ (c.in_ok-enabled.ensures.value ∙ ok_or_is c.controllers_at.result fault)
+
+pub returns-in_err-path : goal.returns-in_err-path
+returns-in_err-path c =
+    passed_on _ _ _ c.in_err-path.field-0.0 c.from_residual.ensures
+    (λ memory. no_path (path_said (codes "path") (table_view c.args.table.now)) _ _ _ _ _ (c.in_err-path.ensures memory))
+
+pub returns-in_err-enabled : goal.returns-in_err-enabled
+returns-in_err-enabled c =
+    let fault = BadController (AtCgroup c.args.number) in
+    let found = c.controllers_at.result in
+    let refused = err_of found fault _ (c.in_err-enabled.ensures.value ∙ ok_or_is found fault) in
+    let row = table_view c.args.table.now in
+    passed_on _ _ _ c.in_err-enabled.field-0.0 c.from_residual-in_err-enabled.ensures
+    (λ _.
+    no_enabled (path_said (codes "path") row) (controllers_said (codes "enabled") row) _ _ _ _
+    (ap is_some c.in_ok-path.ensures.1) (sym c.controllers_at.ensures ∙ refused.0)
+    ∙ ap (λ fault. Some fault) refused.1)
+
+pub returns-in_err-cgroup : goal.returns-in_err-cgroup
+returns-in_err-cgroup c =
+    let said : Entries =
+        record { place = AtCgroup c.args.number; format = c.args.format; dir = c.table_at.result; files = c.table_at-2.result } in
+    let enabled = enabled_is (goal.at.returns-in_err-cgroup c).In_ok-enabled in
+    passed_on _ _ _ c.in_err-cgroup.field-0.0 c.from_residual-in_err-cgroup.ensures
+    (λ memory.
+    faults_behind said (table_view c.args.table.now) c.table_at.ensures c.table_at-2.ensures _ _ c.in_ok-path.ensures.1 enabled
+    ∙ c.in_err-cgroup.ensures memory)
+
+pub invariant_of-result : goal.invariant_of-result
+invariant_of-result c = c.path.invariant
+
+pub returns : goal.returns
+returns c =
+    let row = table_view c.args.table.now in
+    let said : Entries =
+        record { place = AtCgroup c.args.number; format = c.args.format; dir = c.table_at.result; files = c.table_at-2.result } in
+    let enabled = enabled_is (goal.at.returns c).In_ok-enabled in
+    let path = c.in_ok-path.ensures.1 in
+    (faults_behind said row c.table_at.ensures c.table_at-2.ensures _ _ path enabled ∙ c.in_ok-cgroup.ensures.0,
+    row_read said row c.table_at.ensures c.table_at-2.ensures c.args.number _ _ refl (path ∙ ap (λ path. Some path) (sym c.path.view_is))
+    enabled c.in_ok-cgroup.ensures.1 c.needed.ensures)
