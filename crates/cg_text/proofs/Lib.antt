@@ -25,3 +25,4 @@ pub mod RowLaws
 pub mod EachRow
 pub mod TakesLaws
 pub mod FormInTurn
+pub mod WalkFronts
