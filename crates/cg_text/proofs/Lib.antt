@@ -26,3 +26,5 @@ pub mod EachRow
 pub mod TakesLaws
 pub mod FormInTurn
 pub mod WalkFronts
+pub mod Cuts
+pub mod LeastLaws
