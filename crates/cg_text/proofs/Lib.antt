@@ -26,5 +26,7 @@ pub mod EachRow
 pub mod TakesLaws
 pub mod FormInTurn
 pub mod WalkFronts
+pub mod EntriesLaws
 pub mod Cuts
 pub mod LeastLaws
+pub mod WalkEnd

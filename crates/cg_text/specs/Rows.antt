@@ -1,6 +1,6 @@
 -- How it is read and written: nobody has to believe it.
 -- The reader's row of a cgroup, held against what the cgroup's table says.
-use Rattle.std.specs.Prelude.{◌≡◌, ℕ, ◌+◌, Bool, ◌||◌, List, [], ◌∷◌, ◌++◌, String, codes, Option, Some, None, is_some, unwrap_or, option_and_then}
+use Rattle.std.specs.Prelude.{◌≡◌, ℕ, ◌+◌, Bool, true, ◌||◌, List, [], ◌∷◌, ◌++◌, String, codes, Option, Some, None, is_some, unwrap_or, option_and_then}
 use Rattle.std.specs.Option.{option_map}
 use Rattle.std.specs.List.{list_all}
 use Rattle.std.specs.Borrow.{Bor}
@@ -10,7 +10,7 @@ use Rattle.toml.specs.Data.{Members, no_members}
 use Rattle.toml.specs.View.{table_view}
 use Rattle.toml.specs.declared.value.Value.{Value}
 use Rattle.cg_cgroup.specs.Files.{all_files, all_entries, entry_text}
-use Rattle.cg_cgroup.specs.Cgroups.{entry_in, value_in as value_at}
+use Rattle.cg_cgroup.specs.Cgroups.{file_of, entry_in, value_in as value_at}
 use Rattle.cg_cgroup.specs.declared.user.Entry.{Entry}
 use Rattle.cg_cgroup.specs.declared.files.Limit.{Limit}
 use Rattle.cg_cgroup.specs.declared.files.ControllerSet.{ControllerSet}
@@ -68,6 +68,7 @@ pub record IsCgroupOf (said : Entries) (controllers : ControllerSet) (cgroup : C
   pub enabled : cgroup.enabled ≡ controllers
   pub entries : (name : EntryName) → entry_in cgroup name ≡ owner_in said name
   pub values : (file : LimitFile) → value_at cgroup file ≡ value_in said file
+  pub files : (file : LimitFile) → is_some (file_of cgroup file) ≡ true
 
 -- a row as a table says it
 pub record IsReadAs (format : Format) (i : ℕ) (table : Members) (row : Row) : Type 0 where
@@ -79,6 +80,7 @@ pub record IsReadAs (format : Format) (i : ℕ) (table : Members) (row : Row) : 
   pub cpu : row.needed.cpu ≡ is_named (File CpuWeight) table
   pub memory : row.needed.memory ≡ (is_named (File MemoryMin) table || is_named (File MemoryLow) table || is_named (File MemoryHigh) table || is_named (File MemoryMax) table)
   pub pids : row.needed.pids ≡ is_named (File PidsMax) table
+  pub files : (file : LimitFile) → is_some (file_of row.cgroup file) ≡ true
 
 -- rows as tables say them, the first of which has the number i
 abbrev pub AreReadAs : Format → ℕ → List Members → List Row → Type 0
