@@ -97,7 +97,7 @@ found_at p (x ∷ all) row is =
           record { before = x ∷ later.before; after = later.after; split = ap (λ rest. x ∷ rest) later.split; passes = later.passes }
     ] refl is
 
-find_past : {A : Type 0} (p : A → Bool) (before rest : List A) → list_any p before ≡ false → find p (before ++ rest) ≡ find p rest
+pub find_past : {A : Type 0} (p : A → Bool) (before rest : List A) → list_any p before ≡ false → find p (before ++ rest) ≡ find p rest
 find_past p [] rest none = refl
 find_past p (x ∷ before) rest none =
     elim (p x) as (λ b. (b || list_any p before) ≡ false → cond b (Some x) (find p (before ++ rest)) ≡ find p rest) [

@@ -21,12 +21,12 @@ pub mod SaidFaults
 pub mod SaidTogether
 pub mod SaidProcesses
 pub mod TextFaultLaws
-pub mod EntriesLaws
-pub mod Cuts
-pub mod LeastLaws
-pub mod WalkEnd
-pub mod WalkFronts
 pub mod RowLaws
 pub mod EachRow
 pub mod TakesLaws
 pub mod FormInTurn
+pub mod WalkFronts
+pub mod EntriesLaws
+pub mod Cuts
+pub mod LeastLaws
+pub mod WalkEnd

@@ -4,7 +4,7 @@ use Rattle.std.specs.Prelude.{◌≡◌, ℕ, ◌||◌, List, ◌++◌, codes, S
 use Rattle.std.specs.Option.{option_map}
 use Rattle.std.specs.List.{list_any}
 use Rattle.std.specs.Ordering.{nat_cmp}
-use Rattle.std.specs.BTreeMap.{BTreeMap, get, IsOrdered}
+use Rattle.std.specs.BTreeMap.{BTreeMap, get}
 use Rattle.std.specs.FinMap as map
 use Rattle.std.specs.FinSet as set
 use Rattle.toml.specs.Data.{Members}
@@ -43,7 +43,6 @@ AreEarlier rows live = (pid : ℕ) → is_some (get nat_cmp live pid) ≡ list_a
 
 -- the processes of these tables
 pub record AreLive (rows : List Members) (live : BTreeMap ℕ Process) : Type 0 where
-  pub ordered : IsOrdered nat_cmp live
   pub pids : AreEarlier rows live
   pub processes : (pid : ℕ) (process : Process) → get nat_cmp live pid ≡ Some process → (row : Members) × (find (has_pid pid) rows ≡ Some row) × IsLive row (pid, process)
 
