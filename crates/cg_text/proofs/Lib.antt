@@ -26,3 +26,4 @@ pub mod WalkFronts
 pub mod EachRow
 pub mod TakesLaws
 pub mod RowLaws
+pub mod OneState

@@ -1,6 +1,7 @@
 use Rattle.std.proofs.Common.{ap}
 use Rattle.cg_model.specs.Clauses.{first}
-use Rattle.cg_text.proofs.TextFaultLaws.{none_found, state_without_fault, one_state}
+use Rattle.cg_text.proofs.OneState.{one_state}
+use Rattle.cg_text.proofs.TextFaultLaws.{none_found, state_without_fault}
 use Rattle.cg_text.proofs.tree.laws.texts_are_of_states.Goals as goal
 
 pub returns : goal.returns
