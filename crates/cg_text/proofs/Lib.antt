@@ -27,3 +27,4 @@ pub mod EachRow
 pub mod TakesLaws
 pub mod RowLaws
 pub mod OneState
+pub mod NoFaults
