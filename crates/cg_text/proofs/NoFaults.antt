@@ -50,14 +50,16 @@ none_present o x clauses is none = ap (λ o. present o clauses) is ∙ none
 
 module _ {A : Type 0} (P : A → Type 0) (clauses : List A → Place → A → List TreeFault) (place : ℕ → Place) where
   abbrev FindNone : List A → Type 0
-  FindNone all = (before : List A) (row : A) (after : List A) → before ++ row ∷ after ≡ all → P row → (here : Place) → clauses before here row ≡ []
+  FindNone all =
+      (before : List A) (row : A) (after : List A) → before ++ row ∷ after ≡ all → P row → (here : Place) → clauses before here row ≡ []
 
   none_from : (earlier rows : List A) (i : ℕ) → AllByRecursion P rows → FindNone (earlier ++ rows) → each clauses place i earlier rows ≡ []
   none_from earlier [] i all none = refl
   none_from earlier (row ∷ rows) i all none =
       none_of_both (clauses earlier (place i) row) (each clauses place (i + 1) (earlier ++ row ∷ []) rows)
       (none earlier row rows refl all.0 (place i))
-      (none_from (earlier ++ row ∷ []) rows (i + 1) all.1 (λ before x after is. none before x after (is ∙ append_assoc earlier (row ∷ []) rows)))
+      (none_from (earlier ++ row ∷ []) rows (i + 1) all.1
+      (λ before x after is. none before x after (is ∙ append_assoc earlier (row ∷ []) rows)))
 
   none_of_each : (all : List A) → AllByRecursion P all → FindNone all → each clauses place 1 [] all ≡ []
   none_of_each all holds none = none_from [] all 1 holds none
@@ -77,13 +79,18 @@ all_of p (x ∷ xs) all =
 found_any : {A : Type 0} (p : A → Bool) (xs : List A) (x : A) → find p xs ≡ Some x → list_any p xs ≡ true
 found_any p [] x is = absurd (true≢false (sym (ap is_some is)))
 found_any p (y ∷ xs) x is =
-    elim (p y) as (λ b. cond b (Some y) (find p xs) ≡ Some x → (b || list_any p xs) ≡ true) [ true ↦ λ _. refl | false ↦ λ is. found_any p xs x is ] is
+    elim (p y) as (λ b. cond b (Some y) (find p xs) ≡ Some x → (b || list_any p xs) ≡ true) [
+      | true ↦ λ _. refl
+      | false ↦ λ later. found_any p xs x later
+    ] is
 
 counted_cut : {A : Type 0} (p : A → Bool) (before rest : List A) → counted p (before ++ rest) ≡ counted p before + counted p rest
 counted_cut p [] rest = omega arith
 counted_cut p (x ∷ before) rest =
     let later = counted_cut p before rest in
-    elim (p x) as (λ b. cond b (1 + counted p (before ++ rest)) (counted p (before ++ rest)) ≡ cond b (1 + counted p before) (counted p before) + counted p rest) [
+    let whole : ℕ = counted p (before ++ rest) in
+    let front : ℕ = counted p before in
+    elim (p x) as (λ b. cond b (1 + whole) whole ≡ cond b (1 + front) front + counted p rest) [
       | true ↦ omega (arith, later)
       | false ↦ later
     ]
@@ -96,35 +103,40 @@ none_counted p (x ∷ xs) is =
       | false ↦ λ none. none_counted p xs none
     ] is
 
--- what one at most passes, nothing before it passes
-none_before : {A : Type 0} (p : A → Bool) (all before : List A) (x : A) (after : List A) (b : Bool) → before ++ x ∷ after ≡ all → count_by p all ≡ cond b 1 0 → p x ≡ true
-    → list_any p before ≡ false
+at_most_one : (before here after n : ℕ) (b : Bool) → before + here ≡ n → n ≡ cond b 1 0 → here ≡ 1 + after → before ≡ 0
+at_most_one before here after n true sum count some = omega (arith, sum, count, some)
+at_most_one before here after n false sum count some = omega (arith, sum, count, some)
+
+-- before the one that passes a test none does
+none_before : {A : Type 0} (p : A → Bool) (all before : List A) (x : A) (after : List A) (b : Bool) → before ++ x ∷ after ≡ all
+    → count_by p all ≡ cond b 1 0 → p x ≡ true → list_any p before ≡ false
 none_before p all before x after b is count here =
-    let few : count_by p all ≡ cond b 1 0 = count in
-    let whole : counted p before + counted p (x ∷ after) ≡ cond b 1 0 = sym (counted_cut p before (x ∷ after)) ∙ ap (counted p) is ∙ counted_is p all ∙ count in
+    let sum : counted p before + counted p (x ∷ after) ≡ counted p all = sym (counted_cut p before (x ∷ after)) ∙ ap (counted p) is in
     let some : counted p (x ∷ after) ≡ 1 + counted p after = ap (λ t. cond t (1 + counted p after) (counted p after)) here in
-    let one : (b : Bool) → counted p before + counted p (x ∷ after) ≡ cond b 1 0 → counted p before ≡ 0 =
-    λ b. elim b as (λ b. counted p before + counted p (x ∷ after) ≡ cond b 1 0 → counted p before ≡ 0) [ true ↦ λ is. omega (arith, is, some) | false ↦ λ is. omega (arith, is, some) ] in
-    none_counted p before (one b whole)
+    none_counted p before
+    (at_most_one (counted p before) (counted p (x ∷ after)) (counted p after) (counted p all) b sum (counted_is p all ∙ count) some)
 
 -- ---- form
 
-module _ (document : Members) (format : Format) (form : IsInForm format document) where
-  shapes : (keys : List Key) (place : ℕ → Place) (some : List Data) → list_all (is_table keys) some ≡ true → each (λ _ here held. unless (is_table keys held) (Shape here)) place 1 [] some ≡ []
-  shapes keys place some all =
-      none_of_each (λ held. is_table keys held ≡ true) (λ _ here held. unless (is_table keys held) (Shape here)) place some (all_of (is_table keys) some all)
-      (λ before held after is fits here. passes (is_table keys held) (Shape here) fits)
+shapes_fit : (keys : List Key) (place : ℕ → Place) (some : List Data) → list_all (is_table keys) some ≡ true
+    → each (λ _ here held. unless (is_table keys held) (Shape here)) place 1 [] some ≡ []
+shapes_fit keys place some all =
+    none_of_each (λ held. is_table keys held ≡ true) (λ _ here held. unless (is_table keys held) (Shape here)) place some
+    (all_of (is_table keys) some all) (λ before held after is fits here. passes (is_table keys held) (Shape here) fits)
 
-  form_has_none : form_faults document ≡ []
-  form_has_none =
-      let few : has_few document ≡ true = and_from _ _
-          (le-leb (length (elements_at (codes "cgroup") document)) most_rows form.few_cgroups) (le-leb (length (elements_at (codes "process") document)) most_rows form.few_processes) in
-      none_of_both _ _ (none_of_both _ _ (none_of_both _ _ (none_of_both _ _
-      (passes (is_table document_keys (table document)) (Shape Top) form.top)
-      (is_there_so (format_said document) format BadFormat form.format))
-      (passes (has_few document) TooMany few))
-      (none_present (format_said document) format _ form.format (shapes (row_keys format) AtCgroup (elements_at (codes "cgroup") document) form.cgroups)))
-      (shapes live_keys AtProcess (elements_at (codes "process") document) form.processes)
+form_has_none : (document : Members) (format : Format) → IsInForm format document → form_faults document ≡ []
+form_has_none document format form =
+    let cgroups : List Data = elements_at (codes "cgroup") document in
+    let processes : List Data = elements_at (codes "process") document in
+    let few : has_few document ≡ true =
+    and_from (nat_le (length cgroups) most_rows) (nat_le (length processes) most_rows)
+    (le-leb (length cgroups) most_rows form.few_cgroups) (le-leb (length processes) most_rows form.few_processes) in
+    none_of_both _ _ (none_of_both _ _ (none_of_both _ _ (none_of_both _ _
+    (passes (is_table document_keys (table document)) (Shape Top) form.top)
+    (is_there_so (format_said document) format BadFormat form.format))
+    (passes (has_few document) TooMany few))
+    (none_present (format_said document) format _ form.format (shapes_fit (row_keys format) AtCgroup cgroups form.cgroups)))
+    (shapes_fit live_keys AtProcess processes form.processes)
 
 -- ---- a cgroup by itself
 
@@ -226,7 +238,8 @@ module _ (format : Format) (st : State) (tables : List Members) (all : AllByRecu
   Clause = List Members → Place → Members → List TreeFault
 
   abbrev twice_clause : Clause
-  twice_clause = λ earlier place row. present (path_said (codes "path") row) (λ path. unless (not (is_there earlier path)) (Duplicate place))
+  twice_clause = λ earlier place row. present (path_said (codes "path") row) (λ path.
+      unless (not (is_there earlier path)) (Duplicate place))
 
   abbrev orphan_clause : Clause
   orphan_clause = on_path (λ path place row. unless (is_root path || is_there tables (parent path)) (NoParent place))
@@ -242,23 +255,25 @@ module _ (format : Format) (st : State) (tables : List Members) (all : AllByRecu
   none_twice : each_cgroup twice_clause tables ≡ []
   none_twice =
       none_of_each (IsRowOf format st) twice_clause AtCgroup tables all (λ before row after cut is here.
-      none_present (path_said (codes "path") row) is.path (λ path. unless (not (is_there before path)) (Duplicate here)) is.named
+      none_present (path_said (codes "path") row) is.path _ is.named
       (passes (not (is_there before is.path)) (Duplicate here)
       (ap not (none_before (has_path is.path) tables before row after (has_row st is.path) cut (paths is.path) (has_own row is)))))
 
   none_orphan : each_cgroup orphan_clause tables ≡ []
   none_orphan =
       none_of_each (IsRowOf format st) orphan_clause AtCgroup tables all (λ before row after cut is here.
-      none_present (path_said (codes "path") row) is.path (λ path. unless (is_root path || is_there tables (parent path)) (NoParent here)) is.named
-      (passes (is_root is.path || is_there tables (parent is.path)) (NoParent here)
-      (or_so (is_root is.path) (is_there tables (parent is.path)) (there_so (parent is.path) (formed.parents is.path (ap is_some is.there))))))
+      let above : Names = parent is.path in
+      none_present (path_said (codes "path") row) is.path _ is.named
+      (passes (is_root is.path || is_there tables above) (NoParent here)
+      (or_so (is_root is.path) (is_there tables above) (there_so above (formed.parents is.path (ap is_some is.there))))))
 
   none_past : each_cgroup within_clause tables ≡ []
   none_past =
       none_of_each (IsRowOf format st) within_clause AtCgroup tables all (λ before row after cut is here.
       none_present (path_said (codes "path") row) is.path _ is.named
       (none_present (controllers_said (codes "enabled") row) is.cgroup.enabled _ is.enabled
-      (none_present (over (Some st.controllers) tables is.path) (available_at st is.path) (λ available. unless (is_within is.cgroup.enabled available) (TopDown here)) (over_so st.controllers is.path (ap is_some is.there))
+      (none_present (over (Some st.controllers) tables is.path) (available_at st is.path) _
+      (over_so st.controllers is.path (ap is_some is.there))
       (passes (is_within is.cgroup.enabled (available_at st is.path)) (TopDown here) (formed.top_down is.path is.cgroup is.there)))))
 
   stands : (row : Members) (is : IsRowOf format st row) (file : LimitFile) → is_named (File file) row ≡ true
