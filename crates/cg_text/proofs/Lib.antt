@@ -30,3 +30,5 @@ pub mod EntriesLaws
 pub mod Cuts
 pub mod LeastLaws
 pub mod WalkEnd
+pub mod OneState
+pub mod NoFaults
