@@ -26,3 +26,5 @@ pub mod WalkFronts
 pub mod EachRow
 pub mod TakesLaws
 pub mod RowLaws
+pub mod PairsOf
+pub mod StateOf
