@@ -1,6 +1,6 @@
 -- The first fault of rows in turn, as a loop over them finds it.
-use Rattle.std.proofs.Common.{◌≡◌, ℕ, ◌+◌, ◌<◌, ◌≤◌, suc, zero, Bool, true, false, List, [], ◌∷◌, ◌++◌, length, get_or, take, drop, map, Option, Some, None, is_some, refl, sym, ap, ◌∙◌, true≢false, arith}
-use Rattle.std.specs.Prelude.{◌&&◌, filter_map}
+use Rattle.std.proofs.Common.{◌≡◌, ℕ, ◌+◌, ◌<◌, ◌≤◌, suc, zero, true, List, [], ◌∷◌, ◌++◌, length, get_or, take, drop, map, Option, Some, None, is_some, refl, sym, ap, ◌∙◌, true≢false, arith}
+use Rattle.std.specs.Prelude.{filter_map}
 use Rattle.std.specs.List.{list_all, cons_option}
 use Rattle.std.proofs.lemmas.Bool.{and_parts}
 use Rattle.std.proofs.lemmas.List.{drop_more, take_more, drop_all, length-map, take-map, get_or-map}
@@ -55,6 +55,25 @@ module _ {A : Type 0} (clauses : List A → Place → A → List TreeFault) (pla
 
   pub all_passed : (i : ℕ) → HavePassed clauses place rows i → length rows ≤ i → first (each clauses place 1 [] rows) ≡ None
   all_passed i passed past = passed.left ∙ ap (λ left. first (each clauses place (i + 1) (take i rows) left)) (drop_all i rows past)
+
+-- ---- rows that are seen of elements
+
+module _ {Y A : Type 0} (clauses : List A → Place → A → List TreeFault) (place : ℕ → Place) (see : Y → A) (elements : List Y) where
+  seen_at : (i : ℕ) (element : Y) → i < length elements → element ≡ get_or elements i element → see element ≡ get_or (map see elements) i (see element)
+  seen_at i element below is = ap see is ∙ sym (get_or-map see elements i element (see element) below)
+
+  pub more_seen : (i : ℕ) (element : Y) → HavePassed clauses place (map see elements) i → i < length elements → element ≡ get_or elements i element
+      → first (clauses (take i (map see elements)) (place (i + 1)) (see element)) ≡ None → HavePassed clauses place (map see elements) (i + 1)
+  more_seen i element passed below is none =
+      more_passed clauses place (map see elements) i (see element) passed (omega (arith, length-map elements see)) (seen_at i element below is) none
+
+  pub fault_seen : (i : ℕ) (element : Y) (fault : TreeFault) → HavePassed clauses place (map see elements) i → i < length elements → element ≡ get_or elements i element
+      → first (clauses (take i (map see elements)) (place (i + 1)) (see element)) ≡ Some fault → first (each clauses place 1 [] (map see elements)) ≡ Some fault
+  fault_seen i element fault passed below is found =
+      fault_found clauses place (map see elements) i (see element) fault passed (omega (arith, length-map elements see)) (seen_at i element below is) found
+
+  pub all_seen : (i : ℕ) → HavePassed clauses place (map see elements) i → length elements ≤ i → first (each clauses place 1 [] (map see elements)) ≡ None
+  all_seen i passed past = all_passed clauses place (map see elements) i passed (omega (arith, length-map elements see))
 
 -- ---- rows that are read from elements, each of which gives one
 

@@ -12,6 +12,9 @@ pub mod FormLaws
 pub mod FormFaults
 pub mod RowSaid
 pub mod OnceLaws
+pub mod KeysOnce
+pub mod LiveLaws
+pub mod DocumentOfLaws
 pub mod RowState
 pub mod TextOfLaws
 pub mod SaidFaults
@@ -28,3 +31,4 @@ pub mod TakesLaws
 pub mod RowLaws
 pub mod PairsOf
 pub mod StateOf
+pub mod FormInTurn

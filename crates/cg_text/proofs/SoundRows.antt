@@ -48,13 +48,13 @@ passed test (Some m) n is =
       | false ↦ λ e is. absurd (true≢false (sym (ap is_some is)))
     ] refl is
 
-mode_small : (format : Format) (missing : ℕ) (written : Option ℤ) (n : ℕ) → mode_read format missing written ≡ Some n → n ≤ 511
+pub mode_small : (format : Format) (missing : ℕ) (written : Option ℤ) (n : ℕ) → mode_read format missing written ≡ Some n → n ≤ 511
 mode_small format missing written n is =
     let fits : (is_mode n && (is_two format || not (has_bit n 16))) ≡ true = passed (λ number. is_mode number && (is_two format || not (has_bit number 16))) (number_or missing written) n is in
     let small : nat_le n 511 ≡ true = first_so (is_mode n) (is_two format || not (has_bit n 16)) fits in
     grind (arith, nat_tests)
 
-entry_as : (uid gid : Option ℕ) (mode : Option ℕ) (entry : Entry)
+pub entry_as : (uid gid : Option ℕ) (mode : Option ℕ) (entry : Entry)
     → option_and_then (λ u. option_and_then (λ g. option_and_then (λ m. Some (record { uid = u; gid = g; mode = m })) mode) gid) uid ≡ Some entry → mode ≡ Some entry.mode
 entry_as None gid mode entry is = cc
 entry_as (Some u) None mode entry is = cc
@@ -70,7 +70,7 @@ written_small : (format : Format) (missing : ℕ) (written : EntryRecord) → mi
 written_small format missing written small =
     taken (λ (e : Entry). e.mode ≤ 511) (entry_read format missing written) (entry_made_by superuser missing) small (entry_small format missing written)
 
-accepted_is : (file : LimitFile) (value found : Limit) → accepted file value ≡ Some found → accepts file found ≡ true
+pub accepted_is : (file : LimitFile) (value found : Limit) → accepted file value ≡ Some found → accepts file found ≡ true
 accepted_is file value found is =
     elim (accepts file value) as (λ b. accepts file value ≡ b → cond b (Some value) None ≡ Some found → accepts file found ≡ true) [
       | true ↦ λ e is. ap (accepts file) (sym (ap (λ o. unwrap_or o value) is)) ∙ e

@@ -274,7 +274,7 @@ module _ (format : Format) (text : List ℕ) (held : Data) where
   pub file_taken : takes (file_keys_of format) text held ≡ takes_entry format (entry_named text) held
   file_taken =
       elim (same_name text (codes "dir")) as (λ b. same_name text (codes "dir") ≡ b
-          → takes (file_keys_of format) text held ≡ takes_entry format (cond b (Some Dir) (cond (same_name text texts.cgroup_procs) (Some Procs) (cond (same_name text texts.cgroup_subtree_control) (Some SubtreeControl) named_file))) held) [
+      → takes (file_keys_of format) text held ≡ takes_entry format (cond b (Some Dir) (cond (same_name text texts.cgroup_procs) (Some Procs) (cond (same_name text texts.cgroup_subtree_control) (Some SubtreeControl) named_file))) held) [
         | true ↦ λ same. ap (λ name. takes (file_keys_of format) name held) (name_is text (codes "dir") same)
         | false ↦ λ other. owned_taken (same_name text texts.cgroup_procs) (same_name text texts.cgroup_subtree_control)
       ] refl

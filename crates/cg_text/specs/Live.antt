@@ -1,6 +1,6 @@
 -- How it is read and written: nobody has to believe it.
 -- The reader's processes, held against what their tables say.
-use Rattle.std.specs.Prelude.{◌≡◌, ℕ, ◌||◌, List, ◌++◌, codes, Option, Some, is_some, option_and_then, find}
+use Rattle.std.specs.Prelude.{◌≡◌, ℕ, ◌||◌, List, ◌++◌, codes, Some, is_some, option_and_then, find}
 use Rattle.std.specs.Option.{option_map}
 use Rattle.std.specs.List.{list_any}
 use Rattle.std.specs.Ordering.{nat_cmp}

@@ -1,4 +1,4 @@
-use Rattle.std.proofs.Common.{◌≡◌, ap, sym, ◌∙◌, codes, is_some}
+use Rattle.std.proofs.Common.{ap, sym, ◌∙◌, codes, is_some}
 use Rattle.std.specs.Prelude.{◌&&◌}
 use Rattle.toml.specs.Data.{get_member}
 use Rattle.toml.specs.View.{view, table_view}
@@ -18,5 +18,5 @@ pub returns-else-row_fits : goal.returns-else-row_fits
 returns-else-row_fits c =
     let held = table_view c.in-Table.table in
     let fits = sym c.row_fits.ensures ∙ c.if-row_fits.false in
-    sym (ap (λ value. is_table (row_keys c.args.format) (view value)) c.in-Table.is ∙ ap (is_table (row_keys c.args.format)) (view-Table c.in-Table.table) ∙ row_is c.args.format held
+    c.if-row_fits.false ∙ sym (ap (λ value. is_table (row_keys c.args.format) (view value)) c.in-Table.is ∙ ap (is_table (row_keys c.args.format)) (view-Table c.in-Table.table) ∙ row_is c.args.format held
     ∙ ap (λ b. b && is_some (get_member (codes "path") held)) fits)
