@@ -15,7 +15,7 @@ use Rattle.std.proofs.lemmas.Bool.Decides.{nat_tests}
 use Rattle.toml.specs.Data.{Data, Members, table}
 use Rattle.cg_cgroup.specs.Paths.{Names, path_cmp, same_path}
 use Rattle.cg_cgroup.specs.Files.{all_files, all_entries, no_controllers}
-use Rattle.cg_cgroup.specs.Cgroups.{file_of, entry_in, value_in}
+use Rattle.cg_cgroup.specs.Cgroups.{file_of, entry_in}
 use Rattle.cg_cgroup.proofs.AllFiles.{each_passes}
 use Rattle.cg_cgroup.proofs.Options.{some_value, same_some}
 use Rattle.cg_cgroup.proofs.PathOrder.{path_cmp_total, path_cmp-IsAntisymmetric, same_path-ties}
@@ -36,7 +36,7 @@ use Rattle.cg_rows.specs.RowsForm.{state_of_tables}
 use Rattle.cg_text.specs.Form.{Key, most_rows, document_keys, row_keys, live_keys, is_table}
 use Rattle.cg_text.specs.Said.{elements_at, tables_at, path_said, controllers_said, format_said, entry_said, value_said, is_named, has_path, pid_said, uid_said}
 use Rattle.cg_text.specs.TextOf.{IsInForm, has_pid, IsDocumentOf, IsTextOf}
-use Rattle.cg_text.specs.TextFaults.{each, each_cgroup, each_process, has_few, form_faults, row_faults, is_there, over, cgroup_faults, process_faults, said_faults, document_faults, text_faults}
+use Rattle.cg_text.specs.TextFaults.{each, each_cgroup, each_process, has_few, form_faults, row_faults, over, cgroup_faults, process_faults, said_faults, document_faults, text_faults}
 use Rattle.cg_text.specs.TreeTexts.{longest_text, document_of}
 use Rattle.cg_text.specs.Rows.{IsReadAs}
 use Rattle.cg_text.specs.Walk.{fitted_to, IsEntryOf, AreEntriesOf}
