@@ -30,5 +30,9 @@ pub mod EachRow
 pub mod TakesLaws
 pub mod RowLaws
 pub mod PairsOf
+pub mod FormClauses
+pub mod SaidRanges
 pub mod StateOf
+pub mod ReadingLaws
 pub mod FormInTurn
+pub mod OneState

@@ -1,5 +1,5 @@
 -- A text without a fault is of a state: the cgroups and the processes that its tables say.
-use Rattle.std.proofs.Common.{◌≡◌, ℕ, ◌+◌, ◌≤◌, Bool, true, false, not, cond, nat_le, ◌||◌, T, List, [], ◌∷◌, ◌++◌, length, map as map_list, codes, Option, Some, None, is_some, option_map, option_and_then, unwrap_or, refl, sym, ap, subst, ◌∙◌, true≢false, arith}
+use Rattle.std.proofs.Common.{◌≡◌, ℕ, ◌+◌, Bool, true, false, not, cond, nat_le, ◌||◌, T, List, [], ◌∷◌, ◌++◌, length, map as map_list, codes, Option, Some, None, is_some, option_map, option_and_then, unwrap_or, refl, sym, ap, subst, ◌∙◌, true≢false}
 use Rattle.std.specs.Prelude.{◌&&◌, find, nat_eq}
 use Rattle.std.specs.List.{AllByRecursion, list_all, list_any}
 use Rattle.std.specs.Map.{lookup}
@@ -11,8 +11,7 @@ use Rattle.std.specs.FinMap.Entries.{is_sorted, is_some-find}
 use Rattle.std.specs.FinSet as set
 use Rattle.std.specs.FinSet.{contains-from_list}
 use Rattle.std.proofs.lemmas.Bool.{and_parts}
-use Rattle.std.proofs.lemmas.Bool.Decides.{nat_tests}
-use Rattle.toml.specs.Data.{Data, Members, table}
+use Rattle.toml.specs.Data.{Members}
 use Rattle.cg_cgroup.specs.Paths.{Names, path_cmp, same_path}
 use Rattle.cg_cgroup.specs.Files.{all_files, all_entries, no_controllers}
 use Rattle.cg_cgroup.specs.Cgroups.{file_of, entry_in}
@@ -33,10 +32,9 @@ use Rattle.cg_model.specs.Clauses.{unless, absent, present, first}
 use Rattle.cg_model.specs.States.{State}
 use Rattle.cg_rows.specs.Processes.{LiveAndUsed}
 use Rattle.cg_rows.specs.RowsForm.{state_of_tables}
-use Rattle.cg_text.specs.Form.{Key, most_rows, document_keys, row_keys, live_keys, is_table}
-use Rattle.cg_text.specs.Said.{elements_at, tables_at, path_said, controllers_said, format_said, entry_said, value_said, is_named, has_path, pid_said, uid_said}
-use Rattle.cg_text.specs.TextOf.{IsInForm, has_pid, IsDocumentOf, IsTextOf}
-use Rattle.cg_text.specs.TextFaults.{each, each_cgroup, each_process, has_few, form_faults, row_faults, over, cgroup_faults, process_faults, said_faults, document_faults, text_faults}
+use Rattle.cg_text.specs.Said.{tables_at, path_said, controllers_said, format_said, entry_said, value_said, is_named, has_path, pid_said, uid_said}
+use Rattle.cg_text.specs.TextOf.{has_pid, IsDocumentOf, IsTextOf}
+use Rattle.cg_text.specs.TextFaults.{each, each_cgroup, each_process, form_faults, row_faults, over, cgroup_faults, process_faults, said_faults, document_faults, text_faults}
 use Rattle.cg_text.specs.TreeTexts.{longest_text, document_of}
 use Rattle.cg_text.specs.Rows.{IsReadAs}
 use Rattle.cg_text.specs.Walk.{fitted_to, IsEntryOf, AreEntriesOf}
@@ -46,52 +44,12 @@ use Rattle.cg_text.specs.declared.tree.row.Row.{Row}
 use Rattle.cg_text.specs.declared.tree.fault.Place.{Place}
 use Rattle.cg_text.specs.declared.tree.fault.Place.TheVariants.{Top, Cgroup as AtCgroup, Process as AtProcess}
 use Rattle.cg_text.specs.declared.tree.fault.TreeFault.{TreeFault}
-use Rattle.cg_text.specs.declared.tree.fault.TreeFault.TheVariants.{TooLong, NotToml, Shape, Format as BadFormat, TooMany, BadController, BadPath, BadEntry, BadValue, BadPid, DuplicatePid, NoSuchPlace}
+use Rattle.cg_text.specs.declared.tree.fault.TreeFault.TheVariants.{TooLong, NotToml, BadController, BadPath, BadEntry, BadValue, BadPid, DuplicatePid, NoSuchPlace}
 use Rattle.cg_text.proofs.KeysOnce.{none_left, none_right, unless_passes, absent_passes, present_passes}
+use Rattle.cg_text.proofs.FormClauses.{at_most, in_form}
 use Rattle.cg_text.proofs.PairsOf.{pairs_of, pair_there, pair_found}
 use Rattle.cg_text.proofs.EntriesLaws.{read_entry}
 use Rattle.cg_text.proofs.DocumentOfLaws.{document_of_tables}
-
--- ---- the form
-
-at_most : (n most : ℕ) → nat_le n most ≡ true → n ≤ most
-at_most n most is = grind (arith, nat_tests)
-
-shapes_pass : (keys : List Key) (place : ℕ → Place) (i : ℕ) (earlier rows : List Data)
-    → first (each (λ _ place held. unless (is_table keys held) (Shape place)) place i earlier rows) ≡ None → list_all (is_table keys) rows ≡ true
-shapes_pass keys place i earlier [] none = refl
-shapes_pass keys place i earlier (row ∷ rows) none =
-    let later : List TreeFault = each (λ _ place held. unless (is_table keys held) (Shape place)) place (i + 1) (earlier ++ row ∷ []) rows in
-    let here = unless_passes (is_table keys row) (Shape (place i)) (none_left (unless (is_table keys row) (Shape (place i))) later none) in
-    let others = shapes_pass keys place (i + 1) (earlier ++ row ∷ []) rows (none_right (unless (is_table keys row) (Shape (place i))) later none) in
-    λ k. here k && others k
-
-pub form_of : (document : Members) → first (form_faults document) ≡ None → (format : Format) × IsInForm format document
-form_of document none =
-    let cgroups : List Data = elements_at (codes "cgroup") document in
-    let lives : List Data = elements_at (codes "process") document in
-    let tops : List TreeFault = unless (is_table document_keys (table document)) (Shape Top) in
-    let formats : List TreeFault = absent (format_said document) BadFormat in
-    let counts : List TreeFault = unless (has_few document) TooMany in
-    let cgroup_shapes : Format → List TreeFault = λ format. each (λ _ place held. unless (is_table (row_keys format) held) (Shape place)) AtCgroup 1 [] cgroups in
-    let row_shapes : List TreeFault = present (format_said document) cgroup_shapes in
-    let live_shapes : List TreeFault = each (λ _ place held. unless (is_table live_keys held) (Shape place)) AtProcess 1 [] lives in
-    let four = none_left (((tops ++ formats) ++ counts) ++ row_shapes) live_shapes none in
-    let three = none_left ((tops ++ formats) ++ counts) row_shapes four in
-    let two = none_left (tops ++ formats) counts three in
-    let said = absent_passes (format_said document) BadFormat (none_right tops formats two) in
-    let few = and_parts (nat_le (length cgroups) most_rows) (nat_le (length lives) most_rows) (unless_passes (has_few document) TooMany (none_right (tops ++ formats) counts three)) in
-    let rows = present_passes (format_said document) cgroup_shapes said.0 said.1 (none_right ((tops ++ formats) ++ counts) row_shapes four) in (
-      said.0,
-      record {
-        top = unless_passes (is_table document_keys (table document)) (Shape Top) (none_left tops formats two);
-        format = said.1;
-        few_cgroups = at_most (length cgroups) most_rows few.0;
-        few_processes = at_most (length lives) most_rows few.1;
-        cgroups = shapes_pass (row_keys said.0) AtCgroup 1 [] cgroups rows;
-        processes = shapes_pass live_keys AtProcess 1 [] lives (none_right (((tops ++ formats) ++ counts) ++ row_shapes) live_shapes none);
-      },
-    )
 
 -- ---- a cgroup's table
 
@@ -348,7 +306,7 @@ state_of_document document none =
     let tables : List Members = tables_at (codes "cgroup") document in
     let rows : List Members = tables_at (codes "process") document in
     let said : List TreeFault = present (format_said document) (λ format. said_faults format document) in
-    let form = form_of document (none_left (form_faults document) said none) in
+    let form = in_form document (none_left (form_faults document) said none) in
     let format : Format = form.0 in
     let controllers : List TreeFault = absent (controllers_said (codes "controllers") document) (BadController Top) in
     let alone : List TreeFault = each_cgroup (λ _. row_faults format) tables in

@@ -1,5 +1,6 @@
-use Rattle.cg_text.proofs.TextFaultLaws.{none_found, one_state}
+use Rattle.cg_text.proofs.OneState.{one_state}
 use Rattle.cg_text.proofs.StateOf.{state_of_text}
+use Rattle.cg_text.proofs.TextFaultLaws.{none_found}
 use Rattle.cg_text.proofs.tree.laws.texts_are_of_states.Goals as goal
 
 pub returns : goal.returns
