@@ -21,12 +21,15 @@ pub at_most : (n most : ℕ) → nat_le n most ≡ true → n ≤ most
 at_most n most is = grind (arith, nat_tests)
 
 shapes_pass : (keys : List Key) (place : ℕ → Place) (i : ℕ) (earlier rows : List Data)
-    → first (each (λ _ place held. unless (is_table keys held) (Shape place)) place i earlier rows) ≡ None → list_all (is_table keys) rows ≡ true
+    → first (each (λ _ place held. unless (is_table keys held) (Shape place)) place i earlier rows) ≡ None
+    → list_all (is_table keys) rows ≡ true
 shapes_pass keys place i earlier [] none = refl
 shapes_pass keys place i earlier (row ∷ rows) none =
-    let later : List TreeFault = each (λ _ place held. unless (is_table keys held) (Shape place)) place (i + 1) (earlier ++ row ∷ []) rows in
-    let here = unless_passes (is_table keys row) (Shape (place i)) (none_left (unless (is_table keys row) (Shape (place i))) later none) in
-    let others = shapes_pass keys place (i + 1) (earlier ++ row ∷ []) rows (none_right (unless (is_table keys row) (Shape (place i))) later none) in
+    let own : List TreeFault = unless (is_table keys row) (Shape (place i)) in
+    let later : List TreeFault =
+    each (λ _ place held. unless (is_table keys held) (Shape place)) place (i + 1) (earlier ++ row ∷ []) rows in
+    let here = unless_passes (is_table keys row) (Shape (place i)) (none_left own later none) in
+    let others = shapes_pass keys place (i + 1) (earlier ++ row ∷ []) rows (none_right own later none) in
     λ k. here k && others k
 
 pub in_form : (document : Members) → first (form_faults document) ≡ None → (format : Format) × IsInForm format document
@@ -36,15 +39,18 @@ in_form document none =
     let tops : List TreeFault = unless (is_table document_keys (table document)) (Shape Top) in
     let formats : List TreeFault = absent (format_said document) BadFormat in
     let counts : List TreeFault = unless (has_few document) TooMany in
-    let cgroup_shapes : Format → List TreeFault = λ format. each (λ _ place held. unless (is_table (row_keys format) held) (Shape place)) AtCgroup 1 [] cgroups in
+    let cgroup_shapes : Format → List TreeFault =
+    λ format. each (λ _ place held. unless (is_table (row_keys format) held) (Shape place)) AtCgroup 1 [] cgroups in
     let row_shapes : List TreeFault = present (format_said document) cgroup_shapes in
     let live_shapes : List TreeFault = each (λ _ place held. unless (is_table live_keys held) (Shape place)) AtProcess 1 [] lives in
     let four = none_left (((tops ++ formats) ++ counts) ++ row_shapes) live_shapes none in
     let three = none_left ((tops ++ formats) ++ counts) row_shapes four in
     let two = none_left (tops ++ formats) counts three in
     let said = absent_passes (format_said document) BadFormat (none_right tops formats two) in
-    let few = and_parts (nat_le (length cgroups) most_rows) (nat_le (length lives) most_rows) (unless_passes (has_few document) TooMany (none_right (tops ++ formats) counts three)) in
-    let rows = present_passes (format_said document) cgroup_shapes said.0 said.1 (none_right ((tops ++ formats) ++ counts) row_shapes four) in (
+    let few = and_parts (nat_le (length cgroups) most_rows) (nat_le (length lives) most_rows)
+    (unless_passes (has_few document) TooMany (none_right (tops ++ formats) counts three)) in
+    let rows = present_passes (format_said document) cgroup_shapes said.0 said.1
+    (none_right ((tops ++ formats) ++ counts) row_shapes four) in (
       said.0,
       record {
         top = unless_passes (is_table document_keys (table document)) (Shape Top) (none_left tops formats two);

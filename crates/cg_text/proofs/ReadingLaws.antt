@@ -21,8 +21,10 @@ a_reading bytes =
     ] refl
 
 -- a text that is of a state has no first fault
-no_first : (bytes : List ℕ) (st : State) (fault : TreeFault) → IsTextOf st bytes → first (text_faults bytes) ≡ Some fault → Ok st ≡ Err fault
-no_first bytes st fault is found = absurd (true≢false (sym (ap is_some found) ∙ ap (λ faults. is_some (first faults)) (none_found bytes st is)))
+no_first : (bytes : List ℕ) (st : State) (fault : TreeFault) → IsTextOf st bytes → first (text_faults bytes) ≡ Some fault
+    → Ok st ≡ Err fault
+no_first bytes st fault is found =
+    absurd (true≢false (sym (ap is_some found) ∙ ap (λ faults. is_some (first faults)) (none_found bytes st is)))
 
 pub one_reading : (bytes : List ℕ) (tree other : Reading) → IsReading bytes tree → IsReading bytes other → tree ≡ other
 one_reading bytes (Ok st) (Ok other) is also = ap Ok (one_state bytes st other is also)

@@ -22,7 +22,8 @@ passed test (Some found) number is =
       | false ↦ λ _ none. absurd (true≢false (sym (ap is_some none)))
     ] refl is
 
-pub mode_small : (format : Format) (missing : ℕ) (written : Option ℤ) (number : ℕ) → mode_read format missing written ≡ Some number → number ≤ 511
+pub mode_small : (format : Format) (missing : ℕ) (written : Option ℤ) (number : ℕ)
+    → mode_read format missing written ≡ Some number → number ≤ 511
 mode_small format missing written number is =
     let fits : (is_mode number && (is_two format || not (has_bit number 16))) ≡ true =
     passed (λ number. is_mode number && (is_two format || not (has_bit number 16))) (number_or missing written) number is in
@@ -31,7 +32,8 @@ mode_small format missing written number is =
 
 -- the mode of an entry that is read
 pub entry_as : (uid gid mode : Option ℕ) (entry : Entry)
-    → option_and_then (λ u. option_and_then (λ g. option_and_then (λ m. Some (record { uid = u; gid = g; mode = m })) mode) gid) uid ≡ Some entry → mode ≡ Some entry.mode
+    → option_and_then (λ u. option_and_then (λ g. option_and_then (λ m. Some (record { uid = u; gid = g; mode = m })) mode) gid) uid
+    ≡ Some entry → mode ≡ Some entry.mode
 entry_as None gid mode entry is = cc
 entry_as (Some u) None mode entry is = cc
 entry_as (Some u) (Some g) None entry is = cc

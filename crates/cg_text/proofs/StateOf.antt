@@ -87,9 +87,11 @@ row_says format place row none =
     let path = absent_passes (path_said (codes "path") row) (BadPath place) (none_left paths sets two) in
     let enabled = absent_passes (controllers_said (codes "enabled") row) (BadController place) (none_right paths sets two) in
     let owned = each_entry (λ name. is_some (entry_said format row name))
-    (unless_passes (list_all (λ name. is_some (entry_said format row name)) all_entries) (BadEntry place) (none_right (paths ++ sets) owners three)) in
+    (unless_passes (list_all (λ name. is_some (entry_said format row name)) all_entries) (BadEntry place)
+    (none_right (paths ++ sets) owners three)) in
     let valued = each_passes (λ file. is_some (value_said row file))
-    (unless_passes (list_all (λ file. is_some (value_said row file)) all_files) (BadValue place) (none_right ((paths ++ sets) ++ owners) values none)) in
+    (unless_passes (list_all (λ file. is_some (value_said row file)) all_files) (BadValue place)
+    (none_right ((paths ++ sets) ++ owners) values none)) in
     record {
       path = path.0;
       named = path.1;
@@ -107,7 +109,10 @@ rows_say format i earlier [] none = tt
 rows_say format i earlier (row ∷ rows) none =
     let here : List TreeFault = row_faults format (AtCgroup i) row in
     let later : List TreeFault = each (λ _. row_faults format) AtCgroup (i + 1) (earlier ++ row ∷ []) rows in
-    (row_says format (AtCgroup i) row (none_left here later none), rows_say format (i + 1) (earlier ++ row ∷ []) rows (none_right here later none))
+    (
+      row_says format (AtCgroup i) row (none_left here later none),
+      rows_say format (i + 1) (earlier ++ row ∷ []) rows (none_right here later none),
+    )
 
 module _ (format : Format) (row : Members) (says : SaysCgroup format row) where
   abbrev held : LimitFile → LimitEntry
@@ -134,7 +139,9 @@ module _ (format : Format) (row : Members) (says : SaysCgroup format row) where
     };
     needed = record {
       cpu = is_named (File CpuWeight) row;
-      memory = is_named (File MemoryMin) row || is_named (File MemoryLow) row || is_named (File MemoryHigh) row || is_named (File MemoryMax) row;
+      memory =
+          is_named (File MemoryMin) row || is_named (File MemoryLow) row
+          || is_named (File MemoryHigh) row || is_named (File MemoryMax) row;
       pids = is_named (File PidsMax) row;
     };
   }
@@ -190,7 +197,9 @@ module _ (format : Format) (tables : List Members) where
 
   module _ (all : AllByRecursion (SaysCgroup format) tables) where
     abbrev pairs : List (Names × Cgroup)
-    pairs = pairs_of path_cmp-IsAntisymmetric (path_said (codes "path")) same_path same_path-ties (SaysCgroup format) pair_of (λ row says. says.named) tables all
+    pairs =
+        pairs_of path_cmp-IsAntisymmetric (path_said (codes "path")) same_path same_path-ties
+        (SaysCgroup format) pair_of (λ row says. says.named) tables all
 
     -- the cgroups that the tables say, in the order of their paths
     abbrev entries : List (Names × Cgroup)
@@ -198,18 +207,19 @@ module _ (format : Format) (tables : List Members) where
 
     entry_found : (path : Names) → lookup (same_path path) entries ≡ map.find path_cmp path pairs
     entry_found path =
-        found_by_path path entries ∙ sym (get-entries (map.from_entries {R = path_cmp} pairs) path) ∙ get-from_entries path_cmp_total pairs path
+        found_by_path path entries ∙ sym (get-entries (map.from_entries {R = path_cmp} pairs) path)
+        ∙ get-from_entries path_cmp_total pairs path
 
     entry_read : (row : Members) (says : SaysCgroup format row) → IsEntryOf format tables row (pair_of row says).1
     entry_read row says =
         read_entry format tables 1 row (row_of format row says) (read_as format row says) (above says.path)
         (λ other is. sym (ap (λ (o : Option ControllerSet). unwrap_or o no_controllers) is))
 
-    each_is : (path : Names) (cgroup : Cgroup) (row : Members) → lookup (same_path path) entries ≡ Some cgroup → find (has_path path) tables ≡ Some row
-        → IsEntryOf format tables row cgroup
+    each_is : (path : Names) (cgroup : Cgroup) (row : Members) → lookup (same_path path) entries ≡ Some cgroup
+        → find (has_path path) tables ≡ Some row → IsEntryOf format tables row cgroup
     each_is path cgroup row is found =
-        let gives = pair_found path_cmp-IsAntisymmetric (path_said (codes "path")) same_path same_path-ties (SaysCgroup format) pair_of (λ row says. says.named)
-        path cgroup tables all (sym (entry_found path) ∙ is) in
+        let gives = pair_found path_cmp-IsAntisymmetric (path_said (codes "path")) same_path same_path-ties
+        (SaysCgroup format) pair_of (λ row says. says.named) path cgroup tables all (sym (entry_found path) ∙ is) in
         let same : gives.row ≡ row = same_some gives.row row (sym gives.found ∙ found) in
         subst (λ (r : Members). IsEntryOf format tables r cgroup) same
         (subst (λ (c : Cgroup). IsEntryOf format tables gives.row c) gives.value_is (entry_read gives.row gives.is))
@@ -219,7 +229,8 @@ module _ (format : Format) (tables : List Members) where
       sorted = is_so (is_sorted path_cmp entries) (entries_sorted (map.from_entries {R = path_cmp} pairs));
       there = λ path.
           ap is_some (entry_found path)
-          ∙ pair_there path_cmp-IsAntisymmetric (path_said (codes "path")) same_path same_path-ties (SaysCgroup format) pair_of (λ row says. says.named) path tables all;
+          ∙ pair_there path_cmp-IsAntisymmetric (path_said (codes "path")) same_path same_path-ties
+          (SaysCgroup format) pair_of (λ row says. says.named) path tables all;
       each = each_is;
     }
 
@@ -239,7 +250,8 @@ some_first next None y is = absurd (true≢false (sym (ap is_some is)))
 some_first next (Some x) y is = (x, refl)
 
 module _ (tables : List Members) where
-  process_says : (earlier : List Members) (place : Place) (row : Members) → first (process_faults tables earlier place row) ≡ None → SaysProcess row
+  process_says : (earlier : List Members) (place : Place) (row : Members)
+      → first (process_faults tables earlier place row) ≡ None → SaysProcess row
   process_says earlier place row none =
       let pids : List TreeFault = absent (pid_said row) (BadPid place) in
       let uids : List TreeFault = absent (uid_said row) (BadEntry place) in
@@ -253,12 +265,16 @@ module _ (tables : List Members) where
       let path = some_first (λ path. find (has_path path) tables) (path_said (codes "at") row) at.0 at.1 in
       record { pid = pid.0; numbered = pid.1; uid = uid.0; owned = uid.1; place = path.0; placed = path.1 }
 
-  processes_say : (i : ℕ) (earlier rows : List Members) → first (each (process_faults tables) AtProcess i earlier rows) ≡ None → AllByRecursion SaysProcess rows
+  processes_say : (i : ℕ) (earlier rows : List Members)
+      → first (each (process_faults tables) AtProcess i earlier rows) ≡ None → AllByRecursion SaysProcess rows
   processes_say i earlier [] none = tt
   processes_say i earlier (row ∷ rows) none =
       let here : List TreeFault = process_faults tables earlier (AtProcess i) row in
       let later : List TreeFault = each (process_faults tables) AtProcess (i + 1) (earlier ++ row ∷ []) rows in
-      (process_says earlier (AtProcess i) row (none_left here later none), processes_say (i + 1) (earlier ++ row ∷ []) rows (none_right here later none))
+      (
+        process_says earlier (AtProcess i) row (none_left here later none),
+        processes_say (i + 1) (earlier ++ row ∷ []) rows (none_right here later none),
+      )
 
 abbrev live_of : (row : Members) → SaysProcess row → ℕ × Process
 live_of row says = (says.pid, record { uid = says.uid; place = says.place })
@@ -277,7 +293,8 @@ module _ (rows : List Members) (all : AllByRecursion SaysProcess rows) where
   live_is : (pid : ℕ) (process : Process) → map.get processes.live pid ≡ Some process
       → (row : Members) × (find (has_pid pid) rows ≡ Some row) × IsLive row (pid, process)
   live_is pid process is =
-      let gives = pair_found nat_cmp-IsAntisymmetric pid_said nat_eq unsigned_ties SaysProcess live_of (λ row says. says.numbered) pid process rows all (sym (live_found pid) ∙ is) in
+      let gives = pair_found nat_cmp-IsAntisymmetric pid_said nat_eq unsigned_ties SaysProcess live_of (λ row says. says.numbered)
+      pid process rows all (sym (live_found pid) ∙ is) in
       let says = gives.is in (
         gives.row,
         gives.found,
@@ -312,12 +329,14 @@ state_of_document document none =
     let alone : List TreeFault = each_cgroup (λ _. row_faults format) tables in
     let together : List TreeFault = cgroup_faults (controllers_said (codes "controllers") document) tables in
     let living : List TreeFault = each_process (process_faults tables) rows in
-    let four = present_passes (format_said document) (λ format. said_faults format document) format form.1.format (none_right (form_faults document) said none) in
+    let four = present_passes (format_said document) (λ format. said_faults format document) format form.1.format
+    (none_right (form_faults document) said none) in
     let three = none_left ((controllers ++ alone) ++ together) living four in
     let two = none_left (controllers ++ alone) together three in
     let top = absent_passes (controllers_said (codes "controllers") document) (BadController Top) (none_left controllers alone two) in
     let none_alone = none_right controllers alone two in
-    let none_together = ap (λ (set : Option ControllerSet). first (cgroup_faults set tables)) (sym top.1) ∙ none_right (controllers ++ alone) together three in
+    let none_together =
+    ap (λ (set : Option ControllerSet). first (cgroup_faults set tables)) (sym top.1) ∙ none_right (controllers ++ alone) together three in
     let none_living = none_right ((controllers ++ alone) ++ together) living four in
     let cgroups_say = rows_say format 1 [] tables none_alone in
     let lives_say = processes_say tables 1 [] rows none_living in (
@@ -333,10 +352,12 @@ state_of_text bytes none =
     let said : List TreeFault = present (document_of bytes) document_faults in
     let two = none_left (long ++ broken) said (ap first none) in
     let parsed = absent_passes (document_of bytes) NotToml (none_right long broken two) in
-    let made = state_of_document parsed.0 (present_passes (document_of bytes) document_faults parsed.0 parsed.1 (none_right (long ++ broken) said (ap first none))) in (
+    let passed = present_passes (document_of bytes) document_faults parsed.0 parsed.1 (none_right (long ++ broken) said (ap first none)) in
+    let made = state_of_document parsed.0 passed in (
       made.0,
       record {
-        short = at_most (length bytes) longest_text (unless_passes (nat_le (length bytes) longest_text) TooLong (none_left long broken two));
+        short = at_most (length bytes) longest_text
+            (unless_passes (nat_le (length bytes) longest_text) TooLong (none_left long broken two));
         document = parsed.0;
         parsed = parsed.1;
         says = made.1;
