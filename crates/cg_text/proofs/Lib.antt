@@ -36,3 +36,4 @@ pub mod StateOf
 pub mod ReadingLaws
 pub mod FormInTurn
 pub mod OneState
+pub mod NoFaults

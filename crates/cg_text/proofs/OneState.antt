@@ -143,7 +143,7 @@ one_process st other row is also =
 
 -- ---- two states of a document
 
-abbrev enabled_in : Option Cgroup → ControllerSet
+abbrev pub enabled_in : Option Cgroup → ControllerSet
 enabled_in found = elim found [ None ↦ no_controllers | Some row ↦ row.enabled ]
 
 module _ (format : Format) (st other : State) (tables : List Members)

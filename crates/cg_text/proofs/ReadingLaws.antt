@@ -9,7 +9,7 @@ use Rattle.cg_text.specs.TextFaults.{text_faults}
 use Rattle.cg_text.specs.declared.tree.fault.TreeFault.{TreeFault}
 use Rattle.cg_text.proofs.OneState.{one_state}
 use Rattle.cg_text.proofs.StateOf.{state_of_text}
-use Rattle.cg_text.proofs.TextFaultLaws.{none_found}
+use Rattle.cg_text.proofs.NoFaults.{no_faults}
 
 pub a_reading : (bytes : List ℕ) → (tree : Reading) × IsReading bytes tree
 a_reading bytes =
@@ -24,7 +24,7 @@ a_reading bytes =
 no_first : (bytes : List ℕ) (st : State) (fault : TreeFault) → IsTextOf st bytes → first (text_faults bytes) ≡ Some fault
     → Ok st ≡ Err fault
 no_first bytes st fault is found =
-    absurd (true≢false (sym (ap is_some found) ∙ ap (λ faults. is_some (first faults)) (none_found bytes st is)))
+    absurd (true≢false (sym (ap is_some found) ∙ ap (λ faults. is_some (first faults)) (no_faults bytes st is)))
 
 pub one_reading : (bytes : List ℕ) (tree other : Reading) → IsReading bytes tree → IsReading bytes other → tree ≡ other
 one_reading bytes (Ok st) (Ok other) is also = ap Ok (one_state bytes st other is also)

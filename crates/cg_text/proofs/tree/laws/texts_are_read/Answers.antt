@@ -3,6 +3,6 @@ use Rattle.cg_text.proofs.tree.laws.texts_are_read.Goals as goal
 
 pub returns : goal.returns
 returns c = record {
-  some = λ bytes. a_reading bytes;
-  one = λ bytes tree other is also. one_reading bytes tree other is also;
+  some = a_reading;
+  one = one_reading;
 }
