@@ -51,12 +51,12 @@ module _ {A K X : Type 0} {R : K → K → Ordering} (one : IsAntisymmetric R) (
       eq_by_cmp R q (pair row all.0).0 ≡ b → cond b (Some (pair row all.0).1) (map.find R q (pairs_of rows all.1)) ≡ Some x
       → GivesPair (row ∷ rows) q x) [
         | true ↦ λ tie found. record {
-            row = row;
-            is = all.0;
-            found = ap (λ b. cond b (Some row) (find (has q) rows)) (tied q row all.0 ∙ tie);
-            key_is = one q (pair row all.0).0 ((Equal-is _).0 tie);
-            value_is = same_some (pair row all.0).1 x found;
-          }
+          row = row;
+          is = all.0;
+          found = ap (λ b. cond b (Some row) (find (has q) rows)) (tied q row all.0 ∙ tie);
+          key_is = one q (pair row all.0).0 ((Equal-is _).0 tie);
+          value_is = same_some (pair row all.0).1 x found;
+        }
         | false ↦ λ tie found.
             let later = pair_found q x rows all.1 found in
             record {

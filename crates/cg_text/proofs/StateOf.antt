@@ -108,8 +108,7 @@ rows_say : (format : Format) (i : ℕ) (earlier rows : List Members) → first (
 rows_say format i earlier [] none = tt
 rows_say format i earlier (row ∷ rows) none =
     let here : List TreeFault = row_faults format (AtCgroup i) row in
-    let later : List TreeFault = each (λ _. row_faults format) AtCgroup (i + 1) (earlier ++ row ∷ []) rows in
-    (
+    let later : List TreeFault = each (λ _. row_faults format) AtCgroup (i + 1) (earlier ++ row ∷ []) rows in (
       row_says format (AtCgroup i) row (none_left here later none),
       rows_say format (i + 1) (earlier ++ row ∷ []) rows (none_right here later none),
     )
@@ -270,8 +269,7 @@ module _ (tables : List Members) where
   processes_say i earlier [] none = tt
   processes_say i earlier (row ∷ rows) none =
       let here : List TreeFault = process_faults tables earlier (AtProcess i) row in
-      let later : List TreeFault = each (process_faults tables) AtProcess (i + 1) (earlier ++ row ∷ []) rows in
-      (
+      let later : List TreeFault = each (process_faults tables) AtProcess (i + 1) (earlier ++ row ∷ []) rows in (
         process_says earlier (AtProcess i) row (none_left here later none),
         processes_say (i + 1) (earlier ++ row ∷ []) rows (none_right here later none),
       )
@@ -342,7 +340,7 @@ state_of_document document none =
     let lives_say = processes_say tables 1 [] rows none_living in (
       state_of_tables (map.from_sorted (entries format tables cgroups_say)) (processes rows lives_say) top.0,
       document_of_tables format document top.0 (entries format tables cgroups_say) (processes rows lives_say) form.1 top.1
-      none_alone none_together (are_entries format tables cgroups_say) none_living (are_processes rows lives_say),
+          none_alone none_together (are_entries format tables cgroups_say) none_living (are_processes rows lives_say),
     )
 
 pub state_of_text : (bytes : List ℕ) → text_faults bytes ≡ [] → (st : State) × IsTextOf st bytes
