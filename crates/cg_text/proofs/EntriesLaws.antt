@@ -241,7 +241,7 @@ stands true o is = is
 stands false o is = refl
 
 -- a row's cgroup, with the files that stand under what is over it
-read_entry : (format : Format) (tables : List Members) (number : ℕ) (table : Members) (row : Row) → IsReadAs format number table row
+pub read_entry : (format : Format) (tables : List Members) (number : ℕ) (table : Members) (row : Row) → IsReadAs format number table row
     → (above : ControllerSet) → ((other : ControllerSet) → over (Some no_controllers) tables row.path ≡ Some other → other ≡ above)
     → IsEntryOf format tables table (fitted_to above row.cgroup)
 read_entry format tables number table row read above same = record {

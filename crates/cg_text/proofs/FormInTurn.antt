@@ -12,7 +12,7 @@ use Rattle.cg_text.specs.declared.tree.fault.TreeFault.{TreeFault}
 use Rattle.cg_text.specs.declared.tree.fault.TreeFault.TheVariants.{Shape, Format as BadFormat, TooMany}
 use Rattle.cg_text.specs.declared.tree.fault.Place.TheVariants.{Top}
 use Rattle.cg_text.specs.declared.tree.records.Format.{Format}
-use Rattle.cg_text.proofs.FormFaults.{in_form}
+use Rattle.cg_text.proofs.FormClauses.{in_form}
 use Rattle.cg_text.proofs.EachRow.{first_before, first_behind}
 
 abbrev pub cgroup_shapes : Format → List Data → List TreeFault

@@ -30,5 +30,10 @@ pub mod EntriesLaws
 pub mod Cuts
 pub mod LeastLaws
 pub mod WalkEnd
+pub mod PairsOf
+pub mod FormClauses
+pub mod SaidRanges
+pub mod StateOf
+pub mod ReadingLaws
 pub mod OneState
 pub mod NoFaults
