@@ -30,7 +30,7 @@ use Rattle.cg_text.specs.Said.{path_said, controllers_said, has_path}
 use Rattle.cg_text.specs.TextFaults.{is_there, enabled_there, over}
 use Rattle.cg_text.specs.Rows.{IsReadAs, AreReadAs}
 use Rattle.cg_text.specs.Walk.{has_met, enabled_by, over_in, fitted_to, entries_from, is_orphan, IsLeast, HasTested, least_fault, AreInOrder, IsNext, IsEntryOf, AreEntriesOf}
-use Rattle.cg_text.specs.declared.tree.records.Format.{Format}
+use Rattle.cg_text.specs.declared.tree.format.Format.{Format}
 use Rattle.cg_text.specs.declared.tree.fault.Place.TheVariants.{Cgroup as AtCgroup}
 use Rattle.cg_text.specs.declared.tree.fault.TreeFault.{TreeFault}
 use Rattle.cg_text.specs.declared.tree.fault.TreeFault.TheVariants.{Duplicate, NoRoot, NoParent}

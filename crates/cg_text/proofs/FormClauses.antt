@@ -10,7 +10,7 @@ use Rattle.cg_text.specs.Form.{Key, most_rows, document_keys, row_keys, live_key
 use Rattle.cg_text.specs.Said.{elements_at, format_said}
 use Rattle.cg_text.specs.TextOf.{IsInForm}
 use Rattle.cg_text.specs.TextFaults.{each, has_few, form_faults}
-use Rattle.cg_text.specs.declared.tree.records.Format.{Format}
+use Rattle.cg_text.specs.declared.tree.format.Format.{Format}
 use Rattle.cg_text.specs.declared.tree.fault.Place.{Place}
 use Rattle.cg_text.specs.declared.tree.fault.Place.TheVariants.{Top, Cgroup as AtCgroup, Process as AtProcess}
 use Rattle.cg_text.specs.declared.tree.fault.TreeFault.{TreeFault}

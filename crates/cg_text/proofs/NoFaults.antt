@@ -29,8 +29,8 @@ use Rattle.cg_text.specs.declared.tree.fault.Place.{Place}
 use Rattle.cg_text.specs.declared.tree.fault.Place.TheVariants.{Top, Cgroup as AtCgroup, Process as AtProcess}
 use Rattle.cg_text.specs.declared.tree.fault.TreeFault.{TreeFault}
 use Rattle.cg_text.specs.declared.tree.fault.TreeFault.TheVariants.{TooLong, NotToml, Shape, Format as BadFormat, TooMany, BadController, BadPath, BadEntry, BadValue, Duplicate, NoRoot, NoParent, TopDown, NoSuchFile, BadPid, DuplicatePid, NoSuchPlace, InternalProcess}
-use Rattle.cg_text.specs.declared.tree.records.Format.{Format}
-use Rattle.cg_text.specs.declared.tree.records.Format.TheVariants.{One, Two}
+use Rattle.cg_text.specs.declared.tree.format.Format.{Format}
+use Rattle.cg_text.specs.declared.tree.format.Format.TheVariants.{One, Two}
 use Rattle.cg_text.proofs.OnceLaws.{counted, counted_is}
 use Rattle.cg_text.proofs.OneState.{Passes, one_passes, path_is, enabled_in}
 

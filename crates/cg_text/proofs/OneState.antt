@@ -26,7 +26,7 @@ use Rattle.cg_model.specs.States.{State, row_at, process_at}
 use Rattle.cg_model.specs.WellFormed.{has_row, enabled_at, enabled_above, IsWellFormed}
 use Rattle.cg_text.specs.Said.{tables_at, text_at, integer_at, path_said, pid_said, pid_read, passing, number_or, has_path}
 use Rattle.cg_text.specs.TextOf.{IsRowOf, IsProcessOf, has_pid, IsDocumentOf, IsTextOf}
-use Rattle.cg_text.specs.declared.tree.records.Format.{Format}
+use Rattle.cg_text.specs.declared.tree.format.Format.{Format}
 use Rattle.cg_text.proofs.OnceLaws.{counted, counted_is}
 
 -- ---- what is found

@@ -12,7 +12,7 @@ use Rattle.cg_cgroup.specs.declared.files.Limit.{Limit}
 use Rattle.cg_cgroup.specs.declared.files.LimitFile.{LimitFile}
 use Rattle.cg_text.specs.Form.{is_two}
 use Rattle.cg_text.specs.Said.{number_or, passing, mode_read, accepted}
-use Rattle.cg_text.specs.declared.tree.records.Format.{Format}
+use Rattle.cg_text.specs.declared.tree.format.Format.{Format}
 
 pub passed : (test : ℕ → Bool) (found : Option ℕ) (number : ℕ) → passing test found ≡ Some number → test number ≡ true
 passed test None number is = absurd (true≢false (sym (ap is_some is)))

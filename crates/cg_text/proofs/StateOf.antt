@@ -39,7 +39,7 @@ use Rattle.cg_text.specs.TreeTexts.{longest_text, document_of}
 use Rattle.cg_text.specs.Rows.{IsReadAs}
 use Rattle.cg_text.specs.Walk.{fitted_to, IsEntryOf, AreEntriesOf}
 use Rattle.cg_text.specs.Live.{IsLive, AreProcesses}
-use Rattle.cg_text.specs.declared.tree.records.Format.{Format}
+use Rattle.cg_text.specs.declared.tree.format.Format.{Format}
 use Rattle.cg_text.specs.declared.tree.row.Row.{Row}
 use Rattle.cg_text.specs.declared.tree.fault.Place.{Place}
 use Rattle.cg_text.specs.declared.tree.fault.Place.TheVariants.{Top, Cgroup as AtCgroup, Process as AtProcess}
