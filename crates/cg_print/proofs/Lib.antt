@@ -6,4 +6,7 @@ pub mod IdLaws
 pub mod Depths
 pub mod TextBack
 pub mod ReadCarried
+pub mod FormBack
+pub mod SaidBack
+pub mod DocumentBack
 mod Spelling
