@@ -153,3 +153,30 @@ module _ (st : State) (kept : IsKept st) where
 
 pub text_back : (text : List ℕ) (st : State) → document_of text ≡ Some (tree_document st) → IsKept st → IsCarried st → length text ≤ longest_text → IsTextOf st text
 text_back text st parsed kept carried short = record { short = short; document = tree_document st; parsed = parsed; says = document_back st kept carried }
+
+passes : (n m : ℕ) → nat_le n m ≡ true → n ≤ m
+passes n m is = grind (arith, nat_tests)
+
+fails : (n m : ℕ) → nat_le n m ≡ false → m < n
+fails n m is = grind (arith, nat_tests)
+
+-- what a reader may answer of a text that has a state, unless it is too long
+abbrev IsAnswer : State → Result State TreeFault → Type 0
+IsAnswer st result = MatchResult result (λ rows. rows ≡ st) (λ fault. fault ≢ NoMemory → (fault ≡ TooLong) × IsTooLong st)
+
+-- what is read of a text
+abbrev IsRead : List ℕ → Result State TreeFault → Type 0
+IsRead text result = MatchResult result (λ rows. IsTextOf rows text) (λ fault. fault ≢ NoMemory → first (text_faults text) ≡ Some fault)
+
+-- a text is of one state, and then has no fault
+module _ (text : List ℕ) (st : State) (one : (other also : State) → IsTextOf other text → IsTextOf also text → other ≡ also) (no_fault : IsTextOf st text → text_faults text ≡ []) where
+  by_read : (result : Result State TreeFault) → IsTextOf st text → IsRead text result → IsAnswer st result
+  by_read (Ok rows) is read = one rows st read is
+  by_read (Err fault) is read = λ other. absurd (true≢false (ap is_some (sym (read other) ∙ ap first (no_fault is))))
+
+  pub read_again : (result : Result State TreeFault) → IsSpelled st text → (length text ≤ longest_text → IsTextOf st text) → (longest_text < length text → result ≡ Err TooLong) → IsRead text result → IsAnswer st result
+  read_again result spelled state too_long read =
+      elim (nat_le (length text) longest_text) as (λ b. nat_le (length text) longest_text ≡ b → IsAnswer st result) [
+        | true ↦ λ is. by_read result (state (passes (length text) longest_text is)) read
+        | false ↦ λ is. subst (IsAnswer st) (sym (too_long (fails (length text) longest_text is))) (λ _. (refl, (text, spelled, fails (length text) longest_text is)))
+      ] refl
