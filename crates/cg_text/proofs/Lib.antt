@@ -15,6 +15,7 @@ pub mod OnceLaws
 pub mod KeysOnce
 pub mod LiveLaws
 pub mod DocumentOfLaws
+pub mod DocumentInTurn
 pub mod RowState
 pub mod TextOfLaws
 pub mod SaidFaults

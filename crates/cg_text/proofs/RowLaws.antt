@@ -196,7 +196,7 @@ module _ (said : Entries) where
           (λ file. ap is_some (files file).owner) in
       (no_entry_fault are
       ∙ ap (λ b. first (unless b (BadValue said.place))) (all_so valued (λ file. ap is_some (files file).value) all_files),
-      record { enabled = enabled; entries = λ name. sym (entries name); values = λ file. sym (values file) })
+      record { enabled = enabled; entries = λ name. sym (entries name); values = λ file. sym (values file); files = λ file. ap is_some (files file).stands })
 
 -- ---- a row's table
 
@@ -247,6 +247,7 @@ module _ (said : Entries) (row : Members) (dir : option_map (λ table. table_vie
       let most = named_is MemoryMax in
       ap (λ (set : ControllerSet). set.memory) needed ∙ (λ i. least i || low i || high i || most i);
     pids = ap (λ (set : ControllerSet). set.pids) needed ∙ named_is PidsMax;
+    files = is.files;
   }
 
 -- a row without a path, or whose controllers aren't
