@@ -1,24 +1,25 @@
--- The first fault of a document, part by part, as the reader finds it; and the tables that a document in form has.
-use Rattle.std.proofs.Common.{◌≡◌, ℕ, ◌≤◌, Bool, true, false, List, [], ◌∷◌, ◌++◌, length, map as map_list, codes, Option, Some, None, Err,
-    is_some, refl, sym, ap, ◌∙◌, true≢false, arith}
-use Rattle.std.specs.Prelude.{filter_map}
+-- The first fault of a document, part by part, as the reader finds it; the tables of one in form; and the text whose document it is.
+use Rattle.std.proofs.Common.{◌≡◌, ◌≢◌, ℕ, ◌≤◌, Bool, true, nat_le, le-leb, List, [], ◌∷◌, ◌++◌, length, map as map_list, codes, Option,
+    Some, None, is_some, Result, Ok, Err, MatchResult, refl, sym, ap, ◌∙◌, true≢false}
 use Rattle.std.specs.List.{list_all}
 use Rattle.std.specs.Option.{ok_or}
 use Rattle.std.proofs.lemmas.Bool.{and_parts, and_from}
-use Rattle.std.proofs.lemmas.List.{length-map}
 use Rattle.toml.specs.Data.{Data, table, Members, as_table}
 use Rattle.toml.specs.View.{view}
 use Rattle.toml.specs.declared.value.Value.{Value}
 use Rattle.cg_cgroup.specs.declared.files.ControllerSet.{ControllerSet}
-use Rattle.cg_model.specs.Clauses.{absent, present, first}
+use Rattle.cg_model.specs.Clauses.{unless, absent, present, first}
+use Rattle.cg_model.specs.States.{State}
+use Rattle.cg_text.specs.Faults.{or_fault}
 use Rattle.cg_text.specs.Form.{Key, is_table}
-use Rattle.cg_text.specs.Said.{elements_at, tables_at, controllers_said, format_said}
-use Rattle.cg_text.specs.TextOf.{IsInForm}
+use Rattle.cg_text.specs.Said.{tables_at, controllers_said, format_said}
+use Rattle.cg_text.specs.TextOf.{IsInForm, IsDocumentOf, IsTextOf}
 use Rattle.cg_text.specs.TextFaults.{each_cgroup, each_process, form_faults, row_faults, cgroup_faults, process_faults, said_faults,
-    document_faults}
+    document_faults, text_faults}
+use Rattle.cg_text.specs.TreeTexts.{longest_text, document_of}
 use Rattle.cg_text.specs.declared.tree.fault.Place.TheVariants.{Top}
 use Rattle.cg_text.specs.declared.tree.fault.TreeFault.{TreeFault}
-use Rattle.cg_text.specs.declared.tree.fault.TreeFault.TheVariants.{BadController}
+use Rattle.cg_text.specs.declared.tree.fault.TreeFault.TheVariants.{TooLong, NotToml, BadController, NoMemory}
 use Rattle.cg_text.specs.declared.tree.records.Format.{Format}
 use Rattle.cg_text.proofs.KeysOnce.{first_left, first_right}
 
@@ -113,3 +114,19 @@ all_tables keys (value ∷ values) are =
     let parts = and_parts (is_table keys (view value)) (list_all (is_table keys) (map_list view values)) are in
     and_from (is_some (as_table (view value))) (list_all (λ held. is_some (as_table (view held))) values)
     (table_is keys (view value) parts.0) (all_tables keys values parts.1)
+
+-- ---- texts
+
+pub document_read : (found : Option Members) (document : Members) → or_fault found NotToml ≡ Ok document → found ≡ Some document
+document_read None document is = cc
+document_read (Some other) document is = let same : other ≡ document = cc in ap Some same
+
+-- what is answered of a document holds of the text whose document it is
+pub text_read : (bytes : List ℕ) (document : Members) (result : Result State TreeFault) → length bytes ≤ longest_text
+    → document_of bytes ≡ Some document
+    → MatchResult result (λ st. IsDocumentOf st document) (λ fault. fault ≢ NoMemory → first (document_faults document) ≡ Some fault)
+    → MatchResult result (λ st. IsTextOf st bytes) (λ fault. fault ≢ NoMemory → first (text_faults bytes) ≡ Some fault)
+text_read bytes document (Ok st) short parsed read = record { short = short; document = document; parsed = parsed; says = read }
+text_read bytes document (Err fault) short parsed read = λ other.
+    let fits : nat_le (length bytes) longest_text ≡ true = le-leb (length bytes) longest_text short in
+    (λ i. first (unless (fits i) TooLong ++ absent (parsed i) NotToml ++ present (parsed i) document_faults)) ∙ read other
