@@ -1,6 +1,5 @@
 -- The first fault of a document, part by part, as the reader finds it; the tables of one in form; and the text whose document it is.
-use Rattle.std.proofs.Common.{◌≡◌, ◌≢◌, ℕ, ◌≤◌, Bool, true, nat_le, le-leb, List, [], ◌∷◌, ◌++◌, length, map as map_list, codes, Option,
-    Some, None, is_some, Result, Ok, Err, MatchResult, refl, sym, ap, ◌∙◌, true≢false}
+use Rattle.std.proofs.Common.{◌≡◌, ◌≢◌, ℕ, ◌≤◌, true, nat_le, le-leb, List, [], ◌∷◌, ◌++◌, length, map as map_list, codes, Option, Some, None, is_some, Result, Ok, Err, MatchResult, refl, sym, ap, ◌∙◌, true≢false}
 use Rattle.std.specs.List.{list_all}
 use Rattle.std.specs.Option.{ok_or}
 use Rattle.std.proofs.lemmas.Bool.{and_parts, and_from}

@@ -465,6 +465,18 @@ pub record HasCgroups (format : Format) (tables : List Members) (controllers : C
     pub are : AreEntriesOf format tables entries
     pub made : cgroups ≡ map.from_sorted entries
 
+pub cgroups_had : (format : Format) (tables : List Members) (controllers : ControllerSet) (entries : List (Names × Cgroup))
+    (found : map.FinMap path_cmp Cgroup) → first (each_cgroup (λ _. row_faults format) tables) ≡ None
+    → (first (cgroup_faults (Some controllers) tables) ≡ None) × AreEntriesOf format tables entries → found ≡ map.from_sorted entries
+    → HasCgroups format tables controllers found
+cgroups_had format tables controllers entries found alone walked made = record {
+  alone = alone;
+  together = walked.0;
+  entries = entries;
+  are = walked.1;
+  made = made;
+}
+
 pub among_these : (format : Format) (tables : List Members) (controllers : ControllerSet) (cgroups : map.FinMap path_cmp Cgroup)
     → HasCgroups format tables controllers cgroups → IsAmong tables cgroups
 among_these format tables controllers found has =
