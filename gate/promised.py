@@ -192,3 +192,13 @@ def faults_of(text, folders):
         known = [it.name.partition("/")[2] for crate in row.crates for it in sources.edits[crate]]
         faults += [f"there is no edit {it} in {in_words(row.crates)}" for it in row.words if not fnmatch.filter(known, it)]
     return sum(it.count + len(it.words) for it in rows) + sum(map(len, sources.edits.values())), faults
+
+
+def edits_missing(text, edits):
+    """Returns how many edits the last column of tables headed "Edits" names, and which of them aren't there, in words."""
+    named, is_about_edits = [], False
+    for line in text.split("\n"):
+        last = line.strip("| ").split("|")[-1]
+        is_about_edits = line.startswith("|") and (is_about_edits or last.strip() == "Edits")
+        named += EDIT.findall(last) if is_about_edits else []
+    return len(named), [f"there is no edit {it}" for it in named if not fnmatch.filter(edits, it)]

@@ -4,7 +4,7 @@ import shutil
 import tempfile
 import unittest
 
-from promised import faults_of
+from promised import edits_missing, faults_of
 
 ROOT = """//! A crate.
 pub mod counts;
@@ -161,6 +161,11 @@ class Promised(unittest.TestCase):
         self.assertEqual({it.rpartition("/")[0] for it in faults}, {"nothing names the edit high"})
         anywhere = PROMISES.replace(" (`low`)", "").replace("low::shown", "shown")
         self.assertEqual(faults_of(anywhere, [self.folder, other])[1], [])
+
+    def test_edits_that_another_page_names(self):
+        page = "| Rule | Edits |\n|---|---|\n| Less, by `none_*` | `less_*`, `{}` |\n\n| Other |\n|---|\n| `none` |\n"
+        self.assertEqual(edits_missing(page.format("many_of_another"), [*EDITS]), (2, []))
+        self.assertEqual(edits_missing(page.format("gone"), [*EDITS]), (2, ["there is no edit gone"]))
 
 
 if __name__ == "__main__":

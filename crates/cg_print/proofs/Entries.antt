@@ -1,11 +1,11 @@
 -- The entries of a map in turn: each is found by its key, and by none before it.
-use Rattle.std.proofs.Common.{◌≡◌, ℕ, ◌+◌, ◌<◌, ◌≤◌, true, cond, T, zero, suc, List, [], ◌∷◌, ◌++◌, length, get_or, take, map as map_list, Some, None, is_some, option_map, subst, Ordering, Greater, is_eq, refl, sym, ap, ◌∙◌, arith}
+use Rattle.std.proofs.Common.{◌≡◌, ℕ, ◌+◌, ◌<◌, ◌≤◌, true, cond, T, zero, suc, List, [], ◌∷◌, ◌++◌, length, get_or, take, map as map_list, Some, None, is_some, option_map, subst, Ordering, Less, Equal, Greater, is_eq, refl, sym, ap, ◌∙◌, arith}
 use Rattle.std.proofs.lemmas.List.{take_more, take_all, map-append, get_or-map, length-map}
 use Rattle.std.specs.List.{AllByRecursion}
 use Rattle.std.specs.Ordering.{is_lt, ordering_reverse}
 use Rattle.std.specs.Cmp.{IsTotalOrder, tied_itself}
 use Rattle.std.specs.FinMap as finite
-use Rattle.std.specs.FinMap.{FinMap, get, entries}
+use Rattle.std.specs.FinMap.{FinMap, IsAntisymmetric, get, entries}
 use Rattle.std.specs.FinMap.Entries.{find, is_sorted, below_all}
 use Rattle.toml.specs.Data.{Data}
 use Rattle.toml.specs.View.{view}
@@ -37,6 +37,28 @@ module _ {K X : Type 0} (R : K → K → Ordering) (o : IsTotalOrder R) where
   -- the entry at a place is found by its key
   pub entry_found : (m : FinMap R X) (i : ℕ) (d : K × X) → i < length (entries m) → get m (get_or (entries m) i d).0 ≡ Some (get_or (entries m) i d).1
   entry_found m i d inside = finite.get-entries m _ ∙ found_at (entries m) (finite.entries_sorted m) i d inside
+
+  all_there : (m : FinMap R X) (es : List (K × X)) → ((i : ℕ) (d : K × X) → i < length es → get m (get_or es i d).0 ≡ Some (get_or es i d).1) → AllByRecursion (λ (e : K × X). get m e.0 ≡ Some e.1) es
+  all_there m [] each = tt
+  all_there m (e ∷ es) each = (each zero e (omega arith), all_there m es (λ i d inside. each (suc i) d (omega arith)))
+
+  -- each entry is found by its key
+  pub entries_there : (m : FinMap R X) → AllByRecursion (λ (e : K × X). get m e.0 ≡ Some e.1) (entries m)
+  entries_there m = all_there m (entries m) (entry_found m)
+
+module _ {K X : Type 0} {R : K → K → Ordering} (same : IsAntisymmetric R) (P : K → X → Type 0) where
+  held_in : (es : List (K × X)) → AllByRecursion (λ (e : K × X). P e.0 e.1) es → (key : K) (held : X) → find R key es ≡ Some held → P key held
+  held_in [] all key held is = cc
+  held_in (e ∷ es) all key held is =
+      elim (R key e.0) as (λ o. R key e.0 ≡ o → cond (is_eq o) (Some e.1) (find R key es) ≡ Some held → P key held) [
+        | Less ↦ λ _ later. held_in es all.1 key held later
+        | Equal ↦ λ tie here. subst (λ q. P q held) (sym (same key e.0 tie)) (subst (P e.0) (same_some e.1 held here) all.0)
+        | Greater ↦ λ _ later. held_in es all.1 key held later
+      ] refl is
+
+  -- what holds of all entries holds of what is found
+  pub held_there : (m : FinMap R X) → AllByRecursion (λ (e : K × X). P e.0 e.1) (entries m) → (key : K) (held : X) → get m key ≡ Some held → P key held
+  held_there m all key held is = held_in (entries m) all key held (sym (finite.get-entries m key) ∙ is)
 
 -- ---- the entries so far
 

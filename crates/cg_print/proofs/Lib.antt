@@ -1,9 +1,9 @@
 pub mod KeyLaws
 pub mod Entries
-pub mod ReadBack
-pub mod StateBack
 pub mod IdLaws
 pub mod Depths
-pub mod TextBack
 pub mod ReadCarried
+pub mod FormBack
+pub mod SaidBack
+pub mod DocumentBack
 mod Spelling

@@ -1,63 +1,44 @@
--- What a text says can be carried by a text: it has as many cgroups and processes as its rows at most.
-use Rattle.std.proofs.Common.{◌≡◌, ℕ, ◌+◌, ◌≤◌, Bool, true, false, cond, if◌then◌else◌, nat_le, List, [], ◌∷◌, length, map as map_list, Option, Ordering, Ok, Err, refl, sym, ap, subst, arith}
-use Rattle.std.proofs.lemmas.Bool.{and_parts}
-use Rattle.std.proofs.lemmas.List.{length-map}
-use Rattle.std.specs.Cmp.{IsTotalOrder, nat_cmp_total}
+-- What a text says can be carried by a text: it has no more cgroups and processes than the text has tables.
+use Rattle.std.proofs.Common.{◌≡◌, ℕ, ◌+◌, ◌≤◌, Bool, true, false, cond, List, [], ◌∷◌, length, Ordering, codes, Option, Some, None, is_some, refl, sym, ap, ◌∙◌, arith}
+use Rattle.std.specs.Prelude.{◌||◌, count_by, filter_map}
+use Rattle.std.specs.List.{cons_option, AllByRecursion, list_any}
+use Rattle.std.specs.Ordering.{nat_cmp, eq_by_cmp}
+use Rattle.std.specs.Cmp.{IsTotalOrder, Equal-is, nat_cmp_total}
 use Rattle.std.specs.FinMap as finite
-use Rattle.std.specs.FinMap.{FinMap}
-use Rattle.toml.specs.Data.{Data, Items, no_items, item, Members}
-use Rattle.cg_cgroup.specs.Paths.{Names}
+use Rattle.std.specs.FinMap.{FinMap, IsAntisymmetric, get, entries, find, nat_cmp-IsAntisymmetric}
+use Rattle.toml.specs.Data.{Data, Members, as_table}
+use Rattle.cg_cgroup.specs.Paths.{Names, path_cmp}
 use Rattle.cg_cgroup.specs.declared.cgroup.Cgroup.{Cgroup}
-use Rattle.cg_cgroup.proofs.PathOrder.{path_cmp_total}
-use Rattle.cg_model.specs.States.{State}
-use Rattle.cg_text.specs.Records.{TreeRecords}
-use Rattle.cg_text.specs.Faults.{or_fault, bind}
-use Rattle.cg_text.specs.Document.{TopKeys, most_rows, count_of, rows_from, cgroup_of, process_of, top_of, format_of, has_few_rows, records_as, records_of, HasFewRows}
-use Rattle.cg_text.specs.Tree.{named, named_rows, cgroup_at, fitted, live_process, first_fault, state_of}
-use Rattle.cg_text.specs.TreeTexts.{tree_of}
-use Rattle.cg_text.specs.declared.tree.fault.Place.{Place}
-use Rattle.cg_text.specs.declared.tree.fault.Place.TheVariants.{Top, Cgroup as AtCgroup, Process as AtProcess}
-use Rattle.cg_text.specs.declared.tree.fault.TreeFault.TheVariants.{Shape, Format as BadFormat, TooMany}
-use Rattle.cg_text.specs.declared.tree.named.NamedRow.{NamedRow}
+use Rattle.cg_cgroup.specs.declared.process.Process.{Process}
+use Rattle.cg_cgroup.proofs.PathOrder.{path_cmp_total, path_cmp-IsAntisymmetric}
+use Rattle.cg_model.specs.States.{State, row_at, process_at}
+use Rattle.cg_steps.proofs.Lists.{all-each}
+use Rattle.cg_text.specs.Said.{elements_at, tables_at, has_path}
+use Rattle.cg_text.specs.TextOf.{IsRowOf, IsProcessOf, has_pid, IsTextOf}
 use Rattle.cg_text.specs.declared.tree.records.Format.{Format}
-use Rattle.cg_text.proofs.StateLaws.{state_is_said}
-use Rattle.cg_text.proofs.TextLaws.{bind_ok, state_or_ok, text_has_state}
+use Rattle.cg_text.proofs.OnceLaws.{counted, counted_is}
 use Rattle.cg_print.specs.Carried.{IsCarried}
-use Rattle.cg_print.proofs.TextBack.{fits}
+use Rattle.cg_print.proofs.DocumentBack.{path_ties, pid_ties}
 
--- ---- the rows of a document
+-- ---- the tables of an array
 
-rows_counted : {A : Type 0} (read : Data → Option A) (place : ℕ → Place) (i : ℕ) (items : Items) (rows : List A) → rows_from read place i items ≡ Ok rows → length rows ≡ count_of items
-rows_counted read place i no_items rows is = let none : [] ≡ rows = cc in ap length (sym none)
-rows_counted {A} read place i (item held rest) rows is =
-    let first = bind_ok (or_fault (read held) (Shape (place i))) (λ (row : A). bind (rows_from read place (i + 1) rest) (λ (rows : List A). Ok (row ∷ rows))) rows is in
-    let others = bind_ok (rows_from read place (i + 1) rest) (λ (rows : List A). Ok (first.0 ∷ rows)) rows first.2 in
-    let whole : first.0 ∷ others.0 ≡ rows = cc (others.2) in
-    omega (arith, ap length whole, rows_counted read place (i + 1) rest others.0 others.1)
+one_at_most : (found : Option Members) (rest : List Members) (n : ℕ) → length rest ≤ n → length (cons_option found rest) ≤ n + 1
+one_at_most None rest n few = omega arith
+one_at_most (Some keys) rest n few = omega arith
 
-few_as : (top : TopKeys) (format : Format) (records : TreeRecords) → has_few_rows top ≡ true → records_as top format ≡ Ok records → HasFewRows records
-unfolding records_as
-few_as top format records few is =
-    let parts = and_parts (nat_le (count_of top.cgroups) most_rows) (nat_le (count_of top.processes) most_rows) few in
-    let cgroups = bind_ok (rows_from (cgroup_of format) AtCgroup 1 top.cgroups) _ records is in
-    let processes = bind_ok (rows_from process_of AtProcess 1 top.processes) _ records cgroups.2 in
-    let few_cgroups : length cgroups.0 ≤ most_rows =
-    omega (arith, rows_counted (cgroup_of format) AtCgroup 1 top.cgroups cgroups.0 cgroups.1, fits (count_of top.cgroups) most_rows parts.0) in
-    let few_processes : length processes.0 ≤ most_rows =
-    omega (arith, rows_counted process_of AtProcess 1 top.processes processes.0 processes.1, fits (count_of top.processes) most_rows parts.1) in
-    let same : record { format = format; controllers = top.controllers; cgroups = cgroups.0; processes = processes.0 } ≡ records = cc (processes.2) in
-    subst HasFewRows same (record { cgroups = few_cgroups; processes = few_processes })
+tables_at_most : (values : List Data) → length (filter_map as_table values) ≤ length values
+tables_at_most [] = omega arith
+tables_at_most (value ∷ values) = omega (arith, one_at_most (as_table value) (filter_map as_table values) (length values) (tables_at_most values))
 
-few_or_fault : (top : TopKeys) (format : Format) (records : TreeRecords) (b : Bool) → has_few_rows top ≡ b → (if b then records_as top format else Err TooMany) ≡ Ok records → HasFewRows records
-few_or_fault top format records true few is = few_as top format records few is
-few_or_fault top format records false few is = cc
-
-few_records : (document : Members) (records : TreeRecords) → records_of document ≡ Ok records → HasFewRows records
-unfolding records_of
-few_records document records is =
-    let top = bind_ok (or_fault (top_of document) (Shape Top)) _ records is in
-    let format = bind_ok (or_fault (format_of top.0.format) BadFormat) _ records top.2 in
-    few_or_fault top.0 format.0 records (has_few_rows top.0) refl format.2
+-- what comes once is there, and what comes never isn't
+any_counted : {A : Type 0} (p : A → Bool) (xs : List A) (b : Bool) → counted p xs ≡ cond b 1 0 → list_any p xs ≡ b
+any_counted p [] true is = absurd (omega (arith, is))
+any_counted p [] false is = refl
+any_counted p (x ∷ xs) b is =
+    elim (p x) as (λ t. cond t (1 + counted p xs) (counted p xs) ≡ cond b 1 0 → (t || list_any p xs) ≡ b) [
+      | true ↦ elim b as (λ b. 1 + counted p xs ≡ cond b 1 0 → true ≡ b) [ true ↦ λ _. refl | false ↦ λ more. absurd (omega (arith, more)) ]
+      | false ↦ λ later. any_counted p xs b later
+    ] is
 
 -- ---- the entries of a map
 
@@ -65,34 +46,66 @@ one_more : (has : Bool) (before after most : ℕ) → after ≡ cond has before 
 one_more true before after most is few = omega arith
 one_more false before after most is few = omega arith
 
-module _ {K X : Type 0} {R : K → K → Ordering} (o : IsTotalOrder R) where
+where_there : {A : Type 0} (found : Option A) → cond (is_some found) found None ≡ found
+where_there None = refl
+where_there (Some x) = refl
+
+module _ {K X : Type 0} {R : K → K → Ordering} (total : IsTotalOrder R) (same : IsAntisymmetric R) (m : FinMap R X) (test : K → Members → Bool) where
   -- a map of a list has as many entries at most
   len_at_most : (es : List (K × X)) → finite.len (finite.from_entries {R = R} es) ≤ length es
   len_at_most [] = omega (arith, finite.len-empty R X)
   len_at_most (e ∷ es) =
       let rest : FinMap R X = finite.from_entries es in
-      omega (arith, one_more (finite.contains_key rest e.0) (finite.len rest) (finite.len (finite.insert rest e.0 e.1)) (length es) (finite.len-insert o rest e.0 e.1) (len_at_most es))
+      omega (arith, one_more (finite.contains_key rest e.0) (finite.len rest) (finite.len (finite.insert rest e.0 e.1)) (length es) (finite.len-insert total rest e.0 e.1) (len_at_most es))
 
-  entries_at_most : {A : Type 0} (write : A → K × X) (items : List A) → length (finite.entries (finite.from_entries {R = R} (map_list write items))) ≤ length items
-  entries_at_most write items =
-      omega (arith, finite.len-entries (finite.from_entries {R = R} (map_list write items)), len_at_most (map_list write items), length-map items write)
+  -- a table of an entry, by whose key it is found
+  record IsOfEntry (row : Members) : Type 0 where
+    key : K
+    held : X
+    there : get m key ≡ Some held
+    ties : (q : K) → test q row ≡ eq_by_cmp R q key
 
-IsSmall : State → Type 0
-IsSmall st = (length (finite.entries st.rows) ≤ most_rows) × (length (finite.entries st.live) ≤ most_rows)
+  abbrev entries_of : (rows : List Members) → AllByRecursion IsOfEntry rows → List (K × X)
+  entries_of [] all = []
+  entries_of (row ∷ rows) all = (all.0.key, all.0.held) ∷ entries_of rows all.1
 
-small_state : (records : TreeRecords) → HasFewRows records → IsSmall (state_of records)
-unfolding IsSmall state_of
-small_state records few =
-    let rows : List NamedRow = named_rows records in
-    let write : NamedRow → Names × Cgroup = λ row. (row.path, fitted (cgroup_at rows) row) in (
-      omega (arith, entries_at_most path_cmp_total write rows, length-map records.cgroups (named records.format), few.cgroups),
-      omega (arith, entries_at_most nat_cmp_total live_process records.processes, few.processes),
-    )
+  length-entries_of : (rows : List Members) (all : AllByRecursion IsOfEntry rows) → length (entries_of rows all) ≡ length rows
+  length-entries_of [] all = refl
+  length-entries_of (row ∷ rows) all = omega (arith, length-entries_of rows all.1)
 
-pub read_carried : (text : List ℕ) (st : State) → tree_of text ≡ Ok st → IsCarried st
-unfolding IsSmall
+  find-entries_of : (q : K) (rows : List Members) (all : AllByRecursion IsOfEntry rows) → find R q (entries_of rows all) ≡ cond (list_any (test q) rows) (get m q) None
+  find-entries_of q [] all = refl
+  find-entries_of q (row ∷ rows) all =
+      elim (eq_by_cmp R q all.0.key) as (λ b. eq_by_cmp R q all.0.key ≡ b → cond b (Some all.0.held) (find R q (entries_of rows all.1)) ≡ cond (b || list_any (test q) rows) (get m q) None) [
+        | true ↦ λ tie. sym (ap (get m) (same q all.0.key ((Equal-is _).0 tie)) ∙ all.0.there)
+        | false ↦ λ _. find-entries_of q rows all.1
+      ] refl
+      ∙ ap (λ b. cond (b || list_any (test q) rows) (get m q) None) (sym (all.0.ties q))
+
+  -- where a table stands for each entry, the map has no more entries than there are tables
+  entries_at_most : (rows : List Members) → AllByRecursion IsOfEntry rows → ((q : K) → count_by (test q) rows ≡ cond (is_some (get m q)) 1 0) → length (entries m) ≤ length rows
+  entries_at_most rows all counts =
+      let found : (q : K) → get m q ≡ get (finite.from_entries {R = R} (entries_of rows all)) q =
+      λ q. sym (finite.get-from_entries total (entries_of rows all) q ∙ find-entries_of q rows all
+          ∙ ap (λ b. cond b (get m q) None) (any_counted (test q) rows (is_some (get m q)) (counted_is (test q) rows ∙ counts q)) ∙ where_there (get m q)) in
+      let one : m ≡ finite.from_entries {R = R} (entries_of rows all) = finite.same_map total same m _ found in
+      omega (arith, finite.len-entries m, ap finite.len one, len_at_most (entries_of rows all), length-entries_of rows all)
+
+module _ (st : State) where
+  row_entry : (format : Format) (row : Members) → IsRowOf format st row → IsOfEntry path_cmp_total path_cmp-IsAntisymmetric st.rows has_path row
+  row_entry format row is = record { key = is.path; held = is.cgroup; there = is.there; ties = path_ties row is.path is.named }
+
+  process_entry : (row : Members) → IsProcessOf st row → IsOfEntry nat_cmp_total nat_cmp-IsAntisymmetric st.live has_pid row
+  process_entry row is = record { key = is.pid; held = is.process; there = is.there; ties = pid_ties row is.pid is.named }
+
+pub read_carried : (text : List ℕ) (st : State) → IsTextOf st text → IsCarried st
 read_carried text st is =
-    let has = text_has_state text st is in
-    let said = state_or_ok (first_fault has.records) (state_of has.records) st (state_is_said has.records st has.tree) in
-    let small : IsSmall st = subst IsSmall said.1 (small_state has.records (few_records has.document has.records has.form)) in
-    record { cgroups = small.0; processes = small.1; used = has.tree.used }
+    let rows : List Members = tables_at (codes "cgroup") is.document in
+    let lives : List Members = tables_at (codes "process") is.document in
+    let cgroups = entries_at_most path_cmp_total path_cmp-IsAntisymmetric st.rows has_path rows (all-each _ _ (row_entry st is.says.format) rows is.says.cgroups) is.says.paths in
+    let processes = entries_at_most nat_cmp_total nat_cmp-IsAntisymmetric st.live has_pid lives (all-each _ _ (process_entry st) lives is.says.processes) is.says.pids in
+    record {
+      cgroups = omega (arith, is.says.form.few_cgroups, tables_at_most (elements_at (codes "cgroup") is.document), cgroups);
+      processes = omega (arith, is.says.form.few_processes, tables_at_most (elements_at (codes "process") is.document), processes);
+      used = is.says.used;
+    }

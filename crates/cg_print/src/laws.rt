@@ -10,6 +10,7 @@ ghost use Rattle.cg_print.specs.Documents.{tree_document, IsSpelled};
 use crate::tree::tree_text;
 use cg_cgroup::memory::NoMemory;
 use cg_rows::rows::Rows;
+use cg_text::tree::laws::texts_are_of_states;
 use cg_text::tree::{TreeFault, read_tree};
 use cg_tree::hierarchy::Hierarchy;
 use std::alloc::Global;
@@ -21,6 +22,7 @@ pub fn written_is_read<H: Hierarchy>(alloc: Global, tree: &H) -> Result<Rows, Tr
         (λ rows. rows ≡ H.state tree.now)
         (λ fault. fault ≢ MemoryFault → (fault ≡ TooLong) × IsTooLong (H.state tree.now)) }
 {
+    texts_are_of_states();
     match tree_text(alloc, tree) {
         Ok(text) => read_tree(alloc, text.as_slice()),
         Err(NoMemory) => Err(TreeFault::NoMemory),

@@ -42,8 +42,8 @@ use Rattle.cg_text.specs.declared.tree.fault.Place.TheVariants.{Cgroup as AtCgro
 use Rattle.cg_text.specs.declared.tree.fault.TreeFault.{TreeFault}
 use Rattle.cg_text.specs.declared.tree.fault.TreeFault.TheVariants.{BadEntry, BadPath, BadController, Duplicate, NoRoot, NoParent, TopDown,
     NoSuchFile, BadPid, DuplicatePid, NoSuchPlace, InternalProcess}
-use Rattle.cg_text.specs.declared.tree.records.Format.{Format}
-use Rattle.cg_text.proofs.SoundRows.{mode_small, entry_as, accepted_is}
+use Rattle.cg_text.specs.declared.tree.format.Format.{Format}
+use Rattle.cg_text.proofs.SaidRanges.{mode_small, entry_as, accepted_is}
 use Rattle.cg_text.proofs.KeysOnce.{none_left, none_right, unless_passes, absent_passes, present_passes, none_at, all_rows, is_some-find,
     found_at, IsOnce, key_had, once_found, once_counted}
 

@@ -30,7 +30,7 @@ use Rattle.cg_text.specs.Said.{path_said, controllers_said, has_path}
 use Rattle.cg_text.specs.TextFaults.{is_there, enabled_there, over}
 use Rattle.cg_text.specs.Rows.{IsReadAs, AreReadAs}
 use Rattle.cg_text.specs.Walk.{has_met, enabled_by, over_in, fitted_to, entries_from, is_orphan, IsLeast, HasTested, least_fault, AreInOrder, IsNext, IsEntryOf, AreEntriesOf}
-use Rattle.cg_text.specs.declared.tree.records.Format.{Format}
+use Rattle.cg_text.specs.declared.tree.format.Format.{Format}
 use Rattle.cg_text.specs.declared.tree.fault.Place.TheVariants.{Cgroup as AtCgroup}
 use Rattle.cg_text.specs.declared.tree.fault.TreeFault.{TreeFault}
 use Rattle.cg_text.specs.declared.tree.fault.TreeFault.TheVariants.{Duplicate, NoRoot, NoParent}
@@ -241,7 +241,7 @@ stands true o is = is
 stands false o is = refl
 
 -- a row's cgroup, with the files that stand under what is over it
-read_entry : (format : Format) (tables : List Members) (number : ℕ) (table : Members) (row : Row) → IsReadAs format number table row
+pub read_entry : (format : Format) (tables : List Members) (number : ℕ) (table : Members) (row : Row) → IsReadAs format number table row
     → (above : ControllerSet) → ((other : ControllerSet) → over (Some no_controllers) tables row.path ≡ Some other → other ≡ above)
     → IsEntryOf format tables table (fitted_to above row.cgroup)
 read_entry format tables number table row read above same = record {

@@ -11,8 +11,8 @@ use Rattle.cg_text.specs.TextFaults.{each_cgroup, each_process, has_few, form_fa
 use Rattle.cg_text.specs.declared.tree.fault.TreeFault.{TreeFault}
 use Rattle.cg_text.specs.declared.tree.fault.TreeFault.TheVariants.{Shape, Format as BadFormat, TooMany}
 use Rattle.cg_text.specs.declared.tree.fault.Place.TheVariants.{Top}
-use Rattle.cg_text.specs.declared.tree.records.Format.{Format}
-use Rattle.cg_text.proofs.FormFaults.{in_form}
+use Rattle.cg_text.specs.declared.tree.format.Format.{Format}
+use Rattle.cg_text.proofs.FormClauses.{in_form}
 use Rattle.cg_text.proofs.EachRow.{first_before, first_behind}
 
 abbrev pub cgroup_shapes : Format → List Data → List TreeFault

@@ -33,7 +33,7 @@ use Rattle.cg_text.specs.Rows.{table_in, owner_in, value_in, with_value, names, 
 use Rattle.cg_text.specs.declared.tree.fault.Place.TheVariants.{Cgroup as AtCgroup}
 use Rattle.cg_text.specs.declared.tree.fault.TreeFault.{TreeFault}
 use Rattle.cg_text.specs.declared.tree.fault.TreeFault.TheVariants.{BadPath, BadController, BadEntry, BadValue, NoMemory}
-use Rattle.cg_text.specs.declared.tree.records.Format.{Format}
+use Rattle.cg_text.specs.declared.tree.format.Format.{Format}
 use Rattle.cg_text.specs.declared.tree.row.Entries.{Entries}
 use Rattle.cg_text.specs.declared.tree.row.Row.{Row}
 use Rattle.cg_text.proofs.EachRow.{HavePassed, more_passed, fault_found, all_passed, row_count, row_at}

@@ -12,7 +12,7 @@ use Rattle.cg_text.specs.TextFaults.{cgroup_faults}
 use Rattle.cg_text.specs.Rows.{AreReadAs}
 use Rattle.cg_text.specs.Walk.{entries_from, least_fault, has_root, AreInOrder, AreEntriesOf, HasMet}
 use Rattle.cg_text.specs.declared.tree.fault.TreeFault.{TreeFault}
-use Rattle.cg_text.specs.declared.tree.records.Format.{Format}
+use Rattle.cg_text.specs.declared.tree.format.Format.{Format}
 use Rattle.cg_text.specs.declared.tree.row.Row.{Row}
 use Rattle.cg_text.specs.declared.tree.walk.Walk.{Walk}
 use Rattle.cg_text.proofs.EntriesLaws.{entries_of_tables}

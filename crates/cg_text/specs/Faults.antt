@@ -4,11 +4,6 @@ use Rattle.std.specs.Prelude.{◌≡◌, ◌≢◌, Option, Some, None, Result, 
 use Rattle.cg_text.specs.declared.tree.fault.TreeFault.{TreeFault}
 use Rattle.cg_text.specs.declared.tree.fault.TreeFault.TheVariants.{NoMemory}
 
--- the second step on what the first gives, or the fault of the first
-abbrev pub bind : {A B : Type 0} → Result A TreeFault → (A → Result B TreeFault) → Result B TreeFault
-bind (Ok x) next = next x
-bind (Err fault) next = Err fault
-
 abbrev pub or_fault : {A : Type 0} → Option A → TreeFault → Result A TreeFault
 or_fault None fault = Err fault
 or_fault (Some x) fault = Ok x

@@ -1,14 +1,10 @@
 pub mod Faults
-pub mod Records
 pub mod Form
 pub mod Said
-pub mod Document
-pub mod Tree
 pub mod TreeTexts
 pub mod TextOf
 pub mod TextFaults
 pub mod Readings
-pub mod HasState
 pub mod Keys
 pub mod Rows
 pub mod Walk

@@ -11,7 +11,7 @@ use Rattle.cg_text.specs.Form.{most_rows, document_keys, row_keys, live_keys, is
 use Rattle.cg_text.specs.Said.{elements_at, tables_at, path_said, controllers_said, format_said, entry_said, value_said, is_named, has_path, pid_said, uid_said}
 use Rattle.cg_text.specs.TextOf.{has_pid}
 use Rattle.cg_text.specs.TreeTexts.{longest_text, document_of}
-use Rattle.cg_text.specs.declared.tree.records.Format.{Format}
+use Rattle.cg_text.specs.declared.tree.format.Format.{Format}
 use Rattle.cg_text.specs.declared.tree.fault.Place.{Place}
 use Rattle.cg_text.specs.declared.tree.fault.Place.TheVariants.{Top, Cgroup, Process}
 use Rattle.cg_text.specs.declared.tree.fault.TreeFault.{TreeFault}

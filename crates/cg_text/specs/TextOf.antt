@@ -15,7 +15,7 @@ use Rattle.cg_model.specs.WellFormed.{has_row, IsWellFormed}
 use Rattle.cg_text.specs.Form.{most_rows, document_keys, row_keys, live_keys, is_table}
 use Rattle.cg_text.specs.Said.{elements_at, tables_at, path_said, controllers_said, format_said, entry_said, value_said, is_named, has_path, pid_said, uid_said}
 use Rattle.cg_text.specs.TreeTexts.{longest_text, document_of}
-use Rattle.cg_text.specs.declared.tree.records.Format.{Format}
+use Rattle.cg_text.specs.declared.tree.format.Format.{Format}
 
 -- The document has the keys and the types of its format, and not too many rows.
 pub record IsInForm (kind : Format) (document : Members) : Type 0 where

@@ -8,13 +8,11 @@ ghost use Rattle.cg_text.specs.TextOf.{IsDocumentOf, IsTextOf};
 ghost use Rattle.cg_text.specs.TextFaults.{document_faults, text_faults};
 ghost use Rattle.cg_text.specs.declared.tree.fault.TreeFault.TheVariants.{NotToml};
 
-mod document;
 mod fault;
 mod form;
+mod format;
 pub mod laws;
-mod named;
 mod processes;
-mod records;
 mod row;
 mod said;
 mod walk;

@@ -12,7 +12,7 @@ ghost use Rattle.cg_text.specs.Faults.{Passes};
 ghost use Rattle.cg_text.specs.Keys.{flat_keys, takes, allows, allows_table};
 
 use crate::tree::fault::{Place, TreeFault};
-use crate::tree::records::Format;
+use crate::tree::format::Format;
 use crate::tree::said::{elements_at, format_at};
 use cg_cgroup::files::EntryName;
 use toml::{Table, Value};

@@ -14,7 +14,7 @@ ghost use Rattle.cg_text.specs.Rows.{table_in, owner_in, value_in, with_value, n
 
 use crate::tree::fault::{Place, TreeFault};
 use crate::tree::form::row_number;
-use crate::tree::records::Format;
+use crate::tree::format::Format;
 use crate::tree::said::{controllers_at, limit_of, owner_of, path_at, table_at};
 use cg_cgroup::cgroup::{Cgroup, LimitEntry};
 use cg_cgroup::files::{ControllerSet, EntryName, LimitFile};

@@ -9,7 +9,7 @@ ghost use Rattle.cg_text.specs.Faults.{Passes};
 ghost use Rattle.cg_text.specs.Rows.{written};
 
 use crate::tree::fault::TreeFault;
-use crate::tree::records::Format;
+use crate::tree::format::Format;
 use cg_cgroup::files::{Controller, ControllerSet, Limit, LimitFile};
 use cg_cgroup::path::{Path, PathFault};
 use cg_cgroup::process::Pid;

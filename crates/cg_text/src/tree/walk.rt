@@ -6,7 +6,7 @@ ghost use Rattle.cg_cgroup.specs.Paths.{path_cmp, is_root};
 ghost use Rattle.cg_cgroup.specs.Files.{no_controllers, stands_under};
 ghost use Rattle.cg_cgroup.specs.declared.files.ControllerSet.{ControllerSet};
 ghost use Rattle.cg_model.specs.Clauses.{first};
-ghost use Rattle.cg_text.specs.declared.tree.records.Format.{Format};
+ghost use Rattle.cg_text.specs.declared.tree.format.Format.{Format};
 ghost use Rattle.cg_text.specs.declared.tree.row.Row.{Row};
 ghost use Rattle.cg_text.specs.TextFaults.{cgroup_faults};
 ghost use Rattle.cg_text.specs.Faults.{Passes};

@@ -1,11 +1,11 @@
-use Rattle.std.proofs.Common.{ap}
-use Rattle.cg_model.specs.Clauses.{first}
-use Rattle.cg_text.proofs.TextFaultLaws.{none_found, state_without_fault, one_state}
+use Rattle.cg_text.proofs.OneState.{one_state}
+use Rattle.cg_text.proofs.NoFaults.{no_faults}
+use Rattle.cg_text.proofs.StateOf.{state_of_text}
 use Rattle.cg_text.proofs.tree.laws.texts_are_of_states.Goals as goal
 
 pub returns : goal.returns
 returns c = record {
-  fault = λ bytes st is. none_found bytes st is;
-  state = λ bytes none. state_without_fault bytes (ap first none);
-  one = λ bytes st other is also. one_state bytes st other is also;
+  fault = no_faults;
+  state = state_of_text;
+  one = one_state;
 }

@@ -1,0 +1,188 @@
+-- The tables of a tree's document say what they were written of.
+use Rattle.std.proofs.Common.{◌≡◌, ℕ, ◌≤◌, pos, Bool, true, false, cond, le-leb, List, [], ◌∷◌, map as map_list, codes, Option, Some, None, is_some, option_map, option_and_then, unwrap_or, refl, sym, ap, subst, ◌∙◌}
+use Rattle.std.specs.Prelude.{◌&&◌, filter_map}
+use Rattle.toml.specs.Data.{Data, string, table, Members, no_members, as_str, as_table}
+use Rattle.toml.specs.View.{items_of}
+use Rattle.cg_cgroup.specs.Options.{◌>>=◌}
+use Rattle.cg_cgroup.specs.Paths.{Names, IsPath, path_text}
+use Rattle.cg_cgroup.specs.Texts as texts
+use Rattle.cg_cgroup.specs.Files.{accepts}
+use Rattle.cg_cgroup.specs.Cgroups.{file_of, entry_in}
+use Rattle.cg_cgroup.specs.declared.user.Entry.{Entry}
+use Rattle.cg_cgroup.specs.declared.files.Limit.{Limit}
+use Rattle.cg_cgroup.specs.declared.files.Limit.TheVariants.{Max, At}
+use Rattle.cg_cgroup.specs.declared.files.ControllerSet.{ControllerSet}
+use Rattle.cg_cgroup.specs.declared.files.LimitFile.{LimitFile}
+use Rattle.cg_cgroup.specs.declared.files.EntryName.{EntryName}
+use Rattle.cg_cgroup.specs.declared.files.EntryName.TheVariants.{Dir, Procs, SubtreeControl, File}
+use Rattle.cg_cgroup.specs.declared.cgroup.LimitEntry.{LimitEntry}
+use Rattle.cg_cgroup.specs.declared.cgroup.Cgroup.{Cgroup}
+use Rattle.cg_cgroup.specs.declared.process.Process.{Process}
+use Rattle.cg_cgroup.proofs.Options.{mapped_from, is_some-mapped, same_some}
+use Rattle.cg_cgroup.proofs.PathAt.{path_at-text}
+use Rattle.cg_model.specs.States.{State}
+use Rattle.cg_model.specs.WellFormed.{IsFormedRow}
+use Rattle.cg_text.specs.Form.{elements}
+use Rattle.cg_text.specs.Said.{elements_at, id_read, mode_read, pid_read, accepted, controllers_read, limit_of, path_said, controllers_said, format_said, owner_said, limit_said, mode_missing, table_of, entry_said, value_said, is_named, pid_said, uid_said}
+use Rattle.cg_text.specs.declared.tree.records.Format.TheVariants.{Two}
+use Rattle.cg_print.specs.Keys.{with_key}
+use Rattle.cg_print.specs.Documents.{names_in, texts_array, entry_table, value_written, limit_table, table_of_file, files_table, cgroup_table, process_table, cgroups_written, processes_written, tree_document}
+use Rattle.cg_print.specs.Carried.{IsId, HasIds, IsNamedRow, IsNamedProcess}
+use Rattle.cg_print.proofs.FormBack.{at_key, at_file}
+
+-- ---- owners, values and controllers
+
+id_again : (n : ℕ) → IsId n → id_read (Some (pos n)) ≡ Some n
+id_again n is = ap (λ b. cond b (Some n) None) (le-leb n 4294967295 is)
+
+mode_again : (missing n : ℕ) → n ≤ 511 → mode_read Two missing (Some (pos n)) ≡ Some n
+mode_again missing n is = ap (λ b. cond (b && true) (Some n) None) (le-leb n 511 is)
+
+abbrev joined_owner : Option ℕ → Option ℕ → Option ℕ → Option Entry
+joined_owner uid gid mode = do
+  uid ← uid
+  gid ← gid
+  mode ← mode
+  Some (record { uid = uid; gid = gid; mode = mode })
+
+module _ (missing : ℕ) (entry : Entry) (ids : HasIds entry) (small : entry.mode ≤ 511) where
+  numbers_again : joined_owner (id_read (Some (pos entry.uid))) (id_read (Some (pos entry.gid))) (mode_read Two missing (Some (pos entry.mode))) ≡ Some entry
+  numbers_again =
+      let uid = id_again entry.uid ids.0 in
+      let gid = id_again entry.gid ids.1 in
+      let mode = mode_again missing entry.mode small in
+      λ i. joined_owner (uid i) (gid i) (mode i)
+
+  entry_again : owner_said Two missing (entry_table entry) ≡ Some entry
+  unfolding entry_table with_key
+  entry_again = numbers_again
+
+  limit_entry_again : (value : Limit) → owner_said Two missing (limit_table (record { entry = entry; value = value })) ≡ Some entry
+  unfolding limit_table entry_table with_key
+  limit_entry_again value = numbers_again
+
+limit_again : (file : LimitFile) (value : Limit) → accepts file value ≡ true → option_and_then (accepted file) (limit_of (value_written value)) ≡ Some value
+limit_again file Max is = ap (λ b. cond b (Some Max) None) is
+limit_again file (At n) is = ap (λ b. cond b (Some (At n)) None) is
+
+value_again : (file : LimitFile) (held : LimitEntry) → accepts file held.value ≡ true → limit_said file (limit_table held) ≡ Some held.value
+unfolding limit_table entry_table with_key
+value_again file held is = limit_again file held.value is
+
+each_set : (cpu memory pids : Bool) → controllers_read (names_in (record { cpu = cpu; memory = memory; pids = pids })) ≡ Some (record { cpu = cpu; memory = memory; pids = pids })
+each_set true true true = refl
+each_set true true false = refl
+each_set true false true = refl
+each_set true false false = refl
+each_set false true true = refl
+each_set false true false = refl
+each_set false false true = refl
+each_set false false false = refl
+
+texts_again : (names : List (List ℕ)) → filter_map as_str (elements (items_of (map_list string names))) ≡ names
+texts_again [] = refl
+texts_again (name ∷ names) = ap (λ rest. name ∷ rest) (texts_again names)
+
+controllers_again : (set : ControllerSet) → controllers_read (filter_map as_str (elements (items_of (map_list string (names_in set))))) ≡ Some set
+controllers_again set = ap controllers_read (texts_again (names_in set)) ∙ each_set set.cpu set.memory set.pids
+
+-- ---- the entries of a cgroup
+
+-- the table of an entry
+abbrev table_written : Cgroup → EntryName → Option Members
+table_written row Dir = Some (entry_table row.dir)
+table_written row Procs = Some (entry_table row.procs)
+table_written row SubtreeControl = Some (entry_table row.subtree_control)
+table_written row (File file) = option_map limit_table (file_of row file)
+
+of_file : (found : Option LimitEntry) → option_and_then as_table (table_of_file found) ≡ option_map limit_table found
+of_file None = refl
+of_file (Some held) = refl
+
+table_again : (path : Names) (row : Cgroup) (name : EntryName) → table_of name (cgroup_table path row) ≡ table_written row name
+unfolding cgroup_table with_key
+table_again path row Dir = refl
+table_again path row Procs = ap (option_and_then as_table) (at_key row texts.cgroup_procs)
+table_again path row SubtreeControl = ap (option_and_then as_table) (at_key row texts.cgroup_subtree_control)
+table_again path row (File file) = ap (option_and_then as_table) (at_file row file) ∙ of_file (file_of row file)
+
+named_again : (row : Cgroup) (name : EntryName) → is_some (table_written row name) ≡ is_some (entry_in row name)
+named_again row Dir = refl
+named_again row Procs = refl
+named_again row SubtreeControl = refl
+named_again row (File file) = is_some-mapped limit_table (file_of row file) ∙ sym (is_some-mapped (λ (f : LimitEntry). f.entry) (file_of row file))
+
+-- ---- a cgroup
+
+pub path_back : (path : Names) (row : Cgroup) → IsNamedRow path row → path_said (codes "path") (cgroup_table path row) ≡ Some path
+unfolding cgroup_table with_key
+path_back path row at = path_at-text path at.path
+
+pub enabled_back : (path : Names) (row : Cgroup) → controllers_said (codes "enabled") (cgroup_table path row) ≡ Some row.enabled
+unfolding cgroup_table with_key
+enabled_back path row = controllers_again row.enabled
+
+module _ (path : Names) (row : Cgroup) (above : ControllerSet) (at : IsNamedRow path row) (formed : IsFormedRow above row) where
+  owner_again : (name : EntryName) (entry : Entry) → entry_in row name ≡ Some entry → owner_said Two (mode_missing name) (entry_table entry) ≡ Some entry
+  owner_again name entry is = entry_again (mode_missing name) entry (at.ids name entry is) (formed.modes name entry is)
+
+  written_again : (name : EntryName) (entry : Entry) → entry_in row name ≡ Some entry → owner_said Two (mode_missing name) (unwrap_or (table_written row name) no_members) ≡ Some entry
+  written_again Dir entry is = owner_again Dir row.dir refl ∙ is
+  written_again Procs entry is = owner_again Procs row.procs refl ∙ is
+  written_again SubtreeControl entry is = owner_again SubtreeControl row.subtree_control refl ∙ is
+  written_again (File file) entry is =
+      let held = mapped_from (λ (f : LimitEntry). f.entry) (file_of row file) entry is in
+      let there = ap (option_map (λ (f : LimitEntry). f.entry)) held.1 in
+      ap (λ found. owner_said Two 420 (unwrap_or (option_map limit_table found) no_members)) held.1
+      ∙ limit_entry_again 420 held.0.entry (at.ids (File file) held.0.entry there) (formed.modes (File file) held.0.entry there) held.0.value
+      ∙ ap Some held.2
+
+  pub entry_back : (name : EntryName) (entry : Entry) → entry_in row name ≡ Some entry → entry_said Two (cgroup_table path row) name ≡ Some entry
+  entry_back name entry is =
+      ap (λ found. owner_said Two (mode_missing name) (unwrap_or found no_members)) (table_again path row name) ∙ written_again name entry is
+
+  pub value_back : (file : LimitFile) (held : LimitEntry) → file_of row file ≡ Some held → value_said (cgroup_table path row) file ≡ Some held.value
+  value_back file held is =
+      ap (λ found. limit_said file (unwrap_or found no_members)) (table_again path row (File file) ∙ ap (option_map limit_table) is)
+      ∙ value_again file held (formed.values file held is)
+
+  pub files_back : (name : EntryName) → is_named name (cgroup_table path row) ≡ true → is_some (entry_in row name) ≡ true
+  files_back name is = sym (ap is_some (table_again path row name) ∙ named_again row name) ∙ is
+
+-- ---- a process
+
+module _ (pid : ℕ) (process : Process) (at : IsNamedProcess pid process) where
+  pub pid_back : pid_said (process_table pid process) ≡ Some pid
+  unfolding process_table with_key
+  pid_back = ap (λ b. cond b (Some pid) None) at.pid
+
+  pub uid_back : uid_said (process_table pid process) ≡ Some process.uid
+  unfolding process_table with_key
+  uid_back = id_again process.uid at.uid
+
+  pub place_back : IsPath process.place → path_said (codes "at") (process_table pid process) ≡ Some process.place
+  unfolding process_table with_key
+  place_back is = path_at-text process.place is
+
+-- ---- the top table
+
+elements_again : (values : List Data) → elements (items_of values) ≡ values
+elements_again [] = refl
+elements_again (value ∷ values) = ap (λ rest. value ∷ rest) (elements_again values)
+
+module _ (st : State) where
+  pub format_back : format_said (tree_document st) ≡ Some Two
+  unfolding tree_document with_key
+  format_back = refl
+
+  pub controllers_back : controllers_said (codes "controllers") (tree_document st) ≡ Some st.controllers
+  unfolding tree_document with_key
+  controllers_back = controllers_again st.controllers
+
+  pub cgroups_back : elements_at (codes "cgroup") (tree_document st) ≡ cgroups_written st
+  unfolding tree_document with_key
+  cgroups_back = elements_again (cgroups_written st)
+
+  pub processes_back : elements_at (codes "process") (tree_document st) ≡ processes_written st
+  unfolding tree_document with_key
+  processes_back = elements_again (processes_written st)

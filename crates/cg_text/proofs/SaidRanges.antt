@@ -1,0 +1,47 @@
+-- What a table says is in range.
+use Rattle.std.proofs.Common.{◌≡◌, ℕ, ◌≤◌, ℤ, Bool, true, false, not, cond, ◌||◌, nat_le, Option, Some, None, is_some, option_map, option_and_then, refl, sym, ap, ◌∙◌, true≢false, arith}
+use Rattle.std.specs.Prelude.{◌&&◌}
+use Rattle.std.specs.Cmp.{first_so}
+use Rattle.std.proofs.lemmas.Bool.Decides.{nat_tests}
+use Rattle.cg_cgroup.specs.Numbers.{is_mode}
+use Rattle.cg_cgroup.specs.Users.{has_bit}
+use Rattle.cg_cgroup.specs.Files.{accepts}
+use Rattle.cg_cgroup.proofs.Options.{same_some}
+use Rattle.cg_cgroup.specs.declared.user.Entry.{Entry}
+use Rattle.cg_cgroup.specs.declared.files.Limit.{Limit}
+use Rattle.cg_cgroup.specs.declared.files.LimitFile.{LimitFile}
+use Rattle.cg_text.specs.Form.{is_two}
+use Rattle.cg_text.specs.Said.{number_or, passing, mode_read, accepted}
+use Rattle.cg_text.specs.declared.tree.format.Format.{Format}
+
+pub passed : (test : ℕ → Bool) (found : Option ℕ) (number : ℕ) → passing test found ≡ Some number → test number ≡ true
+passed test None number is = absurd (true≢false (sym (ap is_some is)))
+passed test (Some found) number is =
+    elim (test found) as (λ b. test found ≡ b → cond b (Some found) None ≡ Some number → test number ≡ true) [
+      | true ↦ λ passes same. ap test (sym (same_some found number same)) ∙ passes
+      | false ↦ λ _ none. absurd (true≢false (sym (ap is_some none)))
+    ] refl is
+
+pub mode_small : (format : Format) (missing : ℕ) (written : Option ℤ) (number : ℕ)
+    → mode_read format missing written ≡ Some number → number ≤ 511
+mode_small format missing written number is =
+    let fits : (is_mode number && (is_two format || not (has_bit number 16))) ≡ true =
+    passed (λ number. is_mode number && (is_two format || not (has_bit number 16))) (number_or missing written) number is in
+    let small : nat_le number 511 ≡ true = first_so (is_mode number) (is_two format || not (has_bit number 16)) fits in
+    grind (arith, nat_tests)
+
+-- the mode of an entry that is read
+pub entry_as : (uid gid mode : Option ℕ) (entry : Entry)
+    → option_and_then (λ u. option_and_then (λ g. option_and_then (λ m. Some (record { uid = u; gid = g; mode = m })) mode) gid) uid
+    ≡ Some entry → mode ≡ Some entry.mode
+entry_as None gid mode entry is = cc
+entry_as (Some u) None mode entry is = cc
+entry_as (Some u) (Some g) None entry is = cc
+entry_as (Some u) (Some g) (Some m) entry is = ap (option_map (λ (e : Entry). e.mode)) is
+
+pub accepted_is : (file : LimitFile) (value found : Limit) → accepted file value ≡ Some found → accepts file found ≡ true
+accepted_is file value found is =
+    elim (accepts file value) as (λ b. accepts file value ≡ b → cond b (Some value) None ≡ Some found → accepts file found ≡ true) [
+      | true ↦ λ so same. ap (accepts file) (sym (same_some value found same)) ∙ so
+      | false ↦ λ _ none. absurd (true≢false (sym (ap is_some none)))
+    ] refl is
