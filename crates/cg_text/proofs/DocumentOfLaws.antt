@@ -1,5 +1,6 @@
 -- Cgroups and processes that are those of a document's tables are a well-formed state, which the document is of.
-use Rattle.std.proofs.Common.{◌≡◌, ℕ, ◌≤◌, Bool, true, false, not, cond, ◌||◌, List, [], ◌∷◌, ◌++◌, codes, Option, Some, None, is_some, option_map, option_and_then, unwrap_or, refl, sym, ap, subst, ◌∙◌, true≢false, eqb-true, eq-eqb}
+use Rattle.std.proofs.Common.{◌≡◌, ℕ, ◌≤◌, Bool, true, false, not, cond, ◌||◌, List, [], ◌∷◌, ◌++◌, codes, Option, Some, None, is_some,
+    option_map, option_and_then, unwrap_or, refl, sym, ap, subst, ◌∙◌, true≢false, eqb-true, eq-eqb}
 use Rattle.std.specs.Prelude.{find, count_by, nat_eq}
 use Rattle.std.specs.Bool.{passes}
 use Rattle.std.specs.List.{AllByRecursion, list_all, list_any}
@@ -29,38 +30,47 @@ use Rattle.cg_model.specs.States.{State, row_at, process_at}
 use Rattle.cg_model.specs.WellFormed.{has_row, enabled_at, enabled_above, available_at, may_hold, IsFormedRow, IsWellFormed}
 use Rattle.cg_rows.specs.Processes.{LiveAndUsed}
 use Rattle.cg_rows.specs.RowsForm.{state_of_tables}
-use Rattle.cg_text.specs.Said.{tables_at, integer_at, path_said, controllers_said, mode_missing, limit_of, accepted, id_read, mode_read, table_of, entry_said, value_said, is_named, has_path, pid_said, uid_said}
+use Rattle.cg_text.specs.Said.{tables_at, integer_at, path_said, controllers_said, mode_missing, limit_of, accepted, id_read, mode_read,
+    table_of, entry_said, value_said, is_named, has_path, pid_said, uid_said}
 use Rattle.cg_text.specs.TextOf.{IsInForm, IsRowOf, IsProcessOf, has_pid, IsDocumentOf}
-use Rattle.cg_text.specs.TextFaults.{each, each_cgroup, each_process, row_faults, is_there, enabled_there, over, on_path, cgroup_faults, process_faults}
+use Rattle.cg_text.specs.TextFaults.{each, each_cgroup, each_process, row_faults, is_there, enabled_there, over, on_path, cgroup_faults,
+    process_faults}
 use Rattle.cg_text.specs.Walk.{IsEntryOf, AreEntriesOf}
 use Rattle.cg_text.specs.Live.{IsAmong, IsLive, AreProcesses}
 use Rattle.cg_text.specs.declared.tree.fault.Place.{Place}
 use Rattle.cg_text.specs.declared.tree.fault.Place.TheVariants.{Cgroup as AtCgroup, Process as AtProcess}
 use Rattle.cg_text.specs.declared.tree.fault.TreeFault.{TreeFault}
-use Rattle.cg_text.specs.declared.tree.fault.TreeFault.TheVariants.{BadEntry, BadPath, BadController, Duplicate, NoRoot, NoParent, TopDown, NoSuchFile, BadPid, DuplicatePid, NoSuchPlace, InternalProcess}
+use Rattle.cg_text.specs.declared.tree.fault.TreeFault.TheVariants.{BadEntry, BadPath, BadController, Duplicate, NoRoot, NoParent, TopDown,
+    NoSuchFile, BadPid, DuplicatePid, NoSuchPlace, InternalProcess}
 use Rattle.cg_text.specs.declared.tree.format.Format.{Format}
 use Rattle.cg_text.proofs.SaidRanges.{mode_small, entry_as, accepted_is}
-use Rattle.cg_text.proofs.KeysOnce.{none_left, none_right, unless_passes, absent_passes, present_passes, none_at, all_rows, is_some-find, found_at, IsOnce, key_had, once_found, once_counted}
+use Rattle.cg_text.proofs.KeysOnce.{none_left, none_right, unless_passes, absent_passes, present_passes, none_at, all_rows, is_some-find,
+    found_at, IsOnce, key_had, once_found, once_counted}
 
 -- ---- what is said is in range
 
-entry_small : (format : Format) (row : Members) (name : EntryName) (entry : Entry) → entry_said format row name ≡ Some entry → entry.mode ≤ 511
+entry_small : (format : Format) (row : Members) (name : EntryName) (entry : Entry) → entry_said format row name ≡ Some entry
+    → entry.mode ≤ 511
 entry_small format row name entry is =
     let inside : Members = unwrap_or (table_of name row) no_members in
     mode_small format (mode_missing name) (integer_at (codes "mode") inside) entry.mode
-    (entry_as (id_read (integer_at (codes "uid") inside)) (id_read (integer_at (codes "gid") inside)) (mode_read format (mode_missing name) (integer_at (codes "mode") inside)) entry is)
+    (entry_as (id_read (integer_at (codes "uid") inside)) (id_read (integer_at (codes "gid") inside))
+    (mode_read format (mode_missing name) (integer_at (codes "mode") inside)) entry is)
 
-read_accepted : (file : LimitFile) (read : Option Limit) (value : Limit) → option_and_then (accepted file) read ≡ Some value → accepts file value ≡ true
+read_accepted : (file : LimitFile) (read : Option Limit) (value : Limit) → option_and_then (accepted file) read ≡ Some value
+    → accepts file value ≡ true
 read_accepted file None value is = absurd (true≢false (sym (ap is_some is)))
 read_accepted file (Some limit) value is = accepted_is file limit value is
 
 found_accepted : (file : LimitFile) (found : Option Data) (value : Limit)
-    → elim found [ None ↦ Some (default_value file) | Some held ↦ option_and_then (accepted file) (limit_of held) ] ≡ Some value → accepts file value ≡ true
+    → elim found [ None ↦ Some (default_value file) | Some held ↦ option_and_then (accepted file) (limit_of held) ] ≡ Some value
+    → accepts file value ≡ true
 found_accepted file None value is = ap (accepts file) (sym (same_some (default_value file) value is)) ∙ accepts-default_value file
 found_accepted file (Some held) value is = read_accepted file (limit_of held) value is
 
 value_accepted : (file : LimitFile) (row : Members) (value : Limit) → value_said row file ≡ Some value → accepts file value ≡ true
-value_accepted file row value is = found_accepted file (get_member (codes "value") (unwrap_or (table_of (File file) row) no_members)) value is
+value_accepted file row value is = found_accepted file (get_member (codes "value") (unwrap_or (table_of (File file) row) no_members)) value
+    is
 
 -- ---- look-ups
 
@@ -72,7 +82,8 @@ found_by_path path (e ∷ es) =
     λ i. cond (here i) (Some e.1) (later i)
 
 over_with : (b : Bool) (at_root : ControllerSet) (found : Option Cgroup) (there : Bool) → is_some found ≡ there → (b || there) ≡ true
-    → cond b (Some at_root) (option_map (λ (c : Cgroup). c.enabled) found) ≡ Some (cond b at_root (elim found [ None ↦ no_controllers | Some row ↦ row.enabled ]))
+    → cond b (Some at_root) (option_map (λ (c : Cgroup). c.enabled) found) ≡ Some
+    (cond b at_root (elim found [ None ↦ no_controllers | Some row ↦ row.enabled ]))
 over_with true at_root found there is so = refl
 over_with false at_root None there is so = absurd (true≢false (sym so ∙ sym is))
 over_with false at_root (Some cgroup) there is so = refl
@@ -100,14 +111,16 @@ module _ (format : Format) (tables : List Members) (controllers : ControllerSet)
   Clause = List Members → Place → Members → List TreeFault
 
   abbrev twice_clause : Clause
-  twice_clause = λ earlier place row. present (path_said (codes "path") row) (λ path. unless (not (is_there earlier path)) (Duplicate place))
+  twice_clause = λ earlier place row. present (path_said (codes "path") row)
+      (λ path. unless (not (is_there earlier path)) (Duplicate place))
 
   abbrev orphan_clause : Clause
   orphan_clause = on_path (λ path place row. unless (is_root path || is_there tables (parent path)) (NoParent place))
 
   abbrev within_clause : Clause
   within_clause = on_path (λ path place row.
-      present (controllers_said (codes "enabled") row) (λ enabled. present (over (Some controllers) tables path) (λ available. unless (is_within enabled available) (TopDown place))))
+      present (controllers_said (codes "enabled") row) (λ enabled. present (over (Some controllers) tables path)
+          (λ available. unless (is_within enabled available) (TopDown place))))
 
   abbrev files_clause : Clause
   files_clause = on_path (λ path place row. present (over (Some no_controllers) tables path) (λ above.
@@ -158,31 +171,46 @@ module _ (format : Format) (tables : List Members) (controllers : ControllerSet)
           let found = none_at twice_clause AtCgroup tables (none_left twice rootless no_rootless) before row after is in
           not-true (is_there before path)
           (unless_passes (not (is_there before path)) (Duplicate found.0)
-          (present_passes (path_said (codes "path") row) (λ path. unless (not (is_there before path)) (Duplicate found.0)) path named found.1))
+          (present_passes (path_said (codes "path") row) (λ path. unless (not (is_there before path)) (Duplicate found.0)) path named
+          found.1))
 
       has_parent : (is_root path || is_there tables (parent path)) ≡ true
       has_parent =
           let found = none_at orphan_clause AtCgroup tables (none_right (twice ++ rootless) orphans no_orphans) before row after is in
           unless_passes (is_root path || is_there tables (parent path)) (NoParent found.0)
-          (present_passes (path_said (codes "path") row) (λ path. unless (is_root path || is_there tables (parent path)) (NoParent found.0)) path named found.1)
+          (present_passes (path_said (codes "path") row) (λ path. unless (is_root path || is_there tables (parent path)) (NoParent found.0))
+          path named found.1)
 
-      within : (enabled available : ControllerSet) → controllers_said (codes "enabled") row ≡ Some enabled → over (Some controllers) tables path ≡ Some available → is_within enabled available ≡ true
+      within : (enabled available : ControllerSet) → controllers_said (codes "enabled") row ≡ Some enabled
+          → over (Some controllers) tables path ≡ Some available → is_within enabled available ≡ true
       within enabled available enables above =
-          let found = none_at within_clause AtCgroup tables (none_right ((twice ++ rootless) ++ orphans) past no_past) before row after is in
+          let found = none_at within_clause AtCgroup tables (none_right ((twice ++ rootless) ++ orphans) past no_past) before row after
+              is in
           let on_row = present_passes (path_said (codes "path") row)
-          (λ path. present (controllers_said (codes "enabled") row) (λ enabled. present (over (Some controllers) tables path) (λ available. unless (is_within enabled available) (TopDown found.0)))) path named found.1 in
-          let on_set = present_passes (controllers_said (codes "enabled") row) (λ enabled. present (over (Some controllers) tables path) (λ available. unless (is_within enabled available) (TopDown found.0))) enabled enables on_row in
+          (λ path. present (controllers_said (codes "enabled") row)
+          (λ enabled. present (over (Some controllers) tables path) (λ available. unless (is_within enabled available) (TopDown found.0))))
+          path named found.1 in
+          let on_set = present_passes (controllers_said (codes "enabled") row)
+              (λ enabled. present (over (Some controllers) tables path)
+              (λ available. unless (is_within enabled available) (TopDown found.0))) enabled enables on_row in
           unless_passes (is_within enabled available) (TopDown found.0)
-          (present_passes (over (Some controllers) tables path) (λ available. unless (is_within enabled available) (TopDown found.0)) available above on_set)
+          (present_passes (over (Some controllers) tables path)
+          (λ available. unless (is_within enabled available) (TopDown found.0)) available above on_set)
 
-      brought : (above : ControllerSet) → over (Some no_controllers) tables path ≡ Some above → (file : LimitFile) → (not (is_named (File file) row) || stands_under above file) ≡ true
+      brought : (above : ControllerSet) → over (Some no_controllers) tables path ≡ Some above → (file : LimitFile)
+          → (not (is_named (File file) row) || stands_under above file) ≡ true
       brought above over_is file =
-          let found = none_at files_clause AtCgroup tables (none_right (((twice ++ rootless) ++ orphans) ++ past) unbrought together) before row after is in
+          let found = none_at files_clause AtCgroup tables (none_right (((twice ++ rootless) ++ orphans) ++ past) unbrought together) before
+              row after is in
           let on_row = present_passes (path_said (codes "path") row)
-          (λ path. present (over (Some no_controllers) tables path) (λ above. unless (list_all (λ file. not (is_named (File file) row) || stands_under above file) all_files) (NoSuchFile found.0))) path named found.1 in
+          (λ path. present (over (Some no_controllers) tables path)
+          (λ above. unless (list_all (λ file. not (is_named (File file) row) || stands_under above file) all_files) (NoSuchFile found.0)))
+          path named found.1 in
           each_passes (λ file. not (is_named (File file) row) || stands_under above file)
           (unless_passes (list_all (λ file. not (is_named (File file) row) || stands_under above file) all_files) (NoSuchFile found.0)
-          (present_passes (over (Some no_controllers) tables path) (λ above. unless (list_all (λ file. not (is_named (File file) row) || stands_under above file) all_files) (NoSuchFile found.0)) above over_is on_row)) file
+          (present_passes (over (Some no_controllers) tables path)
+          (λ above. unless (list_all (λ file. not (is_named (File file) row) || stands_under above file) all_files) (NoSuchFile found.0))
+          above over_is on_row)) file
 
   paths_once : IsOnce (path_said (codes "path")) same_path tables
   paths_once = record { new = λ before row after is path named. is_new before row after is path named }
@@ -192,13 +220,17 @@ module _ (format : Format) (tables : List Members) (controllers : ControllerSet)
   pub get_is : (path : Names) → map.get cgroups path ≡ lookup (same_path path) entries
   get_is path = map.get-from_sorted path_cmp entries path (passes _ are.sorted) ∙ found_by_path path entries
 
-  enabled_is : (path : Names) (found : Option Cgroup) → map.get cgroups path ≡ found → option_map (λ cgroup. cgroup.enabled) found ≡ enabled_there tables path
+  enabled_is : (path : Names) (found : Option Cgroup) → map.get cgroups path ≡ found
+      → option_map (λ cgroup. cgroup.enabled) found ≡ enabled_there tables path
   enabled_is path None is =
-      let none : find (has_path path) tables ≡ None = none_value (find (has_path path) tables) (is_some-find (has_path path) tables ∙ sym (are.there path) ∙ ap is_some (sym (get_is path) ∙ is)) in
+      let none : find (has_path path) tables ≡ None = none_value (find (has_path path) tables) (is_some-find (has_path path) tables
+          ∙ sym (are.there path) ∙ ap is_some (sym (get_is path) ∙ is)) in
       ap (option_and_then (controllers_said (codes "enabled"))) (sym none)
   enabled_is path (Some cgroup) is =
-      let table = some_value (find (has_path path) tables) (is_some-find (has_path path) tables ∙ sym (are.there path) ∙ ap is_some (sym (get_is path) ∙ is)) in
-      sym (ap (option_and_then (controllers_said (codes "enabled"))) table.1 ∙ (are.each path cgroup table.0 (sym (get_is path) ∙ is) table.1).enabled)
+      let table = some_value (find (has_path path) tables) (is_some-find (has_path path) tables ∙ sym (are.there path)
+          ∙ ap is_some (sym (get_is path) ∙ is)) in
+      sym (ap (option_and_then (controllers_said (codes "enabled"))) table.1
+          ∙ (are.each path cgroup table.0 (sym (get_is path) ∙ is) table.1).enabled)
 
   pub among : IsAmong tables cgroups
   among = record {
@@ -217,7 +249,8 @@ module _ (format : Format) (tables : List Members) (controllers : ControllerSet)
 
   table_at : (path : Names) (cgroup : Cgroup) → map.get cgroups path ≡ Some cgroup → HasTable path cgroup
   table_at path cgroup is =
-      let table = some_value (find (has_path path) tables) (is_some-find (has_path path) tables ∙ sym (are.there path) ∙ ap is_some (sym (get_is path) ∙ is)) in
+      let table = some_value (find (has_path path) tables) (is_some-find (has_path path) tables ∙ sym (are.there path)
+          ∙ ap is_some (sym (get_is path) ∙ is)) in
       let found = found_at (has_path path) tables table.0 table.1 in
       record {
         before = found.before;
@@ -259,7 +292,8 @@ module _ (format : Format) (tables : List Members) (controllers : ControllerSet)
     rows_formed path cgroup is =
         let at = table_at path cgroup is in
         record {
-          files = at.entry.files path (enabled_above st path) at.named (over_is no_controllers path (has_parent at.before at.table at.after at.split path at.named));
+          files = at.entry.files path (enabled_above st path) at.named
+              (over_is no_controllers path (has_parent at.before at.table at.after at.split path at.named));
           values = λ file held there. value_accepted file at.table held.value (at.entry.values file held there);
           modes = λ name entry there. entry_small format at.table name entry (at.entry.entries name entry there);
         }
@@ -270,7 +304,8 @@ module _ (format : Format) (tables : List Members) (controllers : ControllerSet)
     row_is before row after is =
         let said = by_itself before row after is in
         let path = said.path in
-        let found : find (has_path path) tables ≡ Some row = once_found (path_said (codes "path")) same_path same_path-is same_path_refl tables paths_once before row after is path said.named in
+        let found : find (has_path path) tables ≡ Some row = once_found
+            (path_said (codes "path")) same_path same_path-is same_path_refl tables paths_once before row after is path said.named in
         let cgroup = some_value (map.get cgroups path) (among.there path ∙ sym (is_some-find (has_path path) tables) ∙ ap is_some found) in
         let entry : IsEntryOf format tables row cgroup.0 = are.each path cgroup.0 row (sym (get_is path) ∙ cgroup.1) found in
         let above : ControllerSet = enabled_above st path in
@@ -283,10 +318,13 @@ module _ (format : Format) (tables : List Members) (controllers : ControllerSet)
           enabled = entry.enabled;
           entries = entry.entries;
           values = entry.values;
-          files = files_named row cgroup.0 (λ file named. entry.files path above said.named above_is file ∙ implied (is_named (File file) row) (stands_under above file) (brought before row after is path said.named above above_is file) named);
+          files = files_named row cgroup.0 (λ file named. entry.files path above said.named above_is file
+              ∙ implied (is_named (File file) row) (stands_under above file)
+              (brought before row after is path said.named above above_is file) named);
         }
       where
-        files_named : (row : Members) (cgroup : Cgroup) → ((file : LimitFile) → is_named (File file) row ≡ true → is_some (file_of cgroup file) ≡ true)
+        files_named : (row : Members) (cgroup : Cgroup) → ((file : LimitFile) → is_named (File file) row ≡ true
+            → is_some (file_of cgroup file) ≡ true)
             → (name : EntryName) → is_named name row ≡ true → is_some (entry_in cgroup name) ≡ true
         files_named row cgroup each Dir named = refl
         files_named row cgroup each Procs named = refl
@@ -303,7 +341,8 @@ module _ (format : Format) (tables : List Members) (controllers : ControllerSet)
 
     -- ---- processes
 
-    module _ (lives : List Members) (living : first (each_process (process_faults tables) lives) ≡ None) (these : AreProcesses lives processes) where
+    module _ (lives : List Members) (living : first (each_process (process_faults tables) lives) ≡ None)
+        (these : AreProcesses lives processes) where
       module _ (before : List Members) (row : Members) (after : List Members) (is : before ++ row ∷ after ≡ lives) where
         abbrev bad_pids : Place → List TreeFault
         bad_pids place = absent (pid_said row) (BadPid place)
@@ -318,7 +357,8 @@ module _ (format : Format) (tables : List Members) (controllers : ControllerSet)
         nowhere place = absent (option_and_then (λ path. find (has_path path) tables) (path_said (codes "at") row)) (NoSuchPlace place)
 
         abbrev internal : Place → List TreeFault
-        internal place = present (path_said (codes "at") row) (λ path. present (enabled_there tables path) (λ enabled. unless (is_root path || enables_nothing enabled) (InternalProcess place)))
+        internal place = present (path_said (codes "at") row) (λ path. present (enabled_there tables path)
+            (λ enabled. unless (is_root path || enables_nothing enabled) (InternalProcess place)))
 
         -- the clauses on the process, each of which passes
         record IsSound : Type 0 where
@@ -347,19 +387,26 @@ module _ (format : Format) (tables : List Members) (controllers : ControllerSet)
         pid_new pid said =
             not-true (list_any (has_pid pid) before)
             (unless_passes (not (list_any (has_pid pid) before)) (DuplicatePid sound.place)
-            (present_passes (pid_said row) (λ pid. unless (not (list_any (has_pid pid) before)) (DuplicatePid sound.place)) pid said sound.new))
+            (present_passes (pid_said row) (λ pid. unless (not (list_any (has_pid pid) before)) (DuplicatePid sound.place)) pid said
+            sound.new))
 
         held : (place : Names) (found : Option Cgroup) → map.get cgroups place ≡ found → path_said (codes "at") row ≡ Some place
             → elim found [ None ↦ false | Some cgroup ↦ is_root place || enables_nothing cgroup.enabled ] ≡ true
         held place None none said =
-            let there = absent_passes (option_and_then (λ path. find (has_path path) tables) (path_said (codes "at") row)) (NoSuchPlace sound.place) sound.there in
-            let found : find (has_path place) tables ≡ Some there.0 = sym (ap (option_and_then (λ path. find (has_path path) tables)) said) ∙ there.1 in
+            let there = absent_passes (option_and_then (λ path. find (has_path path) tables) (path_said (codes "at") row))
+                (NoSuchPlace sound.place) sound.there in
+            let found : find (has_path place) tables ≡ Some there.0 = sym (ap (option_and_then (λ path. find (has_path path) tables)) said)
+                ∙ there.1 in
             absurd (true≢false (sym (ap is_some found) ∙ is_some-find (has_path place) tables ∙ sym (among.there place) ∙ ap is_some none))
         held place (Some cgroup) is said =
-            let enabled : enabled_there tables place ≡ Some cgroup.enabled = sym (among.enabled place) ∙ ap (option_map (λ (c : Cgroup). c.enabled)) is in
-            let on_place = present_passes (path_said (codes "at") row) (λ path. present (enabled_there tables path) (λ enabled. unless (is_root path || enables_nothing enabled) (InternalProcess sound.place))) place said sound.free in
+            let enabled : enabled_there tables place ≡ Some cgroup.enabled = sym (among.enabled place)
+                ∙ ap (option_map (λ (c : Cgroup). c.enabled)) is in
+            let on_place = present_passes (path_said (codes "at") row)
+                (λ path. present (enabled_there tables path) (λ enabled. unless (is_root path || enables_nothing enabled)
+                (InternalProcess sound.place))) place said sound.free in
             unless_passes (is_root place || enables_nothing cgroup.enabled) (InternalProcess sound.place)
-            (present_passes (enabled_there tables place) (λ enabled. unless (is_root place || enables_nothing enabled) (InternalProcess sound.place)) cgroup.enabled enabled on_place)
+            (present_passes (enabled_there tables place) (λ enabled. unless (is_root place || enables_nothing enabled)
+            (InternalProcess sound.place)) cgroup.enabled enabled on_place)
 
         may_be : (place : Names) → path_said (codes "at") row ≡ Some place → may_hold st place ≡ true
         may_be place said = held place (map.get cgroups place) refl said
@@ -393,10 +440,12 @@ module _ (format : Format) (tables : List Members) (controllers : ControllerSet)
       process_is before row after is =
           let sound = sound before row after is in
           let pid = absent_passes (pid_said row) (BadPid sound.place) sound.pids in
-          let found : find (has_pid pid.0) lives ≡ Some row = once_found pid_said nat_eq nat_is nat_itself lives pids_once before row after is pid.0 pid.1 in
+          let found : find (has_pid pid.0) lives ≡ Some row = once_found pid_said nat_eq nat_is nat_itself lives pids_once before row after
+              is pid.0 pid.1 in
           let process = some_value (process_at st pid.0) (these.pids pid.0 ∙ sym (is_some-find (has_pid pid.0) lives) ∙ ap is_some found) in
           let of_row = these.processes pid.0 process.0 process.1 in
-          let live : IsLive row (pid.0, process.0) = subst (λ other. IsLive other (pid.0, process.0)) (same_some of_row.0 row (sym of_row.1 ∙ found)) of_row.2 in
+          let live : IsLive row (pid.0, process.0) = subst (λ other. IsLive other (pid.0, process.0))
+              (same_some of_row.0 row (sym of_row.1 ∙ found)) of_row.2 in
           record { pid = pid.0; process = process.0; there = process.1; named = pid.1; owner = live.uid; place = live.place }
 
       processes_are : AllByRecursion (IsProcessOf st) lives
@@ -405,26 +454,84 @@ module _ (format : Format) (tables : List Members) (controllers : ControllerSet)
       pids_counted : (pid : ℕ) → count_by (has_pid pid) lives ≡ cond (is_some (process_at st pid)) 1 0
       pids_counted pid = once_counted pid_said nat_eq nat_is nat_itself lives pids_once pid ∙ ap (λ b. cond b 1 0) (sym (these.pids pid))
 
--- a document in form, and the tables of whose rows the cgroups and processes are
-pub document_of_tables : (format : Format) (document : Members) (controllers : ControllerSet) (entries : List (Names × Cgroup)) (processes : LiveAndUsed)
-    → IsInForm format document → controllers_said (codes "controllers") document ≡ Some controllers
-    → (alone : first (each_cgroup (λ _. row_faults format) (tables_at (codes "cgroup") document)) ≡ None)
-    → (together : first (cgroup_faults (Some controllers) (tables_at (codes "cgroup") document)) ≡ None)
-    → (are : AreEntriesOf format (tables_at (codes "cgroup") document) entries)
-    → (living : first (each_process (process_faults (tables_at (codes "cgroup") document)) (tables_at (codes "process") document)) ≡ None)
-    → (these : AreProcesses (tables_at (codes "process") document) processes)
-    → IsDocumentOf (state_of_tables (map.from_sorted entries) processes controllers) document
-document_of_tables format document controllers entries processes form said alone together are living these =
-    let tables : List Members = tables_at (codes "cgroup") document in
-    let lives : List Members = tables_at (codes "process") document in
-    record {
-      format = format;
-      form = form;
-      controllers = said;
-      cgroups = rows_are format tables controllers entries alone together are processes;
-      paths = paths_counted format tables controllers entries alone together are processes;
-      processes = processes_are format tables controllers entries alone together are processes lives living these;
-      pids = pids_counted format tables controllers entries alone together are processes lives living these;
-      used = these.used;
-      formed = formed format tables controllers entries alone together are processes lives living these;
-    }
+-- ---- what the reader has of a document's tables
+
+-- The cgroups of tables that have no fault.
+pub record HasCgroups (format : Format) (tables : List Members) (controllers : ControllerSet) (cgroups : map.FinMap path_cmp Cgroup) : Type 0
+  where
+    pub alone : first (each_cgroup (λ _. row_faults format) tables) ≡ None
+    pub together : first (cgroup_faults (Some controllers) tables) ≡ None
+    pub entries : List (Names × Cgroup)
+    pub are : AreEntriesOf format tables entries
+    pub made : cgroups ≡ map.from_sorted entries
+
+pub cgroups_had : (format : Format) (tables : List Members) (controllers : ControllerSet) (entries : List (Names × Cgroup))
+    (found : map.FinMap path_cmp Cgroup) → first (each_cgroup (λ _. row_faults format) tables) ≡ None
+    → (first (cgroup_faults (Some controllers) tables) ≡ None) × AreEntriesOf format tables entries → found ≡ map.from_sorted entries
+    → HasCgroups format tables controllers found
+cgroups_had format tables controllers entries found alone walked made = record {
+  alone = alone;
+  together = walked.0;
+  entries = entries;
+  are = walked.1;
+  made = made;
+}
+
+pub among_these : (format : Format) (tables : List Members) (controllers : ControllerSet) (cgroups : map.FinMap path_cmp Cgroup)
+    → HasCgroups format tables controllers cgroups → IsAmong tables cgroups
+among_these format tables controllers found has =
+    subst (IsAmong tables) (sym has.made) (among format tables controllers has.entries has.alone has.together has.are)
+
+-- The processes of tables that have no fault.
+pub record HasProcesses (tables lives : List Members) (processes : LiveAndUsed) : Type 0 where
+  pub living : first (each_process (process_faults tables) lives) ≡ None
+  pub these : AreProcesses lives processes
+
+pub formed_of : (format : Format) (tables lives : List Members) (controllers : ControllerSet) (cgroups : map.FinMap path_cmp Cgroup)
+    (processes : LiveAndUsed)
+    → HasCgroups format tables controllers cgroups → HasProcesses tables lives processes
+    → IsWellFormed (state_of_tables cgroups processes controllers)
+formed_of format tables lives controllers found processes has live =
+    subst (λ cgroups. IsWellFormed (state_of_tables cgroups processes controllers)) (sym has.made)
+    (formed format tables controllers has.entries has.alone has.together has.are processes lives live.living live.these)
+
+module _ (format : Format) (document : Members) (controllers : ControllerSet) (processes : LiveAndUsed) (form : IsInForm format document)
+    (said : controllers_said (codes "controllers") document ≡ Some controllers) where
+  document_of_entries : (tables lives : List Members) → tables ≡ tables_at (codes "cgroup") document
+      → lives ≡ tables_at (codes "process") document → (entries : List (Names × Cgroup))
+      → (alone : first (each_cgroup (λ _. row_faults format) tables) ≡ None)
+      → (together : first (cgroup_faults (Some controllers) tables) ≡ None)
+      → (are : AreEntriesOf format tables entries)
+      → (living : first (each_process (process_faults tables) lives) ≡ None)
+      → (these : AreProcesses lives processes)
+      → IsDocumentOf (state_of_tables (map.from_sorted entries) processes controllers) document
+  document_of_entries tables lives tables_are lives_are entries alone together are living these =
+      let st : State = state_of_tables (map.from_sorted entries) processes controllers in
+      record {
+        format = format;
+        form = form;
+        controllers = said;
+        cgroups =
+            subst (AllByRecursion (IsRowOf format st)) tables_are
+            (rows_are format tables controllers entries alone together are processes);
+        paths = λ path.
+            ap (count_by (has_path path)) (sym tables_are)
+            ∙ paths_counted format tables controllers entries alone together are processes path;
+        processes =
+            subst (AllByRecursion (IsProcessOf st)) lives_are
+            (processes_are format tables controllers entries alone together are processes lives living these);
+        pids = λ pid.
+            ap (count_by (has_pid pid)) (sym lives_are)
+            ∙ pids_counted format tables controllers entries alone together are processes lives living these pid;
+        used = these.used;
+        formed = formed format tables controllers entries alone together are processes lives living these;
+      }
+
+  -- the document is of these cgroups and processes
+  pub document_is_of : (tables lives : List Members) → tables ≡ tables_at (codes "cgroup") document
+      → lives ≡ tables_at (codes "process") document → (cgroups : map.FinMap path_cmp Cgroup)
+      → HasCgroups format tables controllers cgroups → HasProcesses tables lives processes
+      → (st : State) → st ≡ state_of_tables cgroups processes controllers → IsDocumentOf st document
+  document_is_of tables lives tables_are lives_are found has live shown is =
+      subst (λ st. IsDocumentOf st document) (sym (is ∙ ap (λ cgroups. state_of_tables cgroups processes controllers) has.made))
+      (document_of_entries tables lives tables_are lives_are has.entries has.alone has.together has.are live.living live.these)

@@ -1,5 +1,6 @@
 -- Rows none of which has a fault, and rows none of whose keys comes twice.
-use Rattle.std.proofs.Common.{◌≡◌, ℕ, ◌+◌, Bool, true, false, cond, ◌||◌, List, [], ◌∷◌, ◌++◌, Option, Some, None, is_some, refl, sym, ap, ◌∙◌, true≢false, append_assoc}
+use Rattle.std.proofs.Common.{◌≡◌, ℕ, ◌+◌, Bool, true, false, cond, ◌||◌, List, [], ◌∷◌, ◌++◌, Option, Some, None, is_some, refl, sym, ap,
+    ◌∙◌, true≢false, append_assoc}
 use Rattle.std.specs.Prelude.{find, count_by}
 use Rattle.std.specs.List.{AllByRecursion, list_any}
 use Rattle.std.proofs.lemmas.Bool.{or_left, or_right}
@@ -38,17 +39,20 @@ pub absent_passes : {A R : Type 0} (o : Option A) (fault : R) → first (absent 
 absent_passes None fault none = absurd (true≢false (ap is_some none))
 absent_passes (Some x) fault none = (x, refl)
 
-pub present_passes : {A R : Type 0} (o : Option A) (clauses : A → List R) (x : A) → o ≡ Some x → first (present o clauses) ≡ None → first (clauses x) ≡ None
+pub present_passes : {A R : Type 0} (o : Option A) (clauses : A → List R) (x : A) → o ≡ Some x → first (present o clauses) ≡ None
+    → first (clauses x) ≡ None
 present_passes o clauses x is none = sym (ap (λ o. first (present o clauses)) is) ∙ none
 
 -- ---- rows in turn
 
 module _ {A : Type 0} (clauses : List A → Place → A → List TreeFault) (place : ℕ → Place) where
-  none_from : (i : ℕ) (earlier before : List A) (row : A) (after : List A) → first (each clauses place i earlier (before ++ row ∷ after)) ≡ None
+  none_from : (i : ℕ) (earlier before : List A) (row : A) (after : List A)
+      → first (each clauses place i earlier (before ++ row ∷ after)) ≡ None
       → (at : Place) × (first (clauses (earlier ++ before) at row) ≡ None)
   none_from i earlier [] row after none = (
     place i,
-    ap (λ some. first (clauses some (place i) row)) (append-nil earlier) ∙ none_left (clauses earlier (place i) row) (each clauses place (i + 1) (earlier ++ row ∷ []) after) none,
+    ap (λ some. first (clauses some (place i) row)) (append-nil earlier)
+        ∙ none_left (clauses earlier (place i) row) (each clauses place (i + 1) (earlier ++ row ∷ []) after) none,
   )
   none_from i earlier (x ∷ before) row after none =
       let rest = none_right (clauses earlier (place i) x) (each clauses place (i + 1) (earlier ++ x ∷ []) (before ++ row ∷ after)) none in
@@ -56,12 +60,14 @@ module _ {A : Type 0} (clauses : List A → Place → A → List TreeFault) (pla
       (found.0, ap (λ some. first (clauses some found.0 row)) (sym (append_assoc earlier (x ∷ []) before)) ∙ found.1)
 
   -- where no row has a fault, the clauses of each pass behind those before it
-  pub none_at : (all : List A) → first (each clauses place 1 [] all) ≡ None → (before : List A) (row : A) (after : List A) → before ++ row ∷ after ≡ all
+  pub none_at : (all : List A) → first (each clauses place 1 [] all) ≡ None → (before : List A) (row : A) (after : List A)
+      → before ++ row ∷ after ≡ all
       → (at : Place) × (first (clauses before at row) ≡ None)
   none_at all none before row after is = none_from 1 [] before row after (ap (λ some. first (each clauses place 1 [] some)) is ∙ none)
 
 -- what holds of each row behind those before it holds of all
-pub all_rows : {A : Type 0} (P : A → Type 0) (before rest : List A) → ((front : List A) (row : A) (after : List A) → front ++ row ∷ after ≡ before ++ rest → P row) → AllByRecursion P rest
+pub all_rows : {A : Type 0} (P : A → Type 0) (before rest : List A)
+    → ((front : List A) (row : A) (after : List A) → front ++ row ∷ after ≡ before ++ rest → P row) → AllByRecursion P rest
 all_rows P before [] each = tt
 all_rows P before (row ∷ rest) each = (
   each before row rest refl,
@@ -74,7 +80,8 @@ pub is_some-find : {A : Type 0} (p : A → Bool) (xs : List A) → is_some (find
 is_some-find p [] = refl
 is_some-find p (x ∷ xs) = found_first (p x) x (find p xs) (list_any p xs) (is_some-find p xs)
   where
-    found_first : {A : Type 0} (t : Bool) (x : A) (later : Option A) (any : Bool) → is_some later ≡ any → is_some (cond t (Some x) later) ≡ (t || any)
+    found_first : {A : Type 0} (t : Bool) (x : A) (later : Option A) (any : Bool) → is_some later ≡ any
+        → is_some (cond t (Some x) later) ≡ (t || any)
     found_first true x later any is = refl
     found_first false x later any is = is
 
@@ -113,7 +120,8 @@ module _ {A K : Type 0} (key : A → Option K) (same : K → K → Bool) where
 
   -- no row has the key of one before it
   pub record IsOnce (all : List A) : Type 0 where
-    pub new : (before : List A) (row : A) (after : List A) → before ++ row ∷ after ≡ all → (q : K) → key row ≡ Some q → list_any (has q) before ≡ false
+    pub new : (before : List A) (row : A) (after : List A) → before ++ row ∷ after ≡ all → (q : K) → key row ≡ Some q
+        → list_any (has q) before ≡ false
 
   module _ (alike : (a b : K) → same a b ≡ true → a ≡ b) (itself : (a : K) → same a a ≡ true) where
     pub key_had : (q : K) (row : A) → has q row ≡ true → key row ≡ Some q
@@ -127,7 +135,8 @@ module _ {A K : Type 0} (key : A → Option K) (same : K → K → Bool) where
     has_key q row is = ap (λ (o : Option K). elim o [ None ↦ false | Some said ↦ same q said ]) is ∙ itself q
 
     -- each row is found by its key
-    pub once_found : (all : List A) → IsOnce all → (before : List A) (row : A) (after : List A) → before ++ row ∷ after ≡ all → (q : K) → key row ≡ Some q → find (has q) all ≡ Some row
+    pub once_found : (all : List A) → IsOnce all → (before : List A) (row : A) (after : List A) → before ++ row ∷ after ≡ all → (q : K)
+        → key row ≡ Some q → find (has q) all ≡ Some row
     once_found all once before row after is q said =
         ap (find (has q)) (sym is) ∙ find_past (has q) before (row ∷ after) (once.new before row after is q said)
         ∙ ap (λ b. cond b (Some row) (find (has q) after)) (has_key q row said)
@@ -138,7 +147,8 @@ module _ {A K : Type 0} (key : A → Option K) (same : K → K → Bool) where
     none_later : (q : K) (before rest : List A) → IsOnce (before ++ rest) → list_any (has q) before ≡ true → counted (has q) rest ≡ 0
     none_later q before [] once met = refl
     none_later q before (row ∷ rest) once met =
-        let still : list_any (has q) (before ++ row ∷ []) ≡ true = list_any-append (has q) before (row ∷ []) ∙ or_left (list_any (has q) before) (list_any (has q) (row ∷ [])) met in
+        let still : list_any (has q) (before ++ row ∷ []) ≡ true = list_any-append (has q) before (row ∷ [])
+            ∙ or_left (list_any (has q) before) (list_any (has q) (row ∷ [])) met in
         let later : counted (has q) rest ≡ 0 = none_later q (before ++ row ∷ []) rest (behind before row rest once) still in
         elim (has q row) as (λ b. has q row ≡ b → cond b (1 + counted (has q) rest) (counted (has q) rest) ≡ 0) [
           | true ↦ λ so. absurd (true≢false (sym met ∙ once.new before row rest refl q (key_had q row so)))
@@ -148,10 +158,12 @@ module _ {A K : Type 0} (key : A → Option K) (same : K → K → Bool) where
     counted_from : (q : K) (before rest : List A) → IsOnce (before ++ rest) → counted (has q) rest ≡ cond (list_any (has q) rest) 1 0
     counted_from q before [] once = refl
     counted_from q before (row ∷ rest) once =
-        elim (has q row) as (λ b. has q row ≡ b → cond b (1 + counted (has q) rest) (counted (has q) rest) ≡ cond (b || list_any (has q) rest) 1 0) [
+        elim (has q row) as (λ b. has q row ≡ b → cond b (1 + counted (has q) rest) (counted (has q) rest) ≡ cond
+            (b || list_any (has q) rest) 1 0) [
           | true ↦ λ so.
               let here : list_any (has q) (row ∷ []) ≡ true = or_left (has q row) false so in
-              let met : list_any (has q) (before ++ row ∷ []) ≡ true = list_any-append (has q) before (row ∷ []) ∙ or_right (list_any (has q) before) (list_any (has q) (row ∷ [])) here in
+              let met : list_any (has q) (before ++ row ∷ []) ≡ true = list_any-append (has q) before (row ∷ [])
+                  ∙ or_right (list_any (has q) before) (list_any (has q) (row ∷ [])) here in
               ap (λ n. 1 + n) (none_later q (before ++ row ∷ []) rest (behind before row rest once) met)
           | false ↦ λ _. counted_from q (before ++ row ∷ []) rest (behind before row rest once)
         ] refl

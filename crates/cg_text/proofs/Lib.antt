@@ -4,6 +4,7 @@ pub mod OnceLaws
 pub mod KeysOnce
 pub mod LiveLaws
 pub mod DocumentOfLaws
+pub mod DocumentInTurn
 pub mod RowLaws
 pub mod EachRow
 pub mod TakesLaws

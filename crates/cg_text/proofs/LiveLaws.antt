@@ -1,5 +1,7 @@
 -- The reader's processes are those of their tables, and its fault is the first of the clauses on them.
-use Rattle.std.proofs.Common.{◌≡◌, ℕ, ◌+◌, ◌<◌, ◌≤◌, Bool, true, false, not, cond, ◌||◌, List, [], ◌∷◌, ◌++◌, length, get_or, take, map as map_list, codes, Option, Some, None, is_some, option_map, option_and_then, refl, sym, ap, subst, ◌∙◌, true≢false, append_assoc, arith}
+use Rattle.std.proofs.Common.{◌≡◌, ℕ, ◌+◌, ◌<◌, ◌≤◌, Bool, true, false, not, cond, ◌||◌, List, [], ◌∷◌, ◌++◌, length, get_or, take,
+    map as map_list, codes, Option, Some, None, is_some, option_map, option_and_then, refl, sym, ap, subst, ◌∙◌, true≢false, append_assoc,
+        arith}
 use Rattle.std.specs.Prelude.{find, filter_map, nat_eq}
 use Rattle.std.specs.List.{list_all, list_any}
 use Rattle.std.specs.Map.{lookup}
@@ -42,9 +44,11 @@ use Rattle.cg_text.proofs.KeysOnce.{none_left, none_right, unless_passes, presen
 
 -- the first fault of a place, by the cgroup that is there
 abbrev pub place_fault : Place → Names → Option Cgroup → Option TreeFault
-place_fault place at found = elim found [ None ↦ Some (NoSuchPlace place) | Some cgroup ↦ first (unless (is_root at || enables_nothing cgroup.enabled) (InternalProcess place)) ]
+place_fault place at found = elim found [ None ↦ Some (NoSuchPlace place) | Some cgroup ↦ first
+    (unless (is_root at || enables_nothing cgroup.enabled) (InternalProcess place)) ]
 
-module _ (tables : List Members) (cgroups : map.FinMap path_cmp Cgroup) (among : IsAmong tables cgroups) (place : Place) (row : Members) where
+module _ (tables : List Members) (cgroups : map.FinMap path_cmp Cgroup) (among : IsAmong tables cgroups) (place : Place)
+    (row : Members) where
   abbrev look : Names → Option Members
   look path = find (has_path path) tables
 
@@ -58,20 +62,26 @@ module _ (tables : List Members) (cgroups : map.FinMap path_cmp Cgroup) (among :
   pathless None fault is = is
   pathless (Some path) fault is = absurd (true≢false (sym (ap is_some is)))
 
-  pub without_path : (fault : TreeFault) → first (absent (path_said (codes "at") row) (NoSuchPlace place)) ≡ Some fault → first (place_faults tables place row) ≡ Some fault
+  pub without_path : (fault : TreeFault) → first (absent (path_said (codes "at") row) (NoSuchPlace place)) ≡ Some fault
+      → first (place_faults tables place row) ≡ Some fault
   without_path fault is = pathless (path_said (codes "at") row) fault is
 
-  by_table : (at : Names) (table : Option Members) (enabled : Option ControllerSet) (found : Option Cgroup) → is_some table ≡ is_some found → enabled ≡ option_map (λ (c : Cgroup). c.enabled) found
-      → first (absent table (NoSuchPlace place) ++ present enabled (λ enabled. unless (is_root at || enables_nothing enabled) (InternalProcess place))) ≡ place_fault place at found
+  by_table : (at : Names) (table : Option Members) (enabled : Option ControllerSet) (found : Option Cgroup) → is_some table ≡ is_some found
+      → enabled ≡ option_map (λ (c : Cgroup). c.enabled) found
+      → first (absent table (NoSuchPlace place) ++ present enabled
+      (λ enabled. unless (is_root at || enables_nothing enabled) (InternalProcess place))) ≡ place_fault place at found
   by_table at None enabled None there is = refl
   by_table at None enabled (Some cgroup) there is = absurd (true≢false (sym there))
   by_table at (Some table) enabled None there is = absurd (true≢false there)
-  by_table at (Some table) enabled (Some cgroup) there is = ap (λ o. first (present o (λ enabled. unless (is_root at || enables_nothing enabled) (InternalProcess place)))) is
+  by_table at (Some table) enabled (Some cgroup) there is = ap (λ o. first
+      (present o (λ enabled. unless (is_root at || enables_nothing enabled) (InternalProcess place)))) is
 
-  pub at_place : (at : Names) → path_said (codes "at") row ≡ Some at → first (place_faults tables place row) ≡ place_fault place at (map.get cgroups at)
+  pub at_place : (at : Names) → path_said (codes "at") row ≡ Some at
+      → first (place_faults tables place row) ≡ place_fault place at (map.get cgroups at)
   at_place at said =
       ap at_path said
-      ∙ by_table at (look at) (enabled_there tables at) (map.get cgroups at) (is_some-find (has_path at) tables ∙ sym (among.there at)) (sym (among.enabled at))
+      ∙ by_table at (look at) (enabled_there tables at) (map.get cgroups at) (is_some-find (has_path at) tables ∙ sym (among.there at))
+      (sym (among.enabled at))
 
   -- ---- a process
 
@@ -102,16 +112,20 @@ module _ (tables : List Members) (cgroups : map.FinMap path_cmp Cgroup) (among :
     behind : (pid uid : ℕ) (met : Bool) → pid_said row ≡ Some pid → uid_said row ≡ Some uid → list_any (has_pid pid) earlier ≡ met
         → faults ≡ first (unless (not met) (DuplicatePid place) ++ place_faults tables place row)
     behind pid uid met said owner is =
-        faults_are ∙ (λ i. in_turn (said i) (owner i)) ∙ ap (λ b. first (unless (not b) (DuplicatePid place) ++ place_faults tables place row)) is
+        faults_are ∙ (λ i. in_turn (said i) (owner i))
+            ∙ ap (λ b. first (unless (not b) (DuplicatePid place) ++ place_faults tables place row)) is
 
-    pub met_twice : (pid uid : ℕ) → pid_said row ≡ Some pid → uid_said row ≡ Some uid → list_any (has_pid pid) earlier ≡ true → faults ≡ Some (DuplicatePid place)
+    pub met_twice : (pid uid : ℕ) → pid_said row ≡ Some pid → uid_said row ≡ Some uid → list_any (has_pid pid) earlier ≡ true
+        → faults ≡ Some (DuplicatePid place)
     met_twice pid uid said owner is = behind pid uid true said owner is
 
-    pub met_once : (pid uid : ℕ) → pid_said row ≡ Some pid → uid_said row ≡ Some uid → list_any (has_pid pid) earlier ≡ false → faults ≡ first (place_faults tables place row)
+    pub met_once : (pid uid : ℕ) → pid_said row ≡ Some pid → uid_said row ≡ Some uid → list_any (has_pid pid) earlier ≡ false
+        → faults ≡ first (place_faults tables place row)
     met_once pid uid said owner is = behind pid uid false said owner is
 
 -- what a look-up of all names of a path gives
-pub got_whole : {X : Type 0} (cgroups : map.FinMap path_cmp X) (at : Names) (depth : ℕ) (found : Option X) → found ≡ map.get cgroups (take depth at) → depth ≡ length at → map.get cgroups at ≡ found
+pub got_whole : {X : Type 0} (cgroups : map.FinMap path_cmp X) (at : Names) (depth : ℕ) (found : Option X)
+    → found ≡ map.get cgroups (take depth at) → depth ≡ length at → map.get cgroups at ≡ found
 got_whole cgroups at depth found is whole =
     let long : length at ≤ depth = omega (arith, whole) in
     ap (map.get cgroups) (sym (take_all depth at long)) ∙ sym is
@@ -132,10 +146,12 @@ none_read tables rows live empty = record {
   };
 }
 
-find_behind : (p : Members → Bool) (before : List Members) (row : Members) → list_any p before ≡ false → p row ≡ true → find p (before ++ row ∷ []) ≡ Some row
+find_behind : (p : Members → Bool) (before : List Members) (row : Members) → list_any p before ≡ false → p row ≡ true
+    → find p (before ++ row ∷ []) ≡ Some row
 find_behind p before row none so = find_past p before (row ∷ []) none ∙ ap (λ b. cond b (Some row) None) so
 
-find_before : (p : Members → Bool) (before rest : List Members) (row : Members) → find p before ≡ Some row → find p (before ++ rest) ≡ Some row
+find_before : (p : Members → Bool) (before rest : List Members) (row : Members) → find p before ≡ Some row
+    → find p (before ++ rest) ≡ Some row
 find_before p [] rest row is = absurd (true≢false (sym (ap is_some is)))
 find_before p (x ∷ before) rest row is =
     elim (p x) as (λ b. cond b (Some x) (find p before) ≡ Some row → cond b (Some x) (find p (before ++ rest)) ≡ Some row) [
@@ -144,18 +160,23 @@ find_before p (x ∷ before) rest row is =
     ] is
 
 -- one process more
-module _ (earlier : List Members) (row : Members) (live after : BTreeMap ℕ Process) (pid : ℕ) (process : Process) (is : IsLive row (pid, process)) (had : AreLive earlier live)
-    (new : list_any (has_pid pid) earlier ≡ false) (updates : (q : ℕ) → get nat_cmp after q ≡ cond (is_at (nat_cmp pid) q) (Some process) (get nat_cmp live q)) where
+module _ (earlier : List Members) (row : Members) (live after : BTreeMap ℕ Process) (pid : ℕ) (process : Process)
+    (is : IsLive row (pid, process)) (had : AreLive earlier live)
+    (new : list_any (has_pid pid) earlier ≡ false) (updates : (q : ℕ)
+    → get nat_cmp after q ≡ cond (is_at (nat_cmp pid) q) (Some process) (get nat_cmp live q)) where
   says : (q : ℕ) → has_pid q row ≡ is_at (nat_cmp pid) q
-  says q = ap (λ (o : Option ℕ). elim o [ None ↦ false | Some said ↦ nat_eq q said ]) is.pid ∙ unsigned_ties q pid ∙ (eq_by_cmp_equiv nat_cmp_total).symm q pid
+  says q = ap (λ (o : Option ℕ). elim o [ None ↦ false | Some said ↦ nat_eq q said ]) is.pid ∙ unsigned_ties q pid
+      ∙ (eq_by_cmp_equiv nat_cmp_total).symm q pid
 
   pids_more : (q : ℕ) (t : Bool) → is_at (nat_cmp pid) q ≡ t → is_some (get nat_cmp after q) ≡ list_any (has_pid q) (earlier ++ row ∷ [])
   pids_more q true at =
       ap is_some (updates q ∙ ap (λ b. cond b (Some process) (get nat_cmp live q)) at)
-      ∙ sym (list_any-append (has_pid q) earlier (row ∷ []) ∙ or_right (list_any (has_pid q) earlier) (list_any (has_pid q) (row ∷ [])) (or_left (has_pid q row) false (says q ∙ at)))
+      ∙ sym (list_any-append (has_pid q) earlier (row ∷ []) ∙ or_right (list_any (has_pid q) earlier) (list_any (has_pid q) (row ∷ []))
+      (or_left (has_pid q row) false (says q ∙ at)))
   pids_more q false at =
       ap is_some (updates q ∙ ap (λ b. cond b (Some process) (get nat_cmp live q)) at) ∙ had.pids q
-      ∙ sym (list_any-append (has_pid q) earlier (row ∷ []) ∙ ap (λ b. list_any (has_pid q) earlier || (b || false)) (says q ∙ at) ∙ or-false (list_any (has_pid q) earlier))
+      ∙ sym (list_any-append (has_pid q) earlier (row ∷ []) ∙ ap (λ b. list_any (has_pid q) earlier || (b || false)) (says q ∙ at)
+      ∙ or-false (list_any (has_pid q) earlier))
 
   abbrev OfRow : ℕ → Process → Type 0
   OfRow q other = (said : Members) × (find (has_pid q) (earlier ++ row ∷ []) ≡ Some said) × IsLive said (q, other)
@@ -163,13 +184,15 @@ module _ (earlier : List Members) (row : Members) (live after : BTreeMap ℕ Pro
   here : (q : ℕ) (other : Process) → pid ≡ q → process ≡ other → OfRow q other
   here q other at same = (
     row,
-    find_behind (has_pid q) earlier row (ap (λ n. list_any (has_pid n) earlier) (sym at) ∙ new) (says q ∙ ap (is_at (nat_cmp pid)) (sym at) ∙ (eq_by_cmp_equiv nat_cmp_total).refl pid),
+    find_behind (has_pid q) earlier row (ap (λ n. list_any (has_pid n) earlier) (sym at) ∙ new) (says q ∙ ap (is_at (nat_cmp pid)) (sym at)
+        ∙ (eq_by_cmp_equiv nat_cmp_total).refl pid),
     subst (λ (e : ℕ × Process). IsLive row e) (λ i. (at i, same i)) is,
   )
 
   processes_more : (q : ℕ) (other : Process) (t : Bool) → is_at (nat_cmp pid) q ≡ t → get nat_cmp after q ≡ Some other → OfRow q other
   processes_more q other true at found =
-      let same : process ≡ other = same_some process other (sym (updates q ∙ ap (λ b. cond b (Some process) (get nat_cmp live q)) at) ∙ found) in
+      let same : process ≡ other = same_some process other (sym (updates q ∙ ap (λ b. cond b (Some process) (get nat_cmp live q)) at)
+          ∙ found) in
       here q other (nat_cmp-IsAntisymmetric pid q ((Equal-is (nat_cmp pid q)).0 at)) same
   processes_more q other false at found =
       let before = had.processes q other (sym (updates q ∙ ap (λ b. cond b (Some process) (get nat_cmp live q)) at) ∙ found) in
@@ -181,27 +204,36 @@ module _ (earlier : List Members) (row : Members) (live after : BTreeMap ℕ Pro
     processes = λ q other found. processes_more q other (is_at (nat_cmp pid) q) refl found;
   }
 
-pid_is_new : (tables earlier : List Members) (place : Place) (row : Members) (pid : ℕ) → pid_said row ≡ Some pid → first (process_faults tables earlier place row) ≡ None → list_any (has_pid pid) earlier ≡ false
+pid_is_new : (tables earlier : List Members) (place : Place) (row : Members) (pid : ℕ) → pid_said row ≡ Some pid
+    → first (process_faults tables earlier place row) ≡ None → list_any (has_pid pid) earlier ≡ false
 pid_is_new tables earlier place row pid said none =
     let numbers : List TreeFault = absent (pid_said row) (BadPid place) ++ absent (uid_said row) (BadEntry place) in
     let twice : List TreeFault = present (pid_said row) (λ pid. unless (not (list_any (has_pid pid) earlier)) (DuplicatePid place)) in
-    let nowhere : List TreeFault = absent (option_and_then (λ path. find (has_path path) tables) (path_said (codes "at") row)) (NoSuchPlace place) in
-    let internal : List TreeFault = present (path_said (codes "at") row) (λ path. present (enabled_there tables path) (λ enabled. unless (is_root path || enables_nothing enabled) (InternalProcess place))) in
-    let passes : first twice ≡ None = none_right numbers twice (none_left (numbers ++ twice) nowhere (none_left ((numbers ++ twice) ++ nowhere) internal none)) in
+    let nowhere : List TreeFault = absent (option_and_then (λ path. find (has_path path) tables) (path_said (codes "at") row))
+        (NoSuchPlace place) in
+    let internal : List TreeFault = present (path_said (codes "at") row)
+        (λ path. present (enabled_there tables path) (λ enabled. unless (is_root path || enables_nothing enabled)
+        (InternalProcess place))) in
+    let passes : first twice ≡ None = none_right numbers twice (none_left (numbers ++ twice) nowhere
+        (none_left ((numbers ++ twice) ++ nowhere) internal none)) in
     not-true (list_any (has_pid pid) earlier)
-    (unless_passes (not (list_any (has_pid pid) earlier)) (DuplicatePid place) (present_passes (pid_said row) (λ pid. unless (not (list_any (has_pid pid) earlier)) (DuplicatePid place)) pid said passes))
+    (unless_passes (not (list_any (has_pid pid) earlier)) (DuplicatePid place)
+    (present_passes (pid_said row) (λ pid. unless (not (list_any (has_pid pid) earlier)) (DuplicatePid place)) pid said passes))
 
 module _ (tables : List Members) (elements : List Value) (are : list_all (λ held. is_some (as_table (view held))) elements ≡ true) where
   abbrev rows : List Members
   rows = filter_map as_table (map_list view elements)
 
-  pub all_read : (i : ℕ) (live : BTreeMap ℕ Process) → length elements ≤ i → HasRead tables rows i live → (first (each_process (process_faults tables) rows) ≡ None) × AreLive rows live
+  pub all_read : (i : ℕ) (live : BTreeMap ℕ Process) → length elements ≤ i → HasRead tables rows i live
+      → (first (each_process (process_faults tables) rows) ≡ None) × AreLive rows live
   all_read i live past had =
       let whole : length rows ≤ i = omega (arith, row_count as_table view elements are) in
-      (all_passed (process_faults tables) AtProcess rows i had.passed whole, subst (λ some. AreLive some live) (take_all i rows whole) had.are)
+      (all_passed (process_faults tables) AtProcess rows i had.passed whole, subst (λ some. AreLive some live)
+      (take_all i rows whole) had.are)
 
   -- the next table
-  module _ (i : ℕ) (element : Value) (row : Members) (below : i < length elements) (at : element ≡ get_or elements i element) (seen : as_table (view element) ≡ Some row)
+  module _ (i : ℕ) (element : Value) (row : Members) (below : i < length elements) (at : element ≡ get_or elements i element)
+      (seen : as_table (view element) ≡ Some row)
       (number : ℕ) (next : number ≡ i + 1) (live : BTreeMap ℕ Process) (had : HasRead tables rows i live) where
     inside : i < length rows
     inside = omega (arith, row_count as_table view elements are)
@@ -209,30 +241,38 @@ module _ (tables : List Members) (elements : List Value) (are : list_all (λ hel
     row_is : row ≡ get_or rows i row
     row_is = row_at as_table view elements are i element row below at seen
 
-    numbered : first (process_faults tables (take i rows) (AtProcess (i + 1)) row) ≡ first (process_faults tables (take i rows) (AtProcess number) row)
+    numbered : first (process_faults tables (take i rows) (AtProcess (i + 1)) row) ≡ first
+        (process_faults tables (take i rows) (AtProcess number) row)
     numbered = ap (λ n. first (process_faults tables (take i rows) (AtProcess n) row)) (sym next)
 
-    pub read_fails : (fault : TreeFault) → first (process_faults tables (take i rows) (AtProcess number) row) ≡ Some fault → first (each_process (process_faults tables) rows) ≡ Some fault
+    pub read_fails : (fault : TreeFault) → first (process_faults tables (take i rows) (AtProcess number) row) ≡ Some fault
+        → first (each_process (process_faults tables) rows) ≡ Some fault
     read_fails fault is = fault_found (process_faults tables) AtProcess rows i row fault had.passed inside row_is (numbered ∙ is)
 
-    pub read_more : (after : BTreeMap ℕ Process) (pid : ℕ) (process : Process) → first (process_faults tables (take i rows) (AtProcess number) row) ≡ None → IsLive row (pid, process)
-        → ((q : ℕ) → get nat_cmp after q ≡ cond (is_at (nat_cmp pid) q) (Some process) (get nat_cmp live q)) → HasRead tables rows (i + 1) after
+    pub read_more : (after : BTreeMap ℕ Process) (pid : ℕ) (process : Process)
+        → first (process_faults tables (take i rows) (AtProcess number) row) ≡ None → IsLive row (pid, process)
+        → ((q : ℕ) → get nat_cmp after q ≡ cond (is_at (nat_cmp pid) q) (Some process) (get nat_cmp live q))
+        → HasRead tables rows (i + 1) after
     read_more after pid process none is updates = record {
       passed = more_passed (process_faults tables) AtProcess rows i row had.passed inside row_is (numbered ∙ none);
       are = subst (λ some. AreLive some after) (sym (take_more rows i row inside ∙ ap (λ x. take i rows ++ x ∷ []) (sym row_is)))
-          (live_more (take i rows) row live after pid process is had.are (pid_is_new tables (take i rows) (AtProcess number) row pid is.pid none) updates);
+          (live_more (take i rows) row live after pid process is had.are
+          (pid_is_new tables (take i rows) (AtProcess number) row pid is.pid none) updates);
     }
 
 -- ---- the map of processes, with its keys
 
-pub are_processes : (rows : List Members) (live : BTreeMap ℕ Process) (used : BTreeSet ℕ) (all : LiveAndUsed) → AreLive rows live → all.live ≡ map.from_entries live.entries → all.used ≡ set.from_list used.keys
+pub are_processes : (rows : List Members) (live : BTreeMap ℕ Process) (used : BTreeSet ℕ) (all : LiveAndUsed) → AreLive rows live
+    → all.live ≡ map.from_entries live.entries → all.used ≡ set.from_list used.keys
     → IsFromIterResult nat_cmp (keys live) used → AreProcesses rows all
 are_processes tables live used all had live_is used_is made =
-    let got : (pid : ℕ) → map.get all.live pid ≡ get nat_cmp live pid = λ pid. ap (λ m. map.get m pid) live_is ∙ get-shown nat_cmp_total live.entries pid in
+    let got : (pid : ℕ) → map.get all.live pid ≡ get nat_cmp live pid = λ pid. ap (λ m. map.get m pid) live_is
+        ∙ get-shown nat_cmp_total live.entries pid in
     record {
       pids = λ pid. ap is_some (got pid) ∙ had.pids pid;
       processes = λ pid process is. had.processes pid process (sym (got pid) ∙ is);
       used = λ pid.
-          ap (λ s. set.contains s pid) used_is ∙ set.contains-from_list nat_cmp_total used.keys pid ∙ made.0 pid ∙ sym (is_some-lookup (is_at (nat_cmp pid)) live.entries)
+          ap (λ s. set.contains s pid) used_is ∙ set.contains-from_list nat_cmp_total used.keys pid ∙ made.0 pid
+              ∙ sym (is_some-lookup (is_at (nat_cmp pid)) live.entries)
           ∙ sym (ap is_some (got pid));
     }

@@ -6,4 +6,5 @@ use Rattle.cg_text.proofs.LiveLaws.{HasRead}
 use Rattle.cg_text.proofs.tree.processes.live_of.Given as goal
 
 abbrev pub invariant-loop-index : goal.invariant-loop-index
-invariant-loop-index l = (tables : List Members) → IsAmong tables l.cgroups → HasRead tables (filter_map as_table (map view l.elements)) l.index l.live
+invariant-loop-index l = (tables : List Members) → IsAmong tables l.cgroups → HasRead tables
+    (filter_map as_table (map view l.elements)) l.index l.live

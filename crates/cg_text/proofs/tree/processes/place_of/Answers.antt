@@ -8,9 +8,11 @@ use Rattle.cg_text.proofs.tree.processes.place_of.Goals as goal
 pub returns-in_err-at : goal.returns-in_err-at
 returns-in_err-at c = λ tables among.
     let p = err_from_is_err_and c.from_residual.result c.from_residual.ensures.1 in
-    rw (p.1, p.2) (λ other. without_path tables c.args.cgroups.now among c.args.place (table_view c.args.row.now) c.in_err-at.field-0.0 (c.in_err-at.ensures other))
+    rw (p.1, p.2) (λ other. without_path tables c.args.cgroups.now among c.args.place (table_view c.args.row.now) c.in_err-at.field-0.0
+        (c.in_err-at.ensures other))
 
 pub returns-in_default : goal.returns-in_default
 returns-in_default c = λ tables among other.
     at_place tables c.args.cgroups.now among c.args.place (table_view c.args.row.now) c.in_ok-at.at c.in_ok-at.ensures.1
-    ∙ ap (place_fault c.args.place c.in_ok-at.at) (got_whole c.args.cgroups.now c.in_ok-at.at c.depth.result (option_copied c.get.result) c.get.ensures c.depth.ensures.depth ∙ ap option_copied c.in_default.is)
+    ∙ ap (place_fault c.args.place c.in_ok-at.at) (got_whole c.args.cgroups.now c.in_ok-at.at c.depth.result
+    (option_copied c.get.result) c.get.ensures c.depth.ensures.depth ∙ ap option_copied c.in_default.is)
