@@ -1,8 +1,8 @@
 -- The document of a tree that is kept, and that a text can carry, is one of the tree's state, and so is each text of that document.
-use Rattle.std.proofs.Common.{◌≡◌, ◌≢◌, ℕ, ◌≤◌, ◌<◌, zero, suc, Bool, true, false, cond, nat_le, List, [], ◌∷◌, length, take, get_or, map as map_list, codes, Ordering, Option, Some, None, is_some, Result, Ok, Err, MatchResult, refl, sym, ap, subst, ◌∙◌, true≢false, arith}
+use Rattle.std.proofs.Common.{◌≡◌, ◌≢◌, ℕ, ◌≤◌, ◌<◌, Bool, true, false, cond, nat_le, List, [], ◌∷◌, length, take, map as map_list, codes, Ordering, Option, Some, None, is_some, Result, Ok, Err, MatchResult, refl, sym, ap, subst, ◌∙◌, true≢false, arith}
 use Rattle.std.specs.Prelude.{count_by, filter_map, nat_eq}
 use Rattle.std.specs.List.{AllByRecursion, list_all}
-use Rattle.std.specs.Ordering.{nat_cmp, eq_by_cmp, is_eq}
+use Rattle.std.specs.Ordering.{nat_cmp, eq_by_cmp}
 use Rattle.std.specs.Cmp.{IsTotalOrder, nat_cmp_total, unsigned_ties}
 use Rattle.std.specs.FinMap as finite
 use Rattle.std.specs.FinMap.{FinMap, IsAntisymmetric, get, entries, find, nat_cmp-IsAntisymmetric}
@@ -10,10 +10,9 @@ use Rattle.std.proofs.lemmas.Bool.{and_from}
 use Rattle.std.proofs.lemmas.Bool.Decides.{nat_tests}
 use Rattle.std.proofs.lemmas.List.{map-id, length-map}
 use Rattle.toml.specs.Data.{Members, table, as_table}
-use Rattle.cg_cgroup.specs.Paths.{Names, IsPath, path_cmp, same_path}
+use Rattle.cg_cgroup.specs.Paths.{Names, path_cmp, same_path}
 use Rattle.cg_cgroup.specs.declared.cgroup.Cgroup.{Cgroup}
 use Rattle.cg_cgroup.specs.declared.process.Process.{Process}
-use Rattle.cg_cgroup.proofs.Options.{same_some}
 use Rattle.cg_cgroup.proofs.PathOrder.{path_cmp_total, path_cmp-IsAntisymmetric, same_path-ties}
 use Rattle.cg_model.specs.States.{State, row_at, process_at}
 use Rattle.cg_model.specs.WellFormed.{enabled_above}
@@ -21,7 +20,7 @@ use Rattle.cg_model.specs.Clauses.{first}
 use Rattle.cg_steps.proofs.FormedParts.{may_hold-row}
 use Rattle.cg_steps.proofs.Lists.{all-both, all-each}
 use Rattle.cg_text.specs.Form.{Key, is_table, row_keys, live_keys}
-use Rattle.cg_text.specs.Said.{elements_at, tables_at, path_said, has_path, pid_said}
+use Rattle.cg_text.specs.Said.{tables_at, path_said, has_path, pid_said}
 use Rattle.cg_text.specs.TextOf.{IsInForm, IsRowOf, IsProcessOf, has_pid, IsDocumentOf, IsTextOf}
 use Rattle.cg_text.specs.TextFaults.{text_faults}
 use Rattle.cg_text.specs.TreeTexts.{longest_text, document_of}
@@ -42,10 +41,12 @@ module _ {E : Type 0} (write : E → Members) where
   tables_again [] = refl
   tables_again (e ∷ es) = ap (λ rest. write e ∷ rest) (tables_again es)
 
-  all_in_form : (keys : List Key) → ((e : E) → is_table keys (table (write e)) ≡ true) → (es : List E) → list_all (is_table keys) (map_list (λ e. table (write e)) es) ≡ true
+  all_in_form : (keys : List Key) → ((e : E) → is_table keys (table (write e)) ≡ true) → (es : List E)
+      → list_all (is_table keys) (map_list (λ e. table (write e)) es) ≡ true
   all_in_form keys each [] = refl
   all_in_form keys each (e ∷ es) =
-      and_from (is_table keys (table (write e))) (list_all (is_table keys) (map_list (λ e. table (write e)) es)) (each e) (all_in_form keys each es)
+      and_from (is_table keys (table (write e))) (list_all (is_table keys) (map_list (λ e. table (write e)) es)) (each e)
+      (all_in_form keys each es)
 
   all_written : (P : Members → Type 0) (es : List E) → AllByRecursion (λ e. P (write e)) es → AllByRecursion P (map_list write es)
   all_written P [] all = tt
@@ -54,8 +55,10 @@ module _ {E : Type 0} (write : E → Members) where
 -- ---- how often a key comes
 
 -- a table is found by the path and by the PID that it says
-pub path_ties : (row : Members) (said : Names) → path_said (codes "path") row ≡ Some said → (path : Names) → has_path path row ≡ eq_by_cmp path_cmp path said
-path_ties row said is path = ap (λ (o : Option Names). elim o [ None ↦ false | Some said ↦ same_path path said ]) is ∙ same_path-ties path said
+pub path_ties : (row : Members) (said : Names) → path_said (codes "path") row ≡ Some said
+    → (path : Names) → has_path path row ≡ eq_by_cmp path_cmp path said
+path_ties row said is path =
+    ap (λ (o : Option Names). elim o [ None ↦ false | Some said ↦ same_path path said ]) is ∙ same_path-ties path said
 
 pub pid_ties : (row : Members) (said : ℕ) → pid_said row ≡ Some said → (pid : ℕ) → has_pid pid row ≡ eq_by_cmp nat_cmp pid said
 pid_ties row said is pid = ap (λ (o : Option ℕ). elim o [ None ↦ false | Some said ↦ nat_eq pid said ]) is ∙ unsigned_ties pid said
@@ -63,9 +66,12 @@ pid_ties row said is pid = ap (λ (o : Option ℕ). elim o [ None ↦ false | So
 module _ {K X : Type 0} {R : K → K → Ordering} (total : IsTotalOrder R) (same : IsAntisymmetric R) (m : FinMap R X) where
   entries_fresh : IsFresh total same (λ (e : K × X). e) (entries m)
   entries_fresh = fresh_once total same (λ (e : K × X). e) (entries m) (λ i e inside is.
-      ap (find R e.0) (map-id (take i (entries m))) ∙ ap (λ (x : K × X). find R x.0 (take i (entries m))) is ∙ none_before R total (entries m) (finite.entries_sorted m) i e inside)
+      ap (find R e.0) (map-id (take i (entries m)))
+      ∙ ap (λ (x : K × X). find R x.0 (take i (entries m))) is
+      ∙ none_before R total (entries m) (finite.entries_sorted m) i e inside)
 
-  each_once : (write : K × X → Members) (test : Members → Bool) (q : K) → AllByRecursion (λ (e : K × X). test (write e) ≡ eq_by_cmp R q e.0) (entries m)
+  each_once : (write : K × X → Members) (test : Members → Bool) (q : K)
+      → AllByRecursion (λ (e : K × X). test (write e) ≡ eq_by_cmp R q e.0) (entries m)
       → count_by test (map_list write (entries m)) ≡ cond (is_some (get m q)) 1 0
   each_once write test q ties =
       sym (counted_is test (map_list write (entries m)))
@@ -127,23 +133,31 @@ module _ (st : State) (kept : IsKept st) where
     format = format_back st;
     few_cgroups = omega (arith, carried.cgroups, ap length (cgroups_back st), length-map cgroups (λ e. table (row_written e)));
     few_processes = omega (arith, carried.processes, ap length (processes_back st), length-map live (λ e. table (process_written e)));
-    cgroups = ap (list_all (is_table (row_keys Two))) (cgroups_back st) ∙ all_in_form row_written (row_keys Two) (λ e. cgroup_in_form e.0 e.1) cgroups;
-    processes = ap (list_all (is_table live_keys)) (processes_back st) ∙ all_in_form process_written live_keys (λ e. process_in_form e.0 e.1) live;
+    cgroups = ap (list_all (is_table (row_keys Two))) (cgroups_back st)
+        ∙ all_in_form row_written (row_keys Two) (λ e. cgroup_in_form e.0 e.1) cgroups;
+    processes = ap (list_all (is_table live_keys)) (processes_back st)
+        ∙ all_in_form process_written live_keys (λ e. process_in_form e.0 e.1) live;
   }
 
   pub document_back : IsCarried st → IsDocumentOf st (tree_document st)
   document_back carried =
-      let rows = all-both _ _ (λ (e : Names × Cgroup). IsRowOf Two st (row_written e)) row_back cgroups (entries_there path_cmp path_cmp_total st.rows) kept.rows in
-      let processes = all-both _ _ (λ (e : ℕ × Process). IsProcessOf st (process_written e)) process_back live (entries_there nat_cmp nat_cmp_total st.live) kept.live in
+      let rows =
+      all-both _ _ (λ (e : Names × Cgroup). IsRowOf Two st (row_written e)) row_back cgroups
+      (entries_there path_cmp path_cmp_total st.rows) kept.rows in
+      let processes =
+      all-both _ _ (λ (e : ℕ × Process). IsProcessOf st (process_written e)) process_back live
+      (entries_there nat_cmp nat_cmp_total st.live) kept.live in
       record {
         format = Two;
         form = in_form carried;
         controllers = controllers_back st;
         cgroups = subst (AllByRecursion (IsRowOf Two st)) (sym rows_are) (all_written row_written (IsRowOf Two st) cgroups rows);
-        paths = λ path. ap (count_by (has_path path)) rows_are ∙ each_once path_cmp_total path_cmp-IsAntisymmetric st.rows row_written (has_path path) path
+        paths = λ path. ap (count_by (has_path path)) rows_are
+            ∙ each_once path_cmp_total path_cmp-IsAntisymmetric st.rows row_written (has_path path) path
             (all-each _ _ (λ (e : Names × Cgroup) at. path_ties (row_written e) e.0 (path_back e.0 e.1 at) path) cgroups kept.rows);
         processes = subst (AllByRecursion (IsProcessOf st)) (sym lives_are) (all_written process_written (IsProcessOf st) live processes);
-        pids = λ pid. ap (count_by (has_pid pid)) lives_are ∙ each_once nat_cmp_total nat_cmp-IsAntisymmetric st.live process_written (has_pid pid) pid
+        pids = λ pid. ap (count_by (has_pid pid)) lives_are
+            ∙ each_once nat_cmp_total nat_cmp-IsAntisymmetric st.live process_written (has_pid pid) pid
             (all-each _ _ (λ (e : ℕ × Process) at. pid_ties (process_written e) e.0 (pid_back e.0 e.1 at) pid) live kept.live);
         used = carried.used;
         formed = kept.formed;
@@ -151,8 +165,10 @@ module _ (st : State) (kept : IsKept st) where
 
 -- ---- texts
 
-pub text_back : (text : List ℕ) (st : State) → document_of text ≡ Some (tree_document st) → IsKept st → IsCarried st → length text ≤ longest_text → IsTextOf st text
-text_back text st parsed kept carried short = record { short = short; document = tree_document st; parsed = parsed; says = document_back st kept carried }
+pub text_back : (text : List ℕ) (st : State) → document_of text ≡ Some (tree_document st) → IsKept st → IsCarried st
+    → length text ≤ longest_text → IsTextOf st text
+text_back text st parsed kept carried short =
+    record { short = short; document = tree_document st; parsed = parsed; says = document_back st kept carried }
 
 passes : (n m : ℕ) → nat_le n m ≡ true → n ≤ m
 passes n m is = grind (arith, nat_tests)
@@ -169,14 +185,18 @@ abbrev IsRead : List ℕ → Result State TreeFault → Type 0
 IsRead text result = MatchResult result (λ rows. IsTextOf rows text) (λ fault. fault ≢ NoMemory → first (text_faults text) ≡ Some fault)
 
 -- a text is of one state, and then has no fault
-module _ (text : List ℕ) (st : State) (one : (other also : State) → IsTextOf other text → IsTextOf also text → other ≡ also) (no_fault : IsTextOf st text → text_faults text ≡ []) where
+module _ (text : List ℕ) (st : State) (one : (rows other : State) → IsTextOf rows text → IsTextOf other text → rows ≡ other)
+    (no_fault : IsTextOf st text → text_faults text ≡ []) where
   by_read : (result : Result State TreeFault) → IsTextOf st text → IsRead text result → IsAnswer st result
   by_read (Ok rows) is read = one rows st read is
   by_read (Err fault) is read = λ other. absurd (true≢false (ap is_some (sym (read other) ∙ ap first (no_fault is))))
 
-  pub read_again : (result : Result State TreeFault) → IsSpelled st text → (length text ≤ longest_text → IsTextOf st text) → (longest_text < length text → result ≡ Err TooLong) → IsRead text result → IsAnswer st result
+  pub read_again : (result : Result State TreeFault) → IsSpelled st text → (length text ≤ longest_text → IsTextOf st text)
+      → (longest_text < length text → result ≡ Err TooLong) → IsRead text result → IsAnswer st result
   read_again result spelled state too_long read =
       elim (nat_le (length text) longest_text) as (λ b. nat_le (length text) longest_text ≡ b → IsAnswer st result) [
         | true ↦ λ is. by_read result (state (passes (length text) longest_text is)) read
-        | false ↦ λ is. subst (IsAnswer st) (sym (too_long (fails (length text) longest_text is))) (λ _. (refl, (text, spelled, fails (length text) longest_text is)))
+        | false ↦ λ is.
+            let over = fails (length text) longest_text is in
+            subst (IsAnswer st) (sym (too_long over)) (λ _. (refl, (text, spelled, over)))
       ] refl

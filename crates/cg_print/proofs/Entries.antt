@@ -38,7 +38,9 @@ module _ {K X : Type 0} (R : K → K → Ordering) (o : IsTotalOrder R) where
   pub entry_found : (m : FinMap R X) (i : ℕ) (d : K × X) → i < length (entries m) → get m (get_or (entries m) i d).0 ≡ Some (get_or (entries m) i d).1
   entry_found m i d inside = finite.get-entries m _ ∙ found_at (entries m) (finite.entries_sorted m) i d inside
 
-  all_there : (m : FinMap R X) (es : List (K × X)) → ((i : ℕ) (d : K × X) → i < length es → get m (get_or es i d).0 ≡ Some (get_or es i d).1) → AllByRecursion (λ (e : K × X). get m e.0 ≡ Some e.1) es
+  all_there : (m : FinMap R X) (es : List (K × X))
+      → ((i : ℕ) (d : K × X) → i < length es → get m (get_or es i d).0 ≡ Some (get_or es i d).1)
+      → AllByRecursion (λ (e : K × X). get m e.0 ≡ Some e.1) es
   all_there m [] each = tt
   all_there m (e ∷ es) each = (each zero e (omega arith), all_there m es (λ i d inside. each (suc i) d (omega arith)))
 
@@ -47,7 +49,8 @@ module _ {K X : Type 0} (R : K → K → Ordering) (o : IsTotalOrder R) where
   entries_there m = all_there m (entries m) (entry_found m)
 
 module _ {K X : Type 0} {R : K → K → Ordering} (same : IsAntisymmetric R) (P : K → X → Type 0) where
-  held_in : (es : List (K × X)) → AllByRecursion (λ (e : K × X). P e.0 e.1) es → (key : K) (held : X) → find R key es ≡ Some held → P key held
+  held_in : (es : List (K × X)) → AllByRecursion (λ (e : K × X). P e.0 e.1) es
+      → (key : K) (held : X) → find R key es ≡ Some held → P key held
   held_in [] all key held is = cc
   held_in (e ∷ es) all key held is =
       elim (R key e.0) as (λ o. R key e.0 ≡ o → cond (is_eq o) (Some e.1) (find R key es) ≡ Some held → P key held) [
@@ -57,7 +60,8 @@ module _ {K X : Type 0} {R : K → K → Ordering} (same : IsAntisymmetric R) (P
       ] refl is
 
   -- what holds of all entries holds of what is found
-  pub held_there : (m : FinMap R X) → AllByRecursion (λ (e : K × X). P e.0 e.1) (entries m) → (key : K) (held : X) → get m key ≡ Some held → P key held
+  pub held_there : (m : FinMap R X) → AllByRecursion (λ (e : K × X). P e.0 e.1) (entries m)
+      → (key : K) (held : X) → get m key ≡ Some held → P key held
   held_there m all key held is = held_in (entries m) all key held (sym (finite.get-entries m key) ∙ is)
 
 -- ---- the entries so far

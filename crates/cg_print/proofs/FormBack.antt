@@ -1,10 +1,9 @@
 -- The tables of a tree's document are in the form of format 2.
-use Rattle.std.proofs.Common.{◌≡◌, ℕ, Bool, true, not, List, [], ◌∷◌, map as map_list, codes, Option, Some, None, refl, ap, ◌∙◌}
-use Rattle.std.specs.Prelude.{◌&&◌, fold}
+use Rattle.std.proofs.Common.{◌≡◌, ℕ, Bool, true, List, [], ◌∷◌, codes, Option, Some, None, refl, ap, ◌∙◌}
+use Rattle.std.specs.Prelude.{fold}
 use Rattle.std.specs.List.{list_any, list_all}
 use Rattle.std.proofs.lemmas.Bool.{and_from}
-use Rattle.toml.specs.Data.{Data, string, table, Members, get_member}
-use Rattle.toml.specs.View.{items_of}
+use Rattle.toml.specs.Data.{Data, table, Members, no_members, get_member}
 use Rattle.cg_cgroup.specs.Paths.{Names, same_name}
 use Rattle.cg_cgroup.specs.Texts as texts
 use Rattle.cg_cgroup.specs.Files.{all_files, file_name}
@@ -18,7 +17,7 @@ use Rattle.cg_cgroup.specs.declared.cgroup.Cgroup.{Cgroup}
 use Rattle.cg_cgroup.specs.declared.process.Process.{Process}
 use Rattle.cg_cgroup.proofs.AllFiles.{each_passes, all_pass}
 use Rattle.cg_model.specs.States.{State}
-use Rattle.cg_text.specs.Form.{Key, fits_at, may_have, are_among, is_table, is_text, are_texts, elements, document_keys, owner_keys, limit_keys, file_keys_of, row_keys, live_keys}
+use Rattle.cg_text.specs.Form.{Key, fits_at, may_have, are_among, is_table, are_texts, document_keys, owner_keys, limit_keys, file_keys_of, row_keys, live_keys}
 use Rattle.cg_text.specs.declared.tree.records.Format.TheVariants.{Two}
 use Rattle.cg_print.specs.Keys.{with_key}
 use Rattle.cg_print.specs.Documents.{names_in, texts_array, entry_table, value_written, limit_table, table_of_file, with_file, files_table, cgroup_table, process_table, tree_document}
@@ -33,12 +32,19 @@ entry_in_form entry = refl
 limit_in_form : (held : LimitEntry) → is_table (limit_keys Two) (table (limit_table held)) ≡ true
 unfolding limit_table entry_table with_key
 limit_in_form held =
-    elim held.value as (λ v. is_table (limit_keys Two) (table (with_key (codes "value") (value_written v) (entry_table held.entry))) ≡ true) [
+    elim held.value
+    as (λ v. is_table (limit_keys Two) (table (with_key (codes "value") (value_written v) (entry_table held.entry))) ≡ true) [
       | Max ↦ refl
       | At n ↦ refl
     ]
 
-file_in_form : (found : Option LimitEntry) → elim (table_of_file found) [ None ↦ true | Some held ↦ is_table (limit_keys Two) held ] ≡ true
+abbrev fits_entry : Option Data → Bool
+fits_entry found = elim found [ None ↦ true | Some held ↦ is_table (owner_keys Two) held ]
+
+abbrev fits_limit : Option Data → Bool
+fits_limit found = elim found [ None ↦ true | Some held ↦ is_table (limit_keys Two) held ]
+
+file_in_form : (found : Option LimitEntry) → fits_limit (table_of_file found) ≡ true
 file_in_form None = refl
 file_in_form (Some held) = limit_in_form held
 
@@ -49,20 +55,24 @@ module _ (row : Cgroup) where
   abbrev looked : List ℕ → Option Data → LimitFile → Option Data
   looked q rest file = look q (file_name file) (table_of_file (file_of row file)) rest
 
-  with_files : (q : List ℕ) (files : List LimitFile) (keys : Members) → get_member q (fold (with_file row) keys files) ≡ fold (looked q) (get_member q keys) files
+  with_files : (q : List ℕ) (files : List LimitFile) (keys : Members)
+      → get_member q (fold (with_file row) keys files) ≡ fold (looked q) (get_member q keys) files
   with_files q [] keys = refl
   with_files q (file ∷ files) keys =
-      with_files q files (with_file row keys file) ∙ ap (λ rest. fold (looked q) rest files) (get-with_optional q (file_name file) (table_of_file (file_of row file)) keys)
+      with_files q files (with_file row keys file)
+      ∙ ap (λ rest. fold (looked q) rest files) (get-with_optional q (file_name file) (table_of_file (file_of row file)) keys)
+
+  abbrev with_control : List ℕ → Option Data → Option Data
+  with_control q rest = look q texts.cgroup_subtree_control (Some (table (entry_table row.subtree_control))) rest
 
   -- what stands at a key of the files
   pub at_key : (q : List ℕ) → get_member q (files_table row)
-      ≡ fold (looked q)
-      (look q texts.cgroup_subtree_control (Some (table (entry_table row.subtree_control))) (look q texts.cgroup_procs (Some (table (entry_table row.procs))) None)) all_files
+      ≡ fold (looked q) (with_control q (look q texts.cgroup_procs (Some (table (entry_table row.procs))) None)) all_files
   unfolding files_table
   at_key q =
       with_files q all_files _
       ∙ ap (λ rest. fold (looked q) rest all_files)
-      (get-with_key q texts.cgroup_subtree_control _ _ ∙ ap (look q texts.cgroup_subtree_control (Some (table (entry_table row.subtree_control)))) (get-with_key q texts.cgroup_procs _ _))
+      (get-with_key q texts.cgroup_subtree_control _ _ ∙ ap (with_control q) (get-with_key q texts.cgroup_procs _ _))
 
   -- at the name of a limit file stands its table, where the file stands
   pub at_file : (file : LimitFile) → get_member (file_name file) (files_table row) ≡ table_of_file (file_of row file)
@@ -90,18 +100,15 @@ module _ (row : Cgroup) where
   files_among : only_files (files_table row) ≡ true
   unfolding files_table
   files_among =
-      among_with all_files _
-      (only-with_key is_file_key only_files asks_each texts.cgroup_subtree_control _ _ refl (only-with_key is_file_key only_files asks_each texts.cgroup_procs _ _ refl refl))
+      let procs = only-with_key is_file_key only_files asks_each texts.cgroup_procs (table (entry_table row.procs)) no_members refl refl in
+      among_with all_files _ (only-with_key is_file_key only_files asks_each texts.cgroup_subtree_control _ _ refl procs)
 
   abbrev fits_file : LimitFile → Bool
   fits_file file = fits_at (files_table row) (may_have (file_name file) (is_table (limit_keys Two)))
 
-  abbrev fits_entry : Option Data → Bool
-  fits_entry found = elim found [ None ↦ true | Some held ↦ is_table (owner_keys Two) held ]
-
   files_fit : list_all (fits_at (files_table row)) (file_keys_of Two) ≡ true
   files_fit =
-      let each = all_pass fits_file (λ file. ap (λ (found : Option Data). elim found [ None ↦ true | Some held ↦ is_table (limit_keys Two) held ]) (at_file file) ∙ file_in_form (file_of row file)) all_files in
+      let each = all_pass fits_file (λ file. ap fits_limit (at_file file) ∙ file_in_form (file_of row file)) all_files in
       let procs = ap fits_entry (at_key texts.cgroup_procs) ∙ entry_in_form row.procs in
       let control = ap fits_entry (at_key texts.cgroup_subtree_control) ∙ entry_in_form row.subtree_control in
       and_from _ _ procs (and_from _ _ control each)

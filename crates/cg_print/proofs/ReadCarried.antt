@@ -2,16 +2,13 @@
 use Rattle.std.proofs.Common.{◌≡◌, ℕ, ◌+◌, ◌≤◌, Bool, true, false, cond, List, [], ◌∷◌, length, Ordering, codes, Option, Some, None, is_some, refl, sym, ap, ◌∙◌, arith}
 use Rattle.std.specs.Prelude.{◌||◌, count_by, filter_map}
 use Rattle.std.specs.List.{cons_option, AllByRecursion, list_any}
-use Rattle.std.specs.Ordering.{nat_cmp, eq_by_cmp}
+use Rattle.std.specs.Ordering.{eq_by_cmp}
 use Rattle.std.specs.Cmp.{IsTotalOrder, Equal-is, nat_cmp_total}
 use Rattle.std.specs.FinMap as finite
 use Rattle.std.specs.FinMap.{FinMap, IsAntisymmetric, get, entries, find, nat_cmp-IsAntisymmetric}
 use Rattle.toml.specs.Data.{Data, Members, as_table}
-use Rattle.cg_cgroup.specs.Paths.{Names, path_cmp}
-use Rattle.cg_cgroup.specs.declared.cgroup.Cgroup.{Cgroup}
-use Rattle.cg_cgroup.specs.declared.process.Process.{Process}
 use Rattle.cg_cgroup.proofs.PathOrder.{path_cmp_total, path_cmp-IsAntisymmetric}
-use Rattle.cg_model.specs.States.{State, row_at, process_at}
+use Rattle.cg_model.specs.States.{State}
 use Rattle.cg_steps.proofs.Lists.{all-each}
 use Rattle.cg_text.specs.Said.{elements_at, tables_at, has_path}
 use Rattle.cg_text.specs.TextOf.{IsRowOf, IsProcessOf, has_pid, IsTextOf}
@@ -28,7 +25,8 @@ one_at_most (Some keys) rest n few = omega arith
 
 tables_at_most : (values : List Data) → length (filter_map as_table values) ≤ length values
 tables_at_most [] = omega arith
-tables_at_most (value ∷ values) = omega (arith, one_at_most (as_table value) (filter_map as_table values) (length values) (tables_at_most values))
+tables_at_most (value ∷ values) =
+    omega (arith, one_at_most (as_table value) (filter_map as_table values) (length values) (tables_at_most values))
 
 -- what comes once is there, and what comes never isn't
 any_counted : {A : Type 0} (p : A → Bool) (xs : List A) (b : Bool) → counted p xs ≡ cond b 1 0 → list_any p xs ≡ b
@@ -50,14 +48,17 @@ where_there : {A : Type 0} (found : Option A) → cond (is_some found) found Non
 where_there None = refl
 where_there (Some x) = refl
 
-module _ {K X : Type 0} {R : K → K → Ordering} (total : IsTotalOrder R) (same : IsAntisymmetric R) (m : FinMap R X) (test : K → Members → Bool) where
-  -- a map of a list has as many entries at most
-  len_at_most : (es : List (K × X)) → finite.len (finite.from_entries {R = R} es) ≤ length es
-  len_at_most [] = omega (arith, finite.len-empty R X)
-  len_at_most (e ∷ es) =
-      let rest : FinMap R X = finite.from_entries es in
-      omega (arith, one_more (finite.contains_key rest e.0) (finite.len rest) (finite.len (finite.insert rest e.0 e.1)) (length es) (finite.len-insert total rest e.0 e.1) (len_at_most es))
+-- a map of a list has as many entries at most
+len_at_most : {K X : Type 0} {R : K → K → Ordering} → IsTotalOrder R → (es : List (K × X))
+    → finite.len (finite.from_entries {R = R} es) ≤ length es
+len_at_most {X = X} {R = R} total [] = omega (arith, finite.len-empty R X)
+len_at_most {X = X} {R = R} total (e ∷ es) =
+    let rest : FinMap R X = finite.from_entries es in
+    let more : FinMap R X = finite.insert rest e.0 e.1 in
+    let grown = finite.len-insert total rest e.0 e.1 in
+    omega (arith, one_more (finite.contains_key rest e.0) (finite.len rest) (finite.len more) (length es) grown (len_at_most total es))
 
+module _ {K X : Type 0} {R : K → K → Ordering} (m : FinMap R X) (test : K → Members → Bool) where
   -- a table of an entry, by whose key it is found
   record IsOfEntry (row : Members) : Type 0 where
     key : K
@@ -73,37 +74,48 @@ module _ {K X : Type 0} {R : K → K → Ordering} (total : IsTotalOrder R) (sam
   length-entries_of [] all = refl
   length-entries_of (row ∷ rows) all = omega (arith, length-entries_of rows all.1)
 
-  find-entries_of : (q : K) (rows : List Members) (all : AllByRecursion IsOfEntry rows) → find R q (entries_of rows all) ≡ cond (list_any (test q) rows) (get m q) None
-  find-entries_of q [] all = refl
-  find-entries_of q (row ∷ rows) all =
-      elim (eq_by_cmp R q all.0.key) as (λ b. eq_by_cmp R q all.0.key ≡ b → cond b (Some all.0.held) (find R q (entries_of rows all.1)) ≡ cond (b || list_any (test q) rows) (get m q) None) [
-        | true ↦ λ tie. sym (ap (get m) (same q all.0.key ((Equal-is _).0 tie)) ∙ all.0.there)
-        | false ↦ λ _. find-entries_of q rows all.1
-      ] refl
-      ∙ ap (λ b. cond (b || list_any (test q) rows) (get m q) None) (sym (all.0.ties q))
+  module _ (total : IsTotalOrder R) (same : IsAntisymmetric R) where
+    find-entries_of : (q : K) (rows : List Members) (all : AllByRecursion IsOfEntry rows)
+        → find R q (entries_of rows all) ≡ cond (list_any (test q) rows) (get m q) None
+    find-entries_of q [] all = refl
+    find-entries_of q (row ∷ rows) all =
+        let later : find R q (entries_of rows all.1) ≡ cond (list_any (test q) rows) (get m q) None = find-entries_of q rows all.1 in
+        elim (eq_by_cmp R q all.0.key)
+        as (λ b. eq_by_cmp R q all.0.key ≡ b
+        → cond b (Some all.0.held) (find R q (entries_of rows all.1)) ≡ cond (b || list_any (test q) rows) (get m q) None) [
+          | true ↦ λ tie. sym (ap (get m) (same q all.0.key ((Equal-is _).0 tie)) ∙ all.0.there)
+          | false ↦ λ _. later
+        ] refl
+        ∙ ap (λ b. cond (b || list_any (test q) rows) (get m q) None) (sym (all.0.ties q))
 
-  -- where a table stands for each entry, the map has no more entries than there are tables
-  entries_at_most : (rows : List Members) → AllByRecursion IsOfEntry rows → ((q : K) → count_by (test q) rows ≡ cond (is_some (get m q)) 1 0) → length (entries m) ≤ length rows
-  entries_at_most rows all counts =
-      let found : (q : K) → get m q ≡ get (finite.from_entries {R = R} (entries_of rows all)) q =
-      λ q. sym (finite.get-from_entries total (entries_of rows all) q ∙ find-entries_of q rows all
-          ∙ ap (λ b. cond b (get m q) None) (any_counted (test q) rows (is_some (get m q)) (counted_is (test q) rows ∙ counts q)) ∙ where_there (get m q)) in
-      let one : m ≡ finite.from_entries {R = R} (entries_of rows all) = finite.same_map total same m _ found in
-      omega (arith, finite.len-entries m, ap finite.len one, len_at_most (entries_of rows all), length-entries_of rows all)
+    -- where a table stands for each entry, the map has no more entries than there are tables
+    entries_at_most : (rows : List Members) → AllByRecursion IsOfEntry rows
+        → ((q : K) → count_by (test q) rows ≡ cond (is_some (get m q)) 1 0) → length (entries m) ≤ length rows
+    entries_at_most rows all counts =
+        let made : FinMap R X = finite.from_entries (entries_of rows all) in
+        let stands : (q : K) → list_any (test q) rows ≡ is_some (get m q) =
+        λ q. any_counted (test q) rows (is_some (get m q)) (counted_is (test q) rows ∙ counts q) in
+        let found : (q : K) → get made q ≡ get m q =
+        λ q. finite.get-from_entries total (entries_of rows all) q ∙ find-entries_of q rows all
+        ∙ ap (λ b. cond b (get m q) None) (stands q) ∙ where_there (get m q) in
+        let one : made ≡ m = finite.same_map total same made m found in
+        omega (arith, finite.len-entries m, ap finite.len one, len_at_most total (entries_of rows all), length-entries_of rows all)
 
 module _ (st : State) where
-  row_entry : (format : Format) (row : Members) → IsRowOf format st row → IsOfEntry path_cmp_total path_cmp-IsAntisymmetric st.rows has_path row
+  row_entry : (format : Format) (row : Members) → IsRowOf format st row → IsOfEntry st.rows has_path row
   row_entry format row is = record { key = is.path; held = is.cgroup; there = is.there; ties = path_ties row is.path is.named }
 
-  process_entry : (row : Members) → IsProcessOf st row → IsOfEntry nat_cmp_total nat_cmp-IsAntisymmetric st.live has_pid row
+  process_entry : (row : Members) → IsProcessOf st row → IsOfEntry st.live has_pid row
   process_entry row is = record { key = is.pid; held = is.process; there = is.there; ties = pid_ties row is.pid is.named }
 
 pub read_carried : (text : List ℕ) (st : State) → IsTextOf st text → IsCarried st
 read_carried text st is =
     let rows : List Members = tables_at (codes "cgroup") is.document in
     let lives : List Members = tables_at (codes "process") is.document in
-    let cgroups = entries_at_most path_cmp_total path_cmp-IsAntisymmetric st.rows has_path rows (all-each _ _ (row_entry st is.says.format) rows is.says.cgroups) is.says.paths in
-    let processes = entries_at_most nat_cmp_total nat_cmp-IsAntisymmetric st.live has_pid lives (all-each _ _ (process_entry st) lives is.says.processes) is.says.pids in
+    let of_rows = all-each _ _ (row_entry st is.says.format) rows is.says.cgroups in
+    let of_lives = all-each _ _ (process_entry st) lives is.says.processes in
+    let cgroups = entries_at_most st.rows has_path path_cmp_total path_cmp-IsAntisymmetric rows of_rows is.says.paths in
+    let processes = entries_at_most st.live has_pid nat_cmp_total nat_cmp-IsAntisymmetric lives of_lives is.says.pids in
     record {
       cgroups = omega (arith, is.says.form.few_cgroups, tables_at_most (elements_at (codes "cgroup") is.document), cgroups);
       processes = omega (arith, is.says.form.few_processes, tables_at_most (elements_at (codes "process") is.document), processes);

@@ -1,10 +1,10 @@
 -- The tables of a tree's document say what they were written of.
-use Rattle.std.proofs.Common.{◌≡◌, ℕ, ◌≤◌, pos, Bool, true, false, cond, le-leb, List, [], ◌∷◌, map as map_list, codes, Option, Some, None, is_some, option_map, option_and_then, unwrap_or, refl, sym, ap, subst, ◌∙◌}
+use Rattle.std.proofs.Common.{◌≡◌, ℕ, ◌≤◌, pos, Bool, true, false, cond, le-leb, List, [], ◌∷◌, map as map_list, codes, Option, Some, None, is_some, option_map, option_and_then, unwrap_or, refl, sym, ap, ◌∙◌}
 use Rattle.std.specs.Prelude.{◌&&◌, filter_map}
-use Rattle.toml.specs.Data.{Data, string, table, Members, no_members, as_str, as_table}
+use Rattle.toml.specs.Data.{Data, string, Members, no_members, as_str, as_table}
 use Rattle.toml.specs.View.{items_of}
 use Rattle.cg_cgroup.specs.Options.{◌>>=◌}
-use Rattle.cg_cgroup.specs.Paths.{Names, IsPath, path_text}
+use Rattle.cg_cgroup.specs.Paths.{Names, IsPath}
 use Rattle.cg_cgroup.specs.Texts as texts
 use Rattle.cg_cgroup.specs.Files.{accepts}
 use Rattle.cg_cgroup.specs.Cgroups.{file_of, entry_in}
@@ -18,15 +18,15 @@ use Rattle.cg_cgroup.specs.declared.files.EntryName.TheVariants.{Dir, Procs, Sub
 use Rattle.cg_cgroup.specs.declared.cgroup.LimitEntry.{LimitEntry}
 use Rattle.cg_cgroup.specs.declared.cgroup.Cgroup.{Cgroup}
 use Rattle.cg_cgroup.specs.declared.process.Process.{Process}
-use Rattle.cg_cgroup.proofs.Options.{mapped_from, is_some-mapped, same_some}
+use Rattle.cg_cgroup.proofs.Options.{mapped_from, is_some-mapped}
 use Rattle.cg_cgroup.proofs.PathAt.{path_at-text}
 use Rattle.cg_model.specs.States.{State}
 use Rattle.cg_model.specs.WellFormed.{IsFormedRow}
 use Rattle.cg_text.specs.Form.{elements}
-use Rattle.cg_text.specs.Said.{elements_at, id_read, mode_read, pid_read, accepted, controllers_read, limit_of, path_said, controllers_said, format_said, owner_said, limit_said, mode_missing, table_of, entry_said, value_said, is_named, pid_said, uid_said}
+use Rattle.cg_text.specs.Said.{elements_at, id_read, mode_read, accepted, controllers_read, limit_of, path_said, controllers_said, format_said, owner_said, limit_said, mode_missing, table_of, entry_said, value_said, is_named, pid_said, uid_said}
 use Rattle.cg_text.specs.declared.tree.records.Format.TheVariants.{Two}
 use Rattle.cg_print.specs.Keys.{with_key}
-use Rattle.cg_print.specs.Documents.{names_in, texts_array, entry_table, value_written, limit_table, table_of_file, files_table, cgroup_table, process_table, cgroups_written, processes_written, tree_document}
+use Rattle.cg_print.specs.Documents.{names_in, entry_table, value_written, limit_table, table_of_file, cgroup_table, process_table, cgroups_written, processes_written, tree_document}
 use Rattle.cg_print.specs.Carried.{IsId, HasIds, IsNamedRow, IsNamedProcess}
 use Rattle.cg_print.proofs.FormBack.{at_key, at_file}
 
@@ -46,7 +46,8 @@ joined_owner uid gid mode = do
   Some (record { uid = uid; gid = gid; mode = mode })
 
 module _ (missing : ℕ) (entry : Entry) (ids : HasIds entry) (small : entry.mode ≤ 511) where
-  numbers_again : joined_owner (id_read (Some (pos entry.uid))) (id_read (Some (pos entry.gid))) (mode_read Two missing (Some (pos entry.mode))) ≡ Some entry
+  numbers_again :
+      joined_owner (id_read (Some (pos entry.uid))) (id_read (Some (pos entry.gid))) (mode_read Two missing (Some (pos entry.mode))) ≡ Some entry
   numbers_again =
       let uid = id_again entry.uid ids.0 in
       let gid = id_again entry.gid ids.1 in
@@ -61,7 +62,8 @@ module _ (missing : ℕ) (entry : Entry) (ids : HasIds entry) (small : entry.mod
   unfolding limit_table entry_table with_key
   limit_entry_again value = numbers_again
 
-limit_again : (file : LimitFile) (value : Limit) → accepts file value ≡ true → option_and_then (accepted file) (limit_of (value_written value)) ≡ Some value
+limit_again : (file : LimitFile) (value : Limit) → accepts file value ≡ true
+    → option_and_then (accepted file) (limit_of (value_written value)) ≡ Some value
 limit_again file Max is = ap (λ b. cond b (Some Max) None) is
 limit_again file (At n) is = ap (λ b. cond b (Some (At n)) None) is
 
@@ -69,7 +71,10 @@ value_again : (file : LimitFile) (held : LimitEntry) → accepts file held.value
 unfolding limit_table entry_table with_key
 value_again file held is = limit_again file held.value is
 
-each_set : (cpu memory pids : Bool) → controllers_read (names_in (record { cpu = cpu; memory = memory; pids = pids })) ≡ Some (record { cpu = cpu; memory = memory; pids = pids })
+abbrev set_of : (cpu memory pids : Bool) → ControllerSet
+set_of cpu memory pids = record { cpu = cpu; memory = memory; pids = pids }
+
+each_set : (cpu memory pids : Bool) → controllers_read (names_in (set_of cpu memory pids)) ≡ Some (set_of cpu memory pids)
 each_set true true true = refl
 each_set true true false = refl
 each_set true false true = refl
@@ -83,7 +88,8 @@ texts_again : (names : List (List ℕ)) → filter_map as_str (elements (items_o
 texts_again [] = refl
 texts_again (name ∷ names) = ap (λ rest. name ∷ rest) (texts_again names)
 
-controllers_again : (set : ControllerSet) → controllers_read (filter_map as_str (elements (items_of (map_list string (names_in set))))) ≡ Some set
+controllers_again : (set : ControllerSet)
+    → controllers_read (filter_map as_str (elements (items_of (map_list string (names_in set))))) ≡ Some set
 controllers_again set = ap controllers_read (texts_again (names_in set)) ∙ each_set set.cpu set.memory set.pids
 
 -- ---- the entries of a cgroup
@@ -110,7 +116,8 @@ named_again : (row : Cgroup) (name : EntryName) → is_some (table_written row n
 named_again row Dir = refl
 named_again row Procs = refl
 named_again row SubtreeControl = refl
-named_again row (File file) = is_some-mapped limit_table (file_of row file) ∙ sym (is_some-mapped (λ (f : LimitEntry). f.entry) (file_of row file))
+named_again row (File file) =
+    is_some-mapped limit_table (file_of row file) ∙ sym (is_some-mapped (λ (f : LimitEntry). f.entry) (file_of row file))
 
 -- ---- a cgroup
 
@@ -123,25 +130,31 @@ unfolding cgroup_table with_key
 enabled_back path row = controllers_again row.enabled
 
 module _ (path : Names) (row : Cgroup) (above : ControllerSet) (at : IsNamedRow path row) (formed : IsFormedRow above row) where
-  owner_again : (name : EntryName) (entry : Entry) → entry_in row name ≡ Some entry → owner_said Two (mode_missing name) (entry_table entry) ≡ Some entry
+  owner_again : (name : EntryName) (entry : Entry) → entry_in row name ≡ Some entry
+      → owner_said Two (mode_missing name) (entry_table entry) ≡ Some entry
   owner_again name entry is = entry_again (mode_missing name) entry (at.ids name entry is) (formed.modes name entry is)
 
-  written_again : (name : EntryName) (entry : Entry) → entry_in row name ≡ Some entry → owner_said Two (mode_missing name) (unwrap_or (table_written row name) no_members) ≡ Some entry
+  written_again : (name : EntryName) (entry : Entry) → entry_in row name ≡ Some entry
+      → owner_said Two (mode_missing name) (unwrap_or (table_written row name) no_members) ≡ Some entry
   written_again Dir entry is = owner_again Dir row.dir refl ∙ is
   written_again Procs entry is = owner_again Procs row.procs refl ∙ is
   written_again SubtreeControl entry is = owner_again SubtreeControl row.subtree_control refl ∙ is
   written_again (File file) entry is =
       let held = mapped_from (λ (f : LimitEntry). f.entry) (file_of row file) entry is in
+      let owner : Entry = held.0.entry in
       let there = ap (option_map (λ (f : LimitEntry). f.entry)) held.1 in
       ap (λ found. owner_said Two 420 (unwrap_or (option_map limit_table found) no_members)) held.1
-      ∙ limit_entry_again 420 held.0.entry (at.ids (File file) held.0.entry there) (formed.modes (File file) held.0.entry there) held.0.value
+      ∙ limit_entry_again 420 owner (at.ids (File file) owner there) (formed.modes (File file) owner there) held.0.value
       ∙ ap Some held.2
 
-  pub entry_back : (name : EntryName) (entry : Entry) → entry_in row name ≡ Some entry → entry_said Two (cgroup_table path row) name ≡ Some entry
+  pub entry_back : (name : EntryName) (entry : Entry) → entry_in row name ≡ Some entry
+      → entry_said Two (cgroup_table path row) name ≡ Some entry
   entry_back name entry is =
-      ap (λ found. owner_said Two (mode_missing name) (unwrap_or found no_members)) (table_again path row name) ∙ written_again name entry is
+      ap (λ found. owner_said Two (mode_missing name) (unwrap_or found no_members)) (table_again path row name)
+      ∙ written_again name entry is
 
-  pub value_back : (file : LimitFile) (held : LimitEntry) → file_of row file ≡ Some held → value_said (cgroup_table path row) file ≡ Some held.value
+  pub value_back : (file : LimitFile) (held : LimitEntry) → file_of row file ≡ Some held
+      → value_said (cgroup_table path row) file ≡ Some held.value
   value_back file held is =
       ap (λ found. limit_said file (unwrap_or found no_members)) (table_again path row (File file) ∙ ap (option_map limit_table) is)
       ∙ value_again file held (formed.values file held is)
