@@ -26,7 +26,7 @@ use Rattle.cg_text.specs.TextFaults.{text_faults}
 use Rattle.cg_text.specs.TreeTexts.{longest_text, document_of}
 use Rattle.cg_text.specs.declared.tree.fault.TreeFault.{TreeFault}
 use Rattle.cg_text.specs.declared.tree.fault.TreeFault.TheVariants.{TooLong, NoMemory}
-use Rattle.cg_text.specs.declared.tree.records.Format.TheVariants.{Two}
+use Rattle.cg_text.specs.declared.tree.format.Format.TheVariants.{Two}
 use Rattle.cg_text.proofs.OnceLaws.{IsFresh, counted_is, counted_same, counted-map, fresh_once, once_counted}
 use Rattle.cg_print.specs.Documents.{cgroup_table, process_table, tree_document, IsSpelled}
 use Rattle.cg_print.specs.Carried.{IsNamedRow, IsNamedProcess, IsKept, IsCarried, IsTooLong}

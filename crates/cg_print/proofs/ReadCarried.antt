@@ -12,7 +12,7 @@ use Rattle.cg_model.specs.States.{State}
 use Rattle.cg_steps.proofs.Lists.{all-each}
 use Rattle.cg_text.specs.Said.{elements_at, tables_at, has_path}
 use Rattle.cg_text.specs.TextOf.{IsRowOf, IsProcessOf, has_pid, IsTextOf}
-use Rattle.cg_text.specs.declared.tree.records.Format.{Format}
+use Rattle.cg_text.specs.declared.tree.format.Format.{Format}
 use Rattle.cg_text.proofs.OnceLaws.{counted, counted_is}
 use Rattle.cg_print.specs.Carried.{IsCarried}
 use Rattle.cg_print.proofs.DocumentBack.{path_ties, pid_ties}

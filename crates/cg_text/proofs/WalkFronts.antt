@@ -145,47 +145,6 @@ enabled_push met row path =
     split true rest = refl
     split false rest = refl
 
--- rows of other paths behind change nothing
-pub enabled_behind : (rows behind : List Row) (path : Names) → has_met behind path ≡ false
-    → enabled_by (rows ++ behind) path ≡ enabled_by rows path
-enabled_behind rows [] path none = ap (λ (xs : List Row). enabled_by xs path) (append-nil rows)
-enabled_behind rows (row ∷ behind) path none =
-    let parts = or_parts (same_path path row.path) (has_met behind path) none in
-    ap (λ (xs : List Row). enabled_by xs path) (sym (append_assoc rows (row ∷ []) behind))
-    ∙ enabled_behind (rows ++ row ∷ []) behind path parts.1
-    ∙ enabled_push rows row path
-    ∙ ap (λ (b : Bool). cond b (Some row.cgroup.enabled) (enabled_by rows path)) parts.0
-
--- ---- where a row's parent stands
-
--- no row from a row on has the path of its parent
-pub parent_unmet : (rows : List Row) (i : ℕ) (row : Row) → AreInOrder rows → i < length rows → row ≡ get_or rows i row
-    → is_root row.path ≡ false → has_met (drop i rows) (parent row.path) ≡ false
-parent_unmet rows i row order l is some =
-    false_from_ne_true (has_met (drop i rows) (parent row.path)) (λ met.
-    let found = Any-from_list_any (λ (other : Row). same_path (parent row.path) other.path) (drop i rows) met in
-    let d = found.1 in
-    let rises = rows_rise rows order i (i + found.0) d (omega arith) (omega (arith, found.2, length-drop i rows)) in
-    let here : (get_or rows i d).path ≡ row.path = ap path_of (get_or_default rows i d row l ∙ sym is) in
-    let same : (get_or rows (i + found.0) d).path ≡ d.path = ap path_of (sym (get_or-drop i rows found.0 d) ∙ found.3) in
-    let there : (get_or rows (i + found.0) d).path ≡ parent row.path = same ∙ sym (same_path-is (parent row.path) d.path found.4) in
-    let after : IsUpTo row.path (parent row.path) = sym (λ j. is_gt (path_cmp (here j) (there j))) ∙ rises in
-    let before = inside-first (parent row.path) row.path (inside-take (length row.path - 1) row.path) in
-    absurd (omega (arith, ap length (not_apart row.path (parent row.path) after before), length-parent row.path some)))
-
--- what is over a row the rows before it say as all rows do
-pub parents_before : (at_root : ControllerSet) (rows : List Row) (i : ℕ) (row : Row) → AreInOrder rows → i < length rows
-    → row ≡ get_or rows i row → over_in at_root (take i rows) row.path ≡ over_in at_root rows row.path
-parents_before at_root rows i row order l is =
-    let above = parent row.path in
-    let over = λ (b : Bool) (rows : List Row). cond b (Some at_root) (enabled_by rows above) in
-    elim (is_root row.path) as (λ b. is_root row.path ≡ b → over b (take i rows) ≡ over b rows) [
-      | true ↦ λ e. refl
-      | false ↦ λ e.
-          sym (enabled_behind (take i rows) (drop i rows) above (parent_unmet rows i row order l is e))
-          ∙ ap (λ (xs : List Row). enabled_by xs above) (take-append-drop i rows)
-    ] refl
-
 -- ---- fronts by the number of their names
 
 abbrev met_at : List Row → Names → ℕ → Option ControllerSet
