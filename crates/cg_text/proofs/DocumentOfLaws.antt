@@ -497,7 +497,7 @@ formed_of format tables lives controllers found processes has live =
 
 module _ (format : Format) (document : Members) (controllers : ControllerSet) (processes : LiveAndUsed) (form : IsInForm format document)
     (said : controllers_said (codes "controllers") document ≡ Some controllers) where
-  document_of_entries : (tables lives : List Members) → tables ≡ tables_at (codes "cgroup") document
+  pub document_of_entries : (tables lives : List Members) → tables ≡ tables_at (codes "cgroup") document
       → lives ≡ tables_at (codes "process") document → (entries : List (Names × Cgroup))
       → (alone : first (each_cgroup (λ _. row_faults format) tables) ≡ None)
       → (together : first (cgroup_faults (Some controllers) tables) ≡ None)

@@ -12,6 +12,7 @@ pub mod FormInTurn
 pub mod WalkFronts
 pub mod EntriesLaws
 pub mod Cuts
+pub mod LeastNumbers
 pub mod LeastLaws
 pub mod WalkEnd
 pub mod PairsOf

@@ -49,7 +49,7 @@ use Rattle.cg_text.proofs.KeysOnce.{none_left, none_right, unless_passes, absent
 use Rattle.cg_text.proofs.FormClauses.{at_most, in_form}
 use Rattle.cg_text.proofs.PairsOf.{pairs_of, pair_there, pair_found}
 use Rattle.cg_text.proofs.EntriesLaws.{read_entry}
-use Rattle.cg_text.proofs.DocumentOfLaws.{document_of_tables}
+use Rattle.cg_text.proofs.DocumentOfLaws.{document_of_entries}
 
 -- ---- a cgroup's table
 
@@ -339,7 +339,7 @@ state_of_document document none =
     let cgroups_say = rows_say format 1 [] tables none_alone in
     let lives_say = processes_say tables 1 [] rows none_living in (
       state_of_tables (map.from_sorted (entries format tables cgroups_say)) (processes rows lives_say) top.0,
-      document_of_tables format document top.0 (entries format tables cgroups_say) (processes rows lives_say) form.1 top.1
+      document_of_entries format document top.0 (processes rows lives_say) form.1 top.1 tables rows refl refl (entries format tables cgroups_say)
           none_alone none_together (are_entries format tables cgroups_say) none_living (are_processes rows lives_say),
     )
 

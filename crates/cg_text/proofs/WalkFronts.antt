@@ -1,5 +1,5 @@
 -- The fronts of a path that were met, what a row behind all others does to them, and what the walk takes off before it.
-use Rattle.std.proofs.Common.{◌≡◌, ℕ, zero, suc, ◌+◌, ◌-◌, ◌<◌, ◌≤◌, Bool, true, false, ◌&&◌, ◌||◌, cond, List, [], ◌∷◌, ◌++◌, length, take, drop, get_or, map as map_list, reverse, Option, Some, None, is_some, refl, sym, ap, subst, ◌∙◌, true≢false, arith, ltb, eqb, ◌⊎◌, inl, inr, ⊎_elim, add-one}
+use Rattle.std.proofs.Common.{◌≡◌, ℕ, zero, suc, ◌+◌, ◌-◌, ◌<◌, ◌≤◌, Bool, true, false, ◌&&◌, ◌||◌, cond, List, [], ◌∷◌, ◌++◌, length, take, get_or, map as map_list, reverse, Option, Some, None, is_some, refl, sym, ap, subst, ◌∙◌, true≢false, arith, ltb, eqb, ◌⊎◌, inl, inr, ⊎_elim, add-one}
 use Rattle.std.specs.Prelude.{find, option_and_then, unwrap_or}
 use Rattle.std.specs.Option.{option_map, option_to_list}
 use Rattle.std.specs.List.{list_any, list_all}
@@ -7,17 +7,17 @@ use Rattle.std.specs.Ordering.{is_le, is_lt, is_gt, ordering_reverse}
 use Rattle.std.specs.declared.cmp.Ordering.{Ordering}
 use Rattle.std.specs.declared.cmp.Ordering.TheVariants.{Less, Equal, Greater}
 use Rattle.std.proofs.lemmas.Bool.{and_parts, and_from, and_left, and_right, or_parts, or_from, cases_lt, false_from_ne_true, lt-ltb, le-ltb, eq-eqb, ne_eqb}
-use Rattle.std.proofs.lemmas.List.{append-nil, append_assoc, reverse-append, length_push, get_or_push, get_or_append_left, take_all, take-take, length-take-le, take-append-drop, get_or-drop, get_or_default, length-drop, map_push, same_from_push}
+use Rattle.std.proofs.lemmas.List.{append-nil, append_assoc, reverse-append, length_push, get_or_push, get_or_append_left, take_all, take-take, length-take-le, map_push, same_from_push}
 use Rattle.std.proofs.lemmas.List.Folds.{Any-from_list_any, list_any-append, list_any_at}
 use Rattle.std.proofs.lemmas.List.Sorted.{sorted_far, ranks_by, IsPermutation-reverse, list_any-IsPermutation}
 use Rattle.std.proofs.lemmas.Option.{slice_get-get_or}
-use Rattle.cg_cgroup.specs.Paths.{Names, path_cmp, same_path, is_root, inside, common, parent}
+use Rattle.cg_cgroup.specs.Paths.{Names, path_cmp, same_path, inside, common}
 use Rattle.cg_cgroup.specs.Files.{no_controllers}
 use Rattle.cg_cgroup.specs.declared.files.ControllerSet.{ControllerSet}
 use Rattle.cg_cgroup.specs.declared.cgroup.Cgroup.{Cgroup}
 use Rattle.cg_cgroup.proofs.PathOrder.{path_cmp_total, path_cmp-IsAntisymmetric, same_path-is, same_path_refl, same_path_comm, same_path-not}
-use Rattle.cg_cgroup.proofs.PathParents.{inside-take, length-parent}
-use Rattle.cg_cgroup.proofs.PathLaws.{inside-first, inside_between, inside-length, common-longest, common-take, common-take_first, common-inside_second}
+use Rattle.cg_cgroup.proofs.PathParents.{inside-take}
+use Rattle.cg_cgroup.proofs.PathLaws.{inside_between, inside-length, common-longest, common-take, common-take_first, common-inside_second}
 use Rattle.cg_text.specs.declared.tree.walk.Walk.{Walk}
 use Rattle.cg_text.specs.Walk.{HasMet, HasTested, has_met, enabled_by, over_in, over_at, fitted_to, entries_from, last_of, fronts_from, fronts_above, fronts, is_front, AreInOrder, IsNext}
 use Rattle.cg_text.specs.declared.tree.row.Row.{Row}

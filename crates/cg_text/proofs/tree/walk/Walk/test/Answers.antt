@@ -5,7 +5,7 @@ use Rattle.cg_text.specs.Walk.{lesser}
 use Rattle.cg_text.specs.declared.tree.row.Row.{Row}
 use Rattle.cg_text.specs.declared.tree.walk.Least.{Least}
 use Rattle.cg_text.specs.declared.tree.walk.Walk.{Walk}
-use Rattle.cg_text.proofs.LeastLaws.{tested_alone, tested_over}
+use Rattle.cg_text.proofs.LeastNumbers.{tested_alone, tested_over}
 use Rattle.cg_text.proofs.tree.walk.Walk.test.Goals as goal
 use Rattle.cg_text.proofs.tree.walk.Walk.test.Goals.{then-has_met, else-has_met, then-is_root, else-is_root, then-not-is_within,
     else-not-is_within}
