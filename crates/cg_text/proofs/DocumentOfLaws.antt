@@ -452,13 +452,13 @@ module _ (format : Format) (tables : List Members) (controllers : ControllerSet)
 -- ---- what the reader has of a document's tables
 
 -- The cgroups of tables that have no fault.
-pub record HasCgroups (format : Format) (tables : List Members) (controllers : ControllerSet) (cgroups : map.FinMap path_cmp Cgroup) : Type 0
+pub record HasCgroups (format : Format) (tables : List Members) (controllers : ControllerSet) (found : map.FinMap path_cmp Cgroup) : Type 0
   where
     pub alone : first (each_cgroup (λ _. row_faults format) tables) ≡ None
     pub together : first (cgroup_faults (Some controllers) tables) ≡ None
     pub entries : List (Names × Cgroup)
     pub are : AreEntriesOf format tables entries
-    pub made : cgroups ≡ map.from_sorted entries
+    pub made : found ≡ map.from_sorted entries
 
 pub cgroups_had : (format : Format) (tables : List Members) (controllers : ControllerSet) (entries : List (Names × Cgroup))
     (found : map.FinMap path_cmp Cgroup) → first (each_cgroup (λ _. row_faults format) tables) ≡ None
