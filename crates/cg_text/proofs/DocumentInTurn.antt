@@ -13,21 +13,20 @@ use Rattle.cg_text.specs.Faults.{or_fault}
 use Rattle.cg_text.specs.Form.{Key, is_table}
 use Rattle.cg_text.specs.Said.{tables_at, controllers_said, format_said}
 use Rattle.cg_text.specs.TextOf.{IsInForm, IsDocumentOf, IsTextOf}
-use Rattle.cg_text.specs.TextFaults.{each_cgroup, each_process, form_faults, row_faults, cgroup_faults, process_faults, said_faults,
-    document_faults, text_faults}
+use Rattle.cg_text.specs.TextFaults.{each_cgroup, each_process, form_faults, row_faults, cgroup_faults, process_faults, said_faults, document_faults, text_faults}
 use Rattle.cg_text.specs.TreeTexts.{longest_text, document_of}
 use Rattle.cg_text.specs.declared.tree.fault.Place.TheVariants.{Top}
 use Rattle.cg_text.specs.declared.tree.fault.TreeFault.{TreeFault}
 use Rattle.cg_text.specs.declared.tree.fault.TreeFault.TheVariants.{TooLong, NotToml, BadController, NoMemory}
 use Rattle.cg_text.specs.declared.tree.format.Format.{Format}
-use Rattle.cg_text.proofs.KeysOnce.{first_left, first_right}
+use Rattle.cg_text.proofs.EachRow.{first_before, first_behind}
 
 -- ---- faults
 
 pub form_fault : (document : Members) (fault : TreeFault) → first (form_faults document) ≡ Some fault
     → first (document_faults document) ≡ Some fault
 form_fault document fault is =
-    first_left (form_faults document) (present (format_said document) (λ format. said_faults format document)) fault is
+    first_before (form_faults document) (present (format_said document) (λ format. said_faults format document)) fault is
 
 -- a document in form
 module _ (document : Members) (format : Format) (passed : first (form_faults document) ≡ None) (form : IsInForm format document) where
@@ -51,7 +50,7 @@ module _ (document : Members) (format : Format) (passed : first (form_faults doc
 
   behind_form : first (document_faults document) ≡ first (said_faults format document)
   behind_form =
-      first_right (form_faults document) (present (format_said document) (λ format. said_faults format document)) passed
+      first_behind (form_faults document) (present (format_said document) (λ format. said_faults format document)) passed
       ∙ ap (λ o. first (present o (λ format. said_faults format document))) form.format
 
   pub controllers_fault : controllers_said (codes "controllers") document ≡ None
@@ -59,15 +58,15 @@ module _ (document : Members) (format : Format) (passed : first (form_faults doc
   controllers_fault none =
       let here : first top ≡ Some (BadController Top) = ap (λ (o : Option ControllerSet). first (absent o (BadController Top))) none in
       behind_form
-      ∙ first_left ((top ++ alone) ++ together) living (BadController Top)
-      (first_left (top ++ alone) together (BadController Top) (first_left top alone (BadController Top) here))
+      ∙ first_before ((top ++ alone) ++ together) living (BadController Top)
+      (first_before (top ++ alone) together (BadController Top) (first_before top alone (BadController Top) here))
 
   -- that names its controllers
   module _ (controllers : ControllerSet) (named : controllers_said (codes "controllers") document ≡ Some controllers) (rows : List Members)
       (are : rows ≡ tables_at (codes "cgroup") document) where
     behind_top : first (top ++ alone) ≡ first (each_cgroup (λ _. row_faults format) rows)
     behind_top =
-        first_right top alone (ap (λ (o : Option ControllerSet). first (absent o (BadController Top))) named)
+        first_behind top alone (ap (λ (o : Option ControllerSet). first (absent o (BadController Top))) named)
         ∙ ap (λ some. first (each_cgroup (λ _. row_faults format) some)) (sym are)
 
     together_is : first together ≡ first (cgroup_faults (Some controllers) rows)
@@ -76,23 +75,24 @@ module _ (document : Members) (format : Format) (passed : first (form_faults doc
     pub row_fault : (fault : TreeFault) → first (each_cgroup (λ _. row_faults format) rows) ≡ Some fault
         → first (document_faults document) ≡ Some fault
     row_fault fault is =
-        behind_form ∙ first_left ((top ++ alone) ++ together) living fault (first_left (top ++ alone) together fault (behind_top ∙ is))
+        behind_form
+        ∙ first_before ((top ++ alone) ++ together) living fault (first_before (top ++ alone) together fault (behind_top ∙ is))
 
     module _ (read : first (each_cgroup (λ _. row_faults format) rows) ≡ None) where
       pub cgroup_fault : (fault : TreeFault) → first (cgroup_faults (Some controllers) rows) ≡ Some fault
           → first (document_faults document) ≡ Some fault
       cgroup_fault fault is =
           behind_form
-          ∙ first_left ((top ++ alone) ++ together) living fault
-          (first_right (top ++ alone) together (behind_top ∙ read) ∙ together_is ∙ is)
+          ∙ first_before ((top ++ alone) ++ together) living fault
+          (first_behind (top ++ alone) together (behind_top ∙ read) ∙ together_is ∙ is)
 
       pub process_fault : first (cgroup_faults (Some controllers) rows) ≡ None → (others : List Members)
           → others ≡ tables_at (codes "process") document → (fault : TreeFault)
           → first (each_process (process_faults rows) others) ≡ Some fault → first (document_faults document) ≡ Some fault
       process_fault none others those fault is =
           behind_form
-          ∙ first_right ((top ++ alone) ++ together) living
-          (first_right (top ++ alone) together (behind_top ∙ read) ∙ together_is ∙ none)
+          ∙ first_behind ((top ++ alone) ++ together) living
+          (first_behind (top ++ alone) together (behind_top ∙ read) ∙ together_is ∙ none)
           ∙ (λ i. first (each_process (process_faults (sym are i)) (sym those i))) ∙ is
 
 -- what is answered where something is missing

@@ -1,6 +1,5 @@
 -- Cgroups and processes that are those of a document's tables are a well-formed state, which the document is of.
-use Rattle.std.proofs.Common.{◌≡◌, ℕ, ◌≤◌, Bool, true, false, not, cond, ◌||◌, List, [], ◌∷◌, ◌++◌, codes, Option, Some, None, is_some,
-    option_map, option_and_then, unwrap_or, refl, sym, ap, subst, ◌∙◌, true≢false, eqb-true, eq-eqb}
+use Rattle.std.proofs.Common.{◌≡◌, ℕ, ◌≤◌, Bool, true, false, not, cond, ◌||◌, List, [], ◌∷◌, ◌++◌, codes, Option, Some, None, is_some, option_map, option_and_then, unwrap_or, refl, sym, ap, subst, ◌∙◌, true≢false, eqb-true, eq-eqb}
 use Rattle.std.specs.Prelude.{find, count_by, nat_eq}
 use Rattle.std.specs.Bool.{passes}
 use Rattle.std.specs.List.{AllByRecursion, list_all, list_any}
@@ -30,22 +29,18 @@ use Rattle.cg_model.specs.States.{State, row_at, process_at}
 use Rattle.cg_model.specs.WellFormed.{has_row, enabled_at, enabled_above, available_at, may_hold, IsFormedRow, IsWellFormed}
 use Rattle.cg_rows.specs.Processes.{LiveAndUsed}
 use Rattle.cg_rows.specs.RowsForm.{state_of_tables}
-use Rattle.cg_text.specs.Said.{tables_at, integer_at, path_said, controllers_said, mode_missing, limit_of, accepted, id_read, mode_read,
-    table_of, entry_said, value_said, is_named, has_path, pid_said, uid_said}
+use Rattle.cg_text.specs.Said.{tables_at, integer_at, path_said, controllers_said, mode_missing, limit_of, accepted, id_read, mode_read, table_of, entry_said, value_said, is_named, has_path, pid_said, uid_said}
 use Rattle.cg_text.specs.TextOf.{IsInForm, IsRowOf, IsProcessOf, has_pid, IsDocumentOf}
-use Rattle.cg_text.specs.TextFaults.{each, each_cgroup, each_process, row_faults, is_there, enabled_there, over, on_path, cgroup_faults,
-    process_faults}
+use Rattle.cg_text.specs.TextFaults.{each, each_cgroup, each_process, row_faults, is_there, enabled_there, over, on_path, cgroup_faults, process_faults}
 use Rattle.cg_text.specs.Walk.{IsEntryOf, AreEntriesOf}
 use Rattle.cg_text.specs.Live.{IsAmong, IsLive, AreProcesses}
 use Rattle.cg_text.specs.declared.tree.fault.Place.{Place}
 use Rattle.cg_text.specs.declared.tree.fault.Place.TheVariants.{Cgroup as AtCgroup, Process as AtProcess}
 use Rattle.cg_text.specs.declared.tree.fault.TreeFault.{TreeFault}
-use Rattle.cg_text.specs.declared.tree.fault.TreeFault.TheVariants.{BadEntry, BadPath, BadController, Duplicate, NoRoot, NoParent, TopDown,
-    NoSuchFile, BadPid, DuplicatePid, NoSuchPlace, InternalProcess}
+use Rattle.cg_text.specs.declared.tree.fault.TreeFault.TheVariants.{BadEntry, BadPath, BadController, Duplicate, NoRoot, NoParent, TopDown, NoSuchFile, BadPid, DuplicatePid, NoSuchPlace, InternalProcess}
 use Rattle.cg_text.specs.declared.tree.format.Format.{Format}
 use Rattle.cg_text.proofs.SaidRanges.{mode_small, entry_as, accepted_is}
-use Rattle.cg_text.proofs.KeysOnce.{none_left, none_right, unless_passes, absent_passes, present_passes, none_at, all_rows, is_some-find,
-    found_at, IsOnce, key_had, once_found, once_counted}
+use Rattle.cg_text.proofs.KeysOnce.{none_left, none_right, unless_passes, absent_passes, present_passes, none_at, all_rows, is_some-find, found_at, IsOnce, key_had, once_found, once_counted}
 
 -- ---- what is said is in range
 
@@ -120,7 +115,7 @@ module _ (format : Format) (tables : List Members) (controllers : ControllerSet)
   abbrev within_clause : Clause
   within_clause = on_path (λ path place row.
       present (controllers_said (codes "enabled") row) (λ enabled. present (over (Some controllers) tables path)
-          (λ available. unless (is_within enabled available) (TopDown place))))
+      (λ available. unless (is_within enabled available) (TopDown place))))
 
   abbrev files_clause : Clause
   files_clause = on_path (λ path place row. present (over (Some no_controllers) tables path) (λ above.
@@ -185,14 +180,14 @@ module _ (format : Format) (tables : List Members) (controllers : ControllerSet)
           → over (Some controllers) tables path ≡ Some available → is_within enabled available ≡ true
       within enabled available enables above =
           let found = none_at within_clause AtCgroup tables (none_right ((twice ++ rootless) ++ orphans) past no_past) before row after
-              is in
+          is in
           let on_row = present_passes (path_said (codes "path") row)
           (λ path. present (controllers_said (codes "enabled") row)
           (λ enabled. present (over (Some controllers) tables path) (λ available. unless (is_within enabled available) (TopDown found.0))))
           path named found.1 in
           let on_set = present_passes (controllers_said (codes "enabled") row)
-              (λ enabled. present (over (Some controllers) tables path)
-              (λ available. unless (is_within enabled available) (TopDown found.0))) enabled enables on_row in
+          (λ enabled. present (over (Some controllers) tables path)
+          (λ available. unless (is_within enabled available) (TopDown found.0))) enabled enables on_row in
           unless_passes (is_within enabled available) (TopDown found.0)
           (present_passes (over (Some controllers) tables path)
           (λ available. unless (is_within enabled available) (TopDown found.0)) available above on_set)
@@ -201,7 +196,7 @@ module _ (format : Format) (tables : List Members) (controllers : ControllerSet)
           → (not (is_named (File file) row) || stands_under above file) ≡ true
       brought above over_is file =
           let found = none_at files_clause AtCgroup tables (none_right (((twice ++ rootless) ++ orphans) ++ past) unbrought together) before
-              row after is in
+          row after is in
           let on_row = present_passes (path_said (codes "path") row)
           (λ path. present (over (Some no_controllers) tables path)
           (λ above. unless (list_all (λ file. not (is_named (File file) row) || stands_under above file) all_files) (NoSuchFile found.0)))
@@ -224,13 +219,13 @@ module _ (format : Format) (tables : List Members) (controllers : ControllerSet)
       → option_map (λ cgroup. cgroup.enabled) found ≡ enabled_there tables path
   enabled_is path None is =
       let none : find (has_path path) tables ≡ None = none_value (find (has_path path) tables) (is_some-find (has_path path) tables
-          ∙ sym (are.there path) ∙ ap is_some (sym (get_is path) ∙ is)) in
+      ∙ sym (are.there path) ∙ ap is_some (sym (get_is path) ∙ is)) in
       ap (option_and_then (controllers_said (codes "enabled"))) (sym none)
   enabled_is path (Some cgroup) is =
       let table = some_value (find (has_path path) tables) (is_some-find (has_path path) tables ∙ sym (are.there path)
-          ∙ ap is_some (sym (get_is path) ∙ is)) in
+      ∙ ap is_some (sym (get_is path) ∙ is)) in
       sym (ap (option_and_then (controllers_said (codes "enabled"))) table.1
-          ∙ (are.each path cgroup table.0 (sym (get_is path) ∙ is) table.1).enabled)
+      ∙ (are.each path cgroup table.0 (sym (get_is path) ∙ is) table.1).enabled)
 
   pub among : IsAmong tables cgroups
   among = record {
@@ -250,7 +245,7 @@ module _ (format : Format) (tables : List Members) (controllers : ControllerSet)
   table_at : (path : Names) (cgroup : Cgroup) → map.get cgroups path ≡ Some cgroup → HasTable path cgroup
   table_at path cgroup is =
       let table = some_value (find (has_path path) tables) (is_some-find (has_path path) tables ∙ sym (are.there path)
-          ∙ ap is_some (sym (get_is path) ∙ is)) in
+      ∙ ap is_some (sym (get_is path) ∙ is)) in
       let found = found_at (has_path path) tables table.0 table.1 in
       record {
         before = found.before;
@@ -305,7 +300,7 @@ module _ (format : Format) (tables : List Members) (controllers : ControllerSet)
         let said = by_itself before row after is in
         let path = said.path in
         let found : find (has_path path) tables ≡ Some row = once_found
-            (path_said (codes "path")) same_path same_path-is same_path_refl tables paths_once before row after is path said.named in
+        (path_said (codes "path")) same_path same_path-is same_path_refl tables paths_once before row after is path said.named in
         let cgroup = some_value (map.get cgroups path) (among.there path ∙ sym (is_some-find (has_path path) tables) ∙ ap is_some found) in
         let entry : IsEntryOf format tables row cgroup.0 = are.each path cgroup.0 row (sym (get_is path) ∙ cgroup.1) found in
         let above : ControllerSet = enabled_above st path in
@@ -394,16 +389,16 @@ module _ (format : Format) (tables : List Members) (controllers : ControllerSet)
             → elim found [ None ↦ false | Some cgroup ↦ is_root place || enables_nothing cgroup.enabled ] ≡ true
         held place None none said =
             let there = absent_passes (option_and_then (λ path. find (has_path path) tables) (path_said (codes "at") row))
-                (NoSuchPlace sound.place) sound.there in
+            (NoSuchPlace sound.place) sound.there in
             let found : find (has_path place) tables ≡ Some there.0 = sym (ap (option_and_then (λ path. find (has_path path) tables)) said)
-                ∙ there.1 in
+            ∙ there.1 in
             absurd (true≢false (sym (ap is_some found) ∙ is_some-find (has_path place) tables ∙ sym (among.there place) ∙ ap is_some none))
         held place (Some cgroup) is said =
             let enabled : enabled_there tables place ≡ Some cgroup.enabled = sym (among.enabled place)
-                ∙ ap (option_map (λ (c : Cgroup). c.enabled)) is in
+            ∙ ap (option_map (λ (c : Cgroup). c.enabled)) is in
             let on_place = present_passes (path_said (codes "at") row)
-                (λ path. present (enabled_there tables path) (λ enabled. unless (is_root path || enables_nothing enabled)
-                (InternalProcess sound.place))) place said sound.free in
+            (λ path. present (enabled_there tables path) (λ enabled. unless (is_root path || enables_nothing enabled)
+            (InternalProcess sound.place))) place said sound.free in
             unless_passes (is_root place || enables_nothing cgroup.enabled) (InternalProcess sound.place)
             (present_passes (enabled_there tables place) (λ enabled. unless (is_root place || enables_nothing enabled)
             (InternalProcess sound.place)) cgroup.enabled enabled on_place)
@@ -441,11 +436,11 @@ module _ (format : Format) (tables : List Members) (controllers : ControllerSet)
           let sound = sound before row after is in
           let pid = absent_passes (pid_said row) (BadPid sound.place) sound.pids in
           let found : find (has_pid pid.0) lives ≡ Some row = once_found pid_said nat_eq nat_is nat_itself lives pids_once before row after
-              is pid.0 pid.1 in
+          is pid.0 pid.1 in
           let process = some_value (process_at st pid.0) (these.pids pid.0 ∙ sym (is_some-find (has_pid pid.0) lives) ∙ ap is_some found) in
           let of_row = these.processes pid.0 process.0 process.1 in
           let live : IsLive row (pid.0, process.0) = subst (λ other. IsLive other (pid.0, process.0))
-              (same_some of_row.0 row (sym of_row.1 ∙ found)) of_row.2 in
+          (same_some of_row.0 row (sym of_row.1 ∙ found)) of_row.2 in
           record { pid = pid.0; process = process.0; there = process.1; named = pid.1; owner = live.uid; place = live.place }
 
       processes_are : AllByRecursion (IsProcessOf st) lives
@@ -457,13 +452,13 @@ module _ (format : Format) (tables : List Members) (controllers : ControllerSet)
 -- ---- what the reader has of a document's tables
 
 -- The cgroups of tables that have no fault.
-pub record HasCgroups (format : Format) (tables : List Members) (controllers : ControllerSet) (cgroups : map.FinMap path_cmp Cgroup) : Type 0
+pub record HasCgroups (format : Format) (tables : List Members) (controllers : ControllerSet) (found : map.FinMap path_cmp Cgroup) : Type 0
   where
     pub alone : first (each_cgroup (λ _. row_faults format) tables) ≡ None
     pub together : first (cgroup_faults (Some controllers) tables) ≡ None
     pub entries : List (Names × Cgroup)
     pub are : AreEntriesOf format tables entries
-    pub made : cgroups ≡ map.from_sorted entries
+    pub made : found ≡ map.from_sorted entries
 
 pub cgroups_had : (format : Format) (tables : List Members) (controllers : ControllerSet) (entries : List (Names × Cgroup))
     (found : map.FinMap path_cmp Cgroup) → first (each_cgroup (λ _. row_faults format) tables) ≡ None

@@ -1,6 +1,5 @@
 -- Rows none of which has a fault, and rows none of whose keys comes twice.
-use Rattle.std.proofs.Common.{◌≡◌, ℕ, ◌+◌, Bool, true, false, cond, ◌||◌, List, [], ◌∷◌, ◌++◌, Option, Some, None, is_some, refl, sym, ap,
-    ◌∙◌, true≢false, append_assoc}
+use Rattle.std.proofs.Common.{◌≡◌, ℕ, ◌+◌, Bool, true, false, cond, ◌||◌, List, [], ◌∷◌, ◌++◌, Option, Some, None, is_some, refl, sym, ap, ◌∙◌, true≢false, append_assoc}
 use Rattle.std.specs.Prelude.{find, count_by}
 use Rattle.std.specs.List.{AllByRecursion, list_any}
 use Rattle.std.proofs.lemmas.Bool.{or_left, or_right}
@@ -22,14 +21,6 @@ none_left (x ∷ one) other none = absurd (true≢false (ap is_some none))
 pub none_right : {A : Type 0} (one other : List A) → first (one ++ other) ≡ None → first other ≡ None
 none_right [] other none = none
 none_right (x ∷ one) other none = absurd (true≢false (ap is_some none))
-
-pub first_left : {A : Type 0} (one other : List A) (x : A) → first one ≡ Some x → first (one ++ other) ≡ Some x
-first_left [] other x is = absurd (true≢false (sym (ap is_some is)))
-first_left (y ∷ one) other x is = is
-
-pub first_right : {A : Type 0} (one other : List A) → first one ≡ None → first (one ++ other) ≡ first other
-first_right [] other none = refl
-first_right (x ∷ one) other none = absurd (true≢false (ap is_some none))
 
 pub unless_passes : {A : Type 0} (b : Bool) (fault : A) → first (unless b fault) ≡ None → b ≡ true
 unless_passes true fault none = refl
@@ -148,7 +139,7 @@ module _ {A K : Type 0} (key : A → Option K) (same : K → K → Bool) where
     none_later q before [] once met = refl
     none_later q before (row ∷ rest) once met =
         let still : list_any (has q) (before ++ row ∷ []) ≡ true = list_any-append (has q) before (row ∷ [])
-            ∙ or_left (list_any (has q) before) (list_any (has q) (row ∷ [])) met in
+        ∙ or_left (list_any (has q) before) (list_any (has q) (row ∷ [])) met in
         let later : counted (has q) rest ≡ 0 = none_later q (before ++ row ∷ []) rest (behind before row rest once) still in
         elim (has q row) as (λ b. has q row ≡ b → cond b (1 + counted (has q) rest) (counted (has q) rest) ≡ 0) [
           | true ↦ λ so. absurd (true≢false (sym met ∙ once.new before row rest refl q (key_had q row so)))
@@ -159,11 +150,11 @@ module _ {A K : Type 0} (key : A → Option K) (same : K → K → Bool) where
     counted_from q before [] once = refl
     counted_from q before (row ∷ rest) once =
         elim (has q row) as (λ b. has q row ≡ b → cond b (1 + counted (has q) rest) (counted (has q) rest) ≡ cond
-            (b || list_any (has q) rest) 1 0) [
+        (b || list_any (has q) rest) 1 0) [
           | true ↦ λ so.
               let here : list_any (has q) (row ∷ []) ≡ true = or_left (has q row) false so in
               let met : list_any (has q) (before ++ row ∷ []) ≡ true = list_any-append (has q) before (row ∷ [])
-                  ∙ or_right (list_any (has q) before) (list_any (has q) (row ∷ [])) here in
+              ∙ or_right (list_any (has q) before) (list_any (has q) (row ∷ [])) here in
               ap (λ n. 1 + n) (none_later q (before ++ row ∷ []) rest (behind before row rest once) met)
           | false ↦ λ _. counted_from q (before ++ row ∷ []) rest (behind before row rest once)
         ] refl

@@ -1,7 +1,5 @@
 -- The reader's processes are those of their tables, and its fault is the first of the clauses on them.
-use Rattle.std.proofs.Common.{◌≡◌, ℕ, ◌+◌, ◌<◌, ◌≤◌, Bool, true, false, not, cond, ◌||◌, List, [], ◌∷◌, ◌++◌, length, get_or, take,
-    map as map_list, codes, Option, Some, None, is_some, option_map, option_and_then, refl, sym, ap, subst, ◌∙◌, true≢false, append_assoc,
-        arith}
+use Rattle.std.proofs.Common.{◌≡◌, ℕ, ◌+◌, ◌<◌, ◌≤◌, Bool, true, false, not, cond, ◌||◌, List, [], ◌∷◌, ◌++◌, length, get_or, take, map as map_list, codes, Option, Some, None, is_some, option_map, option_and_then, refl, sym, ap, subst, ◌∙◌, true≢false, append_assoc, arith}
 use Rattle.std.specs.Prelude.{find, filter_map, nat_eq}
 use Rattle.std.specs.List.{list_all, list_any}
 use Rattle.std.specs.Map.{lookup}
@@ -44,8 +42,11 @@ use Rattle.cg_text.proofs.KeysOnce.{none_left, none_right, unless_passes, presen
 
 -- the first fault of a place, by the cgroup that is there
 abbrev pub place_fault : Place → Names → Option Cgroup → Option TreeFault
-place_fault place at found = elim found [ None ↦ Some (NoSuchPlace place) | Some cgroup ↦ first
-    (unless (is_root at || enables_nothing cgroup.enabled) (InternalProcess place)) ]
+place_fault place at found = elim found [
+  | None ↦ Some (NoSuchPlace place)
+  | Some cgroup ↦ first
+      (unless (is_root at || enables_nothing cgroup.enabled) (InternalProcess place))
+]
 
 module _ (tables : List Members) (cgroups : map.FinMap path_cmp Cgroup) (among : IsAmong tables cgroups) (place : Place)
     (row : Members) where
@@ -113,7 +114,7 @@ module _ (tables : List Members) (cgroups : map.FinMap path_cmp Cgroup) (among :
         → faults ≡ first (unless (not met) (DuplicatePid place) ++ place_faults tables place row)
     behind pid uid met said owner is =
         faults_are ∙ (λ i. in_turn (said i) (owner i))
-            ∙ ap (λ b. first (unless (not b) (DuplicatePid place) ++ place_faults tables place row)) is
+        ∙ ap (λ b. first (unless (not b) (DuplicatePid place) ++ place_faults tables place row)) is
 
     pub met_twice : (pid uid : ℕ) → pid_said row ≡ Some pid → uid_said row ≡ Some uid → list_any (has_pid pid) earlier ≡ true
         → faults ≡ Some (DuplicatePid place)
@@ -192,7 +193,7 @@ module _ (earlier : List Members) (row : Members) (live after : BTreeMap ℕ Pro
   processes_more : (q : ℕ) (other : Process) (t : Bool) → is_at (nat_cmp pid) q ≡ t → get nat_cmp after q ≡ Some other → OfRow q other
   processes_more q other true at found =
       let same : process ≡ other = same_some process other (sym (updates q ∙ ap (λ b. cond b (Some process) (get nat_cmp live q)) at)
-          ∙ found) in
+      ∙ found) in
       here q other (nat_cmp-IsAntisymmetric pid q ((Equal-is (nat_cmp pid q)).0 at)) same
   processes_more q other false at found =
       let before = had.processes q other (sym (updates q ∙ ap (λ b. cond b (Some process) (get nat_cmp live q)) at) ∙ found) in
@@ -210,12 +211,12 @@ pid_is_new tables earlier place row pid said none =
     let numbers : List TreeFault = absent (pid_said row) (BadPid place) ++ absent (uid_said row) (BadEntry place) in
     let twice : List TreeFault = present (pid_said row) (λ pid. unless (not (list_any (has_pid pid) earlier)) (DuplicatePid place)) in
     let nowhere : List TreeFault = absent (option_and_then (λ path. find (has_path path) tables) (path_said (codes "at") row))
-        (NoSuchPlace place) in
+    (NoSuchPlace place) in
     let internal : List TreeFault = present (path_said (codes "at") row)
-        (λ path. present (enabled_there tables path) (λ enabled. unless (is_root path || enables_nothing enabled)
-        (InternalProcess place))) in
+    (λ path. present (enabled_there tables path) (λ enabled. unless (is_root path || enables_nothing enabled)
+    (InternalProcess place))) in
     let passes : first twice ≡ None = none_right numbers twice (none_left (numbers ++ twice) nowhere
-        (none_left ((numbers ++ twice) ++ nowhere) internal none)) in
+    (none_left ((numbers ++ twice) ++ nowhere) internal none)) in
     not-true (list_any (has_pid pid) earlier)
     (unless_passes (not (list_any (has_pid pid) earlier)) (DuplicatePid place)
     (present_passes (pid_said row) (λ pid. unless (not (list_any (has_pid pid) earlier)) (DuplicatePid place)) pid said passes))
@@ -227,9 +228,11 @@ module _ (tables : List Members) (elements : List Value) (are : list_all (λ hel
   pub all_read : (i : ℕ) (live : BTreeMap ℕ Process) → length elements ≤ i → HasRead tables rows i live
       → (first (each_process (process_faults tables) rows) ≡ None) × AreLive rows live
   all_read i live past had =
-      let whole : length rows ≤ i = omega (arith, row_count as_table view elements are) in
-      (all_passed (process_faults tables) AtProcess rows i had.passed whole, subst (λ some. AreLive some live)
-      (take_all i rows whole) had.are)
+      let whole : length rows ≤ i = omega (arith, row_count as_table view elements are) in (
+        all_passed (process_faults tables) AtProcess rows i had.passed whole,
+        subst (λ some. AreLive some live)
+            (take_all i rows whole) had.are,
+      )
 
   -- the next table
   module _ (i : ℕ) (element : Value) (row : Members) (below : i < length elements) (at : element ≡ get_or elements i element)
@@ -267,12 +270,12 @@ pub are_processes : (rows : List Members) (live : BTreeMap ℕ Process) (used : 
     → IsFromIterResult nat_cmp (keys live) used → AreProcesses rows all
 are_processes tables live used all had live_is used_is made =
     let got : (pid : ℕ) → map.get all.live pid ≡ get nat_cmp live pid = λ pid. ap (λ m. map.get m pid) live_is
-        ∙ get-shown nat_cmp_total live.entries pid in
+    ∙ get-shown nat_cmp_total live.entries pid in
     record {
       pids = λ pid. ap is_some (got pid) ∙ had.pids pid;
       processes = λ pid process is. had.processes pid process (sym (got pid) ∙ is);
       used = λ pid.
           ap (λ s. set.contains s pid) used_is ∙ set.contains-from_list nat_cmp_total used.keys pid ∙ made.0 pid
-              ∙ sym (is_some-lookup (is_at (nat_cmp pid)) live.entries)
+          ∙ sym (is_some-lookup (is_at (nat_cmp pid)) live.entries)
           ∙ sym (ap is_some (got pid));
     }

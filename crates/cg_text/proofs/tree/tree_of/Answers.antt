@@ -21,7 +21,7 @@ returns-in_err-controllers c =
     let p = err_from_is_err_and c.from_residual-in_err-controllers.result c.from_residual-in_err-controllers.ensures.1 in
     let none = c.in_err-controllers.ensures.ok_part in
     let same = missing_is c.controllers_at.result (BadController Top) c.in_err-controllers.field-0.0
-        (sym c.in_err-controllers.ensures.value) none in
+    (sym c.in_err-controllers.ensures.value) none in
     rw (p.1, p.2) (λ _.
     controllers_fault (table_view c.args.document.now) c.in_ok-format.format c.in_ok-format.ensures.0 c.in_ok-format.ensures.1
     (sym c.controllers_at.ensures ∙ none)
@@ -82,7 +82,7 @@ returns-in_err-processes c =
     let lives_are : lives ≡ tables_at (codes "process") document = ap (filter_map as_table) c.elements_at-2.ensures in
     let walked = c.in_ok-walked.ensures format tables c.in_ok-rows.ensures.1 in
     let has = cgroups_had format tables controllers c.in_ok-walked.field-0.items cgroups c.in_ok-rows.ensures.0 walked
-        c.from_sorted-cgroups.ensures in
+    c.from_sorted-cgroups.ensures in
     let among = among_these format tables controllers cgroups has in
     rw (p.1, p.2) (λ other.
     process_fault document format form.0 form.1 controllers
@@ -98,7 +98,7 @@ from_tables-requires c =
     let lives : List Members = filter_map as_table (map view c.elements_at-2.result.now) in
     let walked = c.in_ok-walked.ensures format tables c.in_ok-rows.ensures.1 in
     let has = cgroups_had format tables controllers c.in_ok-walked.field-0.items cgroups c.in_ok-rows.ensures.0 walked
-        c.from_sorted-cgroups.ensures in
+    c.from_sorted-cgroups.ensures in
     let among = among_these format tables controllers cgroups has in
     let these = c.in_ok-processes.ensures tables among in
     formed_of format tables lives controllers cgroups c.in_ok-processes.processes has
@@ -117,7 +117,7 @@ returns c =
     let lives_are : lives ≡ tables_at (codes "process") document = ap (filter_map as_table) c.elements_at-2.ensures in
     let walked = c.in_ok-walked.ensures format tables c.in_ok-rows.ensures.1 in
     let has = cgroups_had format tables controllers c.in_ok-walked.field-0.items cgroups c.in_ok-rows.ensures.0 walked
-        c.from_sorted-cgroups.ensures in
+    c.from_sorted-cgroups.ensures in
     let among = among_these format tables controllers cgroups has in
     let these = c.in_ok-processes.ensures tables among in
     document_is_of format document controllers c.in_ok-processes.processes c.in_ok-format.ensures.1

@@ -13,9 +13,9 @@ pub loop-index-preserved : goal.loop-index-preserved
 loop-index-preserved c = λ tables among.
     let had = c.loop-index.invariant tables among in
     let read = c.in_ok-pid.ensures tables (take c.loop-index.index (filter_map as_table (map view c.args.elements.now))) among
-        had.are.pids in
+    had.are.pids in
     read_more tables c.args.elements.now c.requires.tables c.loop-index.index c.index-elements-index.result
-        (table_view c.in-Some.row.now) c.loop-index-test.true c.index-elements-index.is
+    (table_view c.in-Some.row.now) c.loop-index-test.true c.index-elements-index.is
     (sym c.in-Some.ensures) c.row_number.result c.row_number.ensures c.loop-index.live had c.insert.new.self c.in_ok-pid.pid
     c.in_ok-pid.process read.0 read.1 c.in_ok-insert.ensures.updates.0
 
@@ -30,7 +30,7 @@ returns-in_err-pid c = λ tables among.
     let rows : List Members = filter_map as_table (map view c.args.elements.now) in
     rw (p.1, p.2) (λ other.
     read_fails tables c.args.elements.now c.requires.tables c.loop-index.index c.index-elements-index.result
-        (table_view c.in-Some.row.now) c.loop-index-test.true c.index-elements-index.is
+    (table_view c.in-Some.row.now) c.loop-index-test.true c.index-elements-index.is
     (sym c.in-Some.ensures) c.row_number.result c.row_number.ensures c.loop-index.live had c.in_err-pid.field-0.0
     (c.in_err-pid.ensures tables (take c.loop-index.index rows) among had.are.pids other))
 

@@ -9,7 +9,7 @@ pub returns-in_err-at : goal.returns-in_err-at
 returns-in_err-at c = λ tables among.
     let p = err_from_is_err_and c.from_residual.result c.from_residual.ensures.1 in
     rw (p.1, p.2) (λ other. without_path tables c.args.cgroups.now among c.args.place (table_view c.args.row.now) c.in_err-at.field-0.0
-        (c.in_err-at.ensures other))
+    (c.in_err-at.ensures other))
 
 pub returns-in_default : goal.returns-in_default
 returns-in_default c = λ tables among other.
