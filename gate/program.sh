@@ -5,6 +5,7 @@
 
 released=$top/release
 built=$top/crates/zirofen/out
+# the toolchains that gate/kit.py was tried with, which all give the same program, byte for byte
 kits_tried='rattle-kit-13f and rattle-kit-13b'
 
 say() {

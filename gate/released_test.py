@@ -1,7 +1,8 @@
 """Tests of gate/released: what makes ./verify say that a release isn't of the sources beside it, and how to mend it."""
 import unittest
 
-from checkout import PROGRAM, Checkout, read, write
+from checkout import KIT, PROGRAM, Checkout, read, write
+from kit import TRIED
 
 MEND = "./build --release makes it anew"
 
@@ -48,6 +49,20 @@ class ReleasedTest(unittest.TestCase):
             self.assert_fails("other lines than the four")
         write(f"{self.released}/MANIFEST", "")
         self.assert_fails("its bytes aren't")
+
+    def test_another_kit(self):
+        # all that were tried give the same bytes
+        manifest, kits = f"{self.released}/MANIFEST", f"{self.checkout.played}/kit"
+        right = read(manifest)
+        for made, here in ((TRIED[0], TRIED[1]), (TRIED[1], TRIED[0])):
+            write(manifest, right.replace(KIT, made))
+            write(kits, f"{here}\n")
+            self.assert_passes()
+            write(kits, f"{KIT}\n")
+            self.assert_fails(f"release/ was made by {made}, and this toolchain is {KIT}")
+        write(manifest, right)
+        write(kits, f"{TRIED[0]}\n")
+        self.assert_fails(f"release/ was made by {KIT}, and this toolchain is {TRIED[0]}")
 
     def test_what_is_built_from_nothing_has_the_same_bytes(self):
         self.assert_passes("--as", f"{self.released}/zirofen")
