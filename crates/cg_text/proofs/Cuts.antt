@@ -1,7 +1,5 @@
 -- Lists cut at an element, and what a filter keeps of one.
-use Rattle.std.proofs.Common.{◌≡◌, ℕ, ◌+◌, ◌<◌, zero, suc, Bool, true, false, cond, ◌||◌, ◌⊎◌, inl, inr, ⊎_elim, List, [], ◌∷◌, ◌++◌,
-    length, get_or, take, reverse, find, filter, Option, Some, None, is_some, refl, sym, ap, ◌∙◌, append-nil,
-    length-append, arith}
+use Rattle.std.proofs.Common.{◌≡◌, ℕ, ◌<◌, zero, suc, Bool, true, false, cond, ◌||◌, ◌⊎◌, inl, inr, ⊎_elim, List, [], ◌∷◌, ◌++◌, length, get_or, take, reverse, find, filter, Option, Some, None, is_some, refl, sym, ap, ◌∙◌, append-nil, length-append, arith}
 use Rattle.std.specs.List.{list_any}
 use Rattle.std.proofs.lemmas.List.{reverse-append}
 use Rattle.std.proofs.lemmas.List.Elements.{filter-append}
@@ -105,7 +103,7 @@ module _ {A : Type 0} (p : A → Bool) where
       let rest : filter p xs ≡ front ++ y ∷ back = cc in
       let cut : CutKept xs front y = later front rest in
       let kept : filter p (x ∷ cut.0) ≡ z ∷ front =
-          ap (λ b. cond b (x ∷ filter p cut.0) (filter p cut.0)) passes ∙ (λ i. same i ∷ cut.3 i) in
+      ap (λ b. cond b (x ∷ filter p cut.0) (filter p cut.0)) passes ∙ (λ i. same i ∷ cut.3 i) in
       (x ∷ cut.0, cut.1, ap (λ some. x ∷ some) cut.2, kept, cut.4)
 
   kept_later : (x : A) (xs front : List A) (y : A) → p x ≡ false → CutKept xs front y → CutKept (x ∷ xs) front y

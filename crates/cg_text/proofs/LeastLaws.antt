@@ -148,8 +148,8 @@ module _ (format : Format) where
         let same : one ≡ row = cc in
         let rest : front ++ other ∷ back ≡ rows = cc in
         let fails_later : fails ((met ++ row ∷ []) ++ front) other ≡ true =
-            ap (λ some. fails some other) (append_assoc met (row ∷ []) front)
-            ∙ ap (λ (head : Row). fails (met ++ head ∷ front) other) (sym same) ∙ failed in
+        ap (λ some. fails some other) (append_assoc met (row ∷ []) front)
+        ∙ ap (λ (head : Row). fails (met ++ head ∷ front) other) (sym same) ∙ failed in
         (front, other, back, rest, fails_later, is)
 
     none_least : (met : List Row) (least : Option ℕ) → IsLeastCut (behind met) [] least
@@ -165,8 +165,8 @@ module _ (format : Format) where
     least_later met row rows least passed is = record {
       found = λ number found. let cut = is.found number found in later_cut met row rows number passed cut.0 cut.1 cut.2 cut.3 cut.4 cut.5;
       below = λ front other back cut failed.
-        is.below (row ∷ front) other back (ap (λ some. row ∷ some) cut)
-        (ap (λ some. fails some other) (sym (append_assoc met (row ∷ []) front)) ∙ failed);
+          is.below (row ∷ front) other back (ap (λ some. row ∷ some) cut)
+          (ap (λ some. fails some other) (sym (append_assoc met (row ∷ []) front)) ∙ failed);
     }
 
     first_from : Tells → (i : ℕ) (earlier : List Members) (met : List Row) (tables : List Members) (rows : List Row) (least : Option ℕ)
@@ -209,12 +209,12 @@ pub least_moved : (fails bad : List Row → Row → Bool) (rows others : List Ro
     → IsLeastCut fails rows least → IsLeastCut bad others least
 least_moved fails bad rows others least there back is = record {
   found = λ number found.
-    let cut = is.found number found in
-    let moved = there.at cut.0 cut.1 cut.2 cut.3 in
-    (moved.0, cut.1, moved.1, moved.2, sym moved.3 ∙ cut.4, cut.5);
+      let cut = is.found number found in
+      let moved = there.at cut.0 cut.1 cut.2 cut.3 in
+      (moved.0, cut.1, moved.1, moved.2, sym moved.3 ∙ cut.4, cut.5);
   below = λ front row behind cut failed.
-    let moved = back.at front row behind cut in
-    is.below moved.0 row moved.1 moved.2 (sym moved.3 ∙ failed);
+      let moved = back.at front row behind cut in
+      is.below moved.0 row moved.1 moved.2 (sym moved.3 ∙ failed);
 }
 
 abbrev pub at_path : Names → Row → Bool
@@ -232,8 +232,8 @@ pub twice_agree : (rows others : List Row) → AreSameRows rows others
     → CutsAgree (λ earlier row. has_met earlier row.path) (λ earlier row. has_met earlier row.path) rows others
 twice_agree rows others same = record {
   at = λ front row back cut.
-    let moved = cut_moved (at_path row.path) rows others (same row.path) front row back cut (same_path_refl row.path) in
-    (moved.0, moved.1, moved.2, met_is row.path front ∙ ap (λ some. is_some (head_of some)) (sym moved.3) ∙ sym (met_is row.path moved.0));
+      let moved = cut_moved (at_path row.path) rows others (same row.path) front row back cut (same_path_refl row.path) in
+      (moved.0, moved.1, moved.2, met_is row.path front ∙ ap (λ some. is_some (head_of some)) (sym moved.3) ∙ sym (met_is row.path moved.0));
 }
 
 -- a test that asks of a row alone, where that is what it finds of the rows before it
@@ -242,8 +242,8 @@ pub there_agree : (rows others : List Row) (fails : List Row → Row → Bool) (
     → CutsAgree fails (λ _. bad) rows others
 there_agree rows others fails bad same is = record {
   at = λ front row back cut.
-    let moved = cut_moved (at_path row.path) rows others (same row.path) front row back cut (same_path_refl row.path) in
-    (moved.0, moved.1, moved.2, is front row back cut);
+      let moved = cut_moved (at_path row.path) rows others (same row.path) front row back cut (same_path_refl row.path) in
+      (moved.0, moved.1, moved.2, is front row back cut);
 }
 
 pub back_agree : (rows others : List Row) (fails : List Row → Row → Bool) (bad : Row → Bool) → AreSameRows rows others
@@ -251,8 +251,8 @@ pub back_agree : (rows others : List Row) (fails : List Row → Row → Bool) (b
     → CutsAgree (λ _. bad) fails others rows
 back_agree rows others fails bad same is = record {
   at = λ front row back cut.
-    let moved = cut_moved (at_path row.path) others rows (sym (same row.path)) front row back cut (same_path_refl row.path) in
-    (moved.0, moved.1, moved.2, sym (is moved.0 row moved.1 moved.2));
+      let moved = cut_moved (at_path row.path) others rows (sym (same row.path)) front row back cut (same_path_refl row.path) in
+      (moved.0, moved.1, moved.2, sym (is moved.0 row moved.1 moved.2));
 }
 
 -- ---- rows in order
@@ -290,8 +290,8 @@ behind_after front row back rows cut order i other inside at =
     let all : List Row = front ++ row ∷ back in
     let order : AreInOrder all = subst AreInOrder (sym cut) order in
     let far = sorted_far (λ (one other : Row). is_lt (path_cmp one.path other.path))
-        (ranks_by path_cmp_total (λ (one : Row). one.path)) all order (length front + 0) (length front + i) other (omega arith)
-        (omega (arith, length-append front (row ∷ back))) in
+    (ranks_by path_cmp_total (λ (one : Row). one.path)) all order (length front + 0) (length front + i) other (omega arith)
+    (omega (arith, length-append front (row ∷ back))) in
     let later : get_or all (length front + i) other ≡ other = get_or-append-add front (row ∷ back) i other ∙ sym at in
     let here : get_or all (length front + 0) other ≡ row = get_or-append-add front (row ∷ back) 0 other in
     (λ j. is_lt (path_cmp (sym later j).path (sym here j).path)) ∙ far
@@ -315,7 +315,7 @@ parent_not_behind front row back rows cut order below i other inside at =
           let low = behind_after front row back rows cut order i other inside at in
           let same : parent row.path ≡ other.path = same_path-is (parent row.path) other.path is in
           let apart : same_path (parent row.path) row.path ≡ false =
-              same_path_comm (parent row.path) row.path ∙ parent-other row.path below in
+          same_path_comm (parent row.path) row.path ∙ parent-other row.path below in
           let first = inside-first (parent row.path) row.path (inside-take (length row.path - 1) row.path) in
           absurd (not_both (parent row.path) row.path apart first (ap (λ path. is_lt (path_cmp path row.path)) same ∙ low))
       | false ↦ λ _. refl
@@ -353,7 +353,7 @@ one_kept rows once path (one ∷ other ∷ rest) is =
     let cut = cut_kept (at_path path) rows (one ∷ []) other rest is in
     let same : path ≡ other.path = same_path-is path other.path cut.4 in
     let met : has_met cut.0 other.path ≡ true =
-        ap (has_met cut.0) (sym same) ∙ met_is path cut.0 ∙ ap (λ some. is_some (head_of some)) cut.3 in
+    ap (has_met cut.0) (sym same) ∙ met_is path cut.0 ∙ ap (λ some. is_some (head_of some)) cut.3 in
     absurd (true≢false (sym met ∙ once cut.0 other cut.1 cut.2))
 
 last_is_first : (rows : List Row) → AreOnce rows → (path : Names) (front : List Row)
@@ -449,9 +449,9 @@ files_within format i table row above read =
     let named : LimitFile → Bool = λ file. is_named (File file) table in
     let pids : Bool = (not (named PidsMax) || above.pids) && true in
     let memory : Bool =
-        (not (named MemoryMin) || above.memory)
-        && ((not (named MemoryLow) || above.memory)
-        && ((not (named MemoryHigh) || above.memory) && ((not (named MemoryMax) || above.memory) && pids))) in
+    (not (named MemoryMin) || above.memory)
+    && ((not (named MemoryLow) || above.memory)
+    && ((not (named MemoryHigh) || above.memory) && ((not (named MemoryMax) || above.memory) && pids))) in
     (λ j. either_true (named MaxDescendants) j && (either_true (named MaxDepth) j && ((not (named CpuWeight) || above.cpu) && memory)))
     ∙ ap (λ rest. (not (named CpuWeight) || above.cpu) && rest)
     (four_files (named MemoryMin) (named MemoryLow) (named MemoryHigh) (named MemoryMax) above.memory pids)
@@ -473,9 +473,9 @@ in_turn : (twice orphan within files : Option ℕ) (root : Bool)
           (elim orphan [
             | Some number ↦ Some (NoParent (AtCgroup number))
             | None ↦ elim within [
-                | Some number ↦ Some (TopDown (AtCgroup number))
-                | None ↦ option_map (λ number. NoSuchFile (AtCgroup number)) files
-              ]
+              | Some number ↦ Some (TopDown (AtCgroup number))
+              | None ↦ option_map (λ number. NoSuchFile (AtCgroup number)) files
+            ]
           ]) (Some NoRoot)
     ]
 in_turn (Some number) orphan within files root = refl
@@ -621,7 +621,6 @@ module _ (format : Format) (controllers : ControllerSet) (tables : List Members)
         (λ _. first_then parents (within ++ files) first_orphan (option_or first_within first_file) (orphan_first once)
         (λ _. first_then within files first_within first_file (within_first once) (λ _. files_first once))))
         ∙ in_turn least.twice least.orphan least.not_within least.no_file has_one
-
 
 pub least_fault_is_first : (format : Format) (controllers : ControllerSet) (tables : List Members) (rows sorted : List Row) (least : Least)
     → AreReadAs format 1 tables rows

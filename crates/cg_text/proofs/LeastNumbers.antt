@@ -1,5 +1,5 @@
 -- The least number of a row that fails a test behind those before it, and what one more row adds.
-use Rattle.std.proofs.Common.{◌≡◌, ℕ, ◌+◌, ◌-◌, ◌<◌, ◌≤◌, Bool, true, false, not, cond, ◌⊎◌, inl, inr, ⊎_elim, List, [], ◌∷◌, ◌++◌, length, get_or, take, Option, Some, None, is_some, refl, sym, ap, subst, ◌∙◌, true≢false, append_assoc, arith}
+use Rattle.std.proofs.Common.{◌≡◌, ℕ, ◌<◌, ◌≤◌, Bool, true, false, not, cond, ◌⊎◌, inl, inr, ⊎_elim, List, [], ◌∷◌, ◌++◌, length, get_or, take, Option, Some, None, is_some, refl, sym, ap, subst, ◌∙◌, true≢false, append_assoc, arith}
 use Rattle.std.specs.Prelude.{nat_lt}
 use Rattle.std.proofs.lemmas.Bool.Decides.{nat_tests}
 use Rattle.cg_cgroup.specs.Paths.{is_root, parent}
@@ -44,32 +44,32 @@ module _ (fails : List Row → Row → Bool) where
   pub least_cut : (rows : List Row) (least : Option ℕ) → IsLeast fails rows least → IsLeastCut fails rows least
   least_cut rows least is = record {
     found = λ number found.
-      let place = is.found number found in
-      let cut = cut_at rows place.0 place.1 place.2 place.3 in
-      (take place.0 rows, place.1, cut.0, cut.1, place.4, place.5);
+        let place = is.found number found in
+        let cut = cut_at rows place.0 place.1 place.2 place.3 in
+        (take place.0 rows, place.1, cut.0, cut.1, place.4, place.5);
     below = λ front row back cut failed.
-      let place = place_of front row back in
-      is.below (length front) row
-      (subst (λ (all : List Row). length front < length all) cut place.0)
-      (subst (λ (all : List Row). row ≡ get_or all (length front) row) cut place.1)
-      (ap (λ before. fails before row) (subst (λ (all : List Row). take (length front) all ≡ front) cut place.2) ∙ failed);
+        let place = place_of front row back in
+        is.below (length front) row
+        (subst (λ (all : List Row). length front < length all) cut place.0)
+        (subst (λ (all : List Row). row ≡ get_or all (length front) row) cut place.1)
+        (ap (λ before. fails before row) (subst (λ (all : List Row). take (length front) all ≡ front) cut place.2) ∙ failed);
   }
 
   pub cut_least : (rows : List Row) (least : Option ℕ) → IsLeastCut fails rows least → IsLeast fails rows least
   cut_least rows least is = record {
     found = λ number found.
-      let cut = is.found number found in
-      let place = place_of cut.0 cut.1 cut.2 in (
-        length cut.0,
-        cut.1,
-        subst (λ (all : List Row). length cut.0 < length all) cut.3 place.0,
-        subst (λ (all : List Row). cut.1 ≡ get_or all (length cut.0) cut.1) cut.3 place.1,
-        ap (λ before. fails before cut.1) (subst (λ (all : List Row). take (length cut.0) all ≡ cut.0) cut.3 place.2) ∙ cut.4,
-        cut.5,
-      );
+        let cut = is.found number found in
+        let place = place_of cut.0 cut.1 cut.2 in (
+          length cut.0,
+          cut.1,
+          subst (λ (all : List Row). length cut.0 < length all) cut.3 place.0,
+          subst (λ (all : List Row). cut.1 ≡ get_or all (length cut.0) cut.1) cut.3 place.1,
+          ap (λ before. fails before cut.1) (subst (λ (all : List Row). take (length cut.0) all ≡ cut.0) cut.3 place.2) ∙ cut.4,
+          cut.5,
+        );
     below = λ i row inside at failed.
-      let cut = cut_at rows i row inside at in
-      is.below (take i rows) row cut.0 cut.1 failed;
+        let cut = cut_at rows i row inside at in
+        is.below (take i rows) row cut.0 cut.1 failed;
   }
 
   module _ (met : List Row) (row : Row) (least : Option ℕ) (is : IsLeastCut fails met least) where
@@ -79,17 +79,17 @@ module _ (fails : List Row → Row → Bool) where
     found_before number found =
         let cut = is.found number found in
         let is : cut.0 ++ cut.1 ∷ (cut.2 ++ row ∷ []) ≡ met ++ row ∷ [] =
-            sym (append_assoc cut.0 (cut.1 ∷ cut.2) (row ∷ [])) ∙ ap (λ some. some ++ row ∷ []) cut.3 in
+        sym (append_assoc cut.0 (cut.1 ∷ cut.2) (row ∷ [])) ∙ ap (λ some. some ++ row ∷ []) cut.3 in
         (cut.0, cut.1, cut.2 ++ row ∷ [], is, cut.4, cut.5)
 
     kept_cut : fails met row ≡ false → IsLeastCut fails (met ++ row ∷ []) least
     kept_cut passed = record {
       found = found_before;
       below = λ front other back cut failed.
-        ⊎_elim
-        (λ earlier. is.below front other earlier.0 earlier.1 failed)
-        (λ last. absurd (true≢false (sym failed ∙ ap (λ before. fails before other) last.0 ∙ ap (fails met) last.1 ∙ passed)))
-        (cut_last front other back met row cut);
+          ⊎_elim
+          (λ earlier. is.below front other earlier.0 earlier.1 failed)
+          (λ last. absurd (true≢false (sym failed ∙ ap (λ before. fails before other) last.0 ∙ ap (fails met) last.1 ∙ passed)))
+          (cut_last front other back met row cut);
     }
 
     -- which of the two the least is
@@ -106,12 +106,12 @@ module _ (fails : List Row → Row → Bool) where
     less_cut failed = record {
       found = λ number. lesser_found number failed;
       below = λ front other back cut wrong.
-        ⊎_elim
-        (λ earlier.
-        let old = is.below front other earlier.0 earlier.1 wrong in
-        lesser_below least old.0 other.number row.number old.1 old.2)
-        (λ last. let own = lesser_own least row.number in (own.0, own.1, omega (arith, own.2, ap (λ (one : Row). one.number) last.1)))
-        (cut_last front other back met row cut);
+          ⊎_elim
+          (λ earlier.
+          let old = is.below front other earlier.0 earlier.1 wrong in
+          lesser_below least old.0 other.number row.number old.1 old.2)
+          (λ last. let own = lesser_own least row.number in (own.0, own.1, omega (arith, own.2, ap (λ (one : Row). one.number) last.1)))
+          (cut_last front other back met row cut);
     }
 
   pub least_kept : (met : List Row) (row : Row) (least : Option ℕ) → IsLeast fails met least → fails met row ≡ false
@@ -152,9 +152,9 @@ module _ (controllers : ControllerSet) (met : List Row) (row : Row) (least : Lea
     twice = noted (λ earlier row. has_met earlier row.path) met row least.twice after.twice twice tested.twice (sym twice_is) own;
     orphan = noted is_orphan met row least.orphan after.orphan true tested.orphan (ap (λ o. not (is_some o)) none) orphan;
     not_within =
-      noted (is_not_within controllers) met row least.not_within after.not_within false tested.not_within
-      (ap (is_past row.cgroup.enabled) (over_none (is_root row.path) no_controllers controllers (enabled_by met (parent row.path)) none))
-      within;
+        noted (is_not_within controllers) met row least.not_within after.not_within false tested.not_within
+        (ap (is_past row.cgroup.enabled) (over_none (is_root row.path) no_controllers controllers (enabled_by met (parent row.path)) none))
+        within;
     no_file = noted has_no_file met row least.no_file after.no_file false tested.no_file (ap (is_past row.needed) none) file;
   }
 
@@ -169,10 +169,10 @@ module _ (controllers : ControllerSet) (met : List Row) (row : Row) (least : Lea
     twice = noted (λ earlier row. has_met earlier row.path) met row least.twice after.twice twice tested.twice (sym twice_is) own;
     orphan = noted is_orphan met row least.orphan after.orphan false tested.orphan (ap (λ o. not (is_some o)) some) orphan;
     not_within =
-      noted (is_not_within controllers) met row least.not_within after.not_within
-      (not (is_within row.cgroup.enabled (cond (is_root row.path) controllers above))) tested.not_within
-      (ap (is_past row.cgroup.enabled)
-      (over_some (is_root row.path) no_controllers controllers above (enabled_by met (parent row.path)) some)) within;
+        noted (is_not_within controllers) met row least.not_within after.not_within
+        (not (is_within row.cgroup.enabled (cond (is_root row.path) controllers above))) tested.not_within
+        (ap (is_past row.cgroup.enabled)
+        (over_some (is_root row.path) no_controllers controllers above (enabled_by met (parent row.path)) some)) within;
     no_file = noted has_no_file met row least.no_file after.no_file (not (is_within row.needed above)) tested.no_file
-      (ap (is_past row.needed) some) file;
+        (ap (is_past row.needed) some) file;
   }

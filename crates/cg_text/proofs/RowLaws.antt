@@ -182,21 +182,22 @@ module _ (said : Entries) where
       → ((file : LimitFile) → HasFile cgroup file) → (first (entry_faults said) ≡ None) × IsCgroupOf said controllers cgroup
   cgroup_read controllers cgroup enabled dir procs control files =
       let values : (file : LimitFile) → value_in said file ≡ value_at cgroup file =
-          λ file. (files file).value ∙ sym (ap (option_map (λ (f : LimitEntry). f.value)) (files file).stands) in
+      λ file. (files file).value ∙ sym (ap (option_map (λ (f : LimitEntry). f.value)) (files file).stands) in
       let owners : (file : LimitFile) → owner_in said (File file) ≡ entry_in cgroup (File file) =
-          λ file. (files file).owner ∙ sym (ap (option_map (λ (f : LimitEntry). f.entry)) (files file).stands) in
+      λ file. (files file).owner ∙ sym (ap (option_map (λ (f : LimitEntry). f.entry)) (files file).stands) in
       let entries : (name : EntryName) → owner_in said name ≡ entry_in cgroup name =
-          by_entry (λ name. owner_in said name ≡ entry_in cgroup name)
-          (owner_is Dir cgroup.dir dir) (owner_is Procs cgroup.procs procs)
-          (owner_is SubtreeControl cgroup.subtree_control control) owners in
+      by_entry (λ name. owner_in said name ≡ entry_in cgroup name)
+      (owner_is Dir cgroup.dir dir) (owner_is Procs cgroup.procs procs)
+      (owner_is SubtreeControl cgroup.subtree_control control) owners in
       let are : (name : EntryName) → is_some (owner_in said name) ≡ true =
-          by_entry (λ name. is_some (owner_in said name) ≡ true)
-          (has_owner Dir cgroup.dir dir) (has_owner Procs cgroup.procs procs)
-          (has_owner SubtreeControl cgroup.subtree_control control)
-          (λ file. ap is_some (files file).owner) in
-      (no_entry_fault are
-      ∙ ap (λ b. first (unless b (BadValue said.place))) (all_so valued (λ file. ap is_some (files file).value) all_files),
-      record { enabled = enabled; entries = λ name. sym (entries name); values = λ file. sym (values file); files = λ file. ap is_some (files file).stands })
+      by_entry (λ name. is_some (owner_in said name) ≡ true)
+      (has_owner Dir cgroup.dir dir) (has_owner Procs cgroup.procs procs)
+      (has_owner SubtreeControl cgroup.subtree_control control)
+      (λ file. ap is_some (files file).owner) in (
+        no_entry_fault are
+            ∙ ap (λ b. first (unless b (BadValue said.place))) (all_so valued (λ file. ap is_some (files file).value) all_files),
+        record { enabled = enabled; entries = λ name. sym (entries name); values = λ file. sym (values file); files = λ file. ap is_some (files file).stands },
+      )
 
 -- ---- a row's table
 
@@ -241,11 +242,11 @@ module _ (said : Entries) (row : Members) (dir : option_map (λ table. table_vie
     values = λ file. sym (value_is file) ∙ sym (is.values file);
     cpu = ap (λ (set : ControllerSet). set.cpu) needed ∙ named_is CpuWeight;
     memory =
-      let least = named_is MemoryMin in
-      let low = named_is MemoryLow in
-      let high = named_is MemoryHigh in
-      let most = named_is MemoryMax in
-      ap (λ (set : ControllerSet). set.memory) needed ∙ (λ i. least i || low i || high i || most i);
+        let least = named_is MemoryMin in
+        let low = named_is MemoryLow in
+        let high = named_is MemoryHigh in
+        let most = named_is MemoryMax in
+        ap (λ (set : ControllerSet). set.memory) needed ∙ (λ i. least i || low i || high i || most i);
     pids = ap (λ (set : ControllerSet). set.pids) needed ∙ named_is PidsMax;
     files = is.files;
   }
@@ -299,7 +300,7 @@ module _ (format : Format) (tables : List Members) (index : ℕ) (table : Member
       let before : length (take index tables) ≡ index = length-take-le index tables (omega (arith, next.within)) in
       let place : number ≡ 1 + length (take index tables) = omega (arith, next.counted, before) in
       let grown : take index tables ++ table ∷ [] ≡ take (index + 1) tables =
-          ap (λ x. take index tables ++ x ∷ []) next.there ∙ sym (take_more tables index table next.within) in
+      ap (λ x. take index tables ++ x ∷ []) next.there ∙ sym (take_more tables index table next.within) in
       subst (λ tables. AreReadAs format 1 tables (rows ++ row ∷ [])) grown
       (are_read_more format 1 (take index tables) rows table row are (subst (λ i. IsReadAs format i table row) place read))
 

@@ -34,7 +34,7 @@ returns-in_err-enabled c =
 pub returns-in_err-cgroup : goal.returns-in_err-cgroup
 returns-in_err-cgroup c =
     let said : Entries =
-        record { place = AtCgroup c.args.number; format = c.args.format; dir = c.table_at.result; files = c.table_at-2.result } in
+    record { place = AtCgroup c.args.number; format = c.args.format; dir = c.table_at.result; files = c.table_at-2.result } in
     let enabled = enabled_is (goal.at.returns-in_err-cgroup c).In_ok-enabled in
     passed_on _ _ _ c.in_err-cgroup.field-0.0 c.from_residual-in_err-cgroup.ensures
     (λ memory.
@@ -48,9 +48,10 @@ pub returns : goal.returns
 returns c =
     let row = table_view c.args.table.now in
     let said : Entries =
-        record { place = AtCgroup c.args.number; format = c.args.format; dir = c.table_at.result; files = c.table_at-2.result } in
+    record { place = AtCgroup c.args.number; format = c.args.format; dir = c.table_at.result; files = c.table_at-2.result } in
     let enabled = enabled_is (goal.at.returns c).In_ok-enabled in
-    let path = c.in_ok-path.ensures.1 in
-    (faults_behind said row c.table_at.ensures c.table_at-2.ensures _ _ path enabled ∙ c.in_ok-cgroup.ensures.0,
-    row_read said row c.table_at.ensures c.table_at-2.ensures c.args.number _ _ refl (path ∙ ap (λ path. Some path) (sym c.path.view_is))
-    enabled c.in_ok-cgroup.ensures.1 c.needed.ensures)
+    let path = c.in_ok-path.ensures.1 in (
+      faults_behind said row c.table_at.ensures c.table_at-2.ensures _ _ path enabled ∙ c.in_ok-cgroup.ensures.0,
+      row_read said row c.table_at.ensures c.table_at-2.ensures c.args.number _ _ refl (path ∙ ap (λ path. Some path) (sym c.path.view_is))
+          enabled c.in_ok-cgroup.ensures.1 c.needed.ensures,
+    )

@@ -48,13 +48,14 @@ loop-index-preserved c =
     record {
       passed = row_passed c.args.format _ _ _ _ here c.loop-index.invariant.passed c.in_ok-row_of.ensures.0;
       read =
-        subst (AreReadAs c.args.format 1 (take (c.loop-index.index + 1) tables)) (sym c.in_ok-push.ensures.items)
-        (row_added c.args.format _ _ _ _ here _ _ c.loop-index.invariant.read c.in_ok-row_of.ensures.1);
+          subst (AreReadAs c.args.format 1 (take (c.loop-index.index + 1) tables)) (sym c.in_ok-push.ensures.items)
+          (row_added c.args.format _ _ _ _ here _ _ c.loop-index.invariant.read c.in_ok-row_of.ensures.1);
     }
 
 pub returns : goal.returns
 returns c =
     let elements = c.args.elements.now in
-    let index = c.loop-index.index in
-    (no_row_found elements c.requires.tables index c.args.format c.loop-index-test.false c.loop-index.invariant.passed,
-    all_read elements c.requires.tables index c.args.format c.loop-index-test.false _ c.loop-index.invariant.read)
+    let index = c.loop-index.index in (
+      no_row_found elements c.requires.tables index c.args.format c.loop-index-test.false c.loop-index.invariant.passed,
+      all_read elements c.requires.tables index c.args.format c.loop-index-test.false _ c.loop-index.invariant.read,
+    )

@@ -7,8 +7,14 @@ use Rattle.cg_text.specs.declared.tree.walk.Least.{Least}
 use Rattle.cg_text.specs.declared.tree.walk.Walk.{Walk}
 use Rattle.cg_text.proofs.LeastNumbers.{tested_alone, tested_over}
 use Rattle.cg_text.proofs.tree.walk.Walk.test.Goals as goal
-use Rattle.cg_text.proofs.tree.walk.Walk.test.Goals.{then-has_met, else-has_met, then-is_root, else-is_root, then-not-is_within,
-    else-not-is_within}
+use Rattle.cg_text.proofs.tree.walk.Walk.test.Goals.{
+  then-has_met,
+  else-has_met,
+  then-is_root,
+  else-is_root,
+  then-not-is_within,
+  else-not-is_within,
+}
 
 chosen : {A : Type 0} (b : Bool) (x y : A) → b ≡ true → x ≡ cond b x y
 chosen b x y is = ap (λ t. cond t x y) (sym is)
@@ -57,8 +63,10 @@ returns-then-not-is_within-2-clause-tested c =
           (sym c.is_root.ensures ∙ w.if-is_root.false)
     ] in
     let first : Least = c.if-has_met.self.least in
-    let held : c.if-not-is_within.self.least ≡ record first { not_within =
-        cond (not c.is_within.result) (lesser first.not_within number) first.not_within } =
+    let held : c.if-not-is_within.self.least ≡ record first {
+      not_within =
+          cond (not c.is_within.result) (lesser first.not_within number) first.not_within;
+    } =
     elim c.if-not-is_within.branch [
       | then-not-is_within w ↦ ap (λ (walk : Walk). walk.least) w.self-is ∙ ap (λ within. record first { not_within = within })
           (w.lesser-self-then-not-is_within.ensures ∙ chosen (not c.is_within.result) (lesser first.not_within number) first.not_within
@@ -67,14 +75,14 @@ returns-then-not-is_within-2-clause-tested c =
           (other (not c.is_within.result) (lesser first.not_within number) first.not_within (ap not w.if-not-is_within.false))
     ] in
     let tests : c.is_within.result ≡ is_within row.cgroup.enabled (cond (is_root row.path) c.args.controllers c.in-Some.over) =
-        c.is_within.ensures ∙ ap (is_within row.cgroup.enabled) available in
+    c.is_within.ensures ∙ ap (is_within row.cgroup.enabled) available in
     let within : c.if-not-is_within.self.least.not_within
-        ≡ cond (not (is_within row.cgroup.enabled (cond (is_root row.path) c.args.controllers c.in-Some.over)))
-        (lesser old.not_within number) old.not_within =
+    ≡ cond (not (is_within row.cgroup.enabled (cond (is_root row.path) c.args.controllers c.in-Some.over)))
+    (lesser old.not_within number) old.not_within =
     ap (λ (least : Least). least.not_within) held
     ∙ (λ j. cond (not (tests j)) (lesser (noted j).not_within number) (noted j).not_within) in
     let file : c.if-not-is_within.self.least.no_file ≡ old.no_file = ap (λ (least : Least). least.no_file) held
-        ∙ ap (λ (least : Least). least.no_file) noted in
+    ∙ ap (λ (least : Least). least.no_file) noted in
     λ met entries next over tested.
     tested_over c.args.controllers met row old tested c.has_met.result (c.has_met.ensures met row entries next refl) c.in-Some.over _
     (sym over ∙ c.in-Some.is)
@@ -106,8 +114,10 @@ returns-else-not-is_within-2-clause-tested c =
           (sym c.is_root.ensures ∙ w.if-is_root.false)
     ] in
     let first : Least = c.if-has_met.self.least in
-    let held : c.if-not-is_within.self.least ≡ record first { not_within =
-        cond (not c.is_within.result) (lesser first.not_within number) first.not_within } =
+    let held : c.if-not-is_within.self.least ≡ record first {
+      not_within =
+          cond (not c.is_within.result) (lesser first.not_within number) first.not_within;
+    } =
     elim c.if-not-is_within.branch [
       | then-not-is_within w ↦ ap (λ (walk : Walk). walk.least) w.self-is ∙ ap (λ within. record first { not_within = within })
           (w.lesser-self-then-not-is_within.ensures ∙ chosen (not c.is_within.result) (lesser first.not_within number) first.not_within
@@ -116,14 +126,14 @@ returns-else-not-is_within-2-clause-tested c =
           (other (not c.is_within.result) (lesser first.not_within number) first.not_within (ap not w.if-not-is_within.false))
     ] in
     let tests : c.is_within.result ≡ is_within row.cgroup.enabled (cond (is_root row.path) c.args.controllers c.in-Some.over) =
-        c.is_within.ensures ∙ ap (is_within row.cgroup.enabled) available in
+    c.is_within.ensures ∙ ap (is_within row.cgroup.enabled) available in
     let within : c.if-not-is_within.self.least.not_within
-        ≡ cond (not (is_within row.cgroup.enabled (cond (is_root row.path) c.args.controllers c.in-Some.over)))
-        (lesser old.not_within number) old.not_within =
+    ≡ cond (not (is_within row.cgroup.enabled (cond (is_root row.path) c.args.controllers c.in-Some.over)))
+    (lesser old.not_within number) old.not_within =
     ap (λ (least : Least). least.not_within) held
     ∙ (λ j. cond (not (tests j)) (lesser (noted j).not_within number) (noted j).not_within) in
     let file : c.if-not-is_within.self.least.no_file ≡ old.no_file = ap (λ (least : Least). least.no_file) held
-        ∙ ap (λ (least : Least). least.no_file) noted in
+    ∙ ap (λ (least : Least). least.no_file) noted in
     λ met entries next over tested.
     tested_over c.args.controllers met row old tested c.has_met.result (c.has_met.ensures met row entries next refl) c.in-Some.over _
     (sym over ∙ c.in-Some.is)
