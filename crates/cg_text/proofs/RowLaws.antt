@@ -29,7 +29,7 @@ use Rattle.cg_text.specs.Said.{table_at, path_said, controllers_said, owner_said
 use Rattle.cg_text.specs.Said.{entry_said, value_said, is_named}
 use Rattle.cg_text.specs.TextFaults.{each_cgroup, row_faults}
 use Rattle.cg_text.specs.Faults.{or_fault, Passes}
-use Rattle.cg_text.specs.Rows.{table_in, owner_in, value_in, with_value, names, needed_by, entry_faults, IsCgroupOf, IsReadAs, AreReadAs}
+use Rattle.cg_text.specs.Rows.{table_in, owner_in, limit_in, entry_with, names, needed_by, entry_faults, IsCgroupOf, IsReadAs, AreReadAs}
 use Rattle.cg_text.specs.declared.tree.fault.Place.TheVariants.{Cgroup as AtCgroup}
 use Rattle.cg_text.specs.declared.tree.fault.TreeFault.{TreeFault}
 use Rattle.cg_text.specs.declared.tree.fault.TreeFault.TheVariants.{BadPath, BadController, BadEntry, BadValue, NoMemory}
@@ -116,7 +116,7 @@ module _ (said : Entries) where
   owned name = is_some (owner_in said name)
 
   abbrev valued : LimitFile → Bool
-  valued file = is_some (value_in said file)
+  valued file = is_some (limit_in said file)
 
   abbrev value_faults : List TreeFault
   value_faults = unless (list_all valued all_files) (BadValue said.place)
@@ -126,7 +126,7 @@ module _ (said : Entries) where
   HasOwner name entry = Ok entry ≡ or_fault (owner_in said name) (BadEntry said.place)
 
   abbrev pub HasValue : LimitFile → Entry → LimitEntry → Type 0
-  HasValue file entry held = Ok held ≡ or_fault (option_map (with_value entry) (value_in said file)) (BadValue said.place)
+  HasValue file entry held = Ok held ≡ or_fault (option_map (entry_with entry) (limit_in said file)) (BadValue said.place)
 
   owner_is : (name : EntryName) (entry : Entry) → HasOwner name entry → owner_in said name ≡ Some entry
   owner_is name entry is = ok_of (owner_in said name) (BadEntry said.place) entry is
@@ -148,11 +148,11 @@ module _ (said : Entries) where
 
   pub no_value : ((name : EntryName) → is_some (owner_in said name) ≡ true) → (file : LimitFile) (entry : Entry)
       {X : Type 0} (P : X → Type 0) (answer : Result X TreeFault) (found : TreeFault) → Returns answer found
-      → Err found ≡ or_fault (option_map (with_value entry) (value_in said file)) (BadValue said.place)
+      → Err found ≡ or_fault (option_map (entry_with entry) (limit_in said file)) (BadValue said.place)
       → Passes P (first (entry_faults said)) answer
   no_value are file entry P answer found returns is =
-      let missing = err_of (option_map (with_value entry) (value_in said file)) (BadValue said.place) found is in
-      let none : valued file ≡ false = sym (is_some-mapped (with_value entry) (value_in said file)) ∙ ap is_some missing.0 in
+      let missing = err_of (option_map (entry_with entry) (limit_in said file)) (BadValue said.place) found is in
+      let none : valued file ≡ false = sym (is_some-mapped (entry_with entry) (limit_in said file)) ∙ ap is_some missing.0 in
       passed_on P (first (entry_faults said)) answer found returns
       (λ _.
       no_entry_fault are ∙ ap (λ b. first (unless b (BadValue said.place))) (file_failed valued file none)
@@ -163,13 +163,13 @@ module _ (said : Entries) where
     pub held : LimitEntry
     pub stands : file_of cgroup file ≡ Some held
     pub owner : owner_in said (File file) ≡ Some held.entry
-    pub value : value_in said file ≡ Some held.value
+    pub value : limit_in said file ≡ Some held.value
 
   pub has_file : (cgroup : Cgroup) (file : LimitFile) (entry : Entry) (held : LimitEntry) → file_of cgroup file ≡ Some held
       → HasOwner (File file) entry → HasValue file entry held → HasFile cgroup file
   has_file cgroup file entry held stands owner value =
-      let o = option_map (with_value entry) (value_in said file) in
-      let from = mapped_from (with_value entry) (value_in said file) held (ok_of o (BadValue said.place) held value) in
+      let o = option_map (entry_with entry) (limit_in said file) in
+      let from = mapped_from (entry_with entry) (limit_in said file) held (ok_of o (BadValue said.place) held value) in
       record {
         held = held;
         stands = stands;
@@ -181,7 +181,7 @@ module _ (said : Entries) where
       → HasOwner Dir cgroup.dir → HasOwner Procs cgroup.procs → HasOwner SubtreeControl cgroup.subtree_control
       → ((file : LimitFile) → HasFile cgroup file) → (first (entry_faults said) ≡ None) × IsCgroupOf said controllers cgroup
   cgroup_read controllers cgroup enabled dir procs control files =
-      let values : (file : LimitFile) → value_in said file ≡ value_at cgroup file =
+      let values : (file : LimitFile) → limit_in said file ≡ value_at cgroup file =
       λ file. (files file).value ∙ sym (ap (option_map (λ (f : LimitEntry). f.value)) (files file).stands) in
       let owners : (file : LimitFile) → owner_in said (File file) ≡ entry_in cgroup (File file) =
       λ file. (files file).owner ∙ sym (ap (option_map (λ (f : LimitEntry). f.entry)) (files file).stands) in
@@ -210,7 +210,7 @@ module _ (said : Entries) (row : Members) (dir : option_map (λ table. table_vie
   entry_is : (name : EntryName) → owner_in said name ≡ entry_said said.format row name
   entry_is name = ap (λ table. owner_said said.format (mode_missing name) (unwrap_or table no_members)) (table_is name)
 
-  value_is : (file : LimitFile) → value_in said file ≡ value_said row file
+  value_is : (file : LimitFile) → limit_in said file ≡ value_said row file
   value_is file = ap (λ table. limit_said file (unwrap_or table no_members)) (table_is (File file))
 
   named_is : (file : LimitFile) → names said file ≡ is_named (File file) row

@@ -40,11 +40,11 @@ table_in entries name = option_and_then (table_at (entry_text name)) (option_map
 abbrev pub owner_in : Entries → EntryName → Option Entry
 owner_in entries name = owner_said entries.format (mode_missing name) (unwrap_or (table_in entries name) no_members)
 
-abbrev pub value_in : Entries → LimitFile → Option Limit
-value_in entries file = limit_said file (unwrap_or (table_in entries (File file)) no_members)
+abbrev pub limit_in : Entries → LimitFile → Option Limit
+limit_in entries file = limit_said file (unwrap_or (table_in entries (File file)) no_members)
 
-abbrev pub with_value : Entry → Limit → LimitEntry
-with_value entry value = record { entry = entry; value = value }
+abbrev pub entry_with : Entry → Limit → LimitEntry
+entry_with entry value = record { entry = entry; value = value }
 
 abbrev pub names : Entries → LimitFile → Bool
 names entries file = is_some (table_in entries (File file))
@@ -61,13 +61,13 @@ needed_by entries = record {
 abbrev pub entry_faults : Entries → List TreeFault
 entry_faults entries =
     unless (list_all (λ name. is_some (owner_in entries name)) all_entries) (BadEntry entries.place)
-    ++ unless (list_all (λ file. is_some (value_in entries file)) all_files) (BadValue entries.place)
+    ++ unless (list_all (λ file. is_some (limit_in entries file)) all_files) (BadValue entries.place)
 
 -- a cgroup with all files, as these tables and the defaults say
 pub record IsCgroupOf (said : Entries) (controllers : ControllerSet) (cgroup : Cgroup) : Type 0 where
   pub enabled : cgroup.enabled ≡ controllers
   pub entries : (name : EntryName) → entry_in cgroup name ≡ owner_in said name
-  pub values : (file : LimitFile) → value_at cgroup file ≡ value_in said file
+  pub values : (file : LimitFile) → value_at cgroup file ≡ limit_in said file
   pub files : (file : LimitFile) → is_some (file_of cgroup file) ≡ true
 
 -- a row as a table says it

@@ -42,17 +42,17 @@ abbrev pub over_in : ControllerSet → List Row → Names → Option ControllerS
 over_in at_root met path = cond (is_root path) (Some at_root) (enabled_by met (parent path))
 
 -- a limit file where it stands
-abbrev pub standing : ControllerSet → LimitFile → Option LimitEntry → Option LimitEntry
-standing over file held = cond (stands_under over file) held None
+abbrev pub held_under : ControllerSet → LimitFile → Option LimitEntry → Option LimitEntry
+held_under over file held = cond (stands_under over file) held None
 
 abbrev pub fitted_to : ControllerSet → Cgroup → Cgroup
 fitted_to over cgroup = record cgroup {
-  cpu_weight = standing over CpuWeight cgroup.cpu_weight;
-  memory_min = standing over MemoryMin cgroup.memory_min;
-  memory_low = standing over MemoryLow cgroup.memory_low;
-  memory_high = standing over MemoryHigh cgroup.memory_high;
-  memory_max = standing over MemoryMax cgroup.memory_max;
-  pids_max = standing over PidsMax cgroup.pids_max;
+  cpu_weight = held_under over CpuWeight cgroup.cpu_weight;
+  memory_min = held_under over MemoryMin cgroup.memory_min;
+  memory_low = held_under over MemoryLow cgroup.memory_low;
+  memory_high = held_under over MemoryHigh cgroup.memory_high;
+  memory_max = held_under over MemoryMax cgroup.memory_max;
+  pids_max = held_under over PidsMax cgroup.pids_max;
 }
 
 -- the rows' entries, each behind those before it

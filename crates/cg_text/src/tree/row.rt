@@ -10,7 +10,7 @@ ghost use Rattle.cg_text.specs.declared.tree.fault.Place.TheVariants.{Cgroup as 
 ghost use Rattle.cg_text.specs.declared.tree.fault.TreeFault.TheVariants.{BadEntry, BadValue};
 ghost use Rattle.cg_text.specs.TextFaults.{each_cgroup, row_faults};
 ghost use Rattle.cg_text.specs.Faults.{Passes, or_fault};
-ghost use Rattle.cg_text.specs.Rows.{table_in, owner_in, value_in, with_value, needed_by, entry_faults, IsCgroupOf, IsReadAs, AreReadAs};
+ghost use Rattle.cg_text.specs.Rows.{table_in, owner_in, limit_in, entry_with, needed_by, entry_faults, IsCgroupOf, IsReadAs, AreReadAs};
 
 use crate::tree::fault::{Place, TreeFault};
 use crate::tree::form::row_number;
@@ -73,7 +73,7 @@ impl<'a> Entries<'a> {
 
     /// A limit file of this owner.
     fn held(self, entry: Entry, file: LimitFile) -> Result<LimitEntry, TreeFault>
-        ensures { result ≡ or_fault (option_map (with_value entry) (value_in self.entry file)) (BadValue self.entry.place) }
+        ensures { result ≡ or_fault (option_map (entry_with entry) (limit_in self.entry file)) (BadValue self.entry.place) }
     {
         match limit_of(file, self.table(EntryName::File(file))) {
             None => Err(TreeFault::BadValue(self.place)),
