@@ -23,6 +23,8 @@ use Rattle.cg_cli.specs.Replaying.{Reporting, ReplaysFrom}
 use Rattle.cg_cli.specs.Reports.{Report, Reports}
 use Rattle.cg_cli.specs.declared.fault.CliFault.{CliFault}
 use Rattle.cg_cli.specs.declared.fault.CliFault.TheVariants.{Read, Write, NoMemory}
+use Rattle.commands.specs.declared.fault.Fault.{Fault}
+use Rattle.commands.specs.declared.fault.Fault.TheVariants.{Usage, Cli}
 
 -- one byte more than a tree's text may have
 abbrev pub most_bytes : ℕ
@@ -105,3 +107,10 @@ IsFlushed (Err fault) result = result ≡ Err fault
 abbrev pub CarriesOutBuffered : Request → Option (List ℕ) → Option (List ℕ) → Option (List ℕ) → Result ℕ CliFault → Type 0
 CarriesOutBuffered asked given old new result =
     (ended : Result ℕ CliFault) × CarriesOut asked given old new ended × IsFlushed ended result
+
+-- What the words of a command line lead to: the request that they make, whichever it is, is carried out; or they make none, or
+-- there is no memory for it, and nothing is written.
+abbrev pub LeadsTo : Option (List ℕ) → Option (List ℕ) → Option (List ℕ) → Result ℕ Fault → Type 0
+LeadsTo given old new (Ok status) = (asked : Request) × CarriesOutBuffered asked given old new (Ok status)
+LeadsTo given old new (Err (Cli fault)) = ((asked : Request) × CarriesOutBuffered asked given old new (Err fault)) ⊎ ((fault ≡ NoMemory) × Keeps old new)
+LeadsTo given old new (Err Usage) = Keeps old new

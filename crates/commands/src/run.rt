@@ -8,7 +8,7 @@ ghost use Rattle.cg_cli.specs.Audits.{audit_report};
 ghost use Rattle.cg_cli.specs.Reports.{Reports};
 ghost use Rattle.cg_cli.specs.Upgrades.{Upgrades};
 ghost use Rattle.arguments.specs.Given.{ids_of};
-ghost use Rattle.commands.specs.Requests.{IsTree, may_said, check_said, advise_said, AuditSays, OnTree, replay_said, ReportsOnTree, IsFlushed, ReplaysOver, ReplaysOnTree, CarriesOut, CarriesOutBuffered};
+ghost use Rattle.commands.specs.Requests.{IsTree, may_said, check_said, advise_said, AuditSays, OnTree, replay_said, ReportsOnTree, IsFlushed, ReplaysOver, ReplaysOnTree, CarriesOut, CarriesOutBuffered, LeadsTo};
 
 use crate::again::Again;
 use crate::fault::Fault;
@@ -51,12 +51,15 @@ pub fn run<R: AllocGlobal + Env + Files, I: Read + Drop, W: Write + Drop>(
     ended
 }
 
+/// Carries out what the words of the command line ask for.
 fn answered<R: AllocGlobal + Env + Files, I: Read + Drop, W: Write + Drop>(
     rt: &R,
     input: I,
     line: &mut Option<Vec<u8>>,
     report: &mut BufWriter<W>,
-) -> Result<u8, Fault> {
+) -> Result<u8, Fault>
+    ensures { LeadsTo (I.remaining input) (writer_contents W.contents report.old) (writer_contents W.contents report.new) result }
+{
     let alloc = rt.alloc();
     let words: Vec<String> = env::args(rt).map_err(Fault::of_words)?.collect(alloc)?;
     let request = Request::from_words(alloc, words.as_slice())?;
