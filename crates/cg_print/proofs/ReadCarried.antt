@@ -21,6 +21,8 @@ use Rattle.cg_text.specs.declared.tree.fault.TreeFault.TheVariants.{Shape, Forma
 use Rattle.cg_text.specs.declared.tree.named.NamedRow.{NamedRow}
 use Rattle.cg_text.specs.declared.tree.records.Format.{Format}
 use Rattle.cg_text.proofs.StateLaws.{state_is_said}
+use Rattle.cg_text.specs.TextOf.{IsTextOf}
+use Rattle.cg_text.proofs.TextFaultLaws.{text_is_read}
 use Rattle.cg_text.proofs.TextLaws.{bind_ok, state_or_ok, text_has_state}
 use Rattle.cg_print.specs.Carried.{IsCarried}
 use Rattle.cg_print.proofs.TextBack.{fits}
@@ -89,10 +91,13 @@ small_state records few =
       omega (arith, entries_at_most nat_cmp_total live_process records.processes, few.processes),
     )
 
-pub read_carried : (text : List ℕ) (st : State) → tree_of text ≡ Ok st → IsCarried st
+tree_carried : (text : List ℕ) (st : State) → tree_of text ≡ Ok st → IsCarried st
 unfolding IsSmall
-read_carried text st is =
+tree_carried text st is =
     let has = text_has_state text st is in
     let said = state_or_ok (first_fault has.records) (state_of has.records) st (state_is_said has.records st has.tree) in
     let small : IsSmall st = subst IsSmall said.1 (small_state has.records (few_records has.document has.records has.form)) in
     record { cgroups = small.0; processes = small.1; used = has.tree.used }
+
+pub read_carried : (text : List ℕ) (st : State) → IsTextOf st text → IsCarried st
+read_carried text st is = tree_carried text st (text_is_read text st is)

@@ -20,3 +20,5 @@ pub mod SaidFaults
 pub mod SaidTogether
 pub mod SaidProcesses
 pub mod TextFaultLaws
+pub mod ReadingLaws
+pub mod OneState
