@@ -15,3 +15,5 @@ mod AllPairs
 mod Closings
 mod ReplayCalls
 mod UpgradeReports
+pub mod ReadingOf
+mod MayReports
