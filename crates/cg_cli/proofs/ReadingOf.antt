@@ -1,5 +1,5 @@
 -- What the bytes of a tree text are read as.
-use Rattle.std.proofs.Common.{◌≡◌, ◌≢◌, ℕ, List, Some, Result, Ok, Err, MatchResult}
+use Rattle.std.proofs.Common.{◌≡◌, ◌≢◌, ℕ, List, Some, Result, Ok, Err, MatchResult, subst}
 use Rattle.cg_model.specs.States.{State}
 use Rattle.cg_model.specs.Clauses.{first}
 use Rattle.cg_text.specs.Faults.{Reads}
@@ -27,3 +27,7 @@ pub reads_any : (bytes : List ℕ) (result : Result State TreeFault)
     → (read : Reading) → IsReading bytes read → Reads (λ rows. rows) result read
 reads_any bytes (Ok rows) found read is = one_reading bytes read (Ok rows) is found
 reads_any bytes (Err fault) found read is = λ other. one_reading bytes read (Err fault) is (found other)
+
+-- a state that it is read as is the text's
+pub text_of : (bytes : List ℕ) (st : State) → reading_of bytes ≡ Ok st → IsTextOf st bytes
+text_of bytes st is = subst (IsReading bytes) is (is_reading bytes)
