@@ -16,4 +16,5 @@ mod Closings
 mod ReplayCalls
 mod UpgradeReports
 pub mod ReadingOf
+mod ReportLaws
 mod MayReports

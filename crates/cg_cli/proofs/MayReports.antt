@@ -1,26 +1,13 @@
 -- What the report on a migration says, by what was read.
-use Rattle.std.proofs.Common.{◌≡◌, ℕ, List, Option, Result, Ok, Err, ap, sym, ◌∙◌, subst}
-use Rattle.std.specs.Io.KnownBytes.{Appends}
+use Rattle.std.proofs.Common.{◌≡◌, ℕ, List, Result, Ok, ap, sym, ◌∙◌}
 use Rattle.cg_cgroup.specs.Paths.{Names}
 use Rattle.cg_cgroup.specs.Identity.{Identity}
 use Rattle.cg_model.specs.States.{State}
 use Rattle.cg_text.specs.Readings.{Reading}
 use Rattle.cg_cli.specs.Arguments.{user_read, pid_read, path_read}
 use Rattle.cg_cli.specs.May.{tree_read, move_report, may_report}
-use Rattle.cg_cli.specs.Reports.{Report, Reports, report_on}
-use Rattle.cg_cli.specs.Written.{AppendsPart}
+use Rattle.cg_cli.specs.Reports.{Report, report_on}
 use Rattle.cg_cli.specs.declared.fault.CliFault.{CliFault}
-use Rattle.cg_cli.specs.declared.fault.CliFault.TheVariants.{Write}
-
--- a report is written, or a part of it
-pub written_whole : (report whole : Report) (said : List ℕ) (status : ℕ) (old new : Option (List ℕ)) → report ≡ whole → said ≡ whole.text
-    → whole.ending ≡ Ok status → Appends old new said → Reports report old new (Ok status)
-written_whole report whole said status old new is text ending wrote =
-    (ap (λ (r : Report). r.ending) is ∙ ending, subst (Appends old new) (text ∙ sym (ap (λ (r : Report). r.text) is)) wrote)
-
-pub written_in_part : (report whole : Report) (said : List ℕ) (old new : Option (List ℕ)) → report ≡ whole → said ≡ whole.text
-    → AppendsPart old new said → Reports report old new (Err Write)
-written_in_part report whole said old new is text part = subst (AppendsPart old new) (text ∙ sym (ap (λ (r : Report). r.text) is)) part
 
 abbrev report_by : Result Identity CliFault → Result ℕ CliFault → Result Names CliFault → Result State CliFault → Report
 report_by user pid path tree =

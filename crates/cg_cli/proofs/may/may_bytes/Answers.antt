@@ -1,6 +1,7 @@
 use Rattle.std.proofs.Common.{rules, ◌∙◌}
 use Rattle.std.proofs.lemmas.Result.{err_from_is_err_and}
-use Rattle.cg_cli.proofs.MayReports.{written_in_part, move_reported}
+use Rattle.cg_cli.proofs.ReportLaws.{written_in_part}
+use Rattle.cg_cli.proofs.MayReports.{move_reported}
 use Rattle.cg_cli.proofs.ReadingOf.{reading_of, is_reading}
 use Rattle.cg_cli.proofs.may.may_bytes.Goals as goal
 
