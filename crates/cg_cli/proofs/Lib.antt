@@ -18,3 +18,4 @@ mod UpgradeReports
 pub mod ReadingOf
 mod ReportLaws
 mod MayReports
+mod CourseReads
