@@ -21,6 +21,7 @@ use Rattle.cg_advice.specs.AdviceLines.{advice_lines, reached_lines, over_lines}
 use Rattle.cg_model.specs.Mends.{reached}
 use Rattle.cg_cli.specs.Faults.{lifted, lifted_check}
 use Rattle.cg_cli.specs.Arguments.{user_read, path_read}
+use Rattle.cg_cli.specs.May.{tree_read}
 use Rattle.cg_cli.specs.Reports.{Report, Reports, fault_report, report_on, takes_memory}
 use Rattle.cg_cli.specs.Containment.{in_call}
 use Rattle.cg_cli.specs.Advising.{lines_report, advised, advice_report, advise_report}
@@ -50,20 +51,28 @@ abbrev report_by : Result Identity CliFault → Result Names CliFault → Result
 report_by user path tree =
     report_on user (λ user. report_on path (λ path. report_on (elim tree [ Ok st ↦ Ok st | Err fault ↦ Err (lifted fault) ]) (λ st. advice_report st user path)))
 
+of_lines : (found : Option (List ℕ)) → takes_memory (lines_report found).ending ≡ true
+of_lines None = refl
+of_lines (Some lines) = refl
+
+needs_memory : (found : Result (Option (List ℕ)) CheckFault) → takes_memory (report_on (in_call found) lines_report).ending ≡ true
+needs_memory (Ok found) = of_lines found
+needs_memory (Err RootSubtree) = refl
+needs_memory (Err NoSuchSubtree) = refl
+needs_memory (Err CheckNoMemory) = refl
+
+pub advice_needs_memory : (st : State) (user : Identity) (path : Names) → takes_memory (advice_report st user path).ending ≡ true
+advice_needs_memory st user path = needs_memory (advised st user path)
+
+-- where the user and the path were read
+pub of_arguments : (tree : Reading) (uid : ℕ) (gids subtree : List ℕ) (user : Identity) (path : Names) → user_read uid gids ≡ Ok user
+    → path_read subtree ≡ Ok path → advise_report tree uid gids subtree ≡ report_on (tree_read tree) (λ st. advice_report st user path)
+of_arguments tree uid gids subtree user path of_user of_path =
+    ap (λ u. report_by u (path_read subtree) tree) of_user ∙ ap (λ p. report_by (Ok user) p tree) of_path
+
 module _ (tree : Reading) (uid : ℕ) (gids subtree : List ℕ) (user : Identity) (path : Names) (st : State) (of_user : user_read uid gids ≡ Ok user) (of_path : path_read subtree ≡ Ok path) (of_text : tree ≡ Ok st) where
   pub report_is : advise_report tree uid gids subtree ≡ advice_report st user path
-  report_is =
-      ap (λ u. report_by u (path_read subtree) tree) of_user ∙ ap (λ p. report_by (Ok user) p tree) of_path ∙ ap (report_by (Ok user) (Ok path)) of_text
-
-  of_lines : (found : Option (List ℕ)) → takes_memory (lines_report found).ending ≡ true
-  of_lines None = refl
-  of_lines (Some lines) = refl
-
-  needs_memory : (found : Result (Option (List ℕ)) CheckFault) → takes_memory (report_on (in_call found) lines_report).ending ≡ true
-  needs_memory (Ok found) = of_lines found
-  needs_memory (Err RootSubtree) = refl
-  needs_memory (Err NoSuchSubtree) = refl
-  needs_memory (Err CheckNoMemory) = refl
+  report_is = of_arguments tree uid gids subtree user path of_user of_path ∙ ap (report_by (Ok user) (Ok path)) of_text
 
   nothing_written : (fault : CliFault) → (advice_report st user path ≡ fault_report fault) → (advise_report tree uid gids subtree).ending ≡ Err fault
   nothing_written fault same = ap (λ (r : Report). r.ending) (report_is ∙ same)
@@ -74,4 +83,4 @@ module _ (tree : Reading) (uid : ℕ) (gids subtree : List ℕ) (user : Identity
   fault_reports NoSuchSubtree known is =
       (nothing_written (lifted_check NoSuchSubtree) (ap (λ f. report_on (in_call f) lines_report) (is (λ other. cc))), keeps known)
   fault_reports CheckNoMemory known is =
-      (ap (λ (r : Report). takes_memory r.ending) report_is ∙ needs_memory (advised st user path), keeps known)
+      (ap (λ (r : Report). takes_memory r.ending) report_is ∙ advice_needs_memory st user path, keeps known)

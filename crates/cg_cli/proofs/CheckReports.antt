@@ -14,6 +14,7 @@ use Rattle.cg_model.specs.Checks.{checked}
 use Rattle.cg_model.specs.declared.answer.Answer.{Answer}
 use Rattle.cg_cli.specs.Faults.{lifted, lifted_check}
 use Rattle.cg_cli.specs.Arguments.{or_fault, user_read, path_read}
+use Rattle.cg_cli.specs.May.{tree_read}
 use Rattle.cg_cli.specs.Reports.{Report, Reports, fault_report, report_on, takes_memory}
 use Rattle.cg_cli.specs.Containment.{in_call, answer_report, subtree_report, check_report}
 use Rattle.cg_cli.specs.declared.fault.CliFault.{CliFault}
@@ -35,16 +36,24 @@ abbrev report_by : Result Identity CliFault → Result Names CliFault → Result
 report_by user path tree =
     report_on user (λ user. report_on path (λ path. report_on (elim tree [ Ok st ↦ Ok st | Err fault ↦ Err (lifted fault) ]) (λ st. subtree_report st user path)))
 
+needs_memory : (path : Names) (found : Result Answer CheckFault) → takes_memory (report_on (in_call found) (answer_report path)).ending ≡ true
+needs_memory path (Ok answer) = refl
+needs_memory path (Err RootSubtree) = refl
+needs_memory path (Err NoSuchSubtree) = refl
+needs_memory path (Err CheckNoMemory) = refl
+
+pub subtree_needs_memory : (st : State) (user : Identity) (path : Names) → takes_memory (subtree_report st user path).ending ≡ true
+subtree_needs_memory st user path = needs_memory path (checked st user path)
+
+-- where the user and the path were read
+pub of_arguments : (tree : Reading) (uid : ℕ) (gids subtree : List ℕ) (user : Identity) (path : Names) → user_read uid gids ≡ Ok user
+    → path_read subtree ≡ Ok path → check_report tree uid gids subtree ≡ report_on (tree_read tree) (λ st. subtree_report st user path)
+of_arguments tree uid gids subtree user path of_user of_path =
+    ap (λ u. report_by u (path_read subtree) tree) of_user ∙ ap (λ p. report_by (Ok user) p tree) of_path
+
 module _ (tree : Reading) (uid : ℕ) (gids subtree : List ℕ) (user : Identity) (path : Names) (st : State) (of_user : user_read uid gids ≡ Ok user) (of_path : path_read subtree ≡ Ok path) (of_text : tree ≡ Ok st) where
   pub report_is : check_report tree uid gids subtree ≡ subtree_report st user path
-  report_is =
-      ap (λ u. report_by u (path_read subtree) tree) of_user ∙ ap (λ p. report_by (Ok user) p tree) of_path ∙ ap (report_by (Ok user) (Ok path)) of_text
-
-  needs_memory : (found : Result Answer CheckFault) → takes_memory (report_on (in_call found) (answer_report path)).ending ≡ true
-  needs_memory (Ok answer) = refl
-  needs_memory (Err RootSubtree) = refl
-  needs_memory (Err NoSuchSubtree) = refl
-  needs_memory (Err CheckNoMemory) = refl
+  report_is = of_arguments tree uid gids subtree user path of_user of_path ∙ ap (report_by (Ok user) (Ok path)) of_text
 
   nothing_written : (fault : CliFault) (known : Option (List ℕ)) → (subtree_report st user path ≡ fault_report fault) → (check_report tree uid gids subtree).ending ≡ Err fault
   nothing_written fault known same = ap (λ (r : Report). r.ending) (report_is ∙ same)
@@ -55,7 +64,7 @@ module _ (tree : Reading) (uid : ℕ) (gids subtree : List ℕ) (user : Identity
   fault_reports NoSuchSubtree known is =
       (nothing_written (lifted_check NoSuchSubtree) known (ap (λ f. report_on (in_call f) (answer_report path)) (is (λ other. cc))), keeps known)
   fault_reports CheckNoMemory known is =
-      (ap (λ (r : Report). takes_memory r.ending) report_is ∙ needs_memory (checked st user path), keeps known)
+      (ap (λ (r : Report). takes_memory r.ending) report_is ∙ subtree_needs_memory st user path, keeps known)
 
   -- what holds of the state, the user and the path that were read holds of those that the bytes say
   pub of_bytes : (P : State → Identity → Names → Type 0) → P st user path → (other : State) (who : Identity) (named : Names) → tree ≡ Ok other → user_of uid gids ≡ Some who → path_at subtree ≡ Some named → P other who named

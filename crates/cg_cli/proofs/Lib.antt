@@ -15,3 +15,7 @@ mod AllPairs
 mod Closings
 mod ReplayCalls
 mod UpgradeReports
+pub mod ReadingOf
+mod ReportLaws
+mod MayReports
+mod CourseReads

@@ -7,7 +7,6 @@ ghost use Rattle.cg_model.specs.States.{State};
 ghost use Rattle.cg_model.specs.Held.{IsContained};
 ghost use Rattle.cg_text.specs.Readings.{OnText};
 ghost use Rattle.cg_text.specs.TextOf.{IsTextOf};
-ghost use Rattle.cg_text.specs.TreeTexts.{tree_of};
 ghost use Rattle.cg_cli.specs.Advising.{contained_line, advised, advice_report, advise_report};
 ghost use Rattle.cg_cli.specs.Reports.{Reports};
 
@@ -40,23 +39,6 @@ pub fn advise_bytes<W: Write>(
 ) -> Result<u8, CliFault>
     ensures report { OnText tree.now (λ read. Reports (advise_report read user.entry.uid user.entry.gids.now subtree.now)
         (W.contents out.old) (W.contents out.new) result) }
-    ensures contained { result ≡ Ok 0 → (st : State) (who : Identity) (path : Names)
-        → IsTextOf st tree.now → user_of user.entry.uid user.entry.gids.now ≡ Some who → path_at subtree.now ≡ Some path
-        → IsContained st who path }
-{
-    advise_as_read(alloc, tree, user, subtree, out)
-}
-
-/// The same, said of what the reader reads.
-fn advise_as_read<W: Write>(
-    alloc: Global,
-    tree: &[u8],
-    user: UserIds<'_>,
-    subtree: &str,
-    out: &mut W,
-) -> Result<u8, CliFault>
-    ensures report { Reports (advise_report (tree_of tree.now) user.entry.uid user.entry.gids.now subtree.now)
-        (W.contents out.old) (W.contents out.new) result }
     ensures contained { result ≡ Ok 0 → (st : State) (who : Identity) (path : Names)
         → IsTextOf st tree.now → user_of user.entry.uid user.entry.gids.now ≡ Some who → path_at subtree.now ≡ Some path
         → IsContained st who path }

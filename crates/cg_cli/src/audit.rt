@@ -7,7 +7,6 @@ ghost use Rattle.cg_model.specs.Checks.{all_checked};
 ghost use Rattle.cg_model.specs.Several.{AreContained};
 ghost use Rattle.cg_text.specs.Readings.{OnText};
 ghost use Rattle.cg_text.specs.TextOf.{IsTextOf};
-ghost use Rattle.cg_text.specs.TreeTexts.{tree_of};
 ghost use Rattle.cg_cli.specs.Audits.{users_read, paths_read, audit_status, pairs_report, audit_report};
 ghost use Rattle.cg_cli.specs.Reports.{Reports};
 
@@ -46,24 +45,6 @@ pub fn audit_bytes<W: Write>(
     ensures report { OnText tree.now (λ read. Reports
         (audit_report read (map (λ user. (user.uid, user.gids.now)) users.now) (map (λ subtree. subtree.now) subtrees.now))
         (W.contents out.old) (W.contents out.new) result) }
-    ensures contained { result ≡ Ok 0 → (st : State) (who : List Identity) (paths : List Names)
-        → IsTextOf st tree.now → users_read (map (λ user. (user.uid, user.gids.now)) users.now) ≡ Ok who
-        → paths_read (map (λ subtree. subtree.now) subtrees.now) ≡ Ok paths → who ≢ [] → AreContained st who paths }
-{
-    audit_as_read(alloc, tree, users, subtrees, out)
-}
-
-/// The same, said of what the reader reads.
-fn audit_as_read<W: Write>(
-    alloc: Global,
-    tree: &[u8],
-    users: &[UserIds<'_>],
-    subtrees: &[&str],
-    out: &mut W,
-) -> Result<u8, CliFault>
-    ensures report { Reports
-        (audit_report (tree_of tree.now) (map (λ user. (user.uid, user.gids.now)) users.now) (map (λ subtree. subtree.now) subtrees.now))
-        (W.contents out.old) (W.contents out.new) result }
     ensures contained { result ≡ Ok 0 → (st : State) (who : List Identity) (paths : List Names)
         → IsTextOf st tree.now → users_read (map (λ user. (user.uid, user.gids.now)) users.now) ≡ Ok who
         → paths_read (map (λ subtree. subtree.now) subtrees.now) ≡ Ok paths → who ≢ [] → AreContained st who paths }

@@ -10,7 +10,6 @@ ghost use Rattle.cg_model.specs.Checks.{subtree_faults};
 ghost use Rattle.cg_model.specs.Listed.{listed_unless_contained, listed_of, listed};
 ghost use Rattle.cg_text.specs.Readings.{OnText};
 ghost use Rattle.cg_text.specs.TextOf.{IsTextOf};
-ghost use Rattle.cg_text.specs.TreeTexts.{tree_of};
 ghost use Rattle.cg_cli.specs.Audits.{users_read, paths_read};
 ghost use Rattle.cg_cli.specs.Once.{once, same_user};
 ghost use Rattle.cg_cli.specs.AllPairs.{worse, WritesPairs, pairs_found, all_report, ReportsPairs, UnlistedAreContained};
@@ -49,24 +48,6 @@ pub fn audit_all_bytes<W: Write>(
     ensures report { OnText tree.now (λ read. ReportsPairs
         (all_report read (map (λ user. (user.uid, user.gids.now)) users.now) (map (λ subtree. subtree.now) subtrees.now))
         (W.contents out.old) (W.contents out.new) result) }
-    ensures unlisted { IfOk result (λ status. (st : State) (who : List Identity) (paths : List Names)
-        → IsTextOf st tree.now → users_read (map (λ user. (user.uid, user.gids.now)) users.now) ≡ Ok who
-        → paths_read (map (λ subtree. subtree.now) subtrees.now) ≡ Ok paths → UnlistedAreContained st (once same_user who) (once same_path paths)) }
-{
-    audit_all_as_read(alloc, tree, users, subtrees, out)
-}
-
-/// The same, said of what the reader reads.
-fn audit_all_as_read<W: Write>(
-    alloc: Global,
-    tree: &[u8],
-    users: &[UserIds<'_>],
-    subtrees: &[&str],
-    out: &mut W,
-) -> Result<u8, CliFault>
-    ensures report { ReportsPairs
-        (all_report (tree_of tree.now) (map (λ user. (user.uid, user.gids.now)) users.now) (map (λ subtree. subtree.now) subtrees.now))
-        (W.contents out.old) (W.contents out.new) result }
     ensures unlisted { IfOk result (λ status. (st : State) (who : List Identity) (paths : List Names)
         → IsTextOf st tree.now → users_read (map (λ user. (user.uid, user.gids.now)) users.now) ≡ Ok who
         → paths_read (map (λ subtree. subtree.now) subtrees.now) ≡ Ok paths → UnlistedAreContained st (once same_user who) (once same_path paths)) }

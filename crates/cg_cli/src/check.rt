@@ -8,7 +8,6 @@ ghost use Rattle.cg_model.specs.Held.{IsContained};
 ghost use Rattle.cg_model.specs.Checks.{checked};
 ghost use Rattle.cg_text.specs.Readings.{OnText};
 ghost use Rattle.cg_text.specs.TextOf.{IsTextOf};
-ghost use Rattle.cg_text.specs.TreeTexts.{tree_of};
 ghost use Rattle.cg_cli.specs.Containment.{answer_status, check_report, subtree_report};
 ghost use Rattle.cg_cli.specs.Reports.{Reports};
 
@@ -42,23 +41,6 @@ pub fn check_bytes<W: Write>(
 ) -> Result<u8, CliFault>
     ensures report { OnText tree.now (λ read. Reports (check_report read user.entry.uid user.entry.gids.now subtree.now)
         (W.contents out.old) (W.contents out.new) result) }
-    ensures contained { result ≡ Ok 0 → (st : State) (who : Identity) (path : Names)
-        → IsTextOf st tree.now → user_of user.entry.uid user.entry.gids.now ≡ Some who → path_at subtree.now ≡ Some path
-        → IsContained st who path }
-{
-    check_as_read(alloc, tree, user, subtree, out)
-}
-
-/// The same, said of what the reader reads.
-fn check_as_read<W: Write>(
-    alloc: Global,
-    tree: &[u8],
-    user: UserIds<'_>,
-    subtree: &str,
-    out: &mut W,
-) -> Result<u8, CliFault>
-    ensures report { Reports (check_report (tree_of tree.now) user.entry.uid user.entry.gids.now subtree.now)
-        (W.contents out.old) (W.contents out.new) result }
     ensures contained { result ≡ Ok 0 → (st : State) (who : Identity) (path : Names)
         → IsTextOf st tree.now → user_of user.entry.uid user.entry.gids.now ≡ Some who → path_at subtree.now ≡ Some path
         → IsContained st who path }

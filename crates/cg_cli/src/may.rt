@@ -3,7 +3,6 @@ ghost use Rattle.std.specs.Prelude.{◌≡◌, IfOk};
 ghost use Rattle.cg_model.specs.Clauses.{first};
 ghost use Rattle.cg_model.specs.Bars.{bars};
 ghost use Rattle.cg_text.specs.Readings.{OnText};
-ghost use Rattle.cg_text.specs.TreeTexts.{tree_of};
 ghost use Rattle.cg_cli.specs.May.{permission, may_report};
 ghost use Rattle.cg_cli.specs.Reports.{Reports};
 
@@ -37,21 +36,6 @@ pub fn may_bytes<W: Write>(
 ) -> Result<u8, CliFault>
     ensures { OnText tree.now (λ read. Reports (may_report read user.entry.uid user.entry.gids.now pid to.now)
         (W.contents out.old) (W.contents out.new) result) }
-{
-    may_as_read(alloc, tree, user, pid, to, out)
-}
-
-/// The same, said of what the reader reads.
-fn may_as_read<W: Write>(
-    alloc: Global,
-    tree: &[u8],
-    user: UserIds<'_>,
-    pid: u32,
-    to: &str,
-    out: &mut W,
-) -> Result<u8, CliFault>
-    ensures { Reports (may_report (tree_of tree.now) user.entry.uid user.entry.gids.now pid to.now)
-        (W.contents out.old) (W.contents out.new) result }
 {
     let user = read_user(user)?;
     let pid = read_pid(pid)?;

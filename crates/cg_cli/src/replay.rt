@@ -1,8 +1,7 @@
 //! Operation lines that are replayed: each is answered by its outcome before the next is read.
 ghost use Rattle.std.specs.Prelude.{◌≡◌, ◌≢◌, IfOk, IfErr, MatchResult, Ok, Err, Some, None};
 ghost use Rattle.std.specs.Option.{option_map};
-ghost use Rattle.cg_text.specs.Readings.{OnText};
-ghost use Rattle.cg_text.specs.TreeTexts.{tree_of};
+ghost use Rattle.cg_text.specs.Readings.{Reading, IsReading, OnText};
 ghost use Rattle.cg_cli.specs.Arguments.{user_read};
 ghost use Rattle.cg_cli.specs.Courses.{HasMade, Unwatched as Plain, Watched, came_to};
 ghost use Rattle.cg_cli.specs.Replays.{closed, course_read, lines_report, lines_said};
@@ -47,23 +46,6 @@ pub fn replay_bytes<W: Write>(
         (W.contents out.old) (W.contents out.new) result) }
     ensures user { IfErr (user_read user.entry.uid user.entry.gids.now) (λ fault. result ≡ Err fault) }
 {
-    replay_as_read(alloc, tree, user, subtree, ops, out)
-}
-
-/// The same, said of what the reader reads.
-fn replay_as_read<W: Write>(
-    alloc: Global,
-    tree: &[u8],
-    user: UserIds<'_>,
-    subtree: Option<&str>,
-    ops: &[u8],
-    out: &mut W,
-) -> Result<u8, CliFault>
-    ensures replays { Replays closed
-        (lines_report (tree_of tree.now) user.entry.uid user.entry.gids.now (option_map (λ text. text.now) subtree.entry)) ops.now
-        (W.contents out.old) (W.contents out.new) result }
-    ensures user { IfErr (user_read user.entry.uid user.entry.gids.now) (λ fault. result ≡ Err fault) }
-{
     let user = read_user(user)?;
     match subtree {
         None => slice_closed(alloc, unwatched(alloc, tree)?, user, ops, out),
@@ -73,8 +55,9 @@ fn replay_as_read<W: Write>(
 
 /// The tree of a text.
 fn unwatched(alloc: Global, tree: &[u8]) -> Result<Unwatched<Indexed>, CliFault>
-    ensures { MatchResult result (λ course. course_read None (tree_of tree.now) ≡ Ok (Plain course.tree))
-        (λ fault. fault ≢ CliFault.NoMemory → course_read None (tree_of tree.now) ≡ Err fault) }
+    ensures { (read : Reading) → IsReading tree.now read → MatchResult result
+        (λ course. course_read None read ≡ Ok (Plain course.tree))
+        (λ fault. fault ≢ CliFault.NoMemory → course_read None read ≡ Err fault) }
 {
     let tree = Indexed::from_rows(alloc, read_tree(alloc, tree)?)?;
     Ok(Unwatched::new(tree))
@@ -83,8 +66,9 @@ fn unwatched(alloc: Global, tree: &[u8]) -> Result<Unwatched<Indexed>, CliFault>
 /// The tree of a text, with a subtree that is watched.
 fn watched(alloc: Global, tree: &[u8], subtree: &str) -> Result<Replay<Indexed>, CliFault>
     ensures made { IfOk result (λ replay. replay.steps ≡ 0) }
-    ensures read { MatchResult result (λ replay. course_read (Some subtree.now) (tree_of tree.now) ≡ Ok (Watched replay))
-        (λ fault. fault ≢ CliFault.NoMemory → course_read (Some subtree.now) (tree_of tree.now) ≡ Err fault) }
+    ensures read { (read : Reading) → IsReading tree.now read → MatchResult result
+        (λ replay. course_read (Some subtree.now) read ≡ Ok (Watched replay))
+        (λ fault. fault ≢ CliFault.NoMemory → course_read (Some subtree.now) read ≡ Err fault) }
 {
     let subtree = read_path(alloc, subtree)?;
     let rows = read_tree(alloc, tree)?;

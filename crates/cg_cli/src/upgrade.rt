@@ -1,6 +1,5 @@
 //! Writing a tree text anew.
 ghost use Rattle.cg_text.specs.Readings.{OnText};
-ghost use Rattle.cg_text.specs.TreeTexts.{tree_of};
 ghost use Rattle.cg_cli.specs.Upgrades.{Upgrades};
 
 use crate::fault::CliFault;
@@ -17,13 +16,6 @@ use std::io::Write;
 /// refused.
 pub fn upgrade_bytes<W: Write>(alloc: Global, tree: &[u8], out: &mut W) -> Result<u8, CliFault>
     ensures report { OnText tree.now (Upgrades (W.contents out.old) (W.contents out.new) result) }
-{
-    upgrade_as_read(alloc, tree, out)
-}
-
-/// The same, said of what the reader reads.
-fn upgrade_as_read<W: Write>(alloc: Global, tree: &[u8], out: &mut W) -> Result<u8, CliFault>
-    ensures report { Upgrades (W.contents out.old) (W.contents out.new) result (tree_of tree.now) }
 {
     let rows = read_tree(alloc, tree)?;
     let text = tree_text(alloc, &rows)?;

@@ -37,13 +37,10 @@ use Rattle.cg_report.specs.AnswerLines.{op_lines}
 use Rattle.cg_report.specs.VerdictLines.{verdict_text}
 use Rattle.cg_escapes.specs.EscapeLines.{HasLine, HaveLines}
 use Rattle.cg_escapes.proofs.EscapeLines.{escape_lines}
-use Rattle.cg_text.specs.TreeTexts.{tree_of}
 use Rattle.cg_text.specs.Readings.{Reading, IsReading}
-use Rattle.cg_text.specs.HasState.{HasState}
+use Rattle.cg_text.specs.TextOf.{IsTextOf}
 use Rattle.cg_text.specs.declared.tree.fault.TreeFault.{TreeFault}
-use Rattle.cg_text.proofs.TextLaws.{text_has_state}
-use Rattle.cg_text.proofs.NamedLaws.{paths_named, pids_named}
-use Rattle.cg_text.proofs.TextFaultLaws.{reading_is}
+use Rattle.cg_text.proofs.OneState.{paths_are_paths, pids_are_pids}
 use Rattle.cg_cli.specs.Faults.{lifted}
 use Rattle.cg_cli.specs.Arguments.{user_read, path_read}
 use Rattle.cg_cli.specs.May.{tree_read}
@@ -173,23 +170,26 @@ read_by named tree =
 
 -- ---- the whole
 
-module _ (text : List ℕ) (uid : ℕ) (gids : List ℕ) (subtree : List ℕ) (user : Identity) (path : Names) (st : State) (ops : List Op)
-    (of_user : user_read uid gids ≡ Ok user) (of_path : path_read subtree ≡ Ok path) (of_text : tree_of text ≡ Ok st) (is : checked st user path ≡ Ok (Escapes ops)) where
+module _ (text : List ℕ) (tree : Reading) (is_read : IsReading text tree) (uid : ℕ) (gids : List ℕ) (subtree : List ℕ) (user : Identity) (path : Names)
+    (st : State) (ops : List Op) (of_user : user_read uid gids ≡ Ok user) (of_path : path_read subtree ≡ Ok path) (of_text : tree ≡ Ok st)
+    (is : checked st user path ≡ Ok (Escapes ops)) where
   stated : (first (subtree_faults st path) ≡ None) × (answer st user path ≡ Escapes ops)
   stated = unfaulted (first (subtree_faults st path)) (answer st user path) (Escapes ops) is
 
   sub : IsSubtree st path
   sub = sub_of (is_root path) (has_row st path) stated.0
 
-  has : HasState text st
-  has = text_has_state text st of_text
+  says : IsTextOf st text
+  says = subst (IsReading text) of_text is_read
 
   lines : HaveLines ops
-  lines = escape_lines st user path has.tree.formed (record { paths = paths_named text st has; pids = pids_named text st has }) sub ops stated.1
+  lines =
+      escape_lines st user path says.says.formed
+      (record { paths = λ named. paths_are_paths text st named says; pids = λ pid. pids_are_pids text st pid says }) sub ops stated.1
 
-  printed : (check_report (tree_of text) uid gids subtree).text ≡ codes "escapes\n" ++ op_lines ops
+  printed : (check_report tree uid gids subtree).text ≡ codes "escapes\n" ++ op_lines ops
   printed =
-      ap (λ (r : Report). r.text) (report_is (tree_of text) uid gids subtree user path st of_user of_path of_text)
+      ap (λ (r : Report). r.text) (report_is tree uid gids subtree user path st of_user of_path of_text)
       ∙ ap (λ found. (report_on (in_call found) (answer_report path)).text) is
 
   row : (row : Cgroup) × (row_at st path ≡ Some row)
@@ -201,8 +201,8 @@ module _ (text : List ℕ) (uid : ℕ) (gids : List ℕ) (subtree : List ℕ) (u
   begins : course_from st (Some path) ≡ Ok (Watched begun)
   begins = λ i. course_by st path (sub.1 i) (row.1 i)
 
-  course_is : course_read (Some subtree) (tree_of text) ≡ Ok (Watched begun)
-  course_is = ap (λ named. read_by named (tree_of text)) of_path ∙ ap (read_by (Ok path)) of_text ∙ begins
+  course_is : course_read (Some subtree) tree ≡ Ok (Watched begun)
+  course_is = ap (λ named. read_by named tree) of_path ∙ ap (read_by (Ok path)) of_text ∙ begins
 
   said : (lines : List ℕ) × AreLines lines × (lines_said (Watched begun) user 0 (op_lines ops) ≡ record { text = lines; ending = Ok (on_all (Watched begun) user ops) })
   said = all_said user ops (Watched begun) 0 lines.0 (omega (arith, lines.1))
@@ -216,14 +216,14 @@ module _ (text : List ℕ) (uid : ℕ) (gids : List ℕ) (subtree : List ℕ) (u
   broken : (steps : ℕ) × (clause : Clause) × (run.to.verdict ≡ Broken steps clause)
   broken = broken_of run.to.verdict (λ kept. escape-broken st user path ops stated.1 (sym found ∙ kept))
 
-  report : replay_report (tree_of text) uid gids (Some subtree) (op_lines ops) ≡ record { text = said.0 ++ verdict_text run.to.verdict; ending = Ok (verdict_status run.to.verdict) }
+  report : replay_report tree uid gids (Some subtree) (op_lines ops) ≡ record { text = said.0 ++ verdict_text run.to.verdict; ending = Ok (verdict_status run.to.verdict) }
   report =
-      ap (λ u. closed (report_on u (λ user. report_on (course_read (Some subtree) (tree_of text)) (λ course. lines_said course user 0 (op_lines ops))))) of_user
+      ap (λ u. closed (report_on u (λ user. report_on (course_read (Some subtree) tree) (λ course. lines_said course user 0 (op_lines ops))))) of_user
       ∙ ap (λ c. closed (report_on c (λ course. lines_said course user 0 (op_lines ops)))) course_is
       ∙ ap closed said.2
       ∙ ap (λ (c : Course). closed (record { text = said.0; ending = Ok c })) run.course
 
-  replayed : EndsBroken (replay_report (tree_of text) uid gids (Some subtree) (op_lines ops))
+  replayed : EndsBroken (replay_report tree uid gids (Some subtree) (op_lines ops))
   replayed = record {
     front = said.0;
     before = said.1;
@@ -233,28 +233,24 @@ module _ (text : List ℕ) (uid : ℕ) (gids : List ℕ) (subtree : List ℕ) (u
     ending = ap (λ (r : Report). r.ending) report ∙ ap (λ v. Ok (verdict_status v)) broken.2;
   }
 
-  pub replays_broken : IsReplayed (tree_of text) uid gids subtree ops
+  pub replays_broken : IsReplayed tree uid gids subtree ops
   replays_broken = record {
     printed = printed;
     lines = lines;
-    answered = of_bytes (tree_of text) uid gids subtree user path st of_user of_path of_text (λ s u p. answer s u p ≡ Escapes ops) stated.1;
+    answered = of_bytes tree uid gids subtree user path st of_user of_path of_text (λ s u p. answer s u p ≡ Escapes ops) stated.1;
     replayed = replayed;
   }
 
-of_text_replayed : (text : List ℕ) (uid : ℕ) (gids : List ℕ) (subtree : List ℕ) → (check_report (tree_of text) uid gids subtree).ending ≡ Ok 1 → (ops : List Op) × IsReplayed (tree_of text) uid gids subtree ops
-of_text_replayed text uid gids subtree is =
-    let user = report_ok (user_read uid gids) (λ user. report_on (path_read subtree) (λ path. report_on (tree_read (tree_of text)) (λ st. subtree_report st user path))) 1 is in
-    let path = report_ok (path_read subtree) (λ path. report_on (tree_read (tree_of text)) (λ st. subtree_report st user.0 path)) 1 user.2 in
-    let tree = report_ok (tree_read (tree_of text)) (λ st. subtree_report st user.0 path.0) 1 path.2 in
-    let one = report_ok (in_call (checked tree.0 user.0 path.0)) (answer_report path.0) 1 tree.2 in
+pub escapes_replayed : (text : List ℕ) (tree : Reading) (uid : ℕ) (gids : List ℕ) (subtree : List ℕ) → IsReading text tree
+    → (check_report tree uid gids subtree).ending ≡ Ok 1 → (ops : List Op) × IsReplayed tree uid gids subtree ops
+escapes_replayed text tree uid gids subtree is_read is =
+    let user = report_ok (user_read uid gids) (λ user. report_on (path_read subtree) (λ path. report_on (tree_read tree) (λ st. subtree_report st user path))) 1 is in
+    let path = report_ok (path_read subtree) (λ path. report_on (tree_read tree) (λ st. subtree_report st user.0 path)) 1 user.2 in
+    let state = report_ok (tree_read tree) (λ st. subtree_report st user.0 path.0) 1 path.2 in
+    let one = report_ok (in_call (checked state.0 user.0 path.0)) (answer_report path.0) 1 state.2 in
     let status : answer_status one.0 ≡ 1 = status_is (answer_status one.0) 1 one.2 in
     let ops = escapes_of one.0 status in (
       ops.0,
-      replays_broken text uid gids subtree user.0 path.0 tree.0 ops.0 user.1 path.1 (tree_ok (tree_of text) tree.0 tree.1) (found_escapes (checked tree.0 user.0 path.0) one.0 ops.0 one.1 ops.1),
+      replays_broken text tree is_read uid gids subtree user.0 path.0 state.0 ops.0 user.1 path.1 (tree_ok tree state.0 state.1)
+          (found_escapes (checked state.0 user.0 path.0) one.0 ops.0 one.1 ops.1),
     )
-
-pub escapes_replayed : (text : List ℕ) (tree : Reading) (uid : ℕ) (gids : List ℕ) (subtree : List ℕ) → IsReading text tree
-    → (check_report tree uid gids subtree).ending ≡ Ok 1 → (ops : List Op) × IsReplayed tree uid gids subtree ops
-escapes_replayed text tree uid gids subtree is_read =
-    subst (λ (read : Reading). (check_report read uid gids subtree).ending ≡ Ok 1 → (ops : List Op) × IsReplayed read uid gids subtree ops)
-    (reading_is text tree is_read) (of_text_replayed text uid gids subtree)

@@ -2,7 +2,6 @@
 ghost use Rattle.std.specs.Prelude.{◌≡◌, ◌+◌, ◌≤◌, [], OnOk, IfOk, IfErr, Err};
 ghost use Rattle.std.specs.Option.{option_map};
 ghost use Rattle.cg_text.specs.Readings.{OnText};
-ghost use Rattle.cg_text.specs.TreeTexts.{tree_of};
 ghost use Rattle.cg_cli.specs.Arguments.{user_read};
 ghost use Rattle.cg_cli.specs.Courses.{HasMade, came_to};
 ghost use Rattle.cg_cli.specs.Replays.{closed, lines_report, lines_said};
@@ -37,23 +36,6 @@ pub fn replay_from<R: BufRead, W: Write>(
     ensures replays { OnText tree.now (λ read. ReplaysFrom closed
         (lines_report read user.entry.uid user.entry.gids.now (option_map (λ text. text.now) subtree.entry))
         (R.remaining ops.old) (R.remaining ops.new) (W.contents out.old) (W.contents out.new) result) }
-    ensures user { IfErr (user_read user.entry.uid user.entry.gids.now) (λ fault. result ≡ Err fault) }
-{
-    replay_from_as_read(alloc, tree, user, subtree, ops, out)
-}
-
-/// The same, said of what the reader reads.
-fn replay_from_as_read<R: BufRead, W: Write>(
-    alloc: Global,
-    tree: &[u8],
-    user: UserIds<'_>,
-    subtree: Option<&str>,
-    ops: &mut R,
-    out: &mut W,
-) -> Result<u8, CliFault>
-    ensures replays { ReplaysFrom closed
-        (lines_report (tree_of tree.now) user.entry.uid user.entry.gids.now (option_map (λ text. text.now) subtree.entry))
-        (R.remaining ops.old) (R.remaining ops.new) (W.contents out.old) (W.contents out.new) result }
     ensures user { IfErr (user_read user.entry.uid user.entry.gids.now) (λ fault. result ≡ Err fault) }
 {
     let user = read_user(user)?;

@@ -4,8 +4,7 @@ use Rattle.std.specs.Io.Buffered.{reader_inner, reader_buffer, reader_capacity, 
 use Rattle.std.specs.Io.KnownBytes.{prepend_known}
 use Rattle.std.specs.declared.io.buffered.BufReader.{BufReader}
 use Rattle.std.proofs.KnownBytes.{prepend_known-nil}
-use Rattle.cg_text.specs.TreeTexts.{tree_of}
-use Rattle.cg_text.proofs.TextFaultLaws.{is_reading}
+use Rattle.cg_cli.proofs.ReadingOf.{reading_of, is_reading}
 use Rattle.commands.proofs.RequestLaws.{unread}
 use Rattle.commands.proofs.run.replayed.Goals as goal
 
@@ -18,7 +17,7 @@ remaining-fresh reader below remaining inner empty capacity =
     ∙ ap remaining inner
 
 pub returns-in_default : goal.returns-in_default
-returns-in_default g c = (tree_of c.args.tree.now, is_reading c.args.tree.now, inr (unread (g.W.Write.contents c.args.out.now) _ _ refl (inr refl)))
+returns-in_default g c = (reading_of c.args.tree.now, is_reading c.args.tree.now, inr (unread (g.W.Write.contents c.args.out.now) _ _ refl (inr refl)))
 
 pub returns : goal.returns
 returns g c =

@@ -1,0 +1,33 @@
+-- What the bytes of a tree text are read as.
+use Rattle.std.proofs.Common.{◌≡◌, ◌≢◌, ℕ, List, Some, Result, Ok, Err, MatchResult, subst}
+use Rattle.cg_model.specs.States.{State}
+use Rattle.cg_model.specs.Clauses.{first}
+use Rattle.cg_text.specs.Faults.{Reads}
+use Rattle.cg_text.specs.Readings.{Reading, IsReading}
+use Rattle.cg_text.specs.TextOf.{IsTextOf}
+use Rattle.cg_text.specs.TextFaults.{text_faults}
+use Rattle.cg_text.specs.declared.tree.fault.TreeFault.{TreeFault}
+use Rattle.cg_text.specs.declared.tree.fault.TreeFault.TheVariants.{NoMemory}
+use Rattle.cg_text.proofs.ReadingLaws.{a_reading, one_reading}
+
+pub reading_of : List ℕ → Reading
+reading_of bytes = (a_reading bytes).0
+
+pub is_reading : (bytes : List ℕ) → IsReading bytes (reading_of bytes)
+unfolding reading_of
+is_reading bytes = (a_reading bytes).1
+
+-- it is read as nothing else
+pub reading_is : (bytes : List ℕ) (read : Reading) → IsReading bytes read → reading_of bytes ≡ read
+reading_is bytes read is = one_reading bytes (reading_of bytes) read (is_reading bytes) is
+
+-- what the reader answers, said of any reading
+pub reads_any : (bytes : List ℕ) (result : Result State TreeFault)
+    → MatchResult result (λ rows. IsTextOf rows bytes) (λ fault. fault ≢ NoMemory → first (text_faults bytes) ≡ Some fault)
+    → (read : Reading) → IsReading bytes read → Reads (λ rows. rows) result read
+reads_any bytes (Ok rows) found read is = one_reading bytes read (Ok rows) is found
+reads_any bytes (Err fault) found read is = λ other. one_reading bytes read (Err fault) is (found other)
+
+-- a state that it is read as is the text's
+pub text_of : (bytes : List ℕ) (st : State) → reading_of bytes ≡ Ok st → IsTextOf st bytes
+text_of bytes st is = subst (IsReading bytes) is (is_reading bytes)
