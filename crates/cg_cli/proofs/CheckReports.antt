@@ -36,7 +36,8 @@ abbrev report_by : Result Identity CliFault → Result Names CliFault → Result
 report_by user path tree =
     report_on user (λ user. report_on path (λ path. report_on (elim tree [ Ok st ↦ Ok st | Err fault ↦ Err (lifted fault) ]) (λ st. subtree_report st user path)))
 
-needs_memory : (path : Names) (found : Result Answer CheckFault) → takes_memory (report_on (in_call found) (answer_report path)).ending ≡ true
+needs_memory : (path : Names) (found : Result Answer CheckFault)
+    → takes_memory (report_on (in_call found) (answer_report path)).ending ≡ true
 needs_memory path (Ok answer) = refl
 needs_memory path (Err RootSubtree) = refl
 needs_memory path (Err NoSuchSubtree) = refl

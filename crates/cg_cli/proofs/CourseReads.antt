@@ -1,6 +1,7 @@
 -- The course of a replay, by what was read of its tree and its subtree.
-use Rattle.std.proofs.Common.{◌≡◌, ◌≢◌, Bool, true, false, ℕ, cond, List, [], Option, Some, None, is_some, Result, Ok, Err, refl, ap, sym, ◌∙◌, true≢false}
-use Rattle.cg_cgroup.specs.Paths.{Names, is_root}
+use Rattle.std.proofs.Common.{◌≡◌, ◌≢◌, ℕ, Bool, false, cond, List, [], Option, Some, None, is_some, Result, Ok, Err}
+use Rattle.std.proofs.Common.{refl, ap, ◌∙◌, true≢false}
+use Rattle.cg_cgroup.specs.Paths.{Names}
 use Rattle.cg_cgroup.specs.declared.cgroup.Cgroup.{Cgroup}
 use Rattle.cg_model.specs.States.{State, row_at}
 use Rattle.cg_model.specs.Verdicts.{verdict}

@@ -14,7 +14,8 @@ report_by user pid path tree =
     report_on user (λ user. report_on pid (λ pid. report_on path (λ path. report_on tree (λ st. move_report st user pid path))))
 
 module _ (tree : Reading) (uid : ℕ) (gids : List ℕ) (number : ℕ) (to : List ℕ) (user : Identity) (pid : ℕ) (path : Names) (st : State)
-    (of_user : Ok user ≡ user_read uid gids) (of_pid : Ok pid ≡ pid_read number) (of_path : path_read to ≡ Ok path) (of_text : tree ≡ Ok st) where
+    (of_user : Ok user ≡ user_read uid gids) (of_pid : Ok pid ≡ pid_read number)
+    (of_path : path_read to ≡ Ok path) (of_text : tree ≡ Ok st) where
   pub move_reported : may_report tree uid gids number to ≡ move_report st user pid path
   move_reported =
       ap (λ u. report_by u (pid_read number) (path_read to) (tree_read tree)) (sym of_user)

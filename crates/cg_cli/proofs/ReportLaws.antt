@@ -1,5 +1,5 @@
 -- Reports that are written, and the fault of a tree's text.
-use Rattle.std.proofs.Common.{◌≡◌, ◌≢◌, ℕ, true, List, Option, Result, Ok, Err, refl, ap, sym, ◌∙◌, subst}
+use Rattle.std.proofs.Common.{◌≡◌, ◌≢◌, ℕ, true, List, Option, Ok, Err, refl, ap, sym, ◌∙◌, subst}
 use Rattle.std.specs.Io.KnownBytes.{Appends}
 use Rattle.cg_model.specs.States.{State}
 use Rattle.cg_text.specs.Readings.{Reading}

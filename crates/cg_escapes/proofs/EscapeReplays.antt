@@ -170,8 +170,8 @@ read_by named tree =
 
 -- ---- the whole
 
-module _ (text : List ℕ) (tree : Reading) (is_read : IsReading text tree) (uid : ℕ) (gids : List ℕ) (subtree : List ℕ) (user : Identity) (path : Names)
-    (st : State) (ops : List Op) (of_user : user_read uid gids ≡ Ok user) (of_path : path_read subtree ≡ Ok path) (of_text : tree ≡ Ok st)
+module _ (text : List ℕ) (tree : Reading) (is_read : IsReading text tree) (uid : ℕ) (gids : List ℕ) (subtree : List ℕ)
+    (user : Identity) (path : Names) (st : State) (ops : List Op) (of_user : user_read uid gids ≡ Ok user) (of_path : path_read subtree ≡ Ok path) (of_text : tree ≡ Ok st)
     (is : checked st user path ≡ Ok (Escapes ops)) where
   stated : (first (subtree_faults st path) ≡ None) × (answer st user path ≡ Escapes ops)
   stated = unfaulted (first (subtree_faults st path)) (answer st user path) (Escapes ops) is

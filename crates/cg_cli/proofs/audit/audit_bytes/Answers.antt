@@ -1,7 +1,8 @@
-use Rattle.std.proofs.Common.{◌≡◌, Ok, map, ◌∙◌}
+use Rattle.std.proofs.Common.{Ok, map, ◌∙◌}
 use Rattle.std.proofs.lemmas.Result.{err_from_is_err_and}
 use Rattle.cg_cli.proofs.AuditOnce.{same_Ok}
-use Rattle.cg_cli.proofs.AuditReports.{users_fault_reports, paths_fault_reports, tree_fault_reports, subtree_fault_reports, answer_reports, failed_write_reports, contained_means}
+use Rattle.cg_cli.proofs.AuditReports.{users_fault_reports, paths_fault_reports, tree_fault_reports, subtree_fault_reports}
+use Rattle.cg_cli.proofs.AuditReports.{answer_reports, failed_write_reports, contained_means}
 use Rattle.cg_cli.proofs.ReadingOf.{reading_of, is_reading, reading_is}
 use Rattle.cg_cli.proofs.audit.audit_bytes.Goals as goal
 
@@ -13,7 +14,8 @@ returns-in_err-users-clause-report g c =
       read,
       is,
       rw (p.1, p.2)
-          (users_fault_reports read (map (λ user. (user.uid, user.gids.now)) c.args.users.now) (map (λ subtree. subtree.now) c.args.subtrees.now) (g.W.Write.contents c.args.out.now)
+          (users_fault_reports read (map (λ user. (user.uid, user.gids.now)) c.args.users.now)
+          (map (λ subtree. subtree.now) c.args.subtrees.now) (g.W.Write.contents c.args.out.now)
           c.in_err-users.field-0.0 c.in_err-users.ensures.read (λ fault is. let same = c.in_err-users.ensures.faults fault is in cc)),
     )
 
@@ -25,7 +27,8 @@ returns-in_err-subtrees-clause-report g c =
       read,
       is,
       rw (p.1, p.2)
-          (paths_fault_reports read (map (λ user. (user.uid, user.gids.now)) c.args.users.now) (map (λ subtree. subtree.now) c.args.subtrees.now) (g.W.Write.contents c.args.out.now)
+          (paths_fault_reports read (map (λ user. (user.uid, user.gids.now)) c.args.users.now)
+          (map (λ subtree. subtree.now) c.args.subtrees.now) (g.W.Write.contents c.args.out.now)
           c.in_ok-users.ensures.read.0 c.in_ok-users.ensures.read.1 c.in_err-subtrees.field-0.0 c.in_err-subtrees.ensures),
     )
 
@@ -37,8 +40,10 @@ returns-in_err-tree-clause-report g c =
       read,
       is,
       rw (p.1, p.2)
-          (tree_fault_reports read (map (λ user. (user.uid, user.gids.now)) c.args.users.now) (map (λ subtree. subtree.now) c.args.subtrees.now) (g.W.Write.contents c.args.out.now)
-          c.in_ok-users.ensures.read.0 c.in_ok-users.ensures.read.1 c.in_ok-subtrees.ensures.0 c.in_ok-subtrees.ensures.1 c.in_err-tree.field-0.0 (c.in_err-tree.ensures.read read is)),
+          (tree_fault_reports read (map (λ user. (user.uid, user.gids.now)) c.args.users.now)
+          (map (λ subtree. subtree.now) c.args.subtrees.now) (g.W.Write.contents c.args.out.now)
+          c.in_ok-users.ensures.read.0 c.in_ok-users.ensures.read.1
+          c.in_ok-subtrees.ensures.0 c.in_ok-subtrees.ensures.1 c.in_err-tree.field-0.0 (c.in_err-tree.ensures.read read is)),
     )
 
 pub returns-in_err-text-clause-report : goal.returns-in_err-text-clause-report
@@ -49,9 +54,12 @@ returns-in_err-text-clause-report g c =
       read,
       is,
       rw (p.1, p.2)
-          (subtree_fault_reports read (map (λ user. (user.uid, user.gids.now)) c.args.users.now) (map (λ subtree. subtree.now) c.args.subtrees.now) (g.W.Write.contents c.args.out.now)
-          c.in_ok-users.ensures.read.0 c.in_ok-users.ensures.read.1 c.in_ok-subtrees.ensures.0 c.in_ok-subtrees.ensures.1 c.as_slice.result.now c.as_slice-2.result.now
-          (c.as_slice.ensures.value ∙ c.in_ok-users.ensures.read.2) (c.as_slice-2.ensures.value ∙ c.in_ok-subtrees.ensures.2) c.in_ok-tree.tree (c.in_ok-tree.ensures.read read is)
+          (subtree_fault_reports read (map (λ user. (user.uid, user.gids.now)) c.args.users.now)
+          (map (λ subtree. subtree.now) c.args.subtrees.now) (g.W.Write.contents c.args.out.now)
+          c.in_ok-users.ensures.read.0 c.in_ok-users.ensures.read.1 c.in_ok-subtrees.ensures.0 c.in_ok-subtrees.ensures.1
+          c.as_slice.result.now c.as_slice-2.result.now
+          (c.as_slice.ensures.value ∙ c.in_ok-users.ensures.read.2) (c.as_slice-2.ensures.value ∙ c.in_ok-subtrees.ensures.2)
+          c.in_ok-tree.tree (c.in_ok-tree.ensures.read read is)
           c.in_err-text.field-0.0 c.in_err-text.ensures.said),
     )
 
@@ -63,10 +71,14 @@ returns-in_err-write_whole-clause-report g c =
       read,
       is,
       rw (p.1, p.2)
-          (failed_write_reports read (map (λ user. (user.uid, user.gids.now)) c.args.users.now) (map (λ subtree. subtree.now) c.args.subtrees.now) (g.W.Write.contents c.args.out.now)
-          c.in_ok-users.ensures.read.0 c.in_ok-users.ensures.read.1 c.in_ok-subtrees.ensures.0 c.in_ok-subtrees.ensures.1 c.as_slice.result.now c.as_slice-2.result.now
-          (c.as_slice.ensures.value ∙ c.in_ok-users.ensures.read.2) (c.as_slice-2.ensures.value ∙ c.in_ok-subtrees.ensures.2) c.in_ok-tree.tree (c.in_ok-tree.ensures.read read is)
-          (g.W.Write.contents c.write_whole.new.out) c.in_ok-text.text.items c.in_ok-text.status c.in_ok-text.ensures.said (rw c.as_slice-3.ensures.value at c.in_err-write_whole.ensures.err)),
+          (failed_write_reports read (map (λ user. (user.uid, user.gids.now)) c.args.users.now)
+          (map (λ subtree. subtree.now) c.args.subtrees.now) (g.W.Write.contents c.args.out.now)
+          c.in_ok-users.ensures.read.0 c.in_ok-users.ensures.read.1 c.in_ok-subtrees.ensures.0 c.in_ok-subtrees.ensures.1
+          c.as_slice.result.now c.as_slice-2.result.now
+          (c.as_slice.ensures.value ∙ c.in_ok-users.ensures.read.2) (c.as_slice-2.ensures.value ∙ c.in_ok-subtrees.ensures.2)
+          c.in_ok-tree.tree (c.in_ok-tree.ensures.read read is)
+          (g.W.Write.contents c.write_whole.new.out) c.in_ok-text.text.items c.in_ok-text.status
+          c.in_ok-text.ensures.said (rw c.as_slice-3.ensures.value at c.in_err-write_whole.ensures.err)),
     )
 
 pub returns-clause-report : goal.returns-clause-report
@@ -75,17 +87,24 @@ returns-clause-report g c =
     let is = is_reading c.args.tree.now in (
       read,
       is,
-      answer_reports read (map (λ user. (user.uid, user.gids.now)) c.args.users.now) (map (λ subtree. subtree.now) c.args.subtrees.now) (g.W.Write.contents c.args.out.now)
-          c.in_ok-users.ensures.read.0 c.in_ok-users.ensures.read.1 c.in_ok-subtrees.ensures.0 c.in_ok-subtrees.ensures.1 c.as_slice.result.now c.as_slice-2.result.now
-          (c.as_slice.ensures.value ∙ c.in_ok-users.ensures.read.2) (c.as_slice-2.ensures.value ∙ c.in_ok-subtrees.ensures.2) c.in_ok-tree.tree (c.in_ok-tree.ensures.read read is)
-          (g.W.Write.contents c.write_whole.new.out) c.in_ok-text.text.items c.in_ok-text.status c.in_ok-text.ensures.said (rw c.as_slice-3.ensures.value at c.in_ok-write_whole.ensures.ok),
+      answer_reports read (map (λ user. (user.uid, user.gids.now)) c.args.users.now)
+          (map (λ subtree. subtree.now) c.args.subtrees.now) (g.W.Write.contents c.args.out.now)
+          c.in_ok-users.ensures.read.0 c.in_ok-users.ensures.read.1 c.in_ok-subtrees.ensures.0 c.in_ok-subtrees.ensures.1
+          c.as_slice.result.now c.as_slice-2.result.now
+          (c.as_slice.ensures.value ∙ c.in_ok-users.ensures.read.2) (c.as_slice-2.ensures.value ∙ c.in_ok-subtrees.ensures.2)
+          c.in_ok-tree.tree (c.in_ok-tree.ensures.read read is)
+          (g.W.Write.contents c.write_whole.new.out) c.in_ok-text.text.items c.in_ok-text.status
+          c.in_ok-text.ensures.said (rw c.as_slice-3.ensures.value at c.in_ok-write_whole.ensures.ok),
     )
 
 pub returns-clause-contained : goal.returns-clause-contained
 returns-clause-contained g c none st who paths of_text =
     let read = reading_of c.args.tree.now in
     let is = is_reading c.args.tree.now in
-    contained_means read (map (λ user. (user.uid, user.gids.now)) c.args.users.now) (map (λ subtree. subtree.now) c.args.subtrees.now) (g.W.Write.contents c.args.out.now)
-    c.in_ok-users.ensures.read.0 c.in_ok-users.ensures.read.1 c.in_ok-subtrees.ensures.0 c.in_ok-subtrees.ensures.1 c.as_slice.result.now c.as_slice-2.result.now
-    (c.as_slice.ensures.value ∙ c.in_ok-users.ensures.read.2) (c.as_slice-2.ensures.value ∙ c.in_ok-subtrees.ensures.2) c.in_ok-tree.tree (c.in_ok-tree.ensures.read read is)
+    contained_means read (map (λ user. (user.uid, user.gids.now)) c.args.users.now)
+    (map (λ subtree. subtree.now) c.args.subtrees.now) (g.W.Write.contents c.args.out.now)
+    c.in_ok-users.ensures.read.0 c.in_ok-users.ensures.read.1 c.in_ok-subtrees.ensures.0 c.in_ok-subtrees.ensures.1
+    c.as_slice.result.now c.as_slice-2.result.now
+    (c.as_slice.ensures.value ∙ c.in_ok-users.ensures.read.2) (c.as_slice-2.ensures.value ∙ c.in_ok-subtrees.ensures.2)
+    c.in_ok-tree.tree (c.in_ok-tree.ensures.read read is)
     (c.in_ok-text.ensures.contained (same_Ok c.in_ok-text.status 0 none)) st who paths (reading_is c.args.tree.now (Ok st) of_text)

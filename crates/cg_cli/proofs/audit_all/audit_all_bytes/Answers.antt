@@ -13,7 +13,8 @@ returns-in_err-users-clause-report g c =
       read,
       is,
       rw (p.1, p.2)
-          (users_fault_said read (map (λ user. (user.uid, user.gids.now)) c.args.users.now) (map (λ subtree. subtree.now) c.args.subtrees.now) (g.W.Write.contents c.args.out.now)
+          (users_fault_said read (map (λ user. (user.uid, user.gids.now)) c.args.users.now)
+          (map (λ subtree. subtree.now) c.args.subtrees.now) (g.W.Write.contents c.args.out.now)
           c.in_err-users.field-0.0 c.in_err-users.ensures.read (λ fault is. let same = c.in_err-users.ensures.faults fault is in cc)),
     )
 
@@ -25,7 +26,8 @@ returns-in_err-subtrees-clause-report g c =
       read,
       is,
       rw (p.1, p.2)
-          (paths_fault_said read (map (λ user. (user.uid, user.gids.now)) c.args.users.now) (map (λ subtree. subtree.now) c.args.subtrees.now) (g.W.Write.contents c.args.out.now)
+          (paths_fault_said read (map (λ user. (user.uid, user.gids.now)) c.args.users.now)
+          (map (λ subtree. subtree.now) c.args.subtrees.now) (g.W.Write.contents c.args.out.now)
           c.in_ok-users.ensures.read.0 c.in_ok-users.ensures.read.1 c.in_err-subtrees.field-0.0 c.in_err-subtrees.ensures),
     )
 
@@ -37,8 +39,10 @@ returns-in_err-tree-clause-report g c =
       read,
       is,
       rw (p.1, p.2)
-          (tree_fault_said read (map (λ user. (user.uid, user.gids.now)) c.args.users.now) (map (λ subtree. subtree.now) c.args.subtrees.now) (g.W.Write.contents c.args.out.now)
-          c.in_ok-users.ensures.read.0 c.in_ok-users.ensures.read.1 c.in_ok-subtrees.ensures.0 c.in_ok-subtrees.ensures.1 c.in_err-tree.field-0.0 (c.in_err-tree.ensures.read read is)),
+          (tree_fault_said read (map (λ user. (user.uid, user.gids.now)) c.args.users.now)
+          (map (λ subtree. subtree.now) c.args.subtrees.now) (g.W.Write.contents c.args.out.now)
+          c.in_ok-users.ensures.read.0 c.in_ok-users.ensures.read.1
+          c.in_ok-subtrees.ensures.0 c.in_ok-subtrees.ensures.1 c.in_err-tree.field-0.0 (c.in_err-tree.ensures.read read is)),
     )
 
 pub returns-clause-report : goal.returns-clause-report
@@ -47,9 +51,12 @@ returns-clause-report g c =
     let is = is_reading c.args.tree.now in (
       read,
       is,
-      tree_said read (map (λ user. (user.uid, user.gids.now)) c.args.users.now) (map (λ subtree. subtree.now) c.args.subtrees.now) (g.W.Write.contents c.args.out.now)
-          c.in_ok-users.ensures.read.0 c.in_ok-users.ensures.read.1 c.in_ok-subtrees.ensures.0 c.in_ok-subtrees.ensures.1 c.as_slice.result.now c.as_slice-2.result.now
-          (c.as_slice.ensures.value ∙ c.in_ok-users.ensures.read.2) (c.as_slice-2.ensures.value ∙ c.in_ok-subtrees.ensures.2) c.in_ok-tree.tree (c.in_ok-tree.ensures.read read is)
+      tree_said read (map (λ user. (user.uid, user.gids.now)) c.args.users.now)
+          (map (λ subtree. subtree.now) c.args.subtrees.now) (g.W.Write.contents c.args.out.now)
+          c.in_ok-users.ensures.read.0 c.in_ok-users.ensures.read.1 c.in_ok-subtrees.ensures.0 c.in_ok-subtrees.ensures.1
+          c.as_slice.result.now c.as_slice-2.result.now
+          (c.as_slice.ensures.value ∙ c.in_ok-users.ensures.read.2) (c.as_slice-2.ensures.value ∙ c.in_ok-subtrees.ensures.2)
+          c.in_ok-tree.tree (c.in_ok-tree.ensures.read read is)
           (g.W.Write.contents c.write_listing.new.out) c.write_listing.result c.write_listing.ensures.report,
     )
 
@@ -57,7 +64,11 @@ pub returns-clause-unlisted : goal.returns-clause-unlisted
 returns-clause-unlisted g c =
     let read = reading_of c.args.tree.now in
     let is = is_reading c.args.tree.now in
-    unlisted_said read (map (λ user. (user.uid, user.gids.now)) c.args.users.now) (map (λ subtree. subtree.now) c.args.subtrees.now) (g.W.Write.contents c.args.out.now)
-    c.in_ok-users.ensures.read.0 c.in_ok-users.ensures.read.1 c.in_ok-subtrees.ensures.0 c.in_ok-subtrees.ensures.1 c.as_slice.result.now c.as_slice-2.result.now
-    (c.as_slice.ensures.value ∙ c.in_ok-users.ensures.read.2) (c.as_slice-2.ensures.value ∙ c.in_ok-subtrees.ensures.2) c.in_ok-tree.tree (c.in_ok-tree.ensures.read read is)
-    (λ st. IsTextOf st c.args.tree.now) (λ st of_text. reading_is c.args.tree.now (Ok st) of_text) c.write_listing.result c.write_listing.ensures.unlisted
+    unlisted_said read (map (λ user. (user.uid, user.gids.now)) c.args.users.now)
+    (map (λ subtree. subtree.now) c.args.subtrees.now) (g.W.Write.contents c.args.out.now)
+    c.in_ok-users.ensures.read.0 c.in_ok-users.ensures.read.1 c.in_ok-subtrees.ensures.0 c.in_ok-subtrees.ensures.1
+    c.as_slice.result.now c.as_slice-2.result.now
+    (c.as_slice.ensures.value ∙ c.in_ok-users.ensures.read.2) (c.as_slice-2.ensures.value ∙ c.in_ok-subtrees.ensures.2)
+    c.in_ok-tree.tree (c.in_ok-tree.ensures.read read is)
+    (λ st. IsTextOf st c.args.tree.now) (λ st of_text. reading_is c.args.tree.now (Ok st) of_text)
+    c.write_listing.result c.write_listing.ensures.unlisted

@@ -32,8 +32,8 @@ pub returns-in_err-write_whole : goal.returns-in_err-write_whole
 returns-in_err-write_whole g c =
     let read = reading_of c.args.tree.now in
     let is = is_reading c.args.tree.now in
-    let reported = move_reported read c.args.user.uid c.args.user.gids.now c.args.pid c.args.to.now c.in_ok-user.user c.in_ok-pid.pid c.in_ok-to.to
-    c.in_ok-tree.tree c.in_ok-user.ensures c.in_ok-pid.ensures c.in_ok-to.ensures (c.in_ok-tree.ensures.read read is) in
+    let reported = move_reported read c.args.user.uid c.args.user.gids.now c.args.pid c.args.to.now c.in_ok-user.user c.in_ok-pid.pid
+    c.in_ok-to.to c.in_ok-tree.tree c.in_ok-user.ensures c.in_ok-pid.ensures c.in_ok-to.ensures (c.in_ok-tree.ensures.read read is) in
     let p = err_from_is_err_and c.from_residual-in_err-write_whole.result c.from_residual-in_err-write_whole.ensures.1 in (
       read,
       is,

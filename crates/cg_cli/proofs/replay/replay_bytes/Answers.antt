@@ -14,7 +14,8 @@ returns-in_err-unwatched-in-None-clause-replays g c =
       is,
       course_fault read c.args.user.uid c.args.user.gids.now _
           (ap (option_map (λ text. text.now)) c.in-None.is) c.in_ok-user.user c.in_ok-user.ensures
-          c.args.ops.now (g.W.Write.contents c.args.out.now) c.in_err-unwatched-in-None.field-0.0 (c.in_err-unwatched-in-None.ensures read is)
+          c.args.ops.now (g.W.Write.contents c.args.out.now) c.in_err-unwatched-in-None.field-0.0
+          (c.in_err-unwatched-in-None.ensures read is)
           c.from_residual-in_err-unwatched-in-None.result c.from_residual-in_err-unwatched-in-None.ensures.1,
     )
 
@@ -39,7 +40,8 @@ returns-in_err-watched-in-Some-clause-replays g c =
       is,
       course_fault read c.args.user.uid c.args.user.gids.now _
           (ap (option_map (λ text. text.now)) c.in-Some.is) c.in_ok-user.user c.in_ok-user.ensures
-          c.args.ops.now (g.W.Write.contents c.args.out.now) c.in_err-watched-in-Some.field-0.0 (c.in_err-watched-in-Some.ensures.read read is)
+          c.args.ops.now (g.W.Write.contents c.args.out.now) c.in_err-watched-in-Some.field-0.0
+          (c.in_err-watched-in-Some.ensures.read read is)
           c.from_residual-in_err-watched-in-Some.result c.from_residual-in_err-watched-in-Some.ensures.1,
     )
 

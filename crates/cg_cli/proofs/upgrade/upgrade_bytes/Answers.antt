@@ -58,7 +58,8 @@ returns-in_err-rows g c =
       report = (
         read,
         is,
-        rw (p.1, p.2) (nothing_written read c.in_err-rows.field-0.0 (g.W.Write.contents c.args.out.now) (c.in_err-rows.ensures.read read is)),
+        rw (p.1, p.2)
+            (nothing_written read c.in_err-rows.field-0.0 (g.W.Write.contents c.args.out.now) (c.in_err-rows.ensures.read read is)),
       );
     }
 

@@ -17,7 +17,8 @@ remaining-fresh reader below remaining inner empty capacity =
     ∙ ap remaining inner
 
 pub returns-in_default : goal.returns-in_default
-returns-in_default g c = (reading_of c.args.tree.now, is_reading c.args.tree.now, inr (unread (g.W.Write.contents c.args.out.now) _ _ refl (inr refl)))
+returns-in_default g c =
+    (reading_of c.args.tree.now, is_reading c.args.tree.now, inr (unread (g.W.Write.contents c.args.out.now) _ _ refl (inr refl)))
 
 pub returns : goal.returns
 returns g c =
