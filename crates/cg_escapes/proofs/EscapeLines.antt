@@ -93,10 +93,6 @@ other_held file (At value) = tt
 
 -- ---- paths
 
-some_place : {A B : Type 0} (f : A → B) (o : Option A) (y : B) → option_map f o ≡ Some y → is_some o ≡ true
-some_place f None y is = cc
-some_place f (Some x) y is = refl
-
 module _ (st : State) (user : Identity) (subtree : Names) (formed : IsWellFormed st) (named : IsNamed st) (sub : IsSubtree st subtree) where
   path : IsPath subtree
   path = named.paths subtree sub.0
