@@ -11,7 +11,8 @@ listed : (file : LimitFile) → list_any (same_file file) all_files ≡ true
 listed MaxDescendants = refl
 listed file = refl
 
-each_of : (P : LimitFile → Type 0) (file : LimitFile) (files : List LimitFile) → AllByRecursion P files → list_any (same_file file) files ≡ true → P file
+each_of : (P : LimitFile → Type 0) (file : LimitFile) (files : List LimitFile) → AllByRecursion P files
+    → list_any (same_file file) files ≡ true → P file
 each_of P file [] all found = absurd (false≢true found)
 each_of P file (front ∷ files) all found =
     elim (same_file file front) as (λ same. same_file file front ≡ same → (same || list_any (same_file file) files) ≡ true → P file) [

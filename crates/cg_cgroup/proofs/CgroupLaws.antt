@@ -47,7 +47,8 @@ same_entry-true name other h = cc
 
 -- ---- one limit file changed
 
-pub file_of-with_file : (file : LimitFile) (f : LimitEntry → LimitEntry) (row : Cgroup) (other : LimitFile) → file_of (with_file file f row) other ≡ cond (same_file file other) (option_map f (file_of row other)) (file_of row other)
+pub file_of-with_file : (file : LimitFile) (f : LimitEntry → LimitEntry) (row : Cgroup) (other : LimitFile)
+    → file_of (with_file file f row) other ≡ cond (same_file file other) (option_map f (file_of row other)) (file_of row other)
 file_of-with_file MaxDescendants f row MaxDescendants = refl
 file_of-with_file MaxDepth f row MaxDepth = refl
 file_of-with_file CpuWeight f row CpuWeight = refl
@@ -69,46 +70,59 @@ pub rest-with_file : (file : LimitFile) (f : LimitEntry → LimitEntry) (row : C
 rest-with_file MaxDescendants f row = record { dir = refl; procs = refl; subtree_control = refl; enabled = refl }
 rest-with_file file f row = record { dir = refl; procs = refl; subtree_control = refl; enabled = refl }
 
-entry_part : (b : Bool) (f : LimitEntry → LimitEntry) (o : Option LimitEntry) → ((x : LimitEntry) → (f x).entry ≡ x.entry) → option_map (λ x. x.entry) (cond b (option_map f o) o) ≡ option_map (λ x. x.entry) o
+entry_part : (b : Bool) (f : LimitEntry → LimitEntry) (o : Option LimitEntry) → ((x : LimitEntry) → (f x).entry ≡ x.entry)
+    → option_map (λ x. x.entry) (cond b (option_map f o) o) ≡ option_map (λ x. x.entry) o
 entry_part false f o h = refl
 entry_part true f None h = refl
 entry_part true f (Some x) h = ap Some (h x)
 
-pub file_of-with_value_in : (file : LimitFile) (value : Limit) (row : Cgroup) (other : LimitFile) → file_of (with_value_in file value row) other ≡ cond (same_file file other) (option_map (with_value_of value) (file_of row other)) (file_of row other)
+pub file_of-with_value_in : (file : LimitFile) (value : Limit) (row : Cgroup) (other : LimitFile)
+    → file_of (with_value_in file value row) other
+    ≡ cond (same_file file other) (option_map (with_value_of value) (file_of row other)) (file_of row other)
 file_of-with_value_in file value row other = file_of-with_file file (with_value_of value) row other
 
 pub enabled-with_value_in : (file : LimitFile) (value : Limit) (row : Cgroup) → (with_value_in file value row).enabled ≡ row.enabled
 enabled-with_value_in file value row = (rest-with_file file (with_value_of value) row).enabled
 
-pub entry_in-with_value_in : (file : LimitFile) (value : Limit) (row : Cgroup) (name : EntryName) → entry_in (with_value_in file value row) name ≡ entry_in row name
+pub entry_in-with_value_in : (file : LimitFile) (value : Limit) (row : Cgroup) (name : EntryName)
+    → entry_in (with_value_in file value row) name ≡ entry_in row name
 entry_in-with_value_in file value row Dir = ap Some (rest-with_file file (with_value_of value) row).dir
 entry_in-with_value_in file value row Procs = ap Some (rest-with_file file (with_value_of value) row).procs
 entry_in-with_value_in file value row SubtreeControl = ap Some (rest-with_file file (with_value_of value) row).subtree_control
 entry_in-with_value_in file value row (File other) =
-    ap (option_map (λ x. x.entry)) (file_of-with_value_in file value row other) ∙ entry_part (same_file file other) (with_value_of value) (file_of row other) (λ x. refl)
+    ap (option_map (λ x. x.entry)) (file_of-with_value_in file value row other)
+    ∙ entry_part (same_file file other) (with_value_of value) (file_of row other) (λ x. refl)
 
-value_part : (b : Bool) (value : Limit) (o : Option LimitEntry) → option_map (λ x. x.value) (cond b (option_map (with_value_of value) o) o) ≡ cond b (option_map (λ x. value) o) (option_map (λ x. x.value) o)
+value_part : (b : Bool) (value : Limit) (o : Option LimitEntry) → option_map (λ x. x.value) (cond b (option_map (with_value_of value) o) o)
+    ≡ cond b (option_map (λ x. value) o) (option_map (λ x. x.value) o)
 value_part false value o = refl
 value_part true value None = refl
 value_part true value (Some x) = refl
 
-pub value_in-with_value_in : (file : LimitFile) (value : Limit) (row : Cgroup) (other : LimitFile) → value_in (with_value_in file value row) other ≡ cond (same_file file other) (option_map (λ x. value) (file_of row other)) (value_in row other)
+pub value_in-with_value_in : (file : LimitFile) (value : Limit) (row : Cgroup) (other : LimitFile)
+    → value_in (with_value_in file value row) other
+    ≡ cond (same_file file other) (option_map (λ x. value) (file_of row other)) (value_in row other)
 value_in-with_value_in file value row other =
-    ap (option_map (λ x. x.value)) (file_of-with_value_in file value row other) ∙ value_part (same_file file other) value (file_of row other)
+    ap (option_map (λ x. x.value)) (file_of-with_value_in file value row other)
+    ∙ value_part (same_file file other) value (file_of row other)
 
 -- ---- one mode changed
 
-mode_part : (b : Bool) (mode : ℕ) (o : Option LimitEntry) → option_map (λ x. x.entry) (cond b (option_map (with_file_mode_of mode) o) o) ≡ cond b (option_map (with_mode_of mode) (option_map (λ x. x.entry) o)) (option_map (λ x. x.entry) o)
+mode_part : (b : Bool) (mode : ℕ) (o : Option LimitEntry) → option_map (λ x. x.entry) (cond b (option_map (with_file_mode_of mode) o) o)
+    ≡ cond b (option_map (with_mode_of mode) (option_map (λ x. x.entry) o)) (option_map (λ x. x.entry) o)
 mode_part false mode o = refl
 mode_part true mode None = refl
 mode_part true mode (Some x) = refl
 
-value_kept : (b : Bool) (mode : ℕ) (o : Option LimitEntry) → option_map (λ x. x.value) (cond b (option_map (with_file_mode_of mode) o) o) ≡ option_map (λ x. x.value) o
+value_kept : (b : Bool) (mode : ℕ) (o : Option LimitEntry)
+    → option_map (λ x. x.value) (cond b (option_map (with_file_mode_of mode) o) o) ≡ option_map (λ x. x.value) o
 value_kept false mode o = refl
 value_kept true mode None = refl
 value_kept true mode (Some x) = refl
 
-pub file_of-with_mode_in : (name : EntryName) (mode : ℕ) (row : Cgroup) (file : LimitFile) → file_of (with_mode_in name mode row) file ≡ cond (same_entry name (File file)) (option_map (with_file_mode_of mode) (file_of row file)) (file_of row file)
+pub file_of-with_mode_in : (name : EntryName) (mode : ℕ) (row : Cgroup) (file : LimitFile)
+    → file_of (with_mode_in name mode row) file
+    ≡ cond (same_entry name (File file)) (option_map (with_file_mode_of mode) (file_of row file)) (file_of row file)
 file_of-with_mode_in (File file) mode row other = file_of-with_file file (with_file_mode_of mode) row other
 file_of-with_mode_in Dir mode row MaxDescendants = refl
 file_of-with_mode_in Procs mode row MaxDescendants = refl
@@ -119,13 +133,18 @@ pub enabled-with_mode_in : (name : EntryName) (mode : ℕ) (row : Cgroup) → (w
 enabled-with_mode_in (File file) mode row = (rest-with_file file (with_file_mode_of mode) row).enabled
 enabled-with_mode_in name mode row = refl
 
-pub value_in-with_mode_in : (name : EntryName) (mode : ℕ) (row : Cgroup) (file : LimitFile) → value_in (with_mode_in name mode row) file ≡ value_in row file
+pub value_in-with_mode_in : (name : EntryName) (mode : ℕ) (row : Cgroup) (file : LimitFile)
+    → value_in (with_mode_in name mode row) file ≡ value_in row file
 value_in-with_mode_in name mode row file =
-    ap (option_map (λ x. x.value)) (file_of-with_mode_in name mode row file) ∙ value_kept (same_entry name (File file)) mode (file_of row file)
+    ap (option_map (λ x. x.value)) (file_of-with_mode_in name mode row file)
+    ∙ value_kept (same_entry name (File file)) mode (file_of row file)
 
-pub entry_in-with_mode_in : (name : EntryName) (mode : ℕ) (row : Cgroup) (other : EntryName) → entry_in (with_mode_in name mode row) other ≡ cond (same_entry name other) (option_map (with_mode_of mode) (entry_in row other)) (entry_in row other)
+pub entry_in-with_mode_in : (name : EntryName) (mode : ℕ) (row : Cgroup) (other : EntryName)
+    → entry_in (with_mode_in name mode row) other
+    ≡ cond (same_entry name other) (option_map (with_mode_of mode) (entry_in row other)) (entry_in row other)
 entry_in-with_mode_in name mode row (File file) =
-    ap (option_map (λ x. x.entry)) (file_of-with_mode_in name mode row file) ∙ mode_part (same_entry name (File file)) mode (file_of row file)
+    ap (option_map (λ x. x.entry)) (file_of-with_mode_in name mode row file)
+    ∙ mode_part (same_entry name (File file)) mode (file_of row file)
 entry_in-with_mode_in (File file) mode row Dir = ap Some (rest-with_file file (with_file_mode_of mode) row).dir
 entry_in-with_mode_in (File file) mode row Procs = ap Some (rest-with_file file (with_file_mode_of mode) row).procs
 entry_in-with_mode_in (File file) mode row SubtreeControl = ap Some (rest-with_file file (with_file_mode_of mode) row).subtree_control
@@ -136,7 +155,8 @@ entry_in-with_mode_in name mode row other = refl
 
 -- ---- files made and removed
 
-pub file_of-with_files_of : (enabled : ControllerSet) (user : Identity) (row : Cgroup) (file : LimitFile) → file_of (with_files_of enabled user row) file ≡ refitted enabled user file (file_of row file)
+pub file_of-with_files_of : (enabled : ControllerSet) (user : Identity) (row : Cgroup) (file : LimitFile)
+    → file_of (with_files_of enabled user row) file ≡ refitted enabled user file (file_of row file)
 file_of-with_files_of enabled user row MaxDescendants = refl
 file_of-with_files_of enabled user row file = refl
 
@@ -145,9 +165,11 @@ is_some-cond true x = refl
 is_some-cond false x = refl
 
 -- limit files stand exactly where they belong
-pub stands-with_files_of : (enabled : ControllerSet) (user : Identity) (row : Cgroup) (file : LimitFile) → is_some (file_of (with_files_of enabled user row) file) ≡ stands_under enabled file
+pub stands-with_files_of : (enabled : ControllerSet) (user : Identity) (row : Cgroup) (file : LimitFile)
+    → is_some (file_of (with_files_of enabled user row) file) ≡ stands_under enabled file
 stands-with_files_of enabled user row file =
-    ap is_some (file_of-with_files_of enabled user row file) ∙ is_some-cond (stands_under enabled file) (unwrap_or (file_of row file) (file_made_by user file))
+    ap is_some (file_of-with_files_of enabled user row file)
+    ∙ is_some-cond (stands_under enabled file) (unwrap_or (file_of row file) (file_made_by user file))
 
 stays : {A : Type 0} (o : Option A) (b : Bool) (new : A) → is_some o ≡ b → cond b (Some (unwrap_or o new)) None ≡ o
 stays None true new h = cc
@@ -156,13 +178,16 @@ stays (Some x) true new h = refl
 stays (Some x) false new h = cc
 
 -- the limit files of a row that already stand where they belong all stay
-pub same-with_files_of : (enabled : ControllerSet) (user : Identity) (row : Cgroup) (file : LimitFile) → is_some (file_of row file) ≡ stands_under enabled file → file_of (with_files_of enabled user row) file ≡ file_of row file
-same-with_files_of enabled user row file h = file_of-with_files_of enabled user row file ∙ stays (file_of row file) (stands_under enabled file) (file_made_by user file) h
+pub same-with_files_of : (enabled : ControllerSet) (user : Identity) (row : Cgroup) (file : LimitFile)
+    → is_some (file_of row file) ≡ stands_under enabled file → file_of (with_files_of enabled user row) file ≡ file_of row file
+same-with_files_of enabled user row file h =
+    file_of-with_files_of enabled user row file ∙ stays (file_of row file) (stands_under enabled file) (file_made_by user file) h
 
 -- rows with the same entries, files and controllers are one
 pub same_cgroup : (old new : Cgroup) → SameRest old new → ((file : LimitFile) → file_of new file ≡ file_of old file) → new ≡ old
 same_cgroup old new rest files =
-    let max_descendants : new.max_descendants ≡ old.max_descendants = same_Some new.max_descendants old.max_descendants (files MaxDescendants) in
+    let max_descendants : new.max_descendants ≡ old.max_descendants =
+        same_Some new.max_descendants old.max_descendants (files MaxDescendants) in
     let max_depth : new.max_depth ≡ old.max_depth = same_Some new.max_depth old.max_depth (files MaxDepth) in
     λ i. record {
       dir = rest.dir i;
@@ -180,18 +205,23 @@ same_cgroup old new rest files =
     }
 
 -- where each file already stands as it belongs, nothing changes
-pub with_files_of-same : (enabled : ControllerSet) (user : Identity) (row : Cgroup) → ((file : LimitFile) → is_some (file_of row file) ≡ stands_under enabled file) → with_files_of enabled user row ≡ row
+pub with_files_of-same : (enabled : ControllerSet) (user : Identity) (row : Cgroup)
+    → ((file : LimitFile) → is_some (file_of row file) ≡ stands_under enabled file) → with_files_of enabled user row ≡ row
 with_files_of-same enabled user row stands =
-    same_cgroup row (with_files_of enabled user row) (record { dir = refl; procs = refl; subtree_control = refl; enabled = refl }) (λ file. same-with_files_of enabled user row file (stands file))
+    same_cgroup row (with_files_of enabled user row) (record { dir = refl; procs = refl; subtree_control = refl; enabled = refl })
+    (λ file. same-with_files_of enabled user row file (stands file))
 
 -- ---- a new cgroup
 
-pub file_of-cgroup_made_by : (user : Identity) (enabled : ControllerSet) (file : LimitFile) → file_of (cgroup_made_by user enabled) file ≡ cond (stands_under enabled file) (Some (file_made_by user file)) None
+pub file_of-cgroup_made_by : (user : Identity) (enabled : ControllerSet) (file : LimitFile)
+    → file_of (cgroup_made_by user enabled) file ≡ cond (stands_under enabled file) (Some (file_made_by user file)) None
 file_of-cgroup_made_by user enabled MaxDescendants = refl
 file_of-cgroup_made_by user enabled file = refl
 
-pub stands-cgroup_made_by : (user : Identity) (enabled : ControllerSet) (file : LimitFile) → is_some (file_of (cgroup_made_by user enabled) file) ≡ stands_under enabled file
-stands-cgroup_made_by user enabled file = ap is_some (file_of-cgroup_made_by user enabled file) ∙ is_some-cond (stands_under enabled file) (file_made_by user file)
+pub stands-cgroup_made_by : (user : Identity) (enabled : ControllerSet) (file : LimitFile)
+    → is_some (file_of (cgroup_made_by user enabled) file) ≡ stands_under enabled file
+stands-cgroup_made_by user enabled file =
+    ap is_some (file_of-cgroup_made_by user enabled file) ∙ is_some-cond (stands_under enabled file) (file_made_by user file)
 
 -- ---- values that are accepted
 

@@ -22,7 +22,8 @@ find_passes test (y ∷ xs) x h =
     ] refl h
 
 -- a list of things, each of which is found by its name, has names that tell them apart
-are_names : {A : Type 0} (name : A → List ℕ) (all : List A) → ((x : A) → find (λ y. same_name (name x) (name y)) all ≡ Some x) → AreNames name (λ text. find (λ y. same_name text (name y)) all)
+are_names : {A : Type 0} (name : A → List ℕ) (all : List A) → ((x : A) → find (λ y. same_name (name x) (name y)) all ≡ Some x)
+    → AreNames name (λ text. find (λ y. same_name text (name y)) all)
 are_names name all found = record {
   found = found;
   named = λ text x h. (bytes_decides text (name x)).0 (find_passes (λ y. same_name text (name y)) all x h);
@@ -54,5 +55,6 @@ pub entry_names : AreNames entry_text entry_named
 entry_names = are_names entry_text all_entries found_entry
 
 -- a text by which nothing is found is no name
-pub unnamed : {A : Type 0} {name : A → List ℕ} {look_up : List ℕ → Option A} → AreNames name look_up → (text : List ℕ) → look_up text ≡ None → (x : A) → text ≢ name x
+pub unnamed : {A : Type 0} {name : A → List ℕ} {look_up : List ℕ → Option A} → AreNames name look_up → (text : List ℕ) → look_up text ≡ None
+    → (x : A) → text ≢ name x
 unnamed {look_up = look_up} names text none x e = none-some x (sym none ∙ (ap look_up e ∙ names.found x))

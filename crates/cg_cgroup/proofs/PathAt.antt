@@ -19,13 +19,22 @@ split-text : (text : List ℕ) → names_text (slice_split (λ b. b == 47) text)
 split-text [] = refl
 split-text (b ∷ text) =
     ⊎_elim
-    (λ is. ap names_text (slice_split-cons_yes (λ b. b == 47) b text is) ∙ ap (λ (x : List ℕ). 47 ∷ x) (split-text text) ∙ ap (λ (x : ℕ). 47 ∷ x ∷ text) (sym (eqb-true b 47 is)))
-    (λ not_is. ap names_text (slice_split-cons_no (λ b. b == 47) b text not_is) ∙ onto_first-text b (slice_split (λ b. b == 47) text) text (split-text text))
+    (λ is. ap names_text (slice_split-cons_yes (λ b. b == 47) b text is) ∙ ap (λ (x : List ℕ). 47 ∷ x) (split-text text)
+      ∙ ap (λ (x : ℕ). 47 ∷ x ∷ text) (sym (eqb-true b 47 is)))
+    (λ not_is. ap names_text (slice_split-cons_no (λ b. b == 47) b text not_is)
+      ∙ onto_first-text b (slice_split (λ b. b == 47) text) text (split-text text))
     (cases_Bool (b == 47))
 
 pub path_at-is : (text : List ℕ) (path : Names) → path_at text ≡ Some path → IsPath path × (path_text path ≡ text)
 path_at-is text path h =
-    elim (is_path (names_at text) && same_name (path_text (names_at text)) text) as (λ t. (is_path (names_at text) && same_name (path_text (names_at text)) text) ≡ t → cond t (Some (names_at text)) None ≡ Some path → IsPath path × (path_text path ≡ text)) [ true ↦ λ e k. let n : names_at text ≡ path = cc in let both = and_parts (is_path (names_at text)) (same_name (path_text (names_at text)) text) e in (subst IsPath n both.0, ap path_text (sym n) ∙ (bytes_decides (path_text (names_at text)) text).0 both.1) | false ↦ λ e k. absurd (cc) ] refl h
+    elim (is_path (names_at text) && same_name (path_text (names_at text)) text) as
+    (λ t. (is_path (names_at text) && same_name (path_text (names_at text)) text) ≡ t → cond t (Some (names_at text)) None ≡ Some path
+          → IsPath path × (path_text path ≡ text)) [
+      | true ↦ λ e k. let n : names_at text ≡ path = cc in
+          let both = and_parts (is_path (names_at text)) (same_name (path_text (names_at text)) text) e in
+          (subst IsPath n both.0, ap path_text (sym n) ∙ (bytes_decides (path_text (names_at text)) text).0 both.1)
+      | false ↦ λ e k. absurd (cc)
+        ] refl h
 
 names_at-text : (path : Names) → IsPath path → names_at (path_text path) ≡ path
 names_at-text [] h = refl
@@ -35,7 +44,10 @@ names_at-text ((b ∷ name) ∷ path) h = names_of-text ((b ∷ name) ∷ path) 
 pub path_at-text : (path : Names) → IsPath path → path_at (path_text path) ≡ Some path
 path_at-text path h =
     let e = names_at-text path h in
-    let t : (is_path (names_at (path_text path)) && same_name (path_text (names_at (path_text path))) (path_text path)) ≡ true = rw e (and_from (is_path path) (same_name (path_text path) (path_text path)) h ((bytes_decides (path_text path) (path_text path)).1 refl)) in
+    let t : (is_path (names_at (path_text path)) && same_name (path_text (names_at (path_text path))) (path_text path)) ≡ true =
+        rw e
+        (and_from (is_path path) (same_name (path_text path) (path_text path)) h ((bytes_decides (path_text path) (path_text path)).1 refl))
+        in
     ap (λ (x : Bool). cond x (Some (names_at (path_text path))) None) t ∙ ap Some e
 
 pub path_at-none : (text : List ℕ) (path : Names) → path_at text ≡ None → IsPath path → path_text path ≢ text
@@ -70,7 +82,8 @@ split-path_text : (rest : List ℕ) → path_text (slice_split (λ b. b == 47) r
 split-path_text rest = path_text-names (slice_split (λ b. b == 47) rest) (split_long rest) ∙ split-text rest
 
 -- a text that is short enough and of names
-pub path_at-found : (text rest : List ℕ) → text ≡ 47 ∷ rest → length text ≤ 4095 → list_all is_name (slice_split (λ b. b == 47) rest) ≡ true → IsPath (names_of text) × (names_text (names_of text) ≡ text) × (path_at text ≡ Some (names_of text))
+pub path_at-found : (text rest : List ℕ) → text ≡ 47 ∷ rest → length text ≤ 4095 → list_all is_name (slice_split (λ b. b == 47) rest) ≡ true
+    → IsPath (names_of text) × (names_text (names_of text) ≡ text) × (path_at text ≡ Some (names_of text))
 path_at-found text rest e l h =
     let path = slice_split (λ (b : ℕ). b == 47) rest in
     let is : IsPath path = IsPath-from path h (omega (arith, ap length (split-text rest), ap length e)) in
@@ -78,11 +91,13 @@ path_at-found text rest e l h =
     rw e (is, split-text rest, found)
 
 -- a text that is too long, or with a part that is no name
-pub path_at-bad : (text rest : List ℕ) → text ≡ 47 ∷ rest → 0 < length rest → (4095 < length text) ⊎ (list_all is_name (slice_split (λ b. b == 47) rest) ≡ false) → path_at text ≡ None
+pub path_at-bad : (text rest : List ℕ) → text ≡ 47 ∷ rest → 0 < length rest
+    → (4095 < length text) ⊎ (list_all is_name (slice_split (λ b. b == 47) rest) ≡ false) → path_at text ≡ None
 path_at-bad text rest e l bad =
     none-from
     (path_at text)
     (λ path is.
     let p = path_at-is text path is in
     let same : path ≡ slice_split (λ b. b == 47) rest = sym (names_at-text path p.0) ∙ ap names_at (p.1 ∙ e) ∙ names_at-split rest l in
-    ⊎_elim (λ long. omega (arith, path_bytes path p.0, ap length (sym (path_text-names path (rw same (split_long rest))) ∙ p.1))) (λ no. both_ways _ no (rw (← same) (path_names path p.0))) bad)
+    ⊎_elim (λ long. omega (arith, path_bytes path p.0, ap length (sym (path_text-names path (rw same (split_long rest))) ∙ p.1)))
+    (λ no. both_ways _ no (rw (← same) (path_names path p.0))) bad)

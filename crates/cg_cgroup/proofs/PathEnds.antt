@@ -16,13 +16,15 @@ length-ends_from start [] = refl
 length-ends_from start (name ∷ path) = ap suc (length-ends_from (start + (length name + 1)) path)
 
 -- the end of the name at i is the length of the text of the names up to it
-pub get_or-ends_from : (path : Names) (start i d : ℕ) → i < length path → get_or (ends_from start path) i d ≡ start + length (names_text (take (suc i) path))
+pub get_or-ends_from : (path : Names) (start i d : ℕ) → i < length path
+    → get_or (ends_from start path) i d ≡ start + length (names_text (take (suc i) path))
 get_or-ends_from [] start i d h = absurd (omega arith)
 get_or-ends_from (name ∷ path) start zero d h = omega (arith, length-append name [])
 get_or-ends_from (name ∷ path) start (suc i) d h =
     omega (arith, get_or-ends_from path (start + (length name + 1)) i d (omega arith), length-append name (names_text (take (suc i) path)))
 
-pub end_at : (path : Names) (len d : ℕ) → 0 < len → len ≤ length path → get_or (ends_from 0 path) (len - 1) d ≡ length (names_text (take len path))
+pub end_at : (path : Names) (len d : ℕ) → 0 < len → len ≤ length path
+    → get_or (ends_from 0 path) (len - 1) d ≡ length (names_text (take len path))
 end_at path zero d h k = absurd (omega arith)
 end_at path (suc n) d h k =
     let e : suc n - 1 ≡ n = omega arith in
@@ -35,20 +37,23 @@ names_text-cut path len =
 -- the text up to the end of the first names is theirs
 pub front_text : (path : Names) (len : ℕ) → take (length (names_text (take len path))) (names_text path) ≡ names_text (take len path)
 front_text path len =
-    ap (take (length (names_text (take len path)))) (names_text-cut path len) ∙ take_at (names_text (take len path)) (names_text (drop len path)) _ refl
+    ap (take (length (names_text (take len path)))) (names_text-cut path len)
+    ∙ take_at (names_text (take len path)) (names_text (drop len path)) _ refl
 
 pub end_le : (path : Names) (len : ℕ) → length (names_text (take len path)) ≤ length (names_text path)
 end_le path len =
     omega (arith, ap length (names_text-cut path len), length-append (names_text (take len path)) (names_text (drop len path)))
 
 -- one more name
-pub names_text-more : (path : Names) (i : ℕ) → i < length path → names_text (take (i + 1) path) ≡ names_text (take i path) ++ 47 ∷ get_or path i []
+pub names_text-more : (path : Names) (i : ℕ) → i < length path
+    → names_text (take (i + 1) path) ≡ names_text (take i path) ++ 47 ∷ get_or path i []
 names_text-more path i h =
     ap names_text (take_more path i [] h)
     ∙ flat_map-append (λ (name : Name). 47 ∷ name) (take i path) (get_or path i [] ∷ [])
     ∙ ap (λ (x : List ℕ). names_text (take i path) ++ x) (append-nil (47 ∷ get_or path i []))
 
-pub length_more : (path : Names) (i : ℕ) → i < length path → length (names_text (take (i + 1) path)) ≡ length (names_text (take i path)) + 1 + length (get_or path i [])
+pub length_more : (path : Names) (i : ℕ) → i < length path
+    → length (names_text (take (i + 1) path)) ≡ length (names_text (take i path)) + 1 + length (get_or path i [])
 length_more path i h =
     omega (arith, ap length (names_text-more path i h), length-append (names_text (take i path)) (47 ∷ get_or path i []))
 
@@ -60,20 +65,24 @@ behind_slash front name rest =
     ∙ ap (λ (x : List ℕ). take (length name) (drop 1 x)) (drop_at front (47 ∷ (name ++ rest)) _ refl)
     ∙ take_at name rest _ refl
 
-pub name_text : (path : Names) (text : List ℕ) (i start end : ℕ) → names_text path ≡ text → i < length path → start ≡ length (names_text (take i path)) → end ≡ length (names_text (take (i + 1) path)) → take (end - (start + 1)) (drop (start + 1) text) ≡ get_or path i []
+pub name_text : (path : Names) (text : List ℕ) (i start end : ℕ) → names_text path ≡ text → i < length path
+    → start ≡ length (names_text (take i path)) → end ≡ length (names_text (take (i + 1) path))
+    → take (end - (start + 1)) (drop (start + 1) text) ≡ get_or path i []
 name_text path text i start end spelled h s e =
     let more = names_text-more path i h in
     let name = get_or path i [] in
     let front = names_text (take i path) in
     let n : end - (start + 1) ≡ length name = omega (arith, ap length more, length-append front (47 ∷ name)) in
-    let whole : text ≡ (front ++ 47 ∷ name) ++ names_text (drop (i + 1) path) = sym spelled ∙ names_text-cut path (i + 1) ∙ ap (λ (x : List ℕ). x ++ names_text (drop (i + 1) path)) more in
+    let whole : text ≡ (front ++ 47 ∷ name) ++ names_text (drop (i + 1) path) =
+        sym spelled ∙ names_text-cut path (i + 1) ∙ ap (λ (x : List ℕ). x ++ names_text (drop (i + 1) path)) more in
     rw (n, s, whole) (behind_slash front name (names_text (drop (i + 1) path)))
 
 pub path_text-names : (path : Names) → 0 < length path → path_text path ≡ names_text path
 path_text-names [] h = absurd (omega arith)
 path_text-names (name ∷ path) h = refl
 
-pub prefix_names : (path : Names) (text : List ℕ) (len end : ℕ) → names_text path ≡ text → end ≡ length (names_text (take len path)) → take (end - 0) text ≡ names_text (take len path)
+pub prefix_names : (path : Names) (text : List ℕ) (len end : ℕ) → names_text path ≡ text → end ≡ length (names_text (take len path))
+    → take (end - 0) text ≡ names_text (take len path)
 prefix_names path text len end spelled e =
     let n : end - 0 ≡ length (names_text (take len path)) = omega (arith, e) in
     rw (n, ← spelled) (front_text path len)
@@ -98,25 +107,30 @@ IsAscii-name (b ∷ name) h =
 
 pub is_name-bytes : (name : Name) → is_name name ≡ true → list_all is_name_byte name ≡ true
 is_name-bytes name h =
-    (and_parts (nat_lt 0 (length name) && nat_le (length name) 255) (list_all is_name_byte name) (and_parts (is_word name) (not (is_reserved name)) h).0).1
+    (and_parts (nat_lt 0 (length name) && nat_le (length name) 255) (list_all is_name_byte name)
+      (and_parts (is_word name) (not (is_reserved name)) h).0).1
 
 pub IsAscii-names_text : (path : Names) → list_all is_name path ≡ true → IsAscii (names_text path)
 IsAscii-names_text [] h = IsAscii-nil
 IsAscii-names_text (name ∷ path) h =
     let p = and_parts (is_name name) (list_all is_name path) h in
-    IsAscii-cons 47 (name ++ names_text path) (omega arith) (IsAscii-append name (names_text path) (IsAscii-name name (is_name-bytes name p.0)) (IsAscii-names_text path p.1))
+    IsAscii-cons 47 (name ++ names_text path) (omega arith)
+    (IsAscii-append name (names_text path) (IsAscii-name name (is_name-bytes name p.0)) (IsAscii-names_text path p.1))
 
 pub path_bytes : (path : Names) → IsPath path → length (names_text path) ≤ 4095
 path_bytes [] h = omega arith
 path_bytes (name ∷ path) h =
-    leb-true (length (names_text (name ∷ path))) 4095 (and_parts (list_all is_name (name ∷ path)) (nat_le (length (path_text (name ∷ path))) 4095) h).1
+    leb-true (length (names_text (name ∷ path))) 4095
+    (and_parts (list_all is_name (name ∷ path)) (nat_le (length (path_text (name ∷ path))) 4095) h).1
 
 pub path_names : (path : Names) → IsPath path → list_all is_name path ≡ true
 path_names path h = (and_parts (list_all is_name path) (nat_le (length (path_text path)) 4095) h).0
 
 -- a path's text may be cut anywhere
-pub cut_anywhere : (path : Names) (text : List ℕ) (at : ℕ) → IsPath path → names_text path ≡ text → at ≤ length (names_text path) → IsCharBoundary text at
-cut_anywhere path text at h spelled l = rw (← spelled) (IsCharBoundary-from_ascii (names_text path) at (IsAscii-names_text path (path_names path h)) l)
+pub cut_anywhere : (path : Names) (text : List ℕ) (at : ℕ) → IsPath path → names_text path ≡ text → at ≤ length (names_text path)
+    → IsCharBoundary text at
+cut_anywhere path text at h spelled l =
+    rw (← spelled) (IsCharBoundary-from_ascii (names_text path) at (IsAscii-names_text path (path_names path h)) l)
 
 -- ---- a kept path
 

@@ -55,13 +55,15 @@ pub common-inside_first : (p q : Names) → inside (common p q) p ≡ true
 common-inside_first [] q = refl
 common-inside_first (a ∷ p) [] = refl
 common-inside_first (a ∷ p) (b ∷ q) =
-    elim (same_name a b) as (λ t. inside (cond t (a ∷ common p q) []) (a ∷ p) ≡ true) [ true ↦ and_from (same_name a a) (inside (common p q) p) (nat_list_eq_equiv.refl a) (common-inside_first p q) | false ↦ refl ]
+    elim (same_name a b) as (λ t. inside (cond t (a ∷ common p q) []) (a ∷ p) ≡ true)
+    [ true ↦ and_from (same_name a a) (inside (common p q) p) (nat_list_eq_equiv.refl a) (common-inside_first p q) | false ↦ refl ]
 
 pub common-inside_second : (p q : Names) → inside (common p q) q ≡ true
 common-inside_second [] q = refl
 common-inside_second (a ∷ p) [] = refl
 common-inside_second (a ∷ p) (b ∷ q) =
-    elim (same_name a b) as (λ t. same_name a b ≡ t → inside (cond t (a ∷ common p q) []) (b ∷ q) ≡ true) [ true ↦ λ e. and_from (same_name a b) (inside (common p q) q) e (common-inside_second p q) | false ↦ λ e. refl ] refl
+    elim (same_name a b) as (λ t. same_name a b ≡ t → inside (cond t (a ∷ common p q) []) (b ∷ q) ≡ true)
+    [ true ↦ λ e. and_from (same_name a b) (inside (common p q) q) e (common-inside_second p q) | false ↦ λ e. refl ] refl
 
 pub common-longest : (r p q : Names) → inside r p ≡ true → inside r q ≡ true → inside r (common p q) ≡ true
 common-longest [] p q h k = refl
@@ -70,11 +72,14 @@ common-longest (c ∷ r) (a ∷ p) [] h k = absurd (true≢false (sym k))
 common-longest (c ∷ r) (a ∷ p) (b ∷ q) h k =
     let first = and_parts (same_name c a) (inside r p) h in
     let second = and_parts (same_name c b) (inside r q) k in
-    let same : same_name a b ≡ true = nat_list_eq_equiv.symm a b ∙ sym (ap (same_name b) (same_name-is c a first.0)) ∙ nat_list_eq_equiv.symm b c ∙ second.0 in
-    ap (λ (t : Bool). inside (c ∷ r) (cond t (a ∷ common p q) [])) same ∙ and_from (same_name c a) (inside r (common p q)) first.0 (common-longest r p q first.1 second.1)
+    let same : same_name a b ≡ true =
+        nat_list_eq_equiv.symm a b ∙ sym (ap (same_name b) (same_name-is c a first.0)) ∙ nat_list_eq_equiv.symm b c ∙ second.0 in
+    ap (λ (t : Bool). inside (c ∷ r) (cond t (a ∷ common p q) [])) same
+    ∙ and_from (same_name c a) (inside r (common p q)) first.0 (common-longest r p q first.1 second.1)
 
 -- no other list is inside both and holds all that is inside both
-pub common_unique : (c p q : Names) → inside c p ≡ true → inside c q ≡ true → ((r : Names) → inside r p ≡ true → inside r q ≡ true → inside r c ≡ true) → c ≡ common p q
+pub common_unique : (c p q : Names) → inside c p ≡ true → inside c q ≡ true
+    → ((r : Names) → inside r p ≡ true → inside r q ≡ true → inside r c ≡ true) → c ≡ common p q
 common_unique c p q h k longest =
     inside_antisym c (common p q) (common-longest c p q h k) (longest (common p q) (common-inside_first p q) (common-inside_second p q))
 
@@ -101,8 +106,10 @@ is_eq-is Equal h = refl
 is_eq-is Greater h = absurd (true≢false (sym h))
 
 -- what is neither greater than the other is the same
-names_tied : (a b : Name) (r : Ordering) → slice_cmp nat_cmp b a ≡ r → is_gt (slice_cmp nat_cmp a b) ≡ false → is_gt r ≡ false → slice_cmp nat_cmp a b ≡ Equal
-names_tied a b Less e h k = absurd (true≢false (ap (λ (x : Ordering). is_gt (ordering_reverse x)) (sym e) ∙ ap is_gt (sym (nat_list_cmp_total.antisymm a b)) ∙ h))
+names_tied : (a b : Name) (r : Ordering) → slice_cmp nat_cmp b a ≡ r → is_gt (slice_cmp nat_cmp a b) ≡ false → is_gt r ≡ false
+    → slice_cmp nat_cmp a b ≡ Equal
+names_tied a b Less e h k =
+    absurd (true≢false (ap (λ (x : Ordering). is_gt (ordering_reverse x)) (sym e) ∙ ap is_gt (sym (nat_list_cmp_total.antisymm a b)) ∙ h))
 names_tied a b Equal e h k = nat_list_cmp_total.antisymm a b ∙ ap ordering_reverse e
 names_tied a b Greater e h k = absurd (true≢false k)
 
@@ -131,7 +138,8 @@ inside_between (a ∷ p) (b ∷ q) (c ∷ r) h k l =
     let back = names_tied b a (slice_cmp nat_cmp a b) refl ba ab in
     let same : same_name a b ≡ true = texts_ties a b ∙ ap is_eq tie in
     let pq : is_gt (path_cmp p q) ≡ false = ap (λ (x : Ordering). is_gt (ordering_then x (path_cmp p q))) (sym tie) ∙ h in
-    let qr : is_gt (path_cmp q r) ≡ false = ap (λ (x : Ordering). is_gt (ordering_then x (path_cmp q r))) (sym back ∙ ap (slice_cmp nat_cmp b) names) ∙ k in
+    let qr : is_gt (path_cmp q r) ≡ false =
+        ap (λ (x : Ordering). is_gt (ordering_then x (path_cmp q r))) (sym back ∙ ap (slice_cmp nat_cmp b) names) ∙ k in
     and_from (same_name a b) (inside p q) same (inside_between p q r pq qr both.1)
 
 -- ---- texts

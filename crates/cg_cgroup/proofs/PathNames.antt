@@ -19,7 +19,8 @@ no_slash (b ∷ name) h =
     let q = and_parts (nat_le 33 b && nat_le b 126) (not (nat_eq b 47)) p.0 in
     All-cons (λ (b : ℕ). (b == 47) ≡ false) b name (not-true (nat_eq b 47) q.1) (no_slash name p.1)
 
-split_names : (name : Name) (path : Names) → is_name name ≡ true → list_all is_name path ≡ true → slice_split (λ b. b == 47) (name ++ names_text path) ≡ name ∷ path
+split_names : (name : Name) (path : Names) → is_name name ≡ true → list_all is_name path ≡ true
+    → slice_split (λ b. b == 47) (name ++ names_text path) ≡ name ∷ path
 split_names name [] h k =
     ap (slice_split (λ b. b == 47)) (append-nil name) ∙ slice_split_none (λ b. b == 47) name (no_slash name (is_name-bytes name h))
 split_names name (next ∷ path) h k =
@@ -37,12 +38,15 @@ names_of-text (name ∷ path) h =
 pub IsPath-from : (path : Names) → list_all is_name path ≡ true → length (names_text path) ≤ 4095 → IsPath path
 IsPath-from [] h l = refl
 IsPath-from (name ∷ path) h l =
-    and_from (list_all is_name (name ∷ path)) (nat_le (length (path_text (name ∷ path))) 4095) h (le-leb (length (names_text (name ∷ path))) 4095 l)
+    and_from (list_all is_name (name ∷ path)) (nat_le (length (path_text (name ∷ path))) 4095) h
+    (le-leb (length (names_text (name ∷ path))) 4095 l)
 
 -- the first names of a path are a path
 pub IsPath-take : (path : Names) (len : ℕ) → IsPath path → IsPath (take len path)
 IsPath-take path len h =
-    let both : (list_all is_name (take len path) && list_all is_name (drop len path)) ≡ true = sym (list_all-append is_name (take len path) (drop len path)) ∙ ap (list_all is_name) (take-append-drop len path) ∙ path_names path h in
+    let both : (list_all is_name (take len path) && list_all is_name (drop len path)) ≡ true =
+        sym (list_all-append is_name (take len path) (drop len path)) ∙ ap (list_all is_name) (take-append-drop len path)
+        ∙ path_names path h in
     let b = path_bytes path h in
     let l = end_le path len in
     IsPath-from (take len path) (and_parts (list_all is_name (take len path)) (list_all is_name (drop len path)) both).0 (omega arith)
@@ -65,11 +69,15 @@ take-ends_from [] start (suc len) = refl
 take-ends_from (name ∷ path) start (suc len) =
     ap (λ (x : List ℕ). (start + (length name + 1)) ∷ x) (take-ends_from path (start + (length name + 1)) len)
 
-pub ends_from-push : (start : ℕ) (path : Names) (name : Name) → ends_from start (path ++ name ∷ []) ≡ ends_from start path ++ (start + length (names_text (path ++ name ∷ []))) ∷ []
+pub ends_from-push : (start : ℕ) (path : Names) (name : Name)
+    → ends_from start (path ++ name ∷ []) ≡ ends_from start path ++ (start + length (names_text (path ++ name ∷ []))) ∷ []
 ends_from-push start [] name = ap (λ (x : ℕ). x ∷ []) (omega (arith, length-append name []))
 ends_from-push start (first ∷ path) name =
-    let e : start + (length first + 1) + length (names_text (path ++ name ∷ [])) ≡ start + length (names_text (first ∷ (path ++ name ∷ []))) = omega (arith, length-append first (names_text (path ++ name ∷ []))) in
-    ap (λ (x : List ℕ). (start + (length first + 1)) ∷ x) (ends_from-push (start + (length first + 1)) path name ∙ ap (λ (x : ℕ). ends_from (start + (length first + 1)) path ++ x ∷ []) e)
+    let e : start + (length first + 1) + length (names_text (path ++ name ∷ []))
+        ≡ start + length (names_text (first ∷ (path ++ name ∷ []))) =
+        omega (arith, length-append first (names_text (path ++ name ∷ []))) in
+    ap (λ (x : List ℕ). (start + (length first + 1)) ∷ x)
+    (ends_from-push (start + (length first + 1)) path name ∙ ap (λ (x : ℕ). ends_from (start + (length first + 1)) path ++ x ∷ []) e)
 
 -- ---- a path with one name behind it
 
@@ -80,13 +88,17 @@ names_text-push path name =
 length_push_text : (path : Names) (name : Name) → length (names_text (path ++ name ∷ [])) ≡ length (names_text path) + 1 + length name
 length_push_text path name = omega (arith, ap length (names_text-push path name), length-append (names_text path) (47 ∷ name))
 
-pub IsPath-push : (path : Names) (name : Name) → IsPath path → is_name name ≡ true → length (names_text path) + 1 + length name ≤ 4095 → IsPath (path ++ name ∷ [])
+pub IsPath-push : (path : Names) (name : Name) → IsPath path → is_name name ≡ true → length (names_text path) + 1 + length name ≤ 4095
+    → IsPath (path ++ name ∷ [])
 IsPath-push path name h k l =
-    let names : list_all is_name (path ++ name ∷ []) ≡ true = list_all-append is_name path (name ∷ []) ∙ and_from (list_all is_name path) (is_name name && true) (path_names path h) (and_from (is_name name) true k refl) in
+    let names : list_all is_name (path ++ name ∷ []) ≡ true =
+        list_all-append is_name path (name ∷ [])
+        ∙ and_from (list_all is_name path) (is_name name && true) (path_names path h) (and_from (is_name name) true k refl) in
     IsPath-from (path ++ name ∷ []) names (omega (arith, length_push_text path name))
 
 -- too long a text, or no name
-pub not_path-push : (path : Names) (name : Name) → (4095 < length (names_text path) + 1 + length name) ⊎ (is_name name ≡ false) → is_path (path ++ name ∷ []) ≡ false
+pub not_path-push : (path : Names) (name : Name) → (4095 < length (names_text path) + 1 + length name) ⊎ (is_name name ≡ false)
+    → is_path (path ++ name ∷ []) ≡ false
 not_path-push path name bad =
     false_from_ne_true
     (is_path (path ++ name ∷ []))
@@ -94,12 +106,15 @@ not_path-push path name bad =
     ⊎_elim
     (λ long. omega (arith, path_bytes (path ++ name ∷ []) is, length_push_text path name))
     (λ no.
-    let names : (list_all is_name path && (is_name name && true)) ≡ true = sym (list_all-append is_name path (name ∷ [])) ∙ path_names (path ++ name ∷ []) is in
+    let names : (list_all is_name path && (is_name name && true)) ≡ true =
+        sym (list_all-append is_name path (name ∷ [])) ∙ path_names (path ++ name ∷ []) is in
     both_ways (is_name name) no (and_parts (is_name name) true (and_parts (list_all is_name path) (is_name name && true) names).1).0)
     bad)
 
-pub ends_push : (path : Names) (name : Name) (ends : List ℕ) (end : ℕ) → ends ≡ ends_from 0 path → end ≡ length (names_text path) + 1 + length name → ends ++ end ∷ [] ≡ ends_from 0 (path ++ name ∷ [])
+pub ends_push : (path : Names) (name : Name) (ends : List ℕ) (end : ℕ) → ends ≡ ends_from 0 path
+    → end ≡ length (names_text path) + 1 + length name → ends ++ end ∷ [] ≡ ends_from 0 (path ++ name ∷ [])
 ends_push path name ends end h e =
     ap (λ (x : List ℕ). x ++ end ∷ []) h
-    ∙ ap (λ (x : ℕ). ends_from 0 path ++ x ∷ []) (e ∙ sym (length_push_text path name) ∙ sym (zero-add (length (names_text (path ++ name ∷ [])))))
+    ∙ ap (λ (x : ℕ). ends_from 0 path ++ x ∷ [])
+    (e ∙ sym (length_push_text path name) ∙ sym (zero-add (length (names_text (path ++ name ∷ [])))))
     ∙ sym (ends_from-push 0 path name)

@@ -33,7 +33,8 @@ same_path_comm = same_path_equiv.symm
 
 pub same_path-not : (p q : Names) → (p ≢ q) → same_path p q ≡ false
 same_path-not p q apart =
-    elim (same_path p q) as (λ b. same_path p q ≡ b → b ≡ false) [ true ↦ λ e. absurd (apart (same_path-is p q e)) | false ↦ λ e. refl ] refl
+    elim (same_path p q) as (λ b. same_path p q ≡ b → b ≡ false) [ true ↦ λ e. absurd (apart (same_path-is p q e)) | false ↦ λ e. refl ]
+    refl
 
 pub same_path-other : (p q : Names) → same_path p q ≡ false → p ≢ q
 same_path-other p q e is = true≢false (sym ((same_path_decides p q).1 is) ∙ e)

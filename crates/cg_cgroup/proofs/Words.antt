@@ -29,7 +29,8 @@ byte_first true false bytes rest = refl
 byte_first false true bytes rest = refl
 byte_first false false bytes rest = refl
 
-words_onto : (len b : ℕ) (names : Names) → 0 < length names → words_on len (onto_first b names) ≡ (is_name_byte b && words_on (len + 1) names)
+words_onto : (len b : ℕ) (names : Names) → 0 < length names
+    → words_on len (onto_first b names) ≡ (is_name_byte b && words_on (len + 1) names)
 words_onto len b [] some = absurd (omega arith)
 words_onto len b (name ∷ names) some =
     let same : len + suc (length name) ≡ (len + 1) + length name = omega arith in
@@ -68,14 +69,17 @@ words_are len (b ∷ text) =
     ap (words_on len) (slice_split-cons_no (λ b. b == 47) b text other)
     ∙ words_onto len b parts (omega (arith, length-slice_split (λ b. b == 47) text))
     ∙ ap (λ all. is_name_byte b && all) (words_are (len + 1) text)
-    ∙ either (is_name_byte b) ((b == 47) && has_length len) (words_from (len + 1) text) (words_from 0 text) (ap (λ slash. slash && has_length len) other))
+    ∙ either (is_name_byte b) ((b == 47) && has_length len) (words_from (len + 1) text) (words_from 0 text)
+    (ap (λ slash. slash && has_length len) other))
     (cases_Bool (b == 47))
 
 pub words_of : (text : List ℕ) → list_all is_word (slice_split (λ b. b == 47) text) ≡ words_from 0 text
 words_of text = sym (words_on_none (slice_split (λ b. b == 47) text)) ∙ words_are 0 text
 
 -- a byte that is in no name, and either is no slash or ends no word
-pub words_stop : (len i : ℕ) (text : List ℕ) → i < length text → words_from 0 text ≡ words_from len (drop i text) → is_name_byte (get_or text i 0) ≡ false → ((get_or text i 0 == 47) && has_length len) ≡ false → list_all is_word (slice_split (λ b. b == 47) text) ≡ false
+pub words_stop : (len i : ℕ) (text : List ℕ) → i < length text → words_from 0 text ≡ words_from len (drop i text)
+    → is_name_byte (get_or text i 0) ≡ false → ((get_or text i 0 == 47) && has_length len) ≡ false
+    → list_all is_word (slice_split (λ b. b == 47) text) ≡ false
 words_stop len i text inside read byte ends =
     let rest = drop (i + 1) text in
     words_of text ∙ read ∙ at_drop_more (words_from len) text i 0 inside
@@ -94,7 +98,8 @@ unlisted name (listed ∷ names) dots none =
     or_from
     (same_name name listed)
     (list_any (same_name name) names)
-    (false_from_ne_true (same_name name listed) (λ same. both_ways (dotted name) none (ap dotted ((bytes_decides name listed).0 same) ∙ parts.0)))
+    (false_from_ne_true (same_name name listed)
+      (λ same. both_ways (dotted name) none (ap dotted ((bytes_decides name listed).0 same) ∙ parts.0)))
     (unlisted name names parts.1 none)
 
 undotted : (names : Names) → list_any dotted names ≡ false → list_any is_reserved names ≡ false
@@ -114,7 +119,8 @@ dots_between (b ∷ text) none =
     let rest = dots_between text parts.1 in
     ⊎_elim
     (λ is. ap (list_any dotted) (slice_split-cons_yes (λ b. b == 47) b text is) ∙ rest)
-    (λ other. ap (list_any dotted) (slice_split-cons_no (λ b. b == 47) b text other) ∙ dot_onto b (slice_split (λ b. b == 47) text) (omega (arith, length-slice_split (λ b. b == 47) text)) parts.0 ∙ rest)
+    (λ other. ap (list_any dotted) (slice_split-cons_no (λ b. b == 47) b text other)
+      ∙ dot_onto b (slice_split (λ b. b == 47) text) (omega (arith, length-slice_split (λ b. b == 47) text)) parts.0 ∙ rest)
     (cases_Bool (b == 47))
 
 pub none_reserved : (text : List ℕ) → list_any (λ b. b == 46) text ≡ false → list_any is_reserved (slice_split (λ b. b == 47) text) ≡ false
@@ -122,7 +128,8 @@ none_reserved text none = undotted (slice_split (λ b. b == 47) text) (dots_betw
 
 -- ---- names are words of which none is reserved
 
-word_and_not : (word reserved words any : Bool) → ((word && not reserved) && (words && not any)) ≡ ((word && words) && not (reserved || any))
+word_and_not : (word reserved words any : Bool)
+    → ((word && not reserved) && (words && not any)) ≡ ((word && words) && not (reserved || any))
 word_and_not false reserved words any = refl
 word_and_not true false words any = refl
 word_and_not true true false any = refl

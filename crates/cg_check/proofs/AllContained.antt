@@ -41,9 +41,13 @@ of_path : (st : State) (subtrees : List Names) (fault : CheckFault) → Some fau
     → IsOfPath fault
 of_path st [] fault h = cc
 of_path st (subtree ∷ subtrees) fault h =
-    elim (is_root subtree) as (λ root. Some fault ≡ first ((unless (not root) RootSubtree ++ unless (has_row st subtree) NoSuchSubtree) ++ flat_map (subtree_faults st) subtrees) → IsOfPath fault) [
+    elim (is_root subtree) as (λ root. Some fault
+      ≡ first ((unless (not root) RootSubtree ++ unless (has_row st subtree) NoSuchSubtree) ++ flat_map (subtree_faults st) subtrees)
+      → IsOfPath fault) [
       | true ↦ λ is. let same : fault ≡ RootSubtree = cc in subst IsOfPath (sym same) tt
-      | false ↦ elim (has_row st subtree) as (λ there. Some fault ≡ first (unless there NoSuchSubtree ++ flat_map (subtree_faults st) subtrees) → IsOfPath fault) [
+      | false ↦
+          elim (has_row st subtree) as
+          (λ there. Some fault ≡ first (unless there NoSuchSubtree ++ flat_map (subtree_faults st) subtrees) → IsOfPath fault) [
         | true ↦ λ is. of_path st subtrees fault is
         | false ↦ λ is. let same : fault ≡ NoSuchSubtree = cc in subst IsOfPath (sym same) tt
       ]
@@ -57,7 +61,8 @@ gives_fault stated NoMemory of is = absurd of
 
 pub fault-gives : (st : State) (users : List Identity) (subtrees : List Names) (fault : CheckFault)
     → Some fault ≡ first (flat_map (subtree_faults st) subtrees) → Gives all_take_memory (all_checked st users subtrees) (Err fault)
-fault-gives st users subtrees fault is = gives_fault _ fault (of_path st subtrees fault is) (ap (λ found. unless_fault found (all_answers st users subtrees)) (sym is))
+fault-gives st users subtrees fault is =
+    gives_fault _ fault (of_path st subtrees fault is) (ap (λ found. unless_fault found (all_answers st users subtrees)) (sym is))
 
 faults_none : (st : State) (subtrees : List Names) → All (IsSubtree st) subtrees → flat_map (subtree_faults st) subtrees ≡ []
 faults_none st [] are = refl
@@ -95,7 +100,8 @@ none_of_user : (st : State) (place : ℕ) (user : Identity) (from : ℕ) (subtre
 none_of_user st place user from [] none = tt
 none_of_user st place user from (subtree ∷ subtrees) none =
     let parts = no_parts (pair_unless_contained place from (answer st user subtree)) _ none in
-    (answer-guarded st user subtree (no_pair place from (answer st user subtree) parts.0), none_of_user st place user (suc from) subtrees parts.1)
+    (answer-guarded st user subtree (no_pair place from (answer st user subtree) parts.0),
+      none_of_user st place user (suc from) subtrees parts.1)
 
 none_of_users : (st : State) (from : ℕ) (users : List Identity) (subtrees : List Names) → pairs_from st from users subtrees ≡ []
     → AllByRecursion (λ user. AllByRecursion (GuardsHold st user) subtrees) users
@@ -108,7 +114,8 @@ user_none : (st : State) (place : ℕ) (user : Identity) (from : ℕ) (subtrees 
     → pairs_of st place user from subtrees ≡ []
 user_none st place user from [] hold = refl
 user_none st place user from (subtree ∷ subtrees) hold =
-    ap (λ found. pair_unless_contained place from found ++ pairs_of st place user (suc from) subtrees) (guarded-answer st user subtree (hold 0 subtree (omega arith)))
+    ap (λ found. pair_unless_contained place from found ++ pairs_of st place user (suc from) subtrees)
+    (guarded-answer st user subtree (hold 0 subtree (omega arith)))
     ∙ user_none st place user (suc from) subtrees (λ k d within. hold (suc k) d (omega (arith, within)))
 
 users_none : (st : State) (from : ℕ) (users : List Identity) (subtrees : List Names)
@@ -120,38 +127,50 @@ users_none st from (user ∷ users) subtrees hold =
 
 -- ---- all contained
 
-module _ (st : State) (users : List Identity) (subtrees : List Names) (none : first (flat_map (subtree_faults st) subtrees) ≡ None) (formed : subtrees ≢ [] → IsWellFormed st) (clear : first (pairs_from st 0 users subtrees) ≡ None) where
+module _ (st : State) (users : List Identity) (subtrees : List Names) (none : first (flat_map (subtree_faults st) subtrees) ≡ None)
+    (formed : subtrees ≢ [] → IsWellFormed st) (clear : first (pairs_from st 0 users subtrees) ≡ None) where
   sub_at : All (IsSubtree st) subtrees
   sub_at k d within = no_fault st (get_or subtrees k d) (sym (none-element (subtree_faults st) subtrees k d within none))
 
   hold_at : All (GuardsHoldForAll st users) subtrees
   hold_at k d within user among =
       All-from_recursion (GuardsHold st user) subtrees
-      (All-contains (λ u. AllByRecursion (GuardsHold st u) subtrees) users user (All-from_recursion _ users (none_of_users st 0 users subtrees (none_of_first _ clear))) among) k d within
+      (All-contains (λ u. AllByRecursion (GuardsHold st u) subtrees) users user
+              (All-from_recursion _ users (none_of_users st 0 users subtrees (none_of_first _ clear))) among) k d within
 
   formed_at : (k : ℕ) → k < length subtrees → IsWellFormed st
   formed_at k within = formed (not-none subtrees k within)
 
   pub are-contained : users ≢ [] → AreContained st users subtrees
   are-contained some = record {
-    held = λ deeds by k d within. held-guarded st users (get_or subtrees k d) deeds (formed_at k within) (sub_at k d within) some (hold_at k d within) by;
+    held =
+        λ deeds by k d within.
+        held-guarded st users (get_or subtrees k d) deeds (formed_at k within) (sub_at k d within) some (hold_at k d within) by;
     still = λ deeds by.
         let again : All (λ subtree. IsSubtree (after_all st deeds) subtree × GuardsHoldForAll (after_all st deeds) users subtree) subtrees
-        = λ k d within. guarded-again st users (get_or subtrees k d) deeds (formed_at k within) (sub_at k d within) (hold_at k d within) by in
-        ap (λ found. unless_fault (first found) (all_answers (after_all st deeds) users subtrees)) (faults_none (after_all st deeds) subtrees (λ k d within. (again k d within).0))
-        ∙ ap (λ found. Ok (unwrap_or (first found) all.Contained)) (users_none (after_all st deeds) 0 users subtrees (λ user among k d within. (again k d within).1 user among));
+        =
+            λ k d within.
+            guarded-again st users (get_or subtrees k d) deeds (formed_at k within) (sub_at k d within) (hold_at k d within) by in
+        ap (λ found. unless_fault (first found) (all_answers (after_all st deeds) users subtrees))
+        (faults_none (after_all st deeds) subtrees (λ k d within. (again k d within).0))
+        ∙ ap (λ found. Ok (unwrap_or (first found) all.Contained))
+        (users_none (after_all st deeds) 0 users subtrees (λ user among k d within. (again k d within).1 user among));
     strangers = λ deeds k d within opens steps clause broken.
-        broken-of_stranger st users (get_or subtrees k d) deeds steps clause (formed_at k within) (sub_at k d within) some (hold_at k d within) opens broken;
+        broken-of_stranger st users (get_or subtrees k d) deeds steps clause (formed_at k within) (sub_at k d within) some
+        (hold_at k d within) opens broken;
   }
 
 -- where the check of the first pair has a fault, the pair takes memory
-module _ (st : State) (users : List Identity) (subtrees : List Names) (at : ℕ × ℕ) (user : Identity) (subtree : Names) (none : first (flat_map (subtree_faults st) subtrees) ≡ None) (found : IsFirstUnguarded st users subtrees (Some at))
+module _ (st : State) (users : List Identity) (subtrees : List Names) (at : ℕ × ℕ) (user : Identity) (subtree : Names)
+    (none : first (flat_map (subtree_faults st) subtrees) ≡ None) (found : IsFirstUnguarded st users subtrees (Some at))
     (one : user ≡ get_or users at.0 user) (other : subtree ≡ get_or subtrees at.1 subtree) where
   memory : all_take_memory (all_checked st users subtrees) ≡ true
   memory = pairs-memory st users subtrees _ none (sym (found.2 user subtree)) tt
 
   faultless : checked st user subtree ≡ Ok (answer st user subtree)
-  faultless = checked-answer st user subtree (sym (ap (λ path. first (subtree_faults st path)) other ∙ none-element (subtree_faults st) subtrees at.1 subtree found.1 none))
+  faultless =
+      checked-answer st user subtree
+      (sym (ap (λ path. first (subtree_faults st path)) other ∙ none-element (subtree_faults st) subtrees at.1 subtree found.1 none))
 
   of_fault : (fault : CheckFault) → Gives takes_memory (checked st user subtree) (Err fault)
       → Gives all_take_memory (all_checked st users subtrees) (Err fault)
@@ -162,4 +181,5 @@ module _ (st : State) (users : List Identity) (subtrees : List Names) (at : ℕ 
   pub err-gives : (fault : CheckFault) (result : Result AllAnswer CheckFault) → Gives takes_memory (checked st user subtree) (Err fault)
       → IsErr result × IsErrAnd result (λ found. found ≡ fault) → Gives all_take_memory (all_checked st users subtrees) result
   err-gives fault (Ok found) gives is = absurd is.1
-  err-gives fault (Err found) gives is = subst (λ f. Gives all_take_memory (all_checked st users subtrees) (Err f)) (sym is.1) (of_fault fault gives)
+  err-gives fault (Err found) gives is =
+      subst (λ f. Gives all_take_memory (all_checked st users subtrees) (Err f)) (sym is.1) (of_fault fault gives)

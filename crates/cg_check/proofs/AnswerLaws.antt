@@ -39,7 +39,8 @@ module _ (st : State) (user : Identity) (subtree : Names) (ops : List Op) (is : 
   escape-tried = find-contains (breaks st user subtree) (tries st user subtree) ops found
 
   pub escape-broken : IsHeld st (by_user user ops) subtree → ⊥
-  escape-broken held = true≢false (sym (find-passes (breaks st user subtree) (tries st user subtree) ops found) ∙ ap (λ verdict. not (is_kept verdict)) held)
+  escape-broken held =
+      true≢false (sym (find-passes (breaks st user subtree) (tries st user subtree) ops found) ∙ ap (λ verdict. not (is_kept verdict)) held)
 
 -- where a guard fails and a try is found, it is the answer
 pub escape-answer : (failed : List Failed) (found : Option (List Op)) (ops : List Op) → (failed ≡ [] → ⊥) → found ≡ Some ops
@@ -53,4 +54,6 @@ over-fails st user subtree over none = true≢false (sym (no_unless _ _ (no_part
 
 pub over-escapes : (st : State) (user : Identity) (subtree : Names) → (fits_descendants st subtree && fits_depth st subtree) ≡ false
     → answer st user subtree ≡ Escapes []
-over-escapes st user subtree over = escape-answer (failures st user subtree) (first_escape st user subtree) [] (over-fails st user subtree over) (escape-over st user subtree (ap not over))
+over-escapes st user subtree over =
+    escape-answer (failures st user subtree) (first_escape st user subtree) [] (over-fails st user subtree over)
+    (escape-over st user subtree (ap not over))

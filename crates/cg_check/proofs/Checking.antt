@@ -25,7 +25,8 @@ not_true false h = refl
 pub no_fault : (st : State) (subtree : Names) → None ≡ first (subtree_faults st subtree) → IsSubtree st subtree
 no_fault st subtree none =
     let parts = no_parts _ _ (none_of_first (subtree_faults st subtree) (sym none)) in
-    (no_unless (has_row st subtree) NoSuchSubtree parts.1, not_true (is_root subtree) (no_unless (not (is_root subtree)) RootSubtree parts.0))
+    (no_unless (has_row st subtree) NoSuchSubtree parts.1,
+      not_true (is_root subtree) (no_unless (not (is_root subtree)) RootSubtree parts.0))
 
 module _ (st : State) (user : Identity) (subtree : Names) where
   pub no_failure : None ≡ first (failures st user subtree) → GuardsHold st user subtree
@@ -39,7 +40,8 @@ module _ (st : State) (user : Identity) (subtree : Names) where
   answer-guarded is =
       elim (failures st user subtree) as (λ failed. answer_from failed (first_escape st user subtree) ≡ Contained → failed ≡ []) [
         | [] ↦ λ _. refl
-        | failed ∷ others ↦ elim (first_escape st user subtree) as (λ found. answer_from (failed ∷ others) found ≡ Contained → failed ∷ others ≡ []) [
+        | failed ∷ others ↦
+            elim (first_escape st user subtree) as (λ found. answer_from (failed ∷ others) found ≡ Contained → failed ∷ others ≡ []) [
           | None ↦ λ h. cc
           | Some ops ↦ λ h. cc
         ]
@@ -50,14 +52,18 @@ module _ (st : State) (user : Identity) (subtree : Names) where
 
   pub fails-memory : (failed : Failed) → Some failed ≡ first (failures st user subtree) → takes_memory (Ok (answer st user subtree)) ≡ true
   fails-memory failed some =
-      elim (failures st user subtree) as (λ found. Some failed ≡ first found → takes_memory (Ok (answer_from found (first_escape st user subtree))) ≡ true) [
+      elim (failures st user subtree) as
+      (λ found. Some failed ≡ first found → takes_memory (Ok (answer_from found (first_escape st user subtree))) ≡ true) [
         | [] ↦ λ h. cc
-        | x ∷ others ↦ λ _. elim (first_escape st user subtree) as (λ found. takes_memory (Ok (answer_from (x ∷ others) found)) ≡ true) [ None ↦ refl | Some ops ↦ refl ]
+        | x ∷ others ↦
+            λ _. elim (first_escape st user subtree) as (λ found. takes_memory (Ok (answer_from (x ∷ others) found)) ≡ true)
+            [ None ↦ refl | Some ops ↦ refl ]
       ] some
 
   pub unguarded-gives : (failed : Failed) (result : Result Answer CheckFault) → None ≡ first (subtree_faults st subtree)
       → Some failed ≡ first (failures st user subtree)
-      → IfOk result (λ found. found ≡ answer st user subtree) → IfErr result (λ fault. fault ≡ NoMemory) → Gives takes_memory (checked st user subtree) result
+      → IfOk result (λ found. found ≡ answer st user subtree) → IfErr result (λ fault. fault ≡ NoMemory)
+      → Gives takes_memory (checked st user subtree) result
   unguarded-gives failed (Ok found) none some ok err = checked-answer none ∙ ap Ok (sym ok)
   unguarded-gives failed (Err RootSubtree) none some ok err = cc
   unguarded-gives failed (Err NoSuchSubtree) none some ok err = cc
@@ -78,9 +84,12 @@ module _ (st : State) (user : Identity) (subtree : Names) (failed : Failed) (som
   by_escape : (found : Option (List Op)) → found ≡ first_escape st user subtree → answer_from (failed ∷ []) found ≡ answer st user subtree
   by_escape found is =
       ap (answer_from (failed ∷ [])) is
-      ∙ elim (failures st user subtree) as (λ all. first all ≡ Some failed → answer_from (failed ∷ []) (first_escape st user subtree) ≡ answer_from all (first_escape st user subtree)) [
+      ∙ elim (failures st user subtree) as (λ all. first all ≡ Some failed
+        → answer_from (failed ∷ []) (first_escape st user subtree) ≡ answer_from all (first_escape st user subtree)) [
         | [] ↦ λ h. cc
-        | other ∷ others ↦ λ h. let same : other ≡ failed = cc in elim (first_escape st user subtree) as (λ o. answer_from (failed ∷ []) o ≡ answer_from (other ∷ others) o) [ None ↦ ap Unsettled (sym same) | Some ops ↦ refl ]
+        | other ∷ others ↦ λ h. let same : other ≡ failed = cc in
+            elim (first_escape st user subtree) as (λ o. answer_from (failed ∷ []) o ≡ answer_from (other ∷ others) o)
+            [ None ↦ ap Unsettled (sym same) | Some ops ↦ refl ]
       ] some
 
   pub escapes-answer : (ops : List Op) → Some ops ≡ first_escape st user subtree → Escapes ops ≡ answer st user subtree

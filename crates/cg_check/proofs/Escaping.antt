@@ -47,7 +47,8 @@ module _ (st : State) (user : Identity) (subtree : Names) where
   of_standing guarded = by_entry (guarded_entry st subtree guarded)
     where
       by_entry : (there : Option Entry)
-          → present there (λ entry. cond (owns user entry && not (writes user entry)) (Chmod (take guarded.len subtree) guarded.name (opened entry.mode) ∷ []) [])
+          → present there (λ entry.
+            cond (owns user entry && not (writes user entry)) (Chmod (take guarded.len subtree) guarded.name (opened entry.mode) ∷ []) [])
           ≡ present (option_map (found guarded) there) (opening_chmod user subtree)
       by_entry None = refl
       by_entry (Some entry) = refl
@@ -56,12 +57,14 @@ module _ (st : State) (user : Identity) (subtree : Names) where
   abbrev pub opening_from : ℕ → List Op
   opening_from place = flat_map (opening_of st user subtree) (drop place (guarded_entries subtree))
 
-  module _ (place : ℕ) (here : Option GuardedEntry) (is : here ≡ option_and_then (standing st subtree) (slice_get (guarded_entries subtree) place)) where
+  module _ (place : ℕ) (here : Option GuardedEntry)
+      (is : here ≡ option_and_then (standing st subtree) (slice_get (guarded_entries subtree) place)) where
     opening_turn : opening_from place ≡ present here (opening_chmod user subtree) ++ opening_from (place + 1)
     opening_turn =
         ap (λ each. flat_map each (drop place (guarded_entries subtree))) (λ i guarded. of_standing guarded i)
         ∙ walk_turn st subtree (opening_chmod user subtree) (guarded_entries subtree) place here is
-        ∙ ap (λ each. present here (opening_chmod user subtree) ++ flat_map each (drop (place + 1) (guarded_entries subtree))) (λ i guarded. sym (of_standing guarded) i)
+        ∙ ap (λ each. present here (opening_chmod user subtree) ++ flat_map each (drop (place + 1) (guarded_entries subtree)))
+        (λ i guarded. sym (of_standing guarded) i)
 
   pub opening_begins : (chmods : List Op) → chmods ≡ [] → chmods ++ opening_from 0 ≡ opening st user subtree
   opening_begins chmods none = ap (λ ops. ops ++ opening st user subtree) none
@@ -81,7 +84,8 @@ module _ (st : State) (user : Identity) (subtree : Names) where
   pub opening_ends : (place : ℕ) (chmods : List Op) → length (guarded_entries subtree) ≤ place
       → chmods ++ opening_from place ≡ opening st user subtree → chmods ≡ opening st user subtree
   opening_ends place chmods all whole =
-      sym (ap (λ rest. chmods ++ flat_map (opening_of st user subtree) rest) (drop_all (guarded_entries subtree) place all) ∙ append-nil chmods)
+      sym
+      (ap (λ rest. chmods ++ flat_map (opening_of st user subtree) rest) (drop_all (guarded_entries subtree) place all) ∙ append-nil chmods)
       ∙ whole
 
 pub opened-is : (st copy new : State) (user : Identity) (subtree : Names) (chmods carried : List Op)
@@ -105,7 +109,8 @@ escape-unopened st user subtree none =
     ap (λ chmods. find (breaks st user subtree) (flat_map (with_opening chmods) (plain_tries st subtree))) none
     ∙ ap (find (breaks st user subtree)) (unopened (plain_tries st subtree))
 
-module _ (st : State) (user : Identity) (subtree : Names) (whole : IsUnbroken st subtree) (formed : IsWellFormed st) (sub : IsSubtree st subtree) where
+module _ (st : State) (user : Identity) (subtree : Names) (whole : IsUnbroken st subtree) (formed : IsWellFormed st)
+    (sub : IsSubtree st subtree) where
   module _ (new : State) (is : new ≡ opened_state st user subtree) where
     pub opened-subtree : IsSubtree new subtree
     opened-subtree = subst (λ s. IsSubtree s subtree) (sym is) (subtree-opened st user subtree sub)
@@ -117,7 +122,8 @@ module _ (st : State) (user : Identity) (subtree : Names) (whole : IsUnbroken st
         → first_escape st user subtree ≡ option_map (λ ops. unless_free (is_free st user ops) (opening st user subtree) ops) found
     escape-found found e =
         first_escape-is st user subtree whole formed sub
-        ∙ ap (option_map (λ ops. unless_free (is_free st user ops) (opening st user subtree) ops)) (sym (e ∙ ap (λ s. find (breaks s user subtree) (plain_tries s subtree)) is))
+        ∙ ap (option_map (λ ops. unless_free (is_free st user ops) (opening st user subtree) ops))
+        (sym (e ∙ ap (λ s. find (breaks s user subtree) (plain_tries s subtree)) is))
 
     pub escape-free : (ops : List Op) → Some ops ≡ find (breaks new user subtree) (plain_tries new subtree) → is_free st user ops ≡ true
         → Some ops ≡ first_escape st user subtree
@@ -138,7 +144,8 @@ pub unbroken-fits : (st : State) (subtree : Names) → IsSubtree st subtree
     → not (fits_descendants st subtree && fits_depth st subtree) ≡ false → IsUnbroken st subtree
 unbroken-fits st subtree sub fits =
     let parts = and_parts (fits_descendants st subtree) (fits_depth st subtree) (not_false _ fits) in
-    whole-broken (limits st subtree) st st subtree (record { there = sub.0; edge = none-crosses-same st subtree; limits = refl; descendants = parts.0; depth = parts.1 })
+    whole-broken (limits st subtree) st st subtree
+    (record { there = sub.0; edge = none-crosses-same st subtree; limits = refl; descendants = parts.0; depth = parts.1 })
   where
     not_false : (b : Bool) → not b ≡ false → b ≡ true
     not_false true h = refl
@@ -151,7 +158,8 @@ first_one p (op ∷ before) xs h = ap (λ b. cond b (Some []) (find p (((op ∷ 
 
 pub escape-over : (st : State) (user : Identity) (subtree : Names) → not (fits_descendants st subtree && fits_depth st subtree) ≡ true
     → first_escape st user subtree ≡ Some []
-escape-over st user subtree over = first_one (breaks st user subtree) (opening st user subtree) _ (breaks-run st user subtree [] ∙ ap (λ b. not (b && true)) broken_before)
+escape-over st user subtree over =
+    first_one (breaks st user subtree) (opening st user subtree) _ (breaks-run st user subtree [] ∙ ap (λ b. not (b && true)) broken_before)
   where
     broken_before : is_empty (broken st st st subtree) ≡ false
     broken_before = false_from_ne_true _ (λ none.

@@ -86,7 +86,8 @@ module _ (st : State) (subtrees : List Names) (j : ℕ) (e : Names) (within : j 
   users_first from (user ∷ users) zero d inside before hold fails =
       let same : from ≡ from + 0 = omega arith in
       let whole : 0 + j ≡ j = omega arith in
-      first_some _ _ _ (user_first st from 0 user subtrees j e within hold fails ∙ ap (λ n. Some (Pair from n (answer st user (get_or subtrees j e)))) whole)
+      first_some _ _ _
+      (user_first st from 0 user subtrees j e within hold fails ∙ ap (λ n. Some (Pair from n (answer st user (get_or subtrees j e)))) whole)
       ∙ ap (λ n. Some (Pair n j (answer st user (get_or subtrees j e)))) same
   users_first from (user ∷ users) (suc k) d inside before hold fails =
       let same : suc from + k ≡ from + suc k = omega arith in
@@ -109,7 +110,8 @@ IsFoundBelow st users subtrees n left (Some at) =
     × ((d : Identity) (e : Names) → is_guarded st (get_or subtrees at.1 e) (get_or users at.0 d) ≡ false)
 
 -- those left are the first users, and the guards of the first subtrees hold for them
-pub record IsBelow (st : State) (users : List Identity) (subtrees : List Names) (n : ℕ) (left : List Identity) (found : Option (ℕ × ℕ)) : Type 0 where
+pub record IsBelow (st : State) (users : List Identity) (subtrees : List Names) (n : ℕ) (left : List Identity) (found : Option (ℕ × ℕ)) :
+    Type 0 where
   pub front : left ≡ take (length left) users
   pub hold : (k : ℕ) (d : Identity) → k < length left → HoldBelow st (get_or users k d) subtrees n
   pub first : IsFoundBelow st users subtrees n (length left) found
@@ -125,7 +127,8 @@ pub below_end : (st : State) (users : List Identity) (subtrees : List Names) (n 
     → n ≤ length subtrees → length subtrees ≤ n → IsBelow st users subtrees n left found → IsFirstUnguarded st users subtrees found
 below_end st users subtrees n left None most all below =
     let whole = below.first in
-    ap first (users_clear st 0 users subtrees (λ k d within j low. below.hold k d (omega (arith, within, whole)) j (omega (arith, low, all))))
+    ap first
+    (users_clear st 0 users subtrees (λ k d within j low. below.hold k d (omega (arith, within, whole)) j (omega (arith, low, all))))
 below_end st users subtrees n left (Some at) most all below =
     let here = below.first in
     let from_none : 0 + at.0 ≡ at.0 = omega arith in
@@ -133,7 +136,8 @@ below_end st users subtrees n left (Some at) most all below =
       here.1,
       inside,
       λ d e.
-          users_first st subtrees at.1 e inside 0 users at.0 d here.1 (λ l low i within. below.hold l d (omega (arith, low, here.0)) i (omega (arith, within, all))) (here.3 d) (here.4 d e)
+          users_first st subtrees at.1 e inside 0 users at.0 d here.1
+          (λ l low i within. below.hold l d (omega (arith, low, here.0)) i (omega (arith, within, all))) (here.3 d) (here.4 d e)
           ∙ ap (λ k. Some (Pair k at.1 (answer st (get_or users at.0 d) (get_or subtrees at.1 e)))) from_none,
     )
 
@@ -161,8 +165,10 @@ all_left p before left next is same =
 
 -- ---- one subtree more
 
-module _ (st : State) (users : List Identity) (subtrees : List Names) (n : ℕ) (subtree : Names) (left next : List Identity) (found : Option (ℕ × ℕ))
-    (within : n < length subtrees) (at : subtree ≡ get_or subtrees n subtree) (is : next ≡ take_while (is_guarded st subtree) left) (below : IsBelow st users subtrees n left found) where
+module _ (st : State) (users : List Identity) (subtrees : List Names) (n : ℕ) (subtree : Names) (left next : List Identity)
+    (found : Option (ℕ × ℕ))
+    (within : n < length subtrees) (at : subtree ≡ get_or subtrees n subtree) (is : next ≡ take_while (is_guarded st subtree) left)
+    (below : IsBelow st users subtrees n left found) where
   many : length next ≡ prefix_len (is_guarded st subtree) left
   many = ap length is ∙ length-prefix_len (is_guarded st subtree) left
 
@@ -178,7 +184,8 @@ module _ (st : State) (users : List Identity) (subtrees : List Names) (n : ℕ) 
   one_more : (k : ℕ) (d : Identity) → k < length next → HoldBelow st (get_or users k d) subtrees (n + 1)
   one_more k d inside =
       below_more (HoldsAt st (get_or users k d) subtrees) n (below.hold k d (omega (arith, inside, fewer)))
-      (λ e. at_place k d e (omega (arith, inside, fewer)) ∙ prefix_len_passes (is_guarded st subtree) left k d (omega (arith, inside, many)))
+      (λ e. at_place k d e (omega (arith, inside, fewer))
+        ∙ prefix_len_passes (is_guarded st subtree) left k d (omega (arith, inside, many)))
 
   front_of_next : next ≡ take (length next) users
   front_of_next = is ∙ ap (λ n. take n left) (sym many) ∙ ap (take (length next)) below.front
@@ -188,7 +195,10 @@ module _ (st : State) (users : List Identity) (subtrees : List Names) (n : ℕ) 
   below_found other = record {
     front = front_of_next;
     hold = one_more;
-    first = (refl, inside, omega arith, λ d. below.hold (length next) d less, λ d e. at_place (length next) d e less ∙ ap (λ k. is_guarded st subtree (get_or left k d)) many ∙ prefix_len_stops (is_guarded st subtree) left d (omega (arith, less, many)));
+    first =
+        (refl, inside, omega arith, λ d. below.hold (length next) d less,
+          λ d e. at_place (length next) d e less ∙ ap (λ k. is_guarded st subtree (get_or left k d)) many
+          ∙ prefix_len_stops (is_guarded st subtree) left d (omega (arith, less, many)));
   }
     where
       less : length next < length left

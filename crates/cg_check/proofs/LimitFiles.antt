@@ -85,25 +85,31 @@ missing-none row Dir entry is = refl
 missing-none row Procs entry is = refl
 missing-none row SubtreeControl entry is = refl
 missing-none row (File file) entry is =
-    elim (file_of row file) as (λ found. option_map (λ (f : LimitEntry). f.entry) found ≡ Some entry → absent found (NoSuchFile file) ≡ []) [
+    elim (file_of row file) as
+    (λ found. option_map (λ (f : LimitEntry). f.entry) found ≡ Some entry → absent found (NoSuchFile file) ≡ []) [
       | None ↦ λ none. absurd (none-some entry none)
       | Some held ↦ λ _. refl
     ] is
 
-module _ (st : State) (user : Identity) (at : Names) (name : EntryName) (entry : Entry) (is : entry_at st at name ≡ Some entry) (owned : owns user entry ≡ true) where
+module _ (st : State) (user : Identity) (at : Names) (name : EntryName) (entry : Entry) (is : entry_at st at name ≡ Some entry)
+    (owned : owns user entry ≡ true) where
   chmod-free : (mode : ℕ) → bars st user (Chmod at name mode) ≡ []
   chmod-free mode =
       both_none _ _ (both_none _ _ row_there row_named)
       (ap (λ found. present found (λ e. unless (owns user e) (NotOwner name))) is ∙ ap (λ b. unless b (NotOwner name)) owned)
     where
       row_there : absent (row_at st at) (NoSuchCgroup (length at)) ≡ []
-      row_there = elim (row_at st at) as (λ found. option_and_then (λ row. entry_in row name) found ≡ Some entry → absent found (NoSuchCgroup (length at)) ≡ []) [
+      row_there =
+          elim (row_at st at) as
+          (λ found. option_and_then (λ row. entry_in row name) found ≡ Some entry → absent found (NoSuchCgroup (length at)) ≡ []) [
         | None ↦ λ none. absurd (none-some entry none)
         | Some row ↦ λ _. refl
       ] is
 
       row_named : present (row_at st at) (λ row. missing_bars row name) ≡ []
-      row_named = elim (row_at st at) as (λ found. option_and_then (λ row. entry_in row name) found ≡ Some entry → present found (λ row. missing_bars row name) ≡ []) [
+      row_named =
+          elim (row_at st at) as
+          (λ found. option_and_then (λ row. entry_in row name) found ≡ Some entry → present found (λ row. missing_bars row name) ≡ []) [
         | None ↦ λ none. absurd (none-some entry none)
         | Some row ↦ λ here. missing-none row name entry here
       ] is
@@ -125,14 +131,17 @@ module _ (st : State) (user : Identity) (subtree : Names) where
   IsOpen new guarded = (entry : Entry) × (guarded_entry new subtree guarded ≡ Some entry) × (writes user entry ≡ true)
 
   abbrev Opens : State → Guarded → Type 0
-  Opens new guarded = (entry : Entry) → guarded_entry st subtree guarded ≡ Some entry → owns user entry ≡ true → writes user entry ≡ false → IsOpen new guarded
+  Opens new guarded =
+      (entry : Entry) → guarded_entry st subtree guarded ≡ Some entry → owns user entry ≡ true → writes user entry ≡ false
+      → IsOpen new guarded
 
   one-opens : (new : State) → IsWider user st new → (guarded : Guarded) (entry : Entry) → guarded_entry st subtree guarded ≡ Some entry
       → owns user entry ≡ true → writes user entry ≡ false
       → IsOpen (after_all new (by_user user (opening_of st user subtree guarded))) guarded
   one-opens new wider guarded entry is owned shut =
       let this : opening_of st user subtree guarded ≡ Chmod (take guarded.len subtree) guarded.name (opened entry.mode) ∷ [] =
-      ap (λ found. present found (λ e. cond (owns user e && not (writes user e)) (Chmod (take guarded.len subtree) guarded.name (opened e.mode) ∷ []) [])) is
+      ap (λ found. present found
+              (λ e. cond (owns user e && not (writes user e)) (Chmod (take guarded.len subtree) guarded.name (opened e.mode) ∷ []) [])) is
       ∙ (λ i. cond (owned i && not (shut i)) (Chmod (take guarded.len subtree) guarded.name (opened entry.mode) ∷ []) []) in
       let kept = wider.stays (take guarded.len subtree) guarded.name entry is in
       let now = kept.owned ∙ owned in (
@@ -145,7 +154,8 @@ module _ (st : State) (user : Identity) (subtree : Names) where
   still-open : (new : State) (ops : List Op) → AllByRecursion IsOpening ops → (guarded : Guarded) → IsOpen new guarded
       → IsOpen (after_all new (by_user user ops)) guarded
   still-open new ops all guarded is =
-      let kept = (wider-all user new new ops (wider-itself user new) all).stays (take guarded.len subtree) guarded.name is.0 is.1 in (kept.now, kept.is, kept.written is.2)
+      let kept = (wider-all user new new ops (wider-itself user new) all).stays (take guarded.len subtree) guarded.name is.0 is.1 in
+      (kept.now, kept.is, kept.written is.2)
 
   all-opens : (entries : List Guarded) (new : State) → IsWider user st new
       → AllByRecursion (Opens (after_all new (by_user user (flat_map (opening_of st user subtree) entries)))) entries
@@ -154,22 +164,30 @@ module _ (st : State) (user : Identity) (subtree : Names) where
       let first = opening_of st user subtree guarded in
       let rest = flat_map (opening_of st user subtree) entries in
       let step = after_all new (by_user user first) in
-      let joined : after_all step (by_user user rest) ≡ after_all new (by_user user (first ++ rest)) = sym (after-append user new first rest) in (
-        (λ entry is owned shut. subst (λ s. IsOpen s guarded) joined (still-open step rest (all-flat_map IsOpening (opening_of st user subtree) entries (λ g. opening-of_one st user subtree g)) guarded (one-opens new wider guarded entry is owned shut))),
-        subst (λ s. AllByRecursion (Opens s) entries) joined (all-opens entries step (wider-all user st new first wider (opening-of_one st user subtree guarded))),
+      let joined : after_all step (by_user user rest) ≡ after_all new (by_user user (first ++ rest)) =
+          sym (after-append user new first rest) in (
+        (λ entry is owned shut. subst (λ s. IsOpen s guarded) joined
+          (still-open step rest (all-flat_map IsOpening (opening_of st user subtree) entries (λ g. opening-of_one st user subtree g))
+            guarded (one-opens new wider guarded entry is owned shut))),
+        subst (λ s. AllByRecursion (Opens s) entries) joined
+        (all-opens entries step (wider-all user st new first wider (opening-of_one st user subtree guarded))),
       )
 
   -- a limit file that he reaches is written in the opened tree
   file-open : (file : LimitFile) (entry : Entry) → entry_at st subtree (File file) ≡ Some entry → reaches user entry ≡ true
       → (now : Entry) × (entry_at (opened_state st user subtree) subtree (File file) ≡ Some now) × (writes user now ≡ true)
   file-open file entry is reached =
-      elim (writes user entry) as (λ b. writes user entry ≡ b → (b || owns user entry) ≡ true → (now : Entry) × (entry_at (opened_state st user subtree) subtree (File file) ≡ Some now) × (writes user now ≡ true)) [
-        | true ↦ λ can _. let kept = (wider-opened st user subtree).stays subtree (File file) entry is in (kept.now, kept.is, kept.written can)
+      elim (writes user entry) as (λ b. writes user entry ≡ b → (b || owns user entry) ≡ true
+        → (now : Entry) × (entry_at (opened_state st user subtree) subtree (File file) ≡ Some now) × (writes user now ≡ true)) [
+        | true ↦ λ can _. let kept = (wider-opened st user subtree).stays subtree (File file) entry is in
+            (kept.now, kept.is, kept.written can)
         | false ↦ λ shut owned.
             let entries = ancestors (length subtree) ++ limit_files (length subtree) in
             let opens = each_file (λ f. Opens (opened_state st user subtree) (limit_file (length subtree) f))
-            (all-unmap (Opens (opened_state st user subtree)) (limit_file (length subtree)) all_files (all-right (Opens (opened_state st user subtree)) (ancestors (length subtree)) (limit_files (length subtree))
-            (all-left (Opens (opened_state st user subtree)) entries _ (all-opens (guarded_entries subtree) st (wider-itself user st))))) file in
+            (all-unmap (Opens (opened_state st user subtree)) (limit_file (length subtree)) all_files (all-right
+            (Opens (opened_state st user subtree)) (ancestors (length subtree)) (limit_files (length subtree))
+            (all-left (Opens (opened_state st user subtree)) entries _ (all-opens (guarded_entries subtree) st (wider-itself user st)))))
+            file in
             let one = opens entry (ap (λ path. entry_at st path (File file)) (take-length subtree) ∙ is) owned shut in
             (one.0, sym (ap (λ path. entry_at (opened_state st user subtree) path (File file)) (take-length subtree)) ∙ one.1, one.2)
       ] refl reached
@@ -186,28 +204,36 @@ other-taken CpuWeight (At n) = weight-taken (nat_eq n 100)
 other-taken file Max = refl
 other-taken file (At n) = refl
 
-module _ (st : State) (user : Identity) (subtree : Names) (file : LimitFile) (held : LimitEntry) (is : file_at st subtree file ≡ Some held) (can : writes user held.entry ≡ true) where
+module _ (st : State) (user : Identity) (subtree : Names) (file : LimitFile) (held : LimitEntry) (is : file_at st subtree file ≡ Some held)
+    (can : writes user held.entry ≡ true) where
   set-free : bars st user (Set subtree file (other_value file held.value)) ≡ []
   set-free =
       both_none _ _ (both_none _ _ (both_none _ _ row_there file_there)
-      (ap (λ found. present found (λ f. unless (writes user f.entry) (NoAccess (length subtree) (File file)))) is ∙ ap (λ b. unless b (NoAccess (length subtree) (File file))) can))
-      (ap (λ found. present found (λ f. unless (accepts file (other_value file held.value)) (BadValue file))) is ∙ ap (λ b. unless b (BadValue file)) (other-taken file held.value))
+      (ap (λ found. present found (λ f. unless (writes user f.entry) (NoAccess (length subtree) (File file)))) is
+        ∙ ap (λ b. unless b (NoAccess (length subtree) (File file))) can))
+      (ap (λ found. present found (λ f. unless (accepts file (other_value file held.value)) (BadValue file))) is
+        ∙ ap (λ b. unless b (BadValue file)) (other-taken file held.value))
     where
       row_there : absent (row_at st subtree) (NoSuchCgroup (length subtree)) ≡ []
-      row_there = elim (row_at st subtree) as (λ found. option_and_then (λ row. file_of row file) found ≡ Some held → absent found (NoSuchCgroup (length subtree)) ≡ []) [
+      row_there =
+          elim (row_at st subtree) as
+          (λ found. option_and_then (λ row. file_of row file) found ≡ Some held → absent found (NoSuchCgroup (length subtree)) ≡ []) [
         | None ↦ λ none. absurd (none-some held none)
         | Some row ↦ λ _. refl
       ] is
 
       file_there : present (row_at st subtree) (λ row. absent (file_of row file) (NoSuchFile file)) ≡ []
-      file_there = elim (row_at st subtree) as (λ found. option_and_then (λ row. file_of row file) found ≡ Some held → present found (λ row. absent (file_of row file) (NoSuchFile file)) ≡ []) [
+      file_there =
+          elim (row_at st subtree) as (λ found. option_and_then (λ row. file_of row file) found ≡ Some held
+            → present found (λ row. absent (file_of row file) (NoSuchFile file)) ≡ []) [
         | None ↦ λ none. absurd (none-some held none)
         | Some row ↦ λ here. ap (λ found. absent found (NoSuchFile file)) here
       ] is
 
   set-breaks : breaks st user subtree (Set subtree file (other_value file held.value) ∷ []) ≡ true
   set-breaks =
-      elim (is_empty (broken st st st subtree)) as (λ b. is_empty (broken st st st subtree) ≡ b → breaks st user subtree (Set subtree file (other_value file held.value) ∷ []) ≡ true) [
+      elim (is_empty (broken st st st subtree)) as
+      (λ b. is_empty (broken st st st subtree) ≡ b → breaks st user subtree (Set subtree file (other_value file held.value) ∷ []) ≡ true) [
         | true ↦ λ none.
             set_try st user subtree file held.value (empty_is _ none) (value_at-file st subtree file ∙ ap (option_map (λ f. f.value)) is)
             ∙ free_allowed st user (Set subtree file (other_value file held.value)) set-free
@@ -222,14 +248,18 @@ with-opening : (P : List Op → Type 0) (before ops : List Op) → AllByRecursio
 with-opening P [] ops all = all.0
 with-opening P (op ∷ before) ops all = all.1.0
 
-module _ (st : State) (user : Identity) (subtree : Names) (file : LimitFile) (entry : Entry) (is : entry_at st subtree (File file) ≡ Some entry) (reached : reaches user entry ≡ true) where
+module _ (st : State) (user : Identity) (subtree : Names) (file : LimitFile) (entry : Entry)
+    (is : entry_at st subtree (File file) ≡ Some entry) (reached : reaches user entry ≡ true) where
   opened-set : (value : Limit) → limits st subtree file ≡ Some value
       → breaks st user subtree (opening st user subtree ++ Set subtree file (other_value file value) ∷ []) ≡ true
   opened-set value has =
       let new = opened_state st user subtree in
       let now = file-open st user subtree file entry is reached in
-      let held = mapped_from (λ (f : LimitEntry). f.entry) (file_at new subtree file) now.0 (sym (entry_at-file new subtree file) ∙ now.1) in
-      let same : Some held.0.value ≡ Some value = sym (value_at-file new subtree file ∙ ap (option_map (λ f. f.value)) held.1) ∙ (wider-opened st user subtree).values subtree file ∙ has in
+      let held =
+          mapped_from (λ (f : LimitEntry). f.entry) (file_at new subtree file) now.0 (sym (entry_at-file new subtree file) ∙ now.1) in
+      let same : Some held.0.value ≡ Some value =
+          sym (value_at-file new subtree file ∙ ap (option_map (λ f. f.value)) held.1) ∙ (wider-opened st user subtree).values subtree file
+          ∙ has in
       opened-breaks st user subtree (Set subtree file (other_value file value) ∷ [])
       ∙ ap (λ v. breaks new user subtree (Set subtree file (other_value file v) ∷ [])) (sym (same_some held.0.value value same))
       ∙ set-breaks new user subtree file held.0 held.1 (ap (writes user) held.2 ∙ now.2)
@@ -237,14 +267,23 @@ module _ (st : State) (user : Identity) (subtree : Names) (file : LimitFile) (en
   pub file-escape : first_escape st user subtree ≡ None → ⊥
   file-escape none =
       let fails : List Op → Type 0 = λ ops. breaks st user subtree ops ≡ false in
-      let plain = all-each (λ ops. AllByRecursion fails (with_opening (opening st user subtree) ops)) (λ ops. fails (opening st user subtree ++ ops)) (with-opening fails (opening st user subtree)) (plain_tries st subtree)
-      (all-unflat fails (with_opening (opening st user subtree)) (plain_tries st subtree) (none-passes (breaks st user subtree) (tries st user subtree) none)) in
+      let plain =
+          all-each (λ ops. AllByRecursion fails (with_opening (opening st user subtree) ops))
+          (λ ops. fails (opening st user subtree ++ ops)) (with-opening fails (opening st user subtree)) (plain_tries st subtree)
+      (all-unflat fails (with_opening (opening st user subtree)) (plain_tries st subtree)
+              (none-passes (breaks st user subtree) (tries st user subtree) none)) in
       let after : List Op → Type 0 = λ ops. fails (opening st user subtree ++ ops) in
-      let sets = all-left after (set_tries st subtree) (control_tries subtree) (all-left after (set_tries st subtree ++ control_tries subtree) _ plain.1) in
-      let one = each_file (λ f. AllByRecursion after (present (limits st subtree f) (λ value. (Set subtree f (other_value f value) ∷ []) ∷ []))) (all-unflat after (λ f. present (limits st subtree f) (λ value. (Set subtree f (other_value f value) ∷ []) ∷ [])) all_files sets) file in
+      let sets =
+          all-left after (set_tries st subtree) (control_tries subtree)
+          (all-left after (set_tries st subtree ++ control_tries subtree) _ plain.1) in
+      let one =
+          each_file (λ f. AllByRecursion after (present (limits st subtree f) (λ value. (Set subtree f (other_value f value) ∷ []) ∷ [])))
+          (all-unflat after (λ f. present (limits st subtree f) (λ value. (Set subtree f (other_value f value) ∷ []) ∷ [])) all_files sets)
+          file in
       let held = mapped_from (λ (f : LimitEntry). f.entry) (file_at st subtree file) entry (sym (entry_at-file st subtree file) ∙ is) in
       let has : limits st subtree file ≡ Some held.0.value = value_at-file st subtree file ∙ ap (option_map (λ f. f.value)) held.1 in
-      let this : AllByRecursion after ((Set subtree file (other_value file held.0.value) ∷ []) ∷ []) = subst (λ found. AllByRecursion after (present found (λ value. (Set subtree file (other_value file value) ∷ []) ∷ []))) has one in
+      let this : AllByRecursion after ((Set subtree file (other_value file held.0.value) ∷ []) ∷ []) =
+          subst (λ found. AllByRecursion after (present found (λ value. (Set subtree file (other_value file value) ∷ []) ∷ []))) has one in
       true≢false (sym (opened-set held.0.value has) ∙ this.0)
 
 -- ---- what that says of an answer
@@ -263,16 +302,22 @@ file-fails : (st : State) (user : Identity) (subtree : Names) (file : LimitFile)
 file-fails st user subtree file entry is reached none =
     let empty : Guarded → Type 0 = λ guarded. entry_failures st user subtree guarded ≡ [] in
     let all = each-none (entry_failures st user subtree) (guarded_entries subtree) (no_parts _ _ none).0 in
-    let files = all-right empty (ancestors (length subtree)) (limit_files (length subtree)) (all-left empty (ancestors (length subtree) ++ limit_files (length subtree)) _ all) in
+    let files =
+        all-right empty (ancestors (length subtree)) (limit_files (length subtree))
+        (all-left empty (ancestors (length subtree) ++ limit_files (length subtree)) _ all) in
     let one = each_file (λ f. empty (limit_file (length subtree) f)) (all-unmap empty (limit_file (length subtree)) all_files files) file in
-    true≢false (sym (no_unless _ _ (no_present _ _ one entry (ap (λ path. entry_at st path (File file)) (take-length subtree) ∙ is))) ∙ ap not reached)
+    true≢false
+    (sym (no_unless _ _ (no_present _ _ one entry (ap (λ path. entry_at st path (File file)) (take-length subtree) ∙ is))) ∙ ap not reached)
 
 pub file-escapes : (st : State) (user : Identity) (subtree : Names) (file : LimitFile) (entry : Entry)
     → entry_at st subtree (File file) ≡ Some entry → reaches user entry ≡ true → (ops : List Op) × (answer st user subtree ≡ Escapes ops)
 file-escapes st user subtree file entry is reached =
-    elim (first_escape st user subtree) as (λ found. first_escape st user subtree ≡ found → (ops : List Op) × (answer st user subtree ≡ Escapes ops)) [
+    elim (first_escape st user subtree) as
+    (λ found. first_escape st user subtree ≡ found → (ops : List Op) × (answer st user subtree ≡ Escapes ops)) [
       | None ↦ λ none. absurd (file-escape st user subtree file entry is reached none)
-      | Some ops ↦ λ found. (ops, escape-answer (failures st user subtree) (first_escape st user subtree) ops (file-fails st user subtree file entry is reached) found)
+      | Some ops ↦
+          λ found. (ops, escape-answer (failures st user subtree) (first_escape st user subtree) ops
+            (file-fails st user subtree file entry is reached) found)
     ] refl
 
 unsettled-by : (all : List Failed) (found : Option (List Op)) (failed : Failed) → answer_from all found ≡ Unsettled failed
@@ -291,7 +336,8 @@ module _ (st : State) (user : Identity) (subtree : Names) (none : first_escape s
   may : (guarded : Guarded) → MayBeUnsettled guarded.guard → MayAll guarded
   may guarded fine =
       all-present MayFail (guarded_entry st subtree guarded) _ (λ entry is.
-      elim (not (reaches user entry)) as (λ b. AllByRecursion MayFail (unless b (record { guard = guarded.guard; len = guarded.len }))) [ true ↦ tt | false ↦ (fine, tt) ])
+      elim (not (reaches user entry)) as (λ b. AllByRecursion MayFail (unless b (record { guard = guarded.guard; len = guarded.len })))
+      [ true ↦ tt | false ↦ (fine, tt) ])
 
   may-ancestors : (len : ℕ) → AllByRecursion MayAll (ancestors len)
   may-ancestors zero = tt
@@ -300,8 +346,11 @@ module _ (st : State) (user : Identity) (subtree : Names) (none : first_escape s
   may-file : (file : LimitFile) → MayAll (limit_file (length subtree) file)
   may-file file =
       all-present MayFail (guarded_entry st subtree (limit_file (length subtree) file)) _ (λ entry is.
-      elim (reaches user entry) as (λ b. reaches user entry ≡ b → AllByRecursion MayFail (unless (not b) (record { guard = LimitFileGuard file; len = length subtree }))) [
-        | true ↦ λ reached. absurd (file-escape st user subtree file entry (sym (ap (λ path. entry_at st path (File file)) (take-length subtree)) ∙ is) reached none)
+      elim (reaches user entry) as (λ b. reaches user entry ≡ b
+        → AllByRecursion MayFail (unless (not b) (record { guard = LimitFileGuard file; len = length subtree }))) [
+        | true ↦
+            λ reached. absurd (file-escape st user subtree file entry
+              (sym (ap (λ path. entry_at st path (File file)) (take-length subtree)) ∙ is) reached none)
         | false ↦ λ _. tt
       ] refl)
 
@@ -311,7 +360,9 @@ module _ (st : State) (user : Identity) (subtree : Names) (none : first_escape s
 
   may-over : AllByRecursion MayFail (over_failures st subtree)
   may-over =
-      elim (fits_descendants st subtree && fits_depth st subtree) as (λ b. (fits_descendants st subtree && fits_depth st subtree) ≡ b → AllByRecursion MayFail (unless b (record { guard = AlreadyOver; len = length subtree }))) [
+      elim (fits_descendants st subtree && fits_depth st subtree) as
+      (λ b. (fits_descendants st subtree && fits_depth st subtree) ≡ b
+        → AllByRecursion MayFail (unless b (record { guard = AlreadyOver; len = length subtree }))) [
         | true ↦ λ _. tt
         | false ↦ λ over. absurd (none-some [] (sym none ∙ escape-over st user subtree (ap not over)))
       ] refl

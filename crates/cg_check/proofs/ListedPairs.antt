@@ -29,9 +29,12 @@ module _ (st : State) (users : List Identity) (subtrees : List Names) where
       → flat_map (listed_at users subtrees) (pair_unless_contained place from found) ≡ listed_unless_contained user subtree found
   one_listed place from user subtree Contained at_user at_subtree = refl
   one_listed place from user subtree (Escapes ops) at_user at_subtree =
-      λ i. present (at_user i) (λ who. present (at_subtree i) (λ path. record { user = who; subtree = path; found = Escapes ops } ∷ [])) ++ []
+      λ i. present (at_user i) (λ who. present (at_subtree i) (λ path. record { user = who; subtree = path; found = Escapes ops } ∷ []))
+      ++ []
   one_listed place from user subtree (Unsettled failed) at_user at_subtree =
-      λ i. present (at_user i) (λ who. present (at_subtree i) (λ path. record { user = who; subtree = path; found = Unsettled failed } ∷ [])) ++ []
+      λ i.
+      present (at_user i) (λ who. present (at_subtree i) (λ path. record { user = who; subtree = path; found = Unsettled failed } ∷ []))
+      ++ []
 
   -- the pairs of a user with the subtrees behind a front
   of_user_listed : (place : ℕ) (user : Identity) (front rest : List Names) (from : ℕ) → slice_get users place ≡ Some user
@@ -40,7 +43,8 @@ module _ (st : State) (users : List Identity) (subtrees : List Names) where
   of_user_listed place user front [] from at_user whole count = refl
   of_user_listed place user front (subtree ∷ rest) from at_user whole count =
       let more : length (front ++ subtree ∷ []) ≡ suc from = omega (arith, length-append front (subtree ∷ []), count) in
-      flat_map-append (listed_at users subtrees) (pair_unless_contained place from (answer st user subtree)) (pairs_of st place user (suc from) rest)
+      flat_map-append (listed_at users subtrees) (pair_unless_contained place from (answer st user subtree))
+      (pairs_of st place user (suc from) rest)
       ∙ (λ i.
       one_listed place from user subtree (answer st user subtree) at_user (stands front subtree rest subtrees from whole count) i
       ++ of_user_listed place user (front ++ subtree ∷ []) rest (suc from) at_user (append_assoc front (subtree ∷ []) rest ∙ whole) more i)

@@ -65,8 +65,10 @@ same_bool false false f g = refl
 level_same : (found was : Option Cgroup) → is_some found ≡ is_some was
     → option_and_then (λ row. value_in row MaxDescendants) found ≡ option_and_then (λ row. value_in row MaxDescendants) was
     → option_and_then (λ row. value_in row MaxDepth) found ≡ option_and_then (λ row. value_in row MaxDepth) was
-    → (count depth len : ℕ) → present found (λ row. unless (is_under count row.max_descendants.value) (DescendantLimit len) ++ unless (is_under depth row.max_depth.value) (DepthLimit len))
-    ≡ present was (λ row. unless (is_under count row.max_descendants.value) (DescendantLimit len) ++ unless (is_under depth row.max_depth.value) (DepthLimit len))
+    → (count depth len : ℕ) → present found (λ row. unless (is_under count row.max_descendants.value) (DescendantLimit len)
+      ++ unless (is_under depth row.max_depth.value) (DepthLimit len))
+    ≡ present was (λ row. unless (is_under count row.max_descendants.value) (DescendantLimit len)
+      ++ unless (is_under depth row.max_depth.value) (DepthLimit len))
 level_same None None here many deep count depth len = refl
 level_same None (Some was) here many deep count depth len = absurd (true≢false (sym here))
 level_same (Some row) None here many deep count depth len = absurd (true≢false here)
@@ -80,7 +82,8 @@ child_still : (st new : State) → ((path : Names) → has_row new path ≡ has_
 child_still st new here enabled path controller h =
     let child = child_enables-row st path controller h in
     let row = some_value (row_at new child.0) (here child.0 ∙ ap is_some child.2) in
-    let same : row.0.enabled ≡ child.1.enabled = sym (enabled_at-row new child.0 row.0 row.1) ∙ enabled child.0 ∙ enabled_at-row st child.0 child.1 child.2 in
+    let same : row.0.enabled ≡ child.1.enabled =
+        sym (enabled_at-row new child.0 row.0 row.1) ∙ enabled child.0 ∙ enabled_at-row st child.0 child.1 child.2 in
     row-child_enables new path child.0 row.0 controller row.1 child.3 (ap (λ set. enables set controller) same ∙ child.4)
 
 -- an entry of a cgroup is written, where the cgroup is there
@@ -105,16 +108,19 @@ module _ (user : Identity) (st new : State) (wider : IsWider user st new) where
       → writes user (entry was) ≡ true → writes user (entry row) ≡ true
   writes-stays path name entry named was row before now can =
       let kept = wider.stays path name (entry was) (ap (option_and_then (λ r. entry_in r name)) before ∙ named was) in
-      let same : kept.now ≡ entry row = same_some kept.now (entry row) (sym kept.is ∙ ap (option_and_then (λ r. entry_in r name)) now ∙ named row) in
+      let same : kept.now ≡ entry row =
+          same_some kept.now (entry row) (sym kept.is ∙ ap (option_and_then (λ r. entry_in r name)) now ∙ named row) in
       ap (writes user) (sym same) ∙ kept.written can
 
   access-stays : (path : Names) (name : EntryName) (entry : Cgroup → Entry) → ((row : Cgroup) → entry_in row name ≡ Some (entry row))
       → (r : Refusal)
-      → present (row_at st path) (λ row. unless (writes user (entry row)) r) ≡ [] → present (row_at new path) (λ row. unless (writes user (entry row)) r) ≡ []
+      → present (row_at st path) (λ row. unless (writes user (entry row)) r) ≡ []
+      → present (row_at new path) (λ row. unless (writes user (entry row)) r) ≡ []
   access-stays path name entry named r free =
       present_none (row_at new path) (λ row. unless (writes user (entry row)) r) (λ row now.
       let was = row-was path row now in
-      unless_none _ r (writes-stays path name entry named was.0 row was.1 now (no_unless _ r (no_present (row_at st path) _ free was.0 was.1))))
+      unless_none _ r
+      (writes-stays path name entry named was.0 row was.1 now (no_unless _ r (no_present (row_at st path) _ free was.0 was.1))))
 
   -- clauses on what a cgroup enables
   enabled-stays : (path : Names) (clauses : State → ControllerSet → List Refusal)
@@ -162,8 +168,10 @@ module _ (user : Identity) (st new : State) (wider : IsWider user st new) where
       (absent-wider to (NoSuchCgroup (length to)) ∙ f1.0)
       (access-stays to Procs (λ r. r.procs) (λ _. refl) (NoAccess (length to) Procs) f1.1))
       (ap (λ found. absent found (NoSuchProcess pid)) (place_at-wider pid) ∙ f2.1))
-      (ap (λ found. present found (λ place. unless (passes new user place to) (NoAccess (length (common place to)) Procs))) (place_at-wider pid)
-      ∙ present_none (place_at st pid) _ (λ place at. unless_none _ _ (passes_at-stays (common place to) (no_unless _ _ (no_present (place_at st pid) _ f3.1 place at))))))
+      (ap (λ found. present found (λ place. unless (passes new user place to) (NoAccess (length (common place to)) Procs)))
+      (place_at-wider pid)
+      ∙ present_none (place_at st pid) _
+      (λ place at. unless_none _ _ (passes_at-stays (common place to) (no_unless _ _ (no_present (place_at st pid) _ f3.1 place at))))))
       (enabled-stays to (λ _ enabled. unless (is_root to || enables_nothing enabled) (InternalProcess (length to))) (λ _. refl) f4.1)
 
   -- ---- making and removing
@@ -173,9 +181,12 @@ module _ (user : Identity) (st new : State) (wider : IsWider user st new) where
 
   writes_above-stays : (path : Names) → writes_above st user path ≡ true → writes_above new user path ≡ true
   writes_above-stays path can =
-      elim (is_root path) as (λ b. dir_written (cond b None (row_at st (parent path))) ≡ true → dir_written (cond b None (row_at new (parent path))) ≡ true) [
+      elim (is_root path) as
+      (λ b. dir_written (cond b None (row_at st (parent path))) ≡ true → dir_written (cond b None (row_at new (parent path))) ≡ true) [
         | true ↦ λ _. refl
-        | false ↦ λ was. as_dir (row_at new (parent path)) ∙ written-stays (parent path) Dir (λ row. row.dir) (λ _. refl) (sym (as_dir (row_at st (parent path))) ∙ was)
+        | false ↦
+            λ was. as_dir (row_at new (parent path))
+            ∙ written-stays (parent path) Dir (λ row. row.dir) (λ _. refl) (sym (as_dir (row_at st (parent path))) ∙ was)
       ] can
     where
       as_dir : (found : Option Cgroup) → dir_written found ≡ written_if_there user (λ row. row.dir) found
@@ -183,12 +194,17 @@ module _ (user : Identity) (st new : State) (wider : IsWider user st new) where
       as_dir (Some row) = refl
 
   same_above : (path : Names) → is_some (row_above new path) ≡ is_some (row_above st path)
-  same_above path = elim (is_root path) as (λ b. is_some (cond b None (row_at new (parent path))) ≡ is_some (cond b None (row_at st (parent path)))) [ true ↦ refl | false ↦ wider.here (parent path) ]
+  same_above path =
+      elim (is_root path) as (λ b. is_some (cond b None (row_at new (parent path))) ≡ is_some (cond b None (row_at st (parent path))))
+      [ true ↦ refl | false ↦ wider.here (parent path) ]
 
   level-wider : (path : Names) (len : ℕ) → level_bars new path len ≡ level_bars st path len
   level-wider path len =
-      level_same (row_at new (take len path)) (row_at st (take len path)) (wider.here (take len path)) (wider.values (take len path) MaxDescendants) (wider.values (take len path) MaxDepth) (count_below new (take len path)) (length path - 1 - len) len
-      ∙ ap (λ count. present (row_at st (take len path)) (λ row. unless (is_under count row.max_descendants.value) (DescendantLimit len) ++ unless (is_under (length path - 1 - len) row.max_depth.value) (DepthLimit len)))
+      level_same (row_at new (take len path)) (row_at st (take len path)) (wider.here (take len path))
+      (wider.values (take len path) MaxDescendants) (wider.values (take len path) MaxDepth) (count_below new (take len path))
+      (length path - 1 - len) len
+      ∙ ap (λ count. present (row_at st (take len path)) (λ row. unless (is_under count row.max_descendants.value) (DescendantLimit len)
+          ++ unless (is_under (length path - 1 - len) row.max_depth.value) (DepthLimit len)))
       (count_below-same_paths st new wider.paths (take len path))
 
   limit-wider : (path : Names) (len : ℕ) → limit_bars new path len ≡ limit_bars st path len
@@ -201,10 +217,13 @@ module _ (user : Identity) (st new : State) (wider : IsWider user st new) where
       let f2 = no_parts _ _ f3.0 in
       let f1 = no_parts _ _ f2.0 in
       both_none _ _ (both_none _ _ (both_none _ _
-      (present_const (row_at new path) (Exists ∷ []) ∙ ap (λ b. cond b (Exists ∷ []) []) (wider.here path) ∙ sym (present_const (row_at st path) (Exists ∷ [])) ∙ f1.0)
-      (absent_by (row_above new path) _ ∙ ap (λ b. unless b (NoSuchCgroup (length path - 1))) (same_above path) ∙ sym (absent_by (row_above st path) _) ∙ f1.1))
+      (present_const (row_at new path) (Exists ∷ []) ∙ ap (λ b. cond b (Exists ∷ []) []) (wider.here path)
+        ∙ sym (present_const (row_at st path) (Exists ∷ [])) ∙ f1.0)
+      (absent_by (row_above new path) _ ∙ ap (λ b. unless b (NoSuchCgroup (length path - 1))) (same_above path)
+        ∙ sym (absent_by (row_above st path) _) ∙ f1.1))
       (unless_none _ _ (writes_above-stays path (no_unless _ _ f2.1))))
-      (present_const (row_above new path) (limit_bars new path (length path)) ∙ (λ i. cond (same_above path i) (limit-wider path (length path) i) [])
+      (present_const (row_above new path) (limit_bars new path (length path))
+      ∙ (λ i. cond (same_above path i) (limit-wider path (length path) i) [])
       ∙ sym (present_const (row_above st path) (limit_bars st path (length path))) ∙ f3.1)
 
   pub rmdir-stays : (path : Names) → bars st user (Rmdir path) ≡ [] → bars new user (Rmdir path) ≡ []
@@ -217,8 +236,10 @@ module _ (user : Identity) (st new : State) (wider : IsWider user st new) where
       f1.0
       (absent-wider path (NoSuchCgroup (length path)) ∙ f1.1))
       (unless_none _ _ (writes_above-stays path (no_unless _ _ f2.1))))
-      (enabled-stays path (λ s _. unless (not (has_child s path)) HasChildren) (λ _. ap (λ b. unless (not b) HasChildren) (has_child-same_paths st new wider.paths path)) f3.1))
-      (enabled-stays path (λ s _. unless (not (has_live s path)) HasProcesses) (λ _. ap (λ b. unless (not b) HasProcesses) (has_live-wider path)) f4.1)
+      (enabled-stays path (λ s _. unless (not (has_child s path)) HasChildren)
+        (λ _. ap (λ b. unless (not b) HasChildren) (has_child-same_paths st new wider.paths path)) f3.1))
+      (enabled-stays path (λ s _. unless (not (has_live s path)) HasProcesses)
+        (λ _. ap (λ b. unless (not b) HasProcesses) (has_live-wider path)) f4.1)
 
   -- ---- setting
 
@@ -233,13 +254,17 @@ module _ (user : Identity) (st new : State) (wider : IsWider user st new) where
       (present_none (row_at new at) _ (λ row now.
       let was = row-was at row now in
       absent_by (file_of row file) (NoSuchFile file)
-      ∙ unless_none _ _ (ap (λ o. is_some (option_and_then (λ r. file_of r file) o)) (sym now) ∙ same_file_there ∙ ap (λ o. is_some (option_and_then (λ r. file_of r file) o)) was.1 ∙ no_absent _ _ (no_present (row_at st at) _ f1.1 was.0 was.1)))))
+      ∙ unless_none _ _ (ap (λ o. is_some (option_and_then (λ r. file_of r file) o)) (sym now) ∙ same_file_there
+        ∙ ap (λ o. is_some (option_and_then (λ r. file_of r file) o)) was.1
+        ∙ no_absent _ _ (no_present (row_at st at) _ f1.1 was.0 was.1)))))
       (present_none (file_at new at file) _ (λ held now.
       let was = some_value (file_at st at file) (sym same_file_there ∙ ap is_some now) in
       let kept = wider.stays at (File file) was.0.entry (entry_at-file st at file ∙ ap (option_map (λ f. f.entry)) was.1) in
-      let same : kept.now ≡ held.entry = same_some kept.now held.entry (sym kept.is ∙ entry_at-file new at file ∙ ap (option_map (λ f. f.entry)) now) in
+      let same : kept.now ≡ held.entry =
+          same_some kept.now held.entry (sym kept.is ∙ entry_at-file new at file ∙ ap (option_map (λ f. f.entry)) now) in
       unless_none _ _ (ap (writes user) (sym same) ∙ kept.written (no_unless _ _ (no_present (file_at st at file) _ f2.1 was.0 was.1))))))
-      (present_const (file_at new at file) (unless (accepts file value) (BadValue file)) ∙ ap (λ b. cond b (unless (accepts file value) (BadValue file)) []) same_file_there
+      (present_const (file_at new at file) (unless (accepts file value) (BadValue file))
+      ∙ ap (λ b. cond b (unless (accepts file value) (BadValue file)) []) same_file_there
       ∙ sym (present_const (file_at st at file) (unless (accepts file value) (BadValue file))) ∙ f3.1)
     where
       same_file_there : is_some (file_at new at file) ≡ is_some (file_at st at file)
@@ -252,7 +277,8 @@ module _ (user : Identity) (st new : State) (wider : IsWider user st new) where
 
   child_enables-wider : (path : Names) (controller : Controller) → child_enables new path controller ≡ child_enables st path controller
   child_enables-wider path controller =
-      same_bool _ _ (child_still new st (λ q. sym (wider.here q)) (λ q. sym (wider.enabled q)) path controller) (child_still st new wider.here wider.enabled path controller)
+      same_bool _ _ (child_still new st (λ q. sym (wider.here q)) (λ q. sym (wider.enabled q)) path controller)
+      (child_still st new wider.here wider.enabled path controller)
 
   available-wider : (path : Names) → available_at new path ≡ available_at st path
   available-wider path = λ i. cond (is_root path) (wider.controllers i) (wider.enabled (parent path) i)
@@ -267,15 +293,19 @@ module _ (user : Identity) (st new : State) (wider : IsWider user st new) where
       (access-stays at SubtreeControl (λ row. row.subtree_control) (λ _. refl) (NoAccess (length at) SubtreeControl) f1.1))
       (present_none (row_at new at) (changes_bars new at changes) (λ row now.
       let was = row-was at row now in
-      changes-wider row was.0 (enabled-was at was.0 row was.1 now) ∙ no_present (row_at st at) (changes_bars st at changes) f2.1 was.0 was.1))
+      changes-wider row was.0 (enabled-was at was.0 row was.1 now)
+      ∙ no_present (row_at st at) (changes_bars st at changes) f2.1 was.0 was.1))
     where
       change-wider : (row was : Cgroup) → row.enabled ≡ was.enabled → (controller : Controller) (change : Option Bool)
           → change_bars new at row controller change ≡ change_bars st at was controller change
       change-wider row was same controller None = refl
-      change-wider row was same controller (Some true) = ap (λ set. unless (enables set controller) (NotAvailable controller)) (available-wider at)
-      change-wider row was same controller (Some false) = λ i. unless (not (enables (same i) controller && child_enables-wider at controller i)) (ChildUses controller)
+      change-wider row was same controller (Some true) =
+          ap (λ set. unless (enables set controller) (NotAvailable controller)) (available-wider at)
+      change-wider row was same controller (Some false) =
+          λ i. unless (not (enables (same i) controller && child_enables-wider at controller i)) (ChildUses controller)
 
       changes-wider : (row was : Cgroup) → row.enabled ≡ was.enabled → changes_bars new at changes row ≡ changes_bars st at changes was
       changes-wider row was same =
           λ i. flat_map (λ controller. change-wider row was same controller (effective changes controller) i) all_controllers
-          ++ unless (is_root at || (is_within (enabled_after (same i) changes) (same i) || not (has_live-wider at i))) (InternalProcess (length at))
+          ++ unless (is_root at || (is_within (enabled_after (same i) changes) (same i) || not (has_live-wider at i)))
+          (InternalProcess (length at))

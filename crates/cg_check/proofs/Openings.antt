@@ -48,12 +48,14 @@ unless_free false opening ops = opening ++ ops
 
 -- what holds of the chmods of entries that the user owns
 pub all-opening : (st : State) (user : Identity) (subtree : Names) (P : Op → Type 0)
-    → ((guarded : Guarded) (entry : Entry) → guarded_entry st subtree guarded ≡ Some entry → P (Chmod (take guarded.len subtree) guarded.name (opened entry.mode)))
+    → ((guarded : Guarded) (entry : Entry) → guarded_entry st subtree guarded ≡ Some entry
+      → P (Chmod (take guarded.len subtree) guarded.name (opened entry.mode)))
     → AllByRecursion P (opening st user subtree)
 all-opening st user subtree P each =
     all-flat_map P (opening_of st user subtree) (guarded_entries subtree) (λ guarded.
     all-present P (guarded_entry st subtree guarded) _ (λ entry is.
-    elim (owns user entry && not (writes user entry)) as (λ b. AllByRecursion P (cond b (Chmod (take guarded.len subtree) guarded.name (opened entry.mode) ∷ []) [])) [
+    elim (owns user entry && not (writes user entry)) as
+    (λ b. AllByRecursion P (cond b (Chmod (take guarded.len subtree) guarded.name (opened entry.mode) ∷ []) [])) [
       | true ↦ (each guarded entry is, tt)
       | false ↦ tt
     ]))
@@ -65,7 +67,8 @@ pub opening-of_one : (st : State) (user : Identity) (subtree : Names) (guarded :
     → AllByRecursion IsOpening (opening_of st user subtree guarded)
 opening-of_one st user subtree guarded =
     all-present IsOpening (guarded_entry st subtree guarded) _ (λ entry is.
-    elim (owns user entry && not (writes user entry)) as (λ b. AllByRecursion IsOpening (cond b (Chmod (take guarded.len subtree) guarded.name (opened entry.mode) ∷ []) [])) [
+    elim (owns user entry && not (writes user entry)) as
+    (λ b. AllByRecursion IsOpening (cond b (Chmod (take guarded.len subtree) guarded.name (opened entry.mode) ∷ []) [])) [
       | true ↦ (opened-bit entry.mode, tt)
       | false ↦ tt
     ])
@@ -89,13 +92,16 @@ module _ (st : State) (user : Identity) (subtree : Names) where
     where
       entry_mode : (path : Names) (guarded : Guarded) (entry : Entry) → entry_at st path guarded.name ≡ Some entry → entry.mode ≤ 511
       entry_mode path guarded entry is =
-          elim (row_at st path) as (λ found. row_at st path ≡ found → option_and_then (λ row. entry_in row guarded.name) found ≡ Some entry → entry.mode ≤ 511) [
+          elim (row_at st path) as
+          (λ found. row_at st path ≡ found → option_and_then (λ row. entry_in row guarded.name) found ≡ Some entry → entry.mode ≤ 511) [
             | None ↦ λ _ h. absurd (none-some entry h)
             | Some row ↦ λ here h. (formed.rows path row here).modes guarded.name entry h
           ] refl is
 
   pub unbroken-opened : IsUnbroken st subtree → IsUnbroken (opened_state st user subtree) subtree
-  unbroken-opened whole = unbroken-alike st (opened_state st user subtree) subtree (alike-wider user st (opened_state st user subtree) subtree wider-opened) whole
+  unbroken-opened whole =
+      unbroken-alike st (opened_state st user subtree) subtree (alike-wider user st (opened_state st user subtree) subtree wider-opened)
+      whole
 
   pub subtree-opened : IsSubtree st subtree → IsSubtree (opened_state st user subtree) subtree
   subtree-opened sub = (wider-opened.here subtree ∙ sub.0, sub.1)
@@ -113,19 +119,25 @@ module _ (user : Identity) (st new : State) (wider : IsWider user st new) (subtr
       λ i. present (find (λ number. not (wider.here (probe ancestor number) i)) (numbers_from 0 (length (wider.paths i) + 1))) (λ number.
       cond (nat_le (length (path_text (probe ancestor number))) 4095)
       (map (λ pid. Mkdir (probe ancestor number) ∷ Move pid (probe ancestor number) ∷ [])
-      (filter (λ pid. elim (option_map (λ process. process.place) (finite.get (wider.live i) pid)) [ None ↦ false | Some place ↦ inside subtree place ]) (finite.keys (wider.live i)))) [])
+      (filter (λ pid.
+          elim (option_map (λ process. process.place) (finite.get (wider.live i) pid)) [ None ↦ false | Some place ↦ inside subtree place ])
+              (finite.keys (wider.live i)))) [])
 
   same_probes : (len : ℕ) → probe_tries new subtree len ≡ probe_tries st subtree len
   same_probes zero = refl
   same_probes (suc len) = λ i. same_probes_at (take len subtree) i ++ same_probes len i
 
   same_sets : set_tries new subtree ≡ set_tries st subtree
-  same_sets = λ i. flat_map (λ file. present (wider.values subtree file i) (λ value. (Set subtree file (other_value file value) ∷ []) ∷ [])) all_files
+  same_sets =
+      λ i.
+      flat_map (λ file. present (wider.values subtree file i) (λ value. (Set subtree file (other_value file value) ∷ []) ∷ [])) all_files
 
   same_moves : move_tries new subtree ≡ move_tries st subtree
   same_moves =
       λ i. flat_map (λ pid. present (option_map (λ process. process.place) (finite.get (wider.live i) pid)) (λ place.
-      map (λ path. Move pid path ∷ []) (filter (λ path. cond (inside subtree place) (not (inside subtree path)) (inside subtree path)) (wider.paths i)))) (finite.keys (wider.live i))
+      map (λ path. Move pid path ∷ [])
+      (filter (λ path. cond (inside subtree place) (not (inside subtree path)) (inside subtree path)) (wider.paths i))))
+      (finite.keys (wider.live i))
 
   pub same_tries : plain_tries new subtree ≡ plain_tries st subtree
   same_tries = λ i. [] ∷ (same_sets i ++ control_tries subtree ++ (Rmdir subtree ∷ []) ∷ (same_moves i ++ same_probes (length subtree) i))
@@ -137,11 +149,17 @@ free_allowed st user op free = ap (λ clauses. not (is_some (first clauses))) fr
 
 module _ (user : Identity) (st new : State) (wider : IsWider user st new) where
   allowed-stays : (op : Op) → IsTried (op ∷ []) → allowed st user op ≡ true → allowed new user op ≡ true
-  allowed-stays (Move pid to) tried free = free_allowed new user (Move pid to) (move-stays user st new wider pid to (nothing_bars st user (Move pid to) free))
-  allowed-stays (Control at changes) tried free = free_allowed new user (Control at changes) (control-stays user st new wider at changes (nothing_bars st user (Control at changes) free))
-  allowed-stays (Mkdir path) tried free = free_allowed new user (Mkdir path) (mkdir-stays user st new wider path (nothing_bars st user (Mkdir path) free))
-  allowed-stays (Rmdir path) tried free = free_allowed new user (Rmdir path) (rmdir-stays user st new wider path (nothing_bars st user (Rmdir path) free))
-  allowed-stays (Set at file value) tried free = free_allowed new user (Set at file value) (set-stays user st new wider at file value (nothing_bars st user (Set at file value) free))
+  allowed-stays (Move pid to) tried free =
+      free_allowed new user (Move pid to) (move-stays user st new wider pid to (nothing_bars st user (Move pid to) free))
+  allowed-stays (Control at changes) tried free =
+      free_allowed new user (Control at changes)
+      (control-stays user st new wider at changes (nothing_bars st user (Control at changes) free))
+  allowed-stays (Mkdir path) tried free =
+      free_allowed new user (Mkdir path) (mkdir-stays user st new wider path (nothing_bars st user (Mkdir path) free))
+  allowed-stays (Rmdir path) tried free =
+      free_allowed new user (Rmdir path) (rmdir-stays user st new wider path (nothing_bars st user (Rmdir path) free))
+  allowed-stays (Set at file value) tried free =
+      free_allowed new user (Set at file value) (set-stays user st new wider at file value (nothing_bars st user (Set at file value) free))
   allowed-stays op tried free = absurd tried
 
   free-stays : (ops : List Op) → IsTried ops → is_free st user ops ≡ true → is_free new user ops ≡ true
@@ -166,7 +184,8 @@ find-doubled : (p : List Op → Bool) (before : List Op) (xs : List (List Op))
     → find p (flat_map (with_opening before) xs) ≡ option_map (λ ops. unless_free (p ops) before ops) (find (λ ops. p (before ++ ops)) xs)
 find-doubled p before [] all = refl
 find-doubled p [] (ops ∷ others) all =
-    elim (p ops) as (λ b. p ops ≡ b → cond b (Some ops) (find p (flat_map (with_opening []) others)) ≡ option_map (λ t. unless_free (p t) [] t) (cond b (Some ops) (find (λ t. p t) others))) [
+    elim (p ops) as (λ b. p ops ≡ b → cond b (Some ops) (find p (flat_map (with_opening []) others))
+      ≡ option_map (λ t. unless_free (p t) [] t) (cond b (Some ops) (find (λ t. p t) others))) [
       | true ↦ λ _. ap Some (same (p ops))
       | false ↦ λ _. find-doubled p [] others all.1
     ] refl
@@ -175,10 +194,17 @@ find-doubled p [] (ops ∷ others) all =
     same true = refl
     same false = refl
 find-doubled p (op ∷ before) (ops ∷ others) all =
-    elim (p ops) as (λ b. p ops ≡ b → cond b (Some ops) (cond (p (op ∷ (before ++ ops))) (Some (op ∷ (before ++ ops))) (find p (flat_map (with_opening (op ∷ before)) others)))
-    ≡ option_map (λ t. unless_free (p t) (op ∷ before) t) (cond (p (op ∷ (before ++ ops))) (Some ops) (find (λ t. p (op ∷ (before ++ t))) others))) [
-      | true ↦ λ e. sym (ap (λ b. option_map (λ t. unless_free (p t) (op ∷ before) t) (cond b (Some ops) (find (λ t. p (op ∷ (before ++ t))) others))) (all.0 e) ∙ ap (λ b. Some (unless_free b (op ∷ before) ops)) e)
-      | false ↦ λ e. elim (p (op ∷ (before ++ ops))) as (λ b. cond b (Some (op ∷ (before ++ ops))) (find p (flat_map (with_opening (op ∷ before)) others))
+    elim (p ops) as (λ b. p ops ≡ b → cond b (Some ops)
+    (cond (p (op ∷ (before ++ ops))) (Some (op ∷ (before ++ ops))) (find p (flat_map (with_opening (op ∷ before)) others)))
+    ≡ option_map (λ t. unless_free (p t) (op ∷ before) t)
+    (cond (p (op ∷ (before ++ ops))) (Some ops) (find (λ t. p (op ∷ (before ++ t))) others))) [
+      | true ↦
+          λ e. sym (ap
+            (λ b. option_map (λ t. unless_free (p t) (op ∷ before) t) (cond b (Some ops) (find (λ t. p (op ∷ (before ++ t))) others)))
+                        (all.0 e) ∙ ap (λ b. Some (unless_free b (op ∷ before) ops)) e)
+      | false ↦
+          λ e. elim (p (op ∷ (before ++ ops))) as (λ b. cond b (Some (op ∷ (before ++ ops)))
+          (find p (flat_map (with_opening (op ∷ before)) others))
           ≡ option_map (λ t. unless_free (p t) (op ∷ before) t) (cond b (Some ops) (find (λ t. p (op ∷ (before ++ t))) others))) [
             | true ↦ sym (ap (λ b. Some (unless_free b (op ∷ before) ops)) e)
             | false ↦ find-doubled p (op ∷ before) others all.1
@@ -201,32 +227,47 @@ plain-wider st new user subtree wider ops here there = record {
       here.exact ∙ ap (λ e. is_free st user ops && e) (sym (effect-wider user st new wider ops) ∙ parts.1) ∙ sym (with_true _ _ refl);
 }
 
-module _ (st : State) (user : Identity) (subtree : Names) (whole : IsUnbroken st subtree) (formed : IsWellFormed st) (sub : IsSubtree st subtree) where
+module _ (st : State) (user : Identity) (subtree : Names) (whole : IsUnbroken st subtree) (formed : IsWellFormed st)
+    (sub : IsSubtree st subtree) where
   all_plain : AllByRecursion (IsPlain st (opened_state st user subtree) user subtree) (plain_tries st subtree)
   all_plain =
-      all-both (IsExact st user subtree) (IsExact (opened_state st user subtree) user subtree) (IsPlain st (opened_state st user subtree) user subtree)
+      all-both (IsExact st user subtree) (IsExact (opened_state st user subtree) user subtree)
+      (IsPlain st (opened_state st user subtree) user subtree)
       (plain-wider st (opened_state st user subtree) user subtree (wider-opened st user subtree)) (plain_tries st subtree)
       (exact-plain_tries st user subtree whole formed sub)
-      (subst (AllByRecursion (IsExact (opened_state st user subtree) user subtree)) (same_tries user st (opened_state st user subtree) (wider-opened st user subtree) subtree)
-      (exact-plain_tries (opened_state st user subtree) user subtree (unbroken-opened st user subtree whole) (formed-opened st user subtree formed) (subtree-opened st user subtree sub)))
+      (subst (AllByRecursion (IsExact (opened_state st user subtree) user subtree))
+      (same_tries user st (opened_state st user subtree) (wider-opened st user subtree) subtree)
+      (exact-plain_tries (opened_state st user subtree) user subtree (unbroken-opened st user subtree whole)
+        (formed-opened st user subtree formed) (subtree-opened st user subtree sub)))
 
   abbrev found : Option (List Op)
   found = find (breaks (opened_state st user subtree) user subtree) (plain_tries st subtree)
 
-  by_free : option_map (λ ops. unless_free (breaks st user subtree ops) (opening st user subtree) ops) found ≡ option_map (λ ops. unless_free (is_free st user ops) (opening st user subtree) ops) found
+  by_free : option_map (λ ops. unless_free (breaks st user subtree ops) (opening st user subtree) ops) found
+      ≡ option_map (λ ops. unless_free (is_free st user ops) (opening st user subtree) ops) found
   by_free =
-      elim found as (λ o. found ≡ o → option_map (λ ops. unless_free (breaks st user subtree ops) (opening st user subtree) ops) o ≡ option_map (λ ops. unless_free (is_free st user ops) (opening st user subtree) ops) o) [
+      elim found as (λ o. found ≡ o → option_map (λ ops. unless_free (breaks st user subtree ops) (opening st user subtree) ops) o
+        ≡ option_map (λ ops. unless_free (is_free st user ops) (opening st user subtree) ops) o) [
         | None ↦ λ _. refl
         | Some ops ↦ λ e.
-            let plain = find-all (IsPlain st (opened_state st user subtree) user subtree) (breaks (opened_state st user subtree) user subtree) (plain_tries st subtree) all_plain ops e in
-            ap (λ b. Some (unless_free b (opening st user subtree) ops)) (plain.by_free (find-passes (breaks (opened_state st user subtree) user subtree) (plain_tries st subtree) ops e))
+            let plain =
+                find-all (IsPlain st (opened_state st user subtree) user subtree) (breaks (opened_state st user subtree) user subtree)
+                (plain_tries st subtree) all_plain ops e in
+            ap (λ b. Some (unless_free b (opening st user subtree) ops))
+            (plain.by_free (find-passes (breaks (opened_state st user subtree) user subtree) (plain_tries st subtree) ops e))
       ] refl
 
   pub first_escape-is : first_escape st user subtree
-      ≡ option_map (λ ops. unless_free (is_free st user ops) (opening st user subtree) ops) (find (breaks (opened_state st user subtree) user subtree) (plain_tries (opened_state st user subtree) subtree))
+      ≡ option_map (λ ops. unless_free (is_free st user ops) (opening st user subtree) ops)
+      (find (breaks (opened_state st user subtree) user subtree) (plain_tries (opened_state st user subtree) subtree))
   first_escape-is =
       find-doubled (breaks st user subtree) (opening st user subtree) (plain_tries st subtree)
-      (all-each (IsPlain st (opened_state st user subtree) user subtree) _ (λ ops plain h. opened-breaks st user subtree ops ∙ plain.still h) (plain_tries st subtree) all_plain)
-      ∙ ap (option_map (λ ops. unless_free (breaks st user subtree ops) (opening st user subtree) ops)) (find-same (λ ops. breaks st user subtree (opening st user subtree ++ ops)) (breaks (opened_state st user subtree) user subtree) (plain_tries st subtree) (opened-breaks st user subtree))
+      (all-each (IsPlain st (opened_state st user subtree) user subtree) _
+        (λ ops plain h. opened-breaks st user subtree ops ∙ plain.still h) (plain_tries st subtree) all_plain)
+      ∙ ap (option_map (λ ops. unless_free (breaks st user subtree ops) (opening st user subtree) ops))
+      (find-same (λ ops. breaks st user subtree (opening st user subtree ++ ops)) (breaks (opened_state st user subtree) user subtree)
+        (plain_tries st subtree) (opened-breaks st user subtree))
       ∙ by_free
-      ∙ ap (λ xs. option_map (λ ops. unless_free (is_free st user ops) (opening st user subtree) ops) (find (breaks (opened_state st user subtree) user subtree) xs)) (sym (same_tries user st (opened_state st user subtree) (wider-opened st user subtree) subtree))
+      ∙ ap (λ xs. option_map (λ ops. unless_free (is_free st user ops) (opening st user subtree) ops)
+        (find (breaks (opened_state st user subtree) user subtree) xs))
+      (sym (same_tries user st (opened_state st user subtree) (wider-opened st user subtree) subtree))

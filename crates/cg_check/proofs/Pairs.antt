@@ -31,7 +31,8 @@ pub none-element : {A R : Type 0} (f : A → List R) (xs : List A) (i : ℕ) (d 
     → first (f (get_or xs i d)) ≡ None
 none-element f [] i d within none = absurd (omega (arith, within))
 none-element f (x ∷ xs) zero d within none = ap first (no_parts (f x) (flat_map f xs) (none_of_first _ none)).0
-none-element f (x ∷ xs) (suc i) d within none = none-element f xs i d (omega (arith, within)) (ap first (no_parts (f x) (flat_map f xs) (none_of_first _ none)).1)
+none-element f (x ∷ xs) (suc i) d within none =
+    none-element f xs i d (omega (arith, within)) (ap first (no_parts (f x) (flat_map f xs) (none_of_first _ none)).1)
 
 pub some_length : {A : Type 0} (xs : List A) → xs ≢ [] → 0 < length xs
 some_length [] h = absurd (h refl)
@@ -52,4 +53,5 @@ pair-some place from (Unsettled failed) h = refl
 pub subtree_at : (st : State) (subtrees : List Names) (i : ℕ) (subtree : Names) → i < length subtrees → subtree ≡ get_or subtrees i subtree
     → first (flat_map (subtree_faults st) subtrees) ≡ None → IsSubtree st subtree
 subtree_at st subtrees i subtree within at none =
-    no_fault st subtree (sym (ap (λ path. first (subtree_faults st path)) at ∙ none-element (subtree_faults st) subtrees i subtree within none))
+    no_fault st subtree
+    (sym (ap (λ path. first (subtree_faults st path)) at ∙ none-element (subtree_faults st) subtrees i subtree within none))

@@ -53,7 +53,8 @@ parent-append path name =
     let e : length (path ++ name ∷ []) - 1 ≡ length path = omega (arith, length-append path (name ∷ [])) in
     ap (λ len. take len (path ++ name ∷ [])) e ∙ take-append_seam path (name ∷ [])
 
-module _ (st : State) (user : Identity) (subtree : Names) (whole : IsUnbroken st subtree) (formed : IsWellFormed st) (sub : IsSubtree st subtree) where
+module _ (st : State) (user : Identity) (subtree : Names) (whole : IsUnbroken st subtree) (formed : IsWellFormed st)
+    (sub : IsSubtree st subtree) where
   abbrev Exact : List Op → Type 0
   Exact ops = IsExact st user subtree ops
 
@@ -70,19 +71,23 @@ module _ (st : State) (user : Identity) (subtree : Names) (whole : IsUnbroken st
   exact-control on controller = record { exact = control_try st user subtree on controller whole formed sub; tried = tt }
 
   exact-controls : AllByRecursion Exact (control_tries subtree)
-  exact-controls = (exact-control false Cpu, (exact-control true Cpu, (exact-control false Memory, (exact-control true Memory, (exact-control false Pids, (exact-control true Pids, tt))))))
+  exact-controls =
+      (exact-control false Cpu, (exact-control true Cpu,
+          (exact-control false Memory, (exact-control true Memory, (exact-control false Pids, (exact-control true Pids, tt))))))
 
   exact-moves : AllByRecursion Exact (move_tries st subtree)
   exact-moves =
       all-flat_map Exact _ (pids_of st) (λ pid.
       all-present Exact (place_at st pid) (λ place. map (λ path. Move pid path ∷ []) (across st subtree place)) (λ place at.
-      all-map_filter Exact (λ path. Move pid path ∷ []) (λ path. cond (inside subtree place) (not (inside subtree path)) (inside subtree path)) (paths_of st) (λ path over.
+      all-map_filter Exact (λ path. Move pid path ∷ [])
+      (λ path. cond (inside subtree place) (not (inside subtree path)) (inside subtree path)) (paths_of st) (λ path over.
       record { exact = with_true _ _ (move_try st user subtree pid place path whole at over); tried = tt })))
 
   is_inside-place : (pid : ℕ) → is_inside st subtree pid ≡ true
       → (place : Names) × (place_at st pid ≡ Some place) × (inside subtree place ≡ true)
   is_inside-place pid is =
-      elim (place_at st pid) as (λ found. elim found as (λ _. Bool) [ None ↦ false | Some place ↦ inside subtree place ] ≡ true → (place : Names) × (found ≡ Some place) × (inside subtree place ≡ true)) [
+      elim (place_at st pid) as (λ found. elim found as (λ _. Bool) [ None ↦ false | Some place ↦ inside subtree place ] ≡ true
+        → (place : Names) × (found ≡ Some place) × (inside subtree place ≡ true)) [
         | None ↦ λ h. absurd (true≢false (sym h))
         | Some place ↦ λ h. (place, refl, h)
       ] is
@@ -95,33 +100,46 @@ module _ (st : State) (user : Identity) (subtree : Names) (whole : IsUnbroken st
       → is_inside st subtree pid ≡ true
       → Exact (Mkdir (probe (take len subtree) number) ∷ Move pid (probe (take len subtree) number) ∷ [])
   exact-probe len within number first pid is =
-      let free = not-false _ (find-passes (λ n. not (has_row st (probe (take len subtree) n))) (numbers_from 0 (length (paths_of st) + 1)) number first) in
+      let free =
+          not-false _
+          (find-passes (λ n. not (has_row st (probe (take len subtree) n))) (numbers_from 0 (length (paths_of st) + 1)) number first) in
       let place = is_inside-place pid is in
       record {
         exact =
-            with_true _ _ (probe_try st user subtree len (codes "probe" ++ decimal number) pid place.0 whole formed sub.0 within free place.1 place.2
-            ∙ ap (λ path. allowed st user (Mkdir (probe (take len subtree) number)) && passes_at st user path) (sym (parent-append (take len subtree) (codes "probe" ++ decimal number))));
+            with_true _ _ (probe_try st user subtree len (codes "probe" ++ decimal number) pid place.0 whole formed sub.0 within free
+            place.1 place.2
+            ∙ ap (λ path. allowed st user (Mkdir (probe (take len subtree) number)) && passes_at st user path)
+            (sym (parent-append (take len subtree) (codes "probe" ++ decimal number))));
         tried = tt;
       }
 
   exact-probes_at : (len : ℕ) → len < length subtree → AllByRecursion Exact (probe_tries_at st subtree (take len subtree))
   exact-probes_at len within =
       all-present Exact (free_probe st (take len subtree)) _ (λ number first.
-      elim (nat_le (length (path_text (probe (take len subtree) number))) 4095) as (λ short. AllByRecursion Exact (cond short (map (λ pid. Mkdir (probe (take len subtree) number) ∷ Move pid (probe (take len subtree) number) ∷ []) (filter (is_inside st subtree) (pids_of st))) [])) [
-        | true ↦ all-map_filter Exact (λ pid. Mkdir (probe (take len subtree) number) ∷ Move pid (probe (take len subtree) number) ∷ []) (is_inside st subtree) (pids_of st) (exact-probe len within number first)
+      elim (nat_le (length (path_text (probe (take len subtree) number))) 4095) as
+      (λ short. AllByRecursion Exact (cond short (map
+            (λ pid. Mkdir (probe (take len subtree) number) ∷ Move pid (probe (take len subtree) number) ∷ [])
+                      (filter (is_inside st subtree) (pids_of st))) [])) [
+        | true ↦
+            all-map_filter Exact (λ pid. Mkdir (probe (take len subtree) number) ∷ Move pid (probe (take len subtree) number) ∷ [])
+            (is_inside st subtree) (pids_of st) (exact-probe len within number first)
         | false ↦ tt
       ])
 
   exact-probes : (len : ℕ) → len ≤ length subtree → AllByRecursion Exact (probe_tries st subtree len)
   exact-probes zero within = tt
-  exact-probes (suc len) within = all-append Exact (probe_tries_at st subtree (take len subtree)) (probe_tries st subtree len) (exact-probes_at len (omega (arith, within))) (exact-probes len (omega (arith, within)))
+  exact-probes (suc len) within =
+      all-append Exact (probe_tries_at st subtree (take len subtree)) (probe_tries st subtree len)
+      (exact-probes_at len (omega (arith, within))) (exact-probes len (omega (arith, within)))
 
   pub exact-plain_tries : AllByRecursion Exact (plain_tries st subtree)
   exact-plain_tries = (
     exact-empty,
-    all-append Exact (set_tries st subtree ++ control_tries subtree) ((Rmdir subtree ∷ []) ∷ (move_tries st subtree ++ probe_tries st subtree (length subtree)))
+    all-append Exact (set_tries st subtree ++ control_tries subtree)
+    ((Rmdir subtree ∷ []) ∷ (move_tries st subtree ++ probe_tries st subtree (length subtree)))
         (all-append Exact (set_tries st subtree) (control_tries subtree) exact-sets exact-controls) (
           record { exact = with_true _ _ (rmdir_try st user subtree whole); tried = tt },
-          all-append Exact (move_tries st subtree) (probe_tries st subtree (length subtree)) exact-moves (exact-probes (length subtree) (omega arith)),
+          all-append Exact (move_tries st subtree) (probe_tries st subtree (length subtree)) exact-moves
+          (exact-probes (length subtree) (omega arith)),
         ),
   )

@@ -69,14 +69,16 @@ pub writes-bit : (user : Identity) (entry : Entry) (mode : ℕ) → has_bit mode
 unfolding writes
 writes-bit user entry mode bit owned = rw owned bit
 
-module _ (user : Identity) (st new : State) (wider : IsWider user st new) (at : Names) (name : EntryName) (mode : ℕ) (bit : has_bit mode 128 ≡ true) where
+module _ (user : Identity) (st new : State) (wider : IsWider user st new) (at : Names) (name : EntryName) (mode : ℕ)
+    (bit : has_bit mode 128 ≡ true) where
   stays-free : bars new user (Chmod at name mode) ≡ [] → (path : Names) (other : EntryName) (entry : Entry)
       → Stays user entry (entry_at new path other) → (same : Bool) → (same_path at path && same_entry name other) ≡ same
       → Stays user entry (cond same (option_map (with_mode_of mode) (entry_at new path other)) (entry_at new path other))
   stays-free free path other entry kept false is = kept
   stays-free free path other entry kept true is =
       let same = and_parts (same_path at path) (same_entry name other) is in
-      let found : entry_at new at name ≡ Some kept.now = (λ i. entry_at new (same_path-is at path same.0 i) (same_entry-true name other same.1 i)) ∙ kept.is in
+      let found : entry_at new at name ≡ Some kept.now =
+          (λ i. entry_at new (same_path-is at path same.0 i) (same_entry-true name other same.1 i)) ∙ kept.is in
       let owned = no_unless _ _ (no_present (entry_at new at name) _ (no_parts _ _ free).1 kept.now found) in
       record {
         now = with_mode_of mode kept.now;
@@ -90,13 +92,16 @@ module _ (user : Identity) (st new : State) (wider : IsWider user st new) (at : 
     live = after-by new user (Chmod at name mode) (λ s. s.live ≡ st.live) (λ _. wider.live) wider.live;
     used = after-by new user (Chmod at name mode) (λ s. s.used ≡ st.used) (λ _. wider.used) wider.used;
     controllers = after-by new user (Chmod at name mode) (λ s. s.controllers ≡ st.controllers) (λ _. wider.controllers) wider.controllers;
-    paths = after-by new user (Chmod at name mode) (λ s. paths_of s ≡ paths_of st) (λ _. paths_of-with_mode new at name mode ∙ wider.paths) wider.paths;
+    paths =
+        after-by new user (Chmod at name mode) (λ s. paths_of s ≡ paths_of st) (λ _. paths_of-with_mode new at name mode ∙ wider.paths)
+        wider.paths;
     here = λ path. has_row-after new user (Chmod at name mode) path refl ∙ wider.here path;
     values = λ path file. value_at-after new user (Chmod at name mode) path file refl ∙ wider.values path file;
     enabled = λ path. enabled_at-after new user (Chmod at name mode) path refl ∙ wider.enabled path;
     stays = λ path other entry is.
         after-by new user (Chmod at name mode) (λ s. Stays user entry (entry_at s path other))
-        (λ free. subst (Stays user entry) (sym (entry_at-with_mode new at name mode path other)) (stays-free free path other entry (wider.stays path other entry is) (same_path at path && same_entry name other) refl))
+        (λ free. subst (Stays user entry) (sym (entry_at-with_mode new at name mode path other))
+          (stays-free free path other entry (wider.stays path other entry is) (same_path at path && same_entry name other) refl))
         (wider.stays path other entry is);
   }
 
@@ -123,5 +128,6 @@ pub breaks-opening : (st : State) (user : Identity) (subtree : Names) (chmods op
     → breaks st user subtree (chmods ++ ops) ≡ breaks (after_all st (by_user user chmods)) user subtree ops
 breaks-opening st user subtree [] ops all = refl
 breaks-opening st user subtree (op ∷ chmods) ops all =
-    breaks-alike_first st user subtree op (alike-wider user st (after st user op) subtree (wider-step user st st op (wider-itself user st) all.0)) (chmods ++ ops)
+    breaks-alike_first st user subtree op
+    (alike-wider user st (after st user op) subtree (wider-step user st st op (wider-itself user st) all.0)) (chmods ++ ops)
     ∙ breaks-opening (after st user op) user subtree chmods ops all.1

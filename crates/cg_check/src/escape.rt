@@ -10,7 +10,6 @@ ghost use Rattle.cg_check.specs.Opened.{is_free};
 ghost use Rattle.cg_cgroup.specs.Paths.{is_root, parent};
 ghost use Rattle.cg_ops.specs.Moves.{passes_at};
 
-use crate::copies::copied;
 use crate::opening::opening;
 use cg_cgroup::memory::NoMemory;
 use cg_cgroup::path::Path;
@@ -52,7 +51,7 @@ fn first_unbroken_escape<H: Hierarchy + Drop>(
     requires unbroken { IsUnbroken (H.state tree.now) subtree.now }
     ensures { IfOk result (λ found. found ≡ first_escape (H.state tree.now) user.now subtree.now) }
 {
-    let opening = opening(alloc, tree, user, subtree)?;
+    let mut opening = opening(alloc, tree, user, subtree)?;
     if opening.as_slice().is_empty() {
         return first_plain_try(alloc, tree, user, subtree);
     }
@@ -64,7 +63,8 @@ fn first_unbroken_escape<H: Hierarchy + Drop>(
     if is_free(tree, user, found.as_slice()) {
         return Ok(Some(found));
     }
-    Ok(Some(joined(alloc, opening, found.as_slice())?))
+    opening.append(found)?;
+    Ok(Some(opening))
 }
 
 /// Carries operations of a user out, one after another.
@@ -107,14 +107,4 @@ fn passes_above<H: Hierarchy>(tree: &H, user: &User, path: &Path) -> bool
         Some(cgroup) => user.may_write(&cgroup.procs),
         None => true,
     }
-}
-
-/// Operations with equal ones after them.
-fn joined(alloc: Global, mut front: Operations, ops: &[Op]) -> Result<Operations, NoMemory>
-    ensures { IfOk result (λ all. all ≡ front ++ ops.now) }
-{
-    for op in ops {
-        front.push(copied(alloc, op)?)?;
-    }
-    Ok(front)
 }

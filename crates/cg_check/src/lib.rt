@@ -15,7 +15,6 @@ ghost use Rattle.cg_model.specs.Several.{AreContained};
 ghost use Rattle.cg_guards.specs.Reach.{AreCovered};
 ghost use Rattle.cg_check.specs.Listed.{is_guarded_of_all};
 
-mod copies;
 mod escape;
 pub mod laws;
 mod opening;

@@ -49,17 +49,22 @@ use Rattle.cg_escapes.specs.EscapeLines.{IsNamed, HasLine, HaveLines}
 
 -- ---- lists
 
-all-in : {K : Type 0} (eq : K → K → Bool) (P : K → Type 0) (xs : List K) → ((x : K) → eq x x ≡ true) → ((x : K) → list_any (eq x) xs ≡ true → P x) → AllByRecursion P xs
+all-in : {K : Type 0} (eq : K → K → Bool) (P : K → Type 0) (xs : List K) → ((x : K) → eq x x ≡ true)
+    → ((x : K) → list_any (eq x) xs ≡ true → P x) → AllByRecursion P xs
 all-in eq P [] same each = tt
 all-in eq P (x ∷ xs) same each =
-    (each x (ap (λ b. b || list_any (eq x) xs) (same x)), all-in eq P xs same (λ y is. each y (ap (λ b. eq y x || b) is ∙ or-true (eq y x))))
+    (each x (ap (λ b. b || list_any (eq x) xs) (same x)),
+      all-in eq P xs same (λ y is. each y (ap (λ b. eq y x || b) is ∙ or-true (eq y x))))
 
 -- what holds of each key of a map that is there
-all-keys : {K X : Type 0} {R : K → K → Ordering} → IsTotalOrder R → (m : finite.FinMap R X) (P : K → Type 0) → ((k : K) → is_some (finite.get m k) ≡ true → P k) → AllByRecursion P (finite.keys m)
+all-keys : {K X : Type 0} {R : K → K → Ordering} → IsTotalOrder R → (m : finite.FinMap R X) (P : K → Type 0)
+    → ((k : K) → is_some (finite.get m k) ≡ true → P k) → AllByRecursion P (finite.keys m)
 all-keys {R = R} o m P each =
-    all-in (eq_by_cmp R) P (finite.keys m) (λ k. ap is_eq (tied_itself o k)) (λ k is. each k (ap is_some (finite.get-entries m k) ∙ is_some-find R k (finite.entries m) ∙ is))
+    all-in (eq_by_cmp R) P (finite.keys m) (λ k. ap is_eq (tied_itself o k))
+    (λ k is. each k (ap is_some (finite.get-entries m k) ∙ is_some-find R k (finite.entries m) ∙ is))
 
-all-map_filter_by : {A B : Type 0} (P : B → Type 0) (Q : A → Type 0) (g : A → B) (test : A → Bool) → ((x : A) → Q x → P (g x)) → (xs : List A) → AllByRecursion Q xs → AllByRecursion P (map g (filter test xs))
+all-map_filter_by : {A B : Type 0} (P : B → Type 0) (Q : A → Type 0) (g : A → B) (test : A → Bool) → ((x : A) → Q x → P (g x))
+    → (xs : List A) → AllByRecursion Q xs → AllByRecursion P (map g (filter test xs))
 all-map_filter_by P Q g test each [] all = tt
 all-map_filter_by P Q g test each (x ∷ xs) all =
     elim (test x) as (λ b. AllByRecursion P (map g (cond b (x ∷ filter test xs) (filter test xs)))) [
@@ -87,7 +92,8 @@ AreWritten ops = AllByRecursion IsWritten ops × (length ops ≤ 2)
 
 other_held : (file : LimitFile) (value : Limit) → IsLimitInRange (other_value file value)
 other_held CpuWeight Max = omega arith
-other_held CpuWeight (At value) = elim (nat_eq value 100) as (λ b. IsLimitInRange (cond b (At 1) (At 100))) [ true ↦ omega arith | false ↦ omega arith ]
+other_held CpuWeight (At value) =
+    elim (nat_eq value 100) as (λ b. IsLimitInRange (cond b (At 1) (At 100))) [ true ↦ omega arith | false ↦ omega arith ]
 other_held file Max = omega arith
 other_held file (At value) = tt
 
@@ -115,16 +121,20 @@ module _ (st : State) (user : Identity) (subtree : Names) (formed : IsWellFormed
   written-control on controller = (((IsPath-take subtree (length subtree - 1) path, omega arith), tt), omega arith)
 
   written-controls : AllByRecursion AreWritten (control_tries subtree)
-  written-controls = (written-control false Cpu, (written-control true Cpu, (written-control false Memory, (written-control true Memory, (written-control false Pids, (written-control true Pids, tt))))))
+  written-controls =
+      (written-control false Cpu, (written-control true Cpu,
+          (written-control false Memory, (written-control true Memory, (written-control false Pids, (written-control true Pids, tt))))))
 
   written-moves : AllByRecursion AreWritten (move_tries st subtree)
   written-moves =
       all_flat AreWritten (λ (pid : ℕ). is_pid pid ≡ true) _ (λ pid is_one.
       all-present AreWritten (place_at st pid) (λ place. map (λ path. Move pid path ∷ []) (across st subtree place)) (λ place at.
-      all-map_filter_by AreWritten IsPath (λ path. Move pid path ∷ []) (λ path. cond (inside subtree place) (not (inside subtree path)) (inside subtree path)) (λ path is.
+      all-map_filter_by AreWritten IsPath (λ path. Move pid path ∷ [])
+      (λ path. cond (inside subtree place) (not (inside subtree path)) (inside subtree path)) (λ path is.
       ((((is_one, is), tt), tt), omega arith)) (paths_of st) all-paths)) (pids_of st) all-pids
 
-  probe_path : (len number : ℕ) → nat_le (length (path_text (probe (take len subtree) number))) 4095 ≡ true → IsPath (probe (take len subtree) number)
+  probe_path : (len number : ℕ) → nat_le (length (path_text (probe (take len subtree) number))) 4095 ≡ true
+      → IsPath (probe (take len subtree) number)
   probe_path len number short =
       let name = codes "probe" ++ decimal number in
       let le = leb-true (length (path_text (probe (take len subtree) number))) 4095 short in
@@ -135,39 +145,52 @@ module _ (st : State) (user : Identity) (subtree : Names) (formed : IsWellFormed
   written-probes_at : (len : ℕ) → AllByRecursion AreWritten (probe_tries_at st subtree (take len subtree))
   written-probes_at len =
       all-present AreWritten (free_probe st (take len subtree)) _ (λ number first.
-      elim (nat_le (length (path_text (probe (take len subtree) number))) 4095) as (λ short. nat_le (length (path_text (probe (take len subtree) number))) 4095 ≡ short → AllByRecursion AreWritten (cond short (map (λ pid. Mkdir (probe (take len subtree) number) ∷ Move pid (probe (take len subtree) number) ∷ []) (filter (is_inside st subtree) (pids_of st))) [])) [
+      elim (nat_le (length (path_text (probe (take len subtree) number))) 4095) as
+      (λ short. nat_le (length (path_text (probe (take len subtree) number))) 4095 ≡ short
+        → AllByRecursion AreWritten (cond short (map
+            (λ pid. Mkdir (probe (take len subtree) number) ∷ Move pid (probe (take len subtree) number) ∷ [])
+                      (filter (is_inside st subtree) (pids_of st))) [])) [
         | true ↦ λ short.
             let is = probe_path len number short in
-            all-map_filter_by AreWritten (λ (pid : ℕ). is_pid pid ≡ true) (λ pid. Mkdir (probe (take len subtree) number) ∷ Move pid (probe (take len subtree) number) ∷ []) (is_inside st subtree) (λ pid is_one.
+            all-map_filter_by AreWritten (λ (pid : ℕ). is_pid pid ≡ true)
+            (λ pid. Mkdir (probe (take len subtree) number) ∷ Move pid (probe (take len subtree) number) ∷ []) (is_inside st subtree) (λ pid
+            is_one.
             (((is, tt), (((is_one, is), tt), tt)), omega arith)) (pids_of st) all-pids
         | false ↦ λ _. tt
       ] refl)
 
   written-probes : (len : ℕ) → AllByRecursion AreWritten (probe_tries st subtree len)
   written-probes zero = tt
-  written-probes (suc len) = all-append AreWritten (probe_tries_at st subtree (take len subtree)) (probe_tries st subtree len) (written-probes_at len) (written-probes len)
+  written-probes (suc len) =
+      all-append AreWritten (probe_tries_at st subtree (take len subtree)) (probe_tries st subtree len) (written-probes_at len)
+      (written-probes len)
 
   written-plain : AllByRecursion AreWritten (plain_tries st subtree)
   written-plain = (
     (tt, omega arith),
-    all-append AreWritten (set_tries st subtree ++ control_tries subtree) ((Rmdir subtree ∷ []) ∷ (move_tries st subtree ++ probe_tries st subtree (length subtree)))
+    all-append AreWritten (set_tries st subtree ++ control_tries subtree)
+    ((Rmdir subtree ∷ []) ∷ (move_tries st subtree ++ probe_tries st subtree (length subtree)))
         (all-append AreWritten (set_tries st subtree) (control_tries subtree) written-sets written-controls) (
           (((path, tt), tt), omega arith),
-          all-append AreWritten (move_tries st subtree) (probe_tries st subtree (length subtree)) written-moves (written-probes (length subtree)),
+          all-append AreWritten (move_tries st subtree) (probe_tries st subtree (length subtree)) written-moves
+          (written-probes (length subtree)),
         ),
   )
 
   -- ---- the opening
 
-  entry_mode : (at : Names) (name : EntryName) (entry : Entry) (found : Option Cgroup) → row_at st at ≡ found → option_and_then (λ row. entry_in row name) found ≡ Some entry → entry.mode ≤ 511
+  entry_mode : (at : Names) (name : EntryName) (entry : Entry) (found : Option Cgroup) → row_at st at ≡ found
+      → option_and_then (λ row. entry_in row name) found ≡ Some entry → entry.mode ≤ 511
   entry_mode at name entry None is held = cc
   entry_mode at name entry (Some row) is held = (formed.rows at row is).modes name entry held
 
   written-opening_of : (guarded : Guarded) → AllByRecursion IsWritten (opening_of st user subtree guarded)
   written-opening_of guarded =
       all-present IsWritten (guarded_entry st subtree guarded) _ (λ entry is.
-      let fits = opened-le entry.mode (entry_mode (take guarded.len subtree) guarded.name entry (row_at st (take guarded.len subtree)) refl is) in
-      elim (owns user entry && not (writes user entry)) as (λ b. AllByRecursion IsWritten (cond b (Chmod (take guarded.len subtree) guarded.name (opened entry.mode) ∷ []) [])) [
+      let fits =
+          opened-le entry.mode (entry_mode (take guarded.len subtree) guarded.name entry (row_at st (take guarded.len subtree)) refl is) in
+      elim (owns user entry && not (writes user entry)) as
+      (λ b. AllByRecursion IsWritten (cond b (Chmod (take guarded.len subtree) guarded.name (opened entry.mode) ∷ []) [])) [
         | true ↦ (((IsPath-take subtree guarded.len path, le-leb (opened entry.mode) 511 fits), tt), tt)
         | false ↦ tt
       ])
@@ -177,9 +200,15 @@ module _ (st : State) (user : Identity) (subtree : Names) (formed : IsWellFormed
 
   short-opening_of : (guarded : Guarded) → length (opening_of st user subtree guarded) ≤ 1
   short-opening_of guarded =
-      elim (guarded_entry st subtree guarded) as (λ (found : Option Entry). length (present found (λ entry. cond (owns user entry && not (writes user entry)) (Chmod (take guarded.len subtree) guarded.name (opened entry.mode) ∷ []) [])) ≤ 1) [
+      elim (guarded_entry st subtree guarded) as (λ (found : Option Entry).
+        length (present found (λ entry.
+            cond (owns user entry && not (writes user entry)) (Chmod (take guarded.len subtree) guarded.name (opened entry.mode) ∷ []) []))
+        ≤ 1) [
         | None ↦ omega arith
-        | Some entry ↦ elim (owns user entry && not (writes user entry)) as (λ b. length (cond b (Chmod (take guarded.len subtree) guarded.name (opened entry.mode) ∷ []) []) ≤ 1) [ true ↦ omega arith | false ↦ omega arith ]
+        | Some entry ↦
+            elim (owns user entry && not (writes user entry)) as
+            (λ b. length (cond b (Chmod (take guarded.len subtree) guarded.name (opened entry.mode) ∷ []) []) ≤ 1)
+            [ true ↦ omega arith | false ↦ omega arith ]
       ]
 
   length-ancestors : (len : ℕ) → length (ancestors len) ≡ len
@@ -189,14 +218,17 @@ module _ (st : State) (user : Identity) (subtree : Names) (formed : IsWellFormed
   -- each name of a path takes a byte
   short-names : (names : Names) → length names ≤ length (names_text names)
   short-names [] = omega arith
-  short-names (name ∷ names) = let rest = short-names names in let l = length-append (47 ∷ name) (names_text names) in omega (arith, rest, l)
+  short-names (name ∷ names) =
+      let rest = short-names names in let l = length-append (47 ∷ name) (names_text names) in omega (arith, rest, l)
 
   short-opening : length (opening st user subtree) ≤ 5000
   short-opening =
       let fewer = flat_map-short (opening_of st user subtree) short-opening_of (guarded_entries subtree) in
       let names = short-names subtree in
       let bytes = path_bytes subtree path in
-      let files : length (ancestors (length subtree) ++ limit_files (length subtree)) ≡ length (ancestors (length subtree)) + length (limit_files (length subtree)) = length-append (ancestors (length subtree)) (limit_files (length subtree)) in
+      let files : length (ancestors (length subtree) ++ limit_files (length subtree))
+          ≡ length (ancestors (length subtree)) + length (limit_files (length subtree)) =
+          length-append (ancestors (length subtree)) (limit_files (length subtree)) in
       let all : length (guarded_entries subtree) ≡ length (ancestors (length subtree) ++ limit_files (length subtree)) + 2 =
       length-append (ancestors (length subtree) ++ limit_files (length subtree)) (parent_control subtree ∷ parent_dir subtree ∷ []) in
       let front = length-ancestors (length subtree) in
@@ -208,16 +240,20 @@ module _ (st : State) (user : Identity) (subtree : Names) (formed : IsWellFormed
   lines_of : (ops : List Op) → AllByRecursion IsWritten ops → AllByRecursion HasLine ops
   lines_of ops all = all-each IsWritten HasLine (λ op written. (written.0, line_length op written.0 written.1)) ops all
 
-  lines-opened : (before ops : List Op) → AllByRecursion IsWritten before → length before ≤ 5000 → AreWritten ops → AllByRecursion HaveLines (with_opening before ops)
+  lines-opened : (before ops : List Op) → AllByRecursion IsWritten before → length before ≤ 5000 → AreWritten ops
+      → AllByRecursion HaveLines (with_opening before ops)
   lines-opened [] ops all short written = ((lines_of ops written.0, omega (arith, written.1)), tt)
   lines-opened (op ∷ others) ops all short written =
       let l = length-append (op ∷ others) ops in
-      ((lines_of ops written.0, omega (arith, written.1)), ((lines_of (op ∷ others ++ ops) (all-append IsWritten (op ∷ others) ops all written.0), omega (arith, written.1, short, l)), tt))
+      ((lines_of ops written.0, omega (arith, written.1)),
+        ((lines_of (op ∷ others ++ ops) (all-append IsWritten (op ∷ others) ops all written.0), omega (arith, written.1, short, l)), tt))
 
   all-lines : AllByRecursion HaveLines (tries st user subtree)
   all-lines =
-      all_flat HaveLines AreWritten (with_opening (opening st user subtree)) (λ ops. lines-opened (opening st user subtree) ops written-opening short-opening) (plain_tries st subtree) written-plain
+      all_flat HaveLines AreWritten (with_opening (opening st user subtree))
+      (λ ops. lines-opened (opening st user subtree) ops written-opening short-opening) (plain_tries st subtree) written-plain
 
   pub escape_lines : (ops : List Op) → answer st user subtree ≡ Escapes ops → HaveLines ops
   escape_lines ops is =
-      find-all HaveLines (breaks st user subtree) (tries st user subtree) all-lines ops (found-escape (failures st user subtree) (first_escape st user subtree) ops is)
+      find-all HaveLines (breaks st user subtree) (tries st user subtree) all-lines ops
+      (found-escape (failures st user subtree) (first_escape st user subtree) ops is)

@@ -80,7 +80,8 @@ line_and_lines line text one (inr rest) = inr (line ++ rest.0, ap (λ t. line ++
 
 -- each is answered by a line, and no fault is met
 all_said : (user : Identity) (ops : List Op) (course : Course) (done : ℕ) → AllByRecursion HasLine ops → done + length ops < 65536
-    → (text : List ℕ) × AreLines text × (lines_said course user done (op_lines ops) ≡ record { text = text; ending = Ok (on_all course user ops) })
+    → (text : List ℕ) × AreLines text
+    × (lines_said course user done (op_lines ops) ≡ record { text = text; ending = Ok (on_all course user ops) })
 all_said user [] course done all few = ([], inl refl, report_of_end course user done [] (All-nil _))
 all_said user (op ∷ ops) course done all few =
     let rest = all_said user ops (on_course course user op) (done + 1) all.1 (omega (arith, few)) in
@@ -90,7 +91,9 @@ all_said user (op ∷ ops) course done all few =
       line_and_lines said rest.0 (outcome_line op outcome) rest.1,
       ap (lines_said course user done) (append_assoc (spelling op) (10 ∷ []) (op_lines ops))
           ∙ report_of_line course user done (spelling op) (op_lines ops) (one_line op all.0.0)
-          ∙ ap (λ read. report_on read (λ op. with_front (outcome_text op (outcome_of (state_of course) user op)) (lines_said (on_course course user op) user (done + 1) (op_lines ops)))) (line_is_read done op all.0 (omega (arith, few)))
+          ∙ ap (λ read. report_on read (λ op. with_front (outcome_text op (outcome_of (state_of course) user op))
+                        (lines_said (on_course course user op) user (done + 1) (op_lines ops))))
+                        (line_is_read done op all.0 (omega (arith, few)))
           ∙ ap (with_front said) rest.2,
     )
 
@@ -103,8 +106,10 @@ record RunsOn (run : Progress) (user : Identity) (ops : List Op) (start : State)
   subtree : to.subtree ≡ run.subtree
   run_of : IsRunOf to start (deeds ++ by_user user ops)
 
-runs_on : (user : Identity) (ops : List Op) (run : Progress) (start : State) (deeds : List Deed) → IsRunOf run start deeds → RunsOn run user ops start deeds
-runs_on user [] run start deeds is = record { to = run; course = refl; subtree = refl; run_of = subst (IsRunOf run start) (sym (append-nil deeds)) is }
+runs_on : (user : Identity) (ops : List Op) (run : Progress) (start : State) (deeds : List Deed) → IsRunOf run start deeds
+    → RunsOn run user ops start deeds
+runs_on user [] run start deeds is =
+    record { to = run; course = refl; subtree = refl; run_of = subst (IsRunOf run start) (sym (append-nil deeds)) is }
 runs_on user (op ∷ ops) run start deeds is =
     let rest = runs_on user ops (stepped run user op) start (deeds ++ (user, op) ∷ []) (run-stepped run start deeds user op is) in
     record {
@@ -120,15 +125,18 @@ broken_of (Broken steps clause) never = (steps, clause, refl)
 
 -- ---- what was read
 
-report_ok : {A : Type 0} (read : Result A CliFault) (report : A → Report) (status : ℕ) → (report_on read report).ending ≡ Ok status → (x : A) × (read ≡ Ok x) × ((report x).ending ≡ Ok status)
+report_ok : {A : Type 0} (read : Result A CliFault) (report : A → Report) (status : ℕ) → (report_on read report).ending ≡ Ok status
+    → (x : A) × (read ≡ Ok x) × ((report x).ending ≡ Ok status)
 report_ok (Ok x) report status is = (x, refl, is)
 report_ok (Err fault) report status is = cc
 
-tree_ok : (read : Result State TreeFault) (st : State) → elim read as (λ _. Result State CliFault) [ Ok st ↦ Ok st | Err fault ↦ Err (lifted fault) ] ≡ Ok st → read ≡ Ok st
+tree_ok : (read : Result State TreeFault) (st : State)
+    → elim read as (λ _. Result State CliFault) [ Ok st ↦ Ok st | Err fault ↦ Err (lifted fault) ] ≡ Ok st → read ≡ Ok st
 tree_ok (Ok one) st is = let same : one ≡ st = cc in ap Ok same
 tree_ok (Err fault) st is = cc
 
-found_escapes : (found : Result Answer CheckFault) (one : Answer) (ops : List Op) → in_call found ≡ Ok one → one ≡ Escapes ops → found ≡ Ok (Escapes ops)
+found_escapes : (found : Result Answer CheckFault) (one : Answer) (ops : List Op) → in_call found ≡ Ok one → one ≡ Escapes ops
+    → found ≡ Ok (Escapes ops)
 found_escapes (Ok some) one ops is escapes = let same : some ≡ one = cc in ap Ok (same ∙ escapes)
 found_escapes (Err fault) one ops is escapes = cc
 
@@ -164,14 +172,17 @@ course_by st path root found =
 abbrev read_by : Result Names CliFault → Result State TreeFault → Result Course CliFault
 read_by named tree =
     elim named [
-      | Ok path ↦ elim (elim tree as (λ _. Result State CliFault) [ Ok st ↦ Ok st | Err fault ↦ Err (lifted fault) ]) [ Ok st ↦ course_from st (Some path) | Err fault ↦ Err fault ]
+      | Ok path ↦
+          elim (elim tree as (λ _. Result State CliFault) [ Ok st ↦ Ok st | Err fault ↦ Err (lifted fault) ])
+          [ Ok st ↦ course_from st (Some path) | Err fault ↦ Err fault ]
       | Err fault ↦ Err fault
     ]
 
 -- ---- the whole
 
 module _ (text : List ℕ) (tree : Reading) (is_read : IsReading text tree) (uid : ℕ) (gids : List ℕ) (subtree : List ℕ)
-    (user : Identity) (path : Names) (st : State) (ops : List Op) (of_user : user_read uid gids ≡ Ok user) (of_path : path_read subtree ≡ Ok path) (of_text : tree ≡ Ok st)
+    (user : Identity) (path : Names) (st : State) (ops : List Op) (of_user : user_read uid gids ≡ Ok user)
+    (of_path : path_read subtree ≡ Ok path) (of_text : tree ≡ Ok st)
     (is : checked st user path ≡ Ok (Escapes ops)) where
   stated : (first (subtree_faults st path) ≡ None) × (answer st user path ≡ Escapes ops)
   stated = unfaulted (first (subtree_faults st path)) (answer st user path) (Escapes ops) is
@@ -204,7 +215,8 @@ module _ (text : List ℕ) (tree : Reading) (is_read : IsReading text tree) (uid
   course_is : course_read (Some subtree) tree ≡ Ok (Watched begun)
   course_is = ap (λ named. read_by named tree) of_path ∙ ap (read_by (Ok path)) of_text ∙ begins
 
-  said : (lines : List ℕ) × AreLines lines × (lines_said (Watched begun) user 0 (op_lines ops) ≡ record { text = lines; ending = Ok (on_all (Watched begun) user ops) })
+  said : (lines : List ℕ) × AreLines lines
+      × (lines_said (Watched begun) user 0 (op_lines ops) ≡ record { text = lines; ending = Ok (on_all (Watched begun) user ops) })
   said = all_said user ops (Watched begun) 0 lines.0 (omega (arith, lines.1))
 
   run : RunsOn begun user ops st []
@@ -216,9 +228,12 @@ module _ (text : List ℕ) (tree : Reading) (is_read : IsReading text tree) (uid
   broken : (steps : ℕ) × (clause : Clause) × (run.to.verdict ≡ Broken steps clause)
   broken = broken_of run.to.verdict (λ kept. escape-broken st user path ops stated.1 (sym found ∙ kept))
 
-  report : replay_report tree uid gids (Some subtree) (op_lines ops) ≡ record { text = said.0 ++ verdict_text run.to.verdict; ending = Ok (verdict_status run.to.verdict) }
+  report : replay_report tree uid gids (Some subtree) (op_lines ops)
+      ≡ record { text = said.0 ++ verdict_text run.to.verdict; ending = Ok (verdict_status run.to.verdict) }
   report =
-      ap (λ u. closed (report_on u (λ user. report_on (course_read (Some subtree) tree) (λ course. lines_said course user 0 (op_lines ops))))) of_user
+      ap
+      (λ u. closed (report_on u (λ user. report_on (course_read (Some subtree) tree) (λ course. lines_said course user 0 (op_lines ops)))))
+      of_user
       ∙ ap (λ c. closed (report_on c (λ course. lines_said course user 0 (op_lines ops)))) course_is
       ∙ ap closed said.2
       ∙ ap (λ (c : Course). closed (record { text = said.0; ending = Ok c })) run.course
@@ -244,7 +259,9 @@ module _ (text : List ℕ) (tree : Reading) (is_read : IsReading text tree) (uid
 pub escapes_replayed : (text : List ℕ) (tree : Reading) (uid : ℕ) (gids : List ℕ) (subtree : List ℕ) → IsReading text tree
     → (check_report tree uid gids subtree).ending ≡ Ok 1 → (ops : List Op) × IsReplayed tree uid gids subtree ops
 escapes_replayed text tree uid gids subtree is_read is =
-    let user = report_ok (user_read uid gids) (λ user. report_on (path_read subtree) (λ path. report_on (tree_read tree) (λ st. subtree_report st user path))) 1 is in
+    let user =
+        report_ok (user_read uid gids)
+        (λ user. report_on (path_read subtree) (λ path. report_on (tree_read tree) (λ st. subtree_report st user path))) 1 is in
     let path = report_ok (path_read subtree) (λ path. report_on (tree_read tree) (λ st. subtree_report st user.0 path)) 1 user.2 in
     let state = report_ok (tree_read tree) (λ st. subtree_report st user.0 path.0) 1 path.2 in
     let one = report_ok (in_call (checked state.0 user.0 path.0)) (answer_report path.0) 1 state.2 in

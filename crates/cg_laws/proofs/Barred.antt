@@ -44,8 +44,11 @@ module _ (st : State) (user : Identity) (subtree : Names) (sound : IsSound st) (
   control-other at changes unreached free = false_from_ne_true (is_child at subtree) (λ child.
       let row = row_above in
       let asked = (no_parts _ _ (no_parts _ _ free).0).1 in
-      let can = no_unless _ _ (no_present (row_at st at) (λ row. unless (writes user row.subtree_control) (NoAccess (length at) SubtreeControl)) asked row.0 (ap (row_at st) (sym (parent-is_child at subtree child)) ∙ row.1)) in
-      never_written st user subtree (parent_control subtree ∷ []) unreached (parent_control subtree) (contains-alone (parent_control subtree)) row.0.subtree_control (ap (option_and_then (λ r. entry_in r SubtreeControl)) row.1) can)
+      let can =
+          no_unless _ _ (no_present (row_at st at) (λ row. unless (writes user row.subtree_control) (NoAccess (length at) SubtreeControl))
+                      asked row.0 (ap (row_at st) (sym (parent-is_child at subtree child)) ∙ row.1)) in
+      never_written st user subtree (parent_control subtree ∷ []) unreached (parent_control subtree)
+      (contains-alone (parent_control subtree)) row.0.subtree_control (ap (option_and_then (λ r. entry_in r SubtreeControl)) row.1) can)
 
   -- an rmdir is of another cgroup
   pub rmdir-other : (path : Names) → AreUnreached st user subtree (parent_dir subtree ∷ []) → rmdir_bars st user path ≡ []
@@ -57,7 +60,8 @@ module _ (st : State) (user : Identity) (subtree : Names) (sound : IsSound st) (
       let can : writes user row.0.dir ≡ true =
       sym (ap (λ root. writes_dir (cond root None (row_at st (parent subtree)))) sub.1 ∙ ap writes_dir row.1)
       ∙ ap (λ p. writes_dir (cond (is_root p) None (row_at st (parent p)))) (sym (same_path-is path subtree same)) ∙ asked in
-      never_written st user subtree (parent_dir subtree ∷ []) unreached (parent_dir subtree) (contains-alone (parent_dir subtree)) row.0.dir (ap (option_and_then (λ r. entry_in r Dir)) row.1) can)
+      never_written st user subtree (parent_dir subtree ∷ []) unreached (parent_dir subtree) (contains-alone (parent_dir subtree)) row.0.dir
+      (ap (option_and_then (λ r. entry_in r Dir)) row.1) can)
 
   -- a set is at another cgroup
   pub set-other : (at : Names) (file : LimitFile) (value : Limit) → AreUnreached st user subtree (limit_files (length subtree))
@@ -67,10 +71,15 @@ module _ (st : State) (user : Identity) (subtree : Names) (sound : IsSound st) (
       let whole : take (length subtree) subtree ≡ subtree = take_all (length subtree) subtree (omega arith) in
       let at_row = ap (row_at st) (same_path-is at subtree same) ∙ row.1 in
       let access = no_parts _ _ (no_parts _ _ free).0 in
-      let stands = no_absent (file_of row.0 file) _ (no_present (row_at st at) (λ r. absent (file_of r file) (NoSuchFile file)) (no_parts _ _ access.0).1 row.0 at_row) in
+      let stands =
+          no_absent (file_of row.0 file) _
+          (no_present (row_at st at) (λ r. absent (file_of r file) (NoSuchFile file)) (no_parts _ _ access.0).1 row.0 at_row) in
       let held = some_value (file_of row.0 file) stands in
-      let can = no_unless _ _ (no_present (file_at st at file) (λ f. unless (writes user f.entry) (NoAccess (length at) (File file))) access.1 held.0 (ap (option_and_then (λ r. file_of r file)) at_row ∙ held.1)) in
-      never_written st user subtree (limit_files (length subtree)) unreached (limit_file (length subtree) file) (limit_files-has subtree file) held.0.entry
+      let can =
+          no_unless _ _ (no_present (file_at st at file) (λ f. unless (writes user f.entry) (NoAccess (length at) (File file))) access.1
+                      held.0 (ap (option_and_then (λ r. file_of r file)) at_row ∙ held.1)) in
+      never_written st user subtree (limit_files (length subtree)) unreached (limit_file (length subtree) file)
+      (limit_files-has subtree file) held.0.entry
       (ap (λ p. entry_at st p (File file)) whole ∙ entry_at-file st subtree file
       ∙ ap (λ r. option_map (λ f. f.entry) (option_and_then (λ r. file_of r file) r)) row.1 ∙ ap (option_map (λ f. f.entry)) held.1) can)
 
@@ -80,7 +89,9 @@ entry-there : (row : Cgroup) (name : EntryName) → missing_bars row name ≡ []
 entry-there row Dir h = refl
 entry-there row Procs h = refl
 entry-there row SubtreeControl h = refl
-entry-there row (File file) h = let held = some_value (file_of row file) (no_absent (file_of row file) (NoSuchFile file) h) in ap (λ f. is_some (option_map (λ f. f.entry) f)) held.1
+entry-there row (File file) h =
+    let held = some_value (file_of row file) (no_absent (file_of row file) (NoSuchFile file) h) in
+    ap (λ f. is_some (option_map (λ f. f.entry) f)) held.1
 
 -- the entry that a chmod sets is there, and is the user's own
 pub chmod-owned : (st : State) (user : Identity) (at : Names) (name : EntryName) → chmod_bars st user at name ≡ []
@@ -89,7 +100,9 @@ chmod-owned st user at name free =
     let parts = no_parts _ _ free in
     let there = no_parts _ _ parts.0 in
     let row = some_value (row_at st at) (no_absent (row_at st at) (NoSuchCgroup (length at)) there.0) in
-    let entry = some_value (entry_in row.0 name) (entry-there row.0 name (no_present (row_at st at) (λ r. missing_bars r name) there.1 row.0 row.1)) in
+    let entry =
+        some_value (entry_in row.0 name) (entry-there row.0 name (no_present (row_at st at) (λ r. missing_bars r name) there.1 row.0 row.1))
+        in
     let is = ap (option_and_then (λ r. entry_in r name)) row.1 ∙ entry.1 in
     (entry.0, is, no_unless _ _ (no_present (entry_at st at name) (λ e. unless (owns user e) (NotOwner name)) parts.1 entry.0 is))
 
@@ -103,5 +116,8 @@ chmod-other st user subtree at name mode unreached free =
     false_from_ne_true (is_chmod_of subtree (Chmod at name mode) guarded) (λ both.
     let parts = and_parts (same_path at (take guarded.len subtree)) (same_entry name guarded.name) both in
     let own = chmod-owned st user at name free in
-    let is : guarded_entry st subtree guarded ≡ Some own.0 = (λ i. entry_at st (sym (same_path-is at (take guarded.len subtree) parts.0) i) (sym (same_entry-true name guarded.name parts.1) i)) ∙ own.1 in
-    never_owned st user subtree (guarded_entries subtree) unreached guarded (Contains-get_or (guarded_entries subtree) k d within) own.0 is own.2))
+    let is : guarded_entry st subtree guarded ≡ Some own.0 =
+        (λ i. entry_at st (sym (same_path-is at (take guarded.len subtree) parts.0) i) (sym (same_entry-true name guarded.name parts.1) i))
+        ∙ own.1 in
+    never_owned st user subtree (guarded_entries subtree) unreached guarded (Contains-get_or (guarded_entries subtree) k d within) own.0 is
+    own.2))

@@ -44,9 +44,11 @@ common-above subtree from to within without =
     let top = common from to in
     let at = inside-is subtree from within in
     ⊎_elim
-    (λ above. (above, common-take_first from to ∙ sym (take-take (length top) (length subtree) from (omega arith)) ∙ ap (take (length top)) at))
+    (λ above.
+      (above, common-take_first from to ∙ sym (take-take (length top) (length subtree) from (omega arith)) ∙ ap (take (length top)) at))
     (λ below.
-    let cut : take (length subtree) top ≡ subtree = ap (take (length subtree)) (common-take_first from to) ∙ take-take (length subtree) (length top) from below ∙ at in
+    let cut : take (length subtree) top ≡ subtree =
+        ap (take (length subtree)) (common-take_first from to) ∙ take-take (length subtree) (length top) from below ∙ at in
     let higher : inside subtree top ≡ true = ap (λ p. inside p top) (sym cut) ∙ inside-take (length subtree) top in
     absurd (true≢false (sym (inside_trans subtree top to higher (common-inside_second from to)) ∙ without)))
     (cases_lt (length top) (length subtree))
@@ -73,17 +75,20 @@ placed to (Some process) = refl
 
 module _ (st : State) (user : Identity) (subtree : Names) where
   pub kept : (op : Op) (q : ℕ) → alters_process op q ≡ false → is_crossed subtree (place_at st q) (place_at (after st user op) q) ≡ false
-  kept op q same = ap (λ process. is_crossed subtree (place_at st q) (option_map (λ p. p.place) process)) (process_at-after st user op q same)
+  kept op q same =
+      ap (λ process. is_crossed subtree (place_at st q) (option_map (λ p. p.place) process)) (process_at-after st user op q same)
       ∙ stays-there subtree (place_at st q)
 
   -- a process that is made was nowhere
   pub fork-crosses : IsSound st → (parent child q : ℕ) → bars st user (Fork parent child) ≡ []
       → is_crossed subtree (place_at st q) (place_at (after st user (Fork parent child)) q) ≡ false
   fork-crosses sound parent child q free =
-      elim (nat_eq child q) as (λ b. nat_eq child q ≡ b → is_crossed subtree (place_at st q) (place_at (after st user (Fork parent child)) q) ≡ false) [
+      elim (nat_eq child q) as
+      (λ b. nat_eq child q ≡ b → is_crossed subtree (place_at st q) (place_at (after st user (Fork parent child)) q) ≡ false) [
         | true ↦ λ same.
             let gone : process_at st q ≡ None = none_value (process_at st q) (false_from_ne_true (is_some (process_at st q)) (λ live.
-            true≢false (sym (sound.used q live) ∙ ap (is_used st) (sym (eqb-true child q same)) ∙ allowed_fork st user parent child free))) in
+            true≢false (sym (sound.used q live) ∙ ap (is_used st) (sym (eqb-true child q same)) ∙ allowed_fork st user parent child free)))
+            in
             ap (λ process. is_crossed subtree (option_map (λ p. p.place) process) (place_at (after st user (Fork parent child)) q)) gone
         | false ↦ kept (Fork parent child) q
       ] refl
@@ -91,7 +96,8 @@ module _ (st : State) (user : Identity) (subtree : Names) where
   pub exit-crosses : (pid q : ℕ) → is_crossed subtree (place_at st q) (place_at (without_process st pid) q) ≡ false
   exit-crosses pid q =
       ap (λ process. is_crossed subtree (place_at st q) (option_map (λ p. p.place) process)) (process_at-without_process st pid q)
-      ∙ elim (nat_eq pid q) as (λ b. is_crossed subtree (place_at st q) (option_map (λ p. p.place) (cond b None (process_at st q))) ≡ false) [ true ↦ ends subtree (place_at st q) | false ↦ stays-there subtree (place_at st q) ]
+      ∙ elim (nat_eq pid q) as (λ b. is_crossed subtree (place_at st q) (option_map (λ p. p.place) (cond b None (process_at st q))) ≡ false)
+      [ true ↦ ends subtree (place_at st q) | false ↦ stays-there subtree (place_at st q) ]
 
 -- ---- a move
 
@@ -104,24 +110,33 @@ module _ (st : State) (user : Identity) (subtree : Names) (sound : IsSound st) (
         let level = length (common from to) in
         let row = some_value (row_at st (take level subtree)) (take-there st sound subtree level sub.0) in
         let same = ap (row_at st) (is ∙ above.1) ∙ row.1 in
-        never_written st user subtree (ancestors (length subtree)) unreached (ancestor level) (ancestors-has (length subtree) level above.0) row.0.procs
-        (ap (option_and_then (λ r. entry_in r Procs)) row.1) (sym (ap (λ r. elim r [ None ↦ true | Some row ↦ writes user row.procs ]) same) ∙ can)
+        never_written st user subtree (ancestors (length subtree)) unreached (ancestor level) (ancestors-has (length subtree) level above.0)
+        row.0.procs
+        (ap (option_and_then (λ r. entry_in r Procs)) row.1)
+        (sym (ap (λ r. elim r [ None ↦ true | Some row ↦ writes user row.procs ]) same) ∙ can)
 
     move-inside : (pid : ℕ) (from to : Names) → move_bars st user pid to ≡ [] → place_at st pid ≡ Some from
         → inside subtree from ≡ inside subtree to
     move-inside pid from to free is =
         let asked = (no_parts _ _ (no_parts _ _ free).0).1 in
-        let can = no_unless _ _ (no_present (place_at st pid) (λ place. unless (passes st user place to) (NoAccess (length (common place to)) Procs)) asked from is) in
+        let can =
+            no_unless _ _ (no_present (place_at st pid)
+                          (λ place. unless (passes st user place to) (NoAccess (length (common place to)) Procs)) asked from is) in
         elim (inside subtree from) as (λ b. inside subtree from ≡ b → b ≡ inside subtree to) [
-          | true ↦ λ within. sym (true_from_ne_false (inside subtree to) (λ without. never_passes from to within without (common from to) refl can))
-          | false ↦ λ without. sym (false_from_ne_true (inside subtree to) (λ within. never_passes to from within without (common from to) (common_comm from to) can))
+          | true ↦
+              λ within.
+              sym (true_from_ne_false (inside subtree to) (λ without. never_passes from to within without (common from to) refl can))
+          | false ↦
+              λ without. sym (false_from_ne_true (inside subtree to)
+                (λ within. never_passes to from within without (common from to) (common_comm from to) can))
         ] refl
 
     move-crosses : (pid : ℕ) (to : Names) → move_bars st user pid to ≡ [] → (q : ℕ)
         → is_crossed subtree (place_at st q) (place_at (with_place st pid to) q) ≡ false
     move-crosses pid to free q =
         ap (λ process. is_crossed subtree (place_at st q) (option_map (λ p. p.place) process)) (process_at-with_place st pid to q)
-        ∙ elim (nat_eq pid q) as (λ b. nat_eq pid q ≡ b → is_crossed subtree (place_at st q) (option_map (λ p. p.place) (cond b (option_map (placed_at to) (process_at st q)) (process_at st q))) ≡ false) [
+        ∙ elim (nat_eq pid q) as (λ b. nat_eq pid q ≡ b → is_crossed subtree (place_at st q)
+                    (option_map (λ p. p.place) (cond b (option_map (placed_at to) (process_at st q)) (process_at st q))) ≡ false) [
           | true ↦ λ same. ap (is_crossed subtree (place_at st q)) (placed to (process_at st q))
               ∙ one_side subtree (place_at st q) to (λ from is. move-inside pid from to free (ap (place_at st) (eqb-true pid q same) ∙ is))
           | false ↦ λ _. stays-there subtree (place_at st q)
@@ -130,14 +145,16 @@ module _ (st : State) (user : Identity) (subtree : Names) (sound : IsSound st) (
   -- where nothing bars it
   pub crosses : (op : Op) → AreUnreached st user subtree (ancestors (length subtree)) → bars st user op ≡ [] → (q : ℕ)
       → is_crossed subtree (place_at st q) (place_at (after st user op) q) ≡ false
-  crosses (Move pid to) unreached free q = ap (λ new. is_crossed subtree (place_at st q) (place_at new q)) (after-allowed st user (Move pid to) free)
+  crosses (Move pid to) unreached free q =
+      ap (λ new. is_crossed subtree (place_at st q) (place_at new q)) (after-allowed st user (Move pid to) free)
       ∙ move-crosses unreached pid to free q
   crosses (Control at changes) unreached free q = kept st user subtree (Control at changes) q refl
   crosses (Mkdir path) unreached free q = kept st user subtree (Mkdir path) q refl
   crosses (Rmdir path) unreached free q = kept st user subtree (Rmdir path) q refl
   crosses (Set at file value) unreached free q = kept st user subtree (Set at file value) q refl
   crosses (Fork parent child) unreached free q = fork-crosses st user subtree sound parent child q free
-  crosses (Exit pid) unreached free q = ap (λ new. is_crossed subtree (place_at st q) (place_at new q)) (after-allowed st user (Exit pid) free)
+  crosses (Exit pid) unreached free q =
+      ap (λ new. is_crossed subtree (place_at st q) (place_at new q)) (after-allowed st user (Exit pid) free)
       ∙ exit-crosses st user subtree pid q
   crosses (Chmod at name mode) unreached free q = kept st user subtree (Chmod at name mode) q refl
 

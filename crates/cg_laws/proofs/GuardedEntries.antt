@@ -27,12 +27,14 @@ pub ancestors-has : (m n : ℕ) → n < m → Contains (ancestors m) (ancestor n
 ancestors-has zero n h = absurd (omega arith)
 ancestors-has (suc m) n h =
     ⊎_elim (λ less. Contains-append_right (ancestor m ∷ []) (ancestors m) (ancestor n) (ancestors-has m n less))
-    (λ le. let same : m ≡ n = omega arith in subst (λ k. Contains (ancestors (suc m)) (ancestor k)) same (0, omega arith, refl)) (cases_lt n m)
+    (λ le. let same : m ≡ n = omega arith in subst (λ k. Contains (ancestors (suc m)) (ancestor k)) same (0, omega arith, refl))
+    (cases_lt n m)
 
 pub limit_files-has : (subtree : Names) (file : LimitFile) → Contains (limit_files (length subtree)) (limit_file (length subtree) file)
 limit_files-has subtree file =
     let those = limit_files (length subtree) in
-    each_file (λ f. Contains those (limit_file (length subtree) f)) (recursion_from_All (Contains those) those (All-contains_itself those)) file
+    each_file (λ f. Contains those (limit_file (length subtree) f)) (recursion_from_All (Contains those) those (All-contains_itself those))
+    file
 
 -- what holds of each kind holds of all
 module _ (subtree : Names) (P : Guarded → Type 0) where
@@ -51,11 +53,17 @@ module _ (subtree : Names) (P : Guarded → Type 0) where
 
 -- ---- entries that a user doesn't reach
 
-module _ (st : State) (user : Identity) (subtree : Names) (entries : List Guarded) (unreached : AreUnreached st user subtree entries) (guarded : Guarded) (listed : Contains entries guarded) (entry : Entry) (is : guarded_entry st subtree guarded ≡ Some entry) where
+module _ (st : State) (user : Identity) (subtree : Names) (entries : List Guarded) (unreached : AreUnreached st user subtree entries)
+    (guarded : Guarded) (listed : Contains entries guarded) (entry : Entry) (is : guarded_entry st subtree guarded ≡ Some entry) where
   not_reached : reaches user entry ≡ false
   not_reached =
-      let holds = All-contains (λ g. entry_failures st user subtree g ≡ []) entries guarded (All-from_recursion (λ g. entry_failures st user subtree g ≡ []) entries (none_each (entry_failures st user subtree) entries unreached)) listed in
-      not-true (reaches user entry) (no_unless (not (reaches user entry)) _ (no_present (guarded_entry st subtree guarded) (λ e. unless (not (reaches user e)) (record { guard = guarded.guard; len = guarded.len })) holds entry is))
+      let holds =
+          All-contains (λ g. entry_failures st user subtree g ≡ []) entries guarded
+          (All-from_recursion (λ g. entry_failures st user subtree g ≡ []) entries
+                      (none_each (entry_failures st user subtree) entries unreached)) listed in
+      not-true (reaches user entry) (no_unless (not (reaches user entry)) _
+        (no_present (guarded_entry st subtree guarded)
+          (λ e. unless (not (reaches user e)) (record { guard = guarded.guard; len = guarded.len })) holds entry is))
 
   pub never_written : {P : Type 0} → writes user entry ≡ true → P
   never_written can = absurd (true≢false (sym can ∙ (or_parts (writes user entry) (owns user entry) not_reached).0))
@@ -78,8 +86,10 @@ pub holding : (st : State) (user : Identity) (subtree : Names) → GuardsHold st
 holding st user subtree hold =
     let entries = no_parts (flat_map (entry_failures st user subtree) (guarded_entries subtree)) (over_failures st subtree) hold in
     let split = λ (xs ys : List Guarded) (h : AreUnreached st user subtree (xs ++ ys)).
-    no_parts (flat_map (entry_failures st user subtree) xs) (flat_map (entry_failures st user subtree) ys) (sym (flat_map-append (entry_failures st user subtree) xs ys) ∙ h) in
-    let last = split (ancestors (length subtree) ++ limit_files (length subtree)) (parent_control subtree ∷ parent_dir subtree ∷ []) entries.0 in
+    no_parts (flat_map (entry_failures st user subtree) xs) (flat_map (entry_failures st user subtree) ys)
+    (sym (flat_map-append (entry_failures st user subtree) xs ys) ∙ h) in
+    let last =
+        split (ancestors (length subtree) ++ limit_files (length subtree)) (parent_control subtree ∷ parent_dir subtree ∷ []) entries.0 in
     let first = split (ancestors (length subtree)) (limit_files (length subtree)) last.0 in
     let two = split (parent_control subtree ∷ []) (parent_dir subtree ∷ []) last.1 in
     let fits = and_parts (fits_descendants st subtree) (fits_depth st subtree) (no_unless _ _ entries.1) in
@@ -98,11 +108,14 @@ pub hold-untouched : (st new : State) (user : Identity) (subtree : Names) → Gu
     → over_failures new subtree ≡ [] → GuardsHold new user subtree
 hold-untouched st new user subtree hold untouched fits = λ i.
     each_none (entry_failures new user subtree) (guarded_entries subtree)
-    (each (guarded_entries subtree) (recursion_from_All (λ guarded. guarded_entry new subtree guarded ≡ guarded_entry st subtree guarded) (guarded_entries subtree) untouched)
+    (each (guarded_entries subtree) (recursion_from_All (λ guarded. guarded_entry new subtree guarded ≡ guarded_entry st subtree guarded)
+      (guarded_entries subtree) untouched)
     (none_each (entry_failures st user subtree) (guarded_entries subtree) (holding st user subtree hold).all)) i ++ fits i
   where
     each : (xs : List Guarded) → AllByRecursion (λ guarded. guarded_entry new subtree guarded ≡ guarded_entry st subtree guarded) xs
-        → AllByRecursion (λ guarded. entry_failures st user subtree guarded ≡ []) xs → AllByRecursion (λ guarded. entry_failures new user subtree guarded ≡ []) xs
+        → AllByRecursion (λ guarded. entry_failures st user subtree guarded ≡ []) xs
+        → AllByRecursion (λ guarded. entry_failures new user subtree guarded ≡ []) xs
     each [] same held = tt
     each (guarded ∷ xs) same held =
-        (ap (λ found. present found (λ entry. unless (not (reaches user entry)) (record { guard = guarded.guard; len = guarded.len }))) same.0 ∙ held.0, each xs same.1 held.1)
+        (ap (λ found. present found (λ entry. unless (not (reaches user entry)) (record { guard = guarded.guard; len = guarded.len })))
+                              same.0 ∙ held.0, each xs same.1 held.1)

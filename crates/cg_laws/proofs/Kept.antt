@@ -29,9 +29,11 @@ use Rattle.cg_laws.proofs.Crossing.{crosses}
 use Rattle.cg_laws.proofs.Counts.{fits-after}
 
 over : (st : State) (subtree : Names) → fits_descendants st subtree ≡ true → fits_depth st subtree ≡ true → over_failures st subtree ≡ []
-over st subtree descendants depth = ap (λ fits. unless fits (record { guard = AlreadyOver; len = length subtree })) (and_from _ _ descendants depth)
+over st subtree descendants depth =
+    ap (λ fits. unless fits (record { guard = AlreadyOver; len = length subtree })) (and_from _ _ descendants depth)
 
-module _ (st : State) (user : Identity) (subtree : Names) (sound : IsSound st) (sub : IsSubtree st subtree) (held : Holding st user subtree) where
+module _ (st : State) (user : Identity) (subtree : Names) (sound : IsSound st) (sub : IsSubtree st subtree) (held : Holding st user subtree)
+    where
   -- what an operation that nothing bars doesn't alter
   row_stays : (op : Op) → bars st user op ≡ [] → alters_row op subtree ≡ false
   row_stays (Move pid to) free = refl
@@ -105,16 +107,19 @@ kept-after st user subtree op sound sub hold =
 pub untouched-guarded : (st : State) (user : Identity) (subtree : Names) (op : Op) → IsSound st → IsSubtree st subtree
     → GuardsHold st user subtree → AreUntouched st (after st user op) subtree
 untouched-guarded st user subtree op sound sub hold =
-    after-cases st user op (λ new. AreUntouched st new subtree) (untouched st user subtree sound sub (holding st user subtree hold) op) (λ k d _. refl)
+    after-cases st user op (λ new. AreUntouched st new subtree) (untouched st user subtree sound sub (holding st user subtree hold) op)
+    (λ k d _. refl)
 
 -- the guards against a user, once anyone has made a step
 pub hold-unopened : (st : State) (user other : Identity) (subtree : Names) (op : Op) → IsSound st → IsSubtree st subtree
     → GuardsHold st user subtree → has_row (after st other op) subtree ≡ true
-    → limits (after st other op) subtree ≡ limits st subtree → ¬ (OpensGuarded st other op subtree) → GuardsHold (after st other op) user subtree
+    → limits (after st other op) subtree ≡ limits st subtree → ¬ (OpensGuarded st other op subtree)
+    → GuardsHold (after st other op) user subtree
 hold-unopened st user other subtree op sound sub hold there same shut =
     let held = holding st user subtree hold in
     after-cases st other op (λ new. GuardsHold new user subtree)
     (λ free.
     let fits = fits-after st other subtree op sub.0 free same held.descendants held.depth in
-    hold-untouched st (after st other op) user subtree hold (untouched-unopened st other subtree op sound sub there same shut) (over (after st other op) subtree fits.0 fits.1))
+    hold-untouched st (after st other op) user subtree hold (untouched-unopened st other subtree op sound sub there same shut)
+    (over (after st other op) subtree fits.0 fits.1))
     hold

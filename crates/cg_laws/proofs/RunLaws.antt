@@ -70,13 +70,15 @@ module _ (users : List Identity) (start : State) (subtree : Names) where
   pub guarded-after_all : (st : State) → IsGuarded users start st subtree → (deeds : List Deed) → AreBy users deeds
       → IsGuarded users start (after_all st deeds) subtree
   guarded-after_all st at [] all = at
-  guarded-after_all st at (deed ∷ deeds) all = guarded-after_all (after st deed.0 deed.1) (guarded-own st at deed.0 all.0 deed.1) deeds all.1
+  guarded-after_all st at (deed ∷ deeds) all =
+      guarded-after_all (after st deed.0 deed.1) (guarded-own st at deed.0 all.0 deed.1) deeds all.1
 
   -- where nothing moves, nothing is broken
   pub whole-still : (st : State) → IsGuarded users start st subtree → (user : Identity) → Contains users user
       → IsWhole (limits start subtree) st st subtree
   whole-still st at user named =
-      let fits = and_parts _ _ (no_unless (fits_descendants st subtree && fits_depth st subtree) _ (no_parts _ _ (at.guards user named)).1) in
+      let fits =
+          and_parts _ _ (no_unless (fits_descendants st subtree && fits_depth st subtree) _ (no_parts _ _ (at.guards user named)).1) in
       record { there = at.is.0; edge = none-crosses-same st subtree; limits = at.limits; descendants = fits.0; depth = fits.1 }
 
   kept-from : (steps : ℕ) (st : State) → IsGuarded users start st subtree → (deeds : List Deed) → AreBy users deeds
@@ -98,12 +100,14 @@ pub held-by : (users : List Identity) (st : State) (subtree : Names) → users �
     → AreBy users deeds → IsHeld st deeds subtree
 held-by users st subtree some at deeds all =
     let one = a_member users some in
-    ap (λ clauses. or_later clauses 0 (verdict_from st 0 st deeds subtree)) (whole-broken (limits st subtree) st st subtree (whole-still users st subtree st at one.0 one.1))
+    ap (λ clauses. or_later clauses 0 (verdict_from st 0 st deeds subtree))
+    (whole-broken (limits st subtree) st st subtree (whole-still users st subtree st at one.0 one.1))
     ∙ kept-from users st subtree 0 st at deeds all
 
 pub held-guarded : (st : State) (users : List Identity) (subtree : Names) (deeds : List Deed) → IsWellFormed st → IsSubtree st subtree
     → users ≢ [] → GuardsHoldForAll st users subtree → AreBy users deeds → IsHeld st deeds subtree
-held-guarded st users subtree deeds formed is some guards all = held-by users st subtree some (guarded-start users st subtree formed is guards) deeds all
+held-guarded st users subtree deeds formed is some guards all =
+    held-by users st subtree some (guarded-start users st subtree formed is guards) deeds all
 
 pub guarded-again : (st : State) (users : List Identity) (subtree : Names) (deeds : List Deed) → IsWellFormed st → IsSubtree st subtree
     → GuardsHoldForAll st users subtree → AreBy users deeds
@@ -127,4 +131,6 @@ all-own user (op ∷ ops) = ((0, omega arith, refl), all-own user ops)
 pub contained-guarded : (st : State) (user : Identity) (subtree : Names) → IsWellFormed st → IsSubtree st subtree
     → GuardsHold st user subtree → IsContained st user subtree
 contained-guarded st user subtree formed is held ops =
-    held-by (user ∷ []) st subtree (some-one user) (guarded-start (user ∷ []) st subtree formed is (λ other c. subst (λ u. GuardsHold st u subtree) (alone user other c) held)) (by_user user ops) (all-own user ops)
+    held-by (user ∷ []) st subtree (some-one user)
+    (guarded-start (user ∷ []) st subtree formed is (λ other c. subst (λ u. GuardsHold st u subtree) (alone user other c) held))
+    (by_user user ops) (all-own user ops)

@@ -43,7 +43,8 @@ some_either false x o h = h
 parents-with_row : (st : State) (path : Names) (row : Cgroup) → has_row st (parent path) ≡ true → HasParents st
     → HasParents (with_row st path row)
 parents-with_row st path row above parents q there =
-    elim (same_path path q) as (λ b. same_path path q ≡ b → is_some (cond b (Some row) (row_at st q)) ≡ true → has_row (with_row st path row) (parent q) ≡ true) [
+    elim (same_path path q) as
+    (λ b. same_path path q ≡ b → is_some (cond b (Some row) (row_at st q)) ≡ true → has_row (with_row st path row) (parent q) ≡ true) [
       | true ↦ λ same _. stays (parent q) (ap (λ p. has_row st (parent p)) (sym (same_path-is path q same)) ∙ above)
       | false ↦ λ _ old. stays (parent q) (parents q old)
     ] refl (sym (ap is_some (row_at-with_row st path row q)) ∙ there)
@@ -81,7 +82,8 @@ parents-after st user (Control at changes) parents = parents_stay st user (Contr
 parents-after st user (Mkdir path) parents =
     after-by st user (Mkdir path) HasParents (λ free. parents-with_row st path _ (allowed_mkdir st user path free).2 parents) parents
 parents-after st user (Rmdir path) parents =
-    after-by st user (Rmdir path) HasParents (λ free. parents-without_row st path (allowed_rmdir st user path free).no_child parents) parents
+    after-by st user (Rmdir path) HasParents (λ free. parents-without_row st path (allowed_rmdir st user path free).no_child parents)
+    parents
 parents-after st user (Set at file value) parents = parents_stay st user (Set at file value) (λ q. refl) parents
 parents-after st user (Fork parent child) parents = parents_stay st user (Fork parent child) (λ q. refl) parents
 parents-after st user (Exit pid) parents = parents_stay st user (Exit pid) (λ q. refl) parents
@@ -90,10 +92,12 @@ parents-after st user (Chmod at name mode) parents = parents_stay st user (Chmod
 -- ---- used PIDs
 
 used_stay : (st : State) (user : Identity) (op : Op) → ((pid : ℕ) → alters_process op pid ≡ false) → AreUsed st → AreUsed (after st user op)
-used_stay st user op kept used pid live = used-after st user op pid (used pid (sym (ap is_some (process_at-after st user op pid (kept pid))) ∙ live))
+used_stay st user op kept used pid live =
+    used-after st user op pid (used pid (sym (ap is_some (process_at-after st user op pid (kept pid))) ∙ live))
 
 used-with_place : (st : State) (pid : ℕ) (path : Names) → AreUsed st → AreUsed (with_place st pid path)
-used-with_place st pid path used q live = used q (was (nat_eq pid q) (process_at st q) (sym (ap is_some (process_at-with_place st pid path q)) ∙ live))
+used-with_place st pid path used q live =
+    used q (was (nat_eq pid q) (process_at st q) (sym (ap is_some (process_at-with_place st pid path q)) ∙ live))
   where
     was : (b : Bool) (o : Option Process) → is_some (cond b (option_map (placed_at path) o) o) ≡ true → is_some o ≡ true
     was true None h = h
@@ -103,13 +107,15 @@ used-with_place st pid path used q live = used q (was (nat_eq pid q) (process_at
 used-with_process : (st : State) (pid uid : ℕ) (path : Names) → AreUsed st → AreUsed (with_process st pid uid path)
 used-with_process st pid uid path used q live =
     is_used-with_process st pid uid path q
-    ∙ elim (nat_eq pid q) as (λ b. is_some (cond b (Some (record { uid = uid; place = path })) (process_at st q)) ≡ true → (b || is_used st q) ≡ true) [
+    ∙ elim (nat_eq pid q) as
+    (λ b. is_some (cond b (Some (record { uid = uid; place = path })) (process_at st q)) ≡ true → (b || is_used st q) ≡ true) [
       | true ↦ λ _. refl
       | false ↦ λ h. used q h
     ] (sym (ap is_some (process_at-with_process st pid uid path q)) ∙ live)
 
 used-without_process : (st : State) (pid : ℕ) → AreUsed st → AreUsed (without_process st pid)
-used-without_process st pid used q live = used q (was (nat_eq pid q) (process_at st q) (sym (ap is_some (process_at-without_process st pid q)) ∙ live))
+used-without_process st pid used q live =
+    used q (was (nat_eq pid q) (process_at st q) (sym (ap is_some (process_at-without_process st pid q)) ∙ live))
   where
     was : (b : Bool) (o : Option Process) → is_some (cond b None o) ≡ true → is_some o ≡ true
     was true o h = absurd (true≢false (sym h))

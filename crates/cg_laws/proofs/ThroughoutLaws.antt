@@ -39,7 +39,8 @@ module _ (st new : State) (subtree : Names) where
   none-each none pid before later was is =
       let live : is_some (process_at st pid) ≡ true = lives (process_at st pid) was in
       same_side (inside subtree before) (inside subtree later)
-      (sym (λ i. is_crossed subtree (was i) (is i)) ∙ false_from_ne_true (is_crossed subtree (place_at st pid) (place_at new pid)) (λ crossed. crosses-some st new subtree pid live crossed none))
+      (sym (λ i. is_crossed subtree (was i) (is i)) ∙ false_from_ne_true (is_crossed subtree (place_at st pid) (place_at new pid))
+        (λ crossed. crosses-some st new subtree pid live crossed none))
     where
       lives : {place : Names} (process : Option Process) → option_map (λ p. p.place) process ≡ Some place → is_some process ≡ true
       lives None h = cc
@@ -62,7 +63,8 @@ module _ (had : Limits) (st new : State) (subtree : Names) where
   whole-as_set whole = record {
     there = whole.there;
     limits = whole.limits;
-    descendants = λ most is. descendants-most new subtree whole.descendants most (ap (λ (these : Limits). these MaxDescendants) whole.limits ∙ is);
+    descendants =
+        λ most is. descendants-most new subtree whole.descendants most (ap (λ (these : Limits). these MaxDescendants) whole.limits ∙ is);
     depth = λ most is. depth-most new subtree whole.depth most (ap (λ (these : Limits). these MaxDepth) whole.limits ∙ is);
   }
 
@@ -71,7 +73,9 @@ module _ (had : Limits) (st new : State) (subtree : Names) where
     there = set.there;
     edge = none;
     limits = set.limits;
-    descendants = most-descendants new subtree (λ most is. set.descendants most (ap (λ (these : Limits). these MaxDescendants) (sym set.limits) ∙ is));
+    descendants =
+        most-descendants new subtree
+        (λ most is. set.descendants most (ap (λ (these : Limits). these MaxDescendants) (sym set.limits) ∙ is));
     depth = most-depth new subtree (λ most is. set.depth most (ap (λ (these : Limits). these MaxDepth) (sym set.limits) ∙ is));
   }
 
@@ -84,7 +88,9 @@ kept-parts (clause ∷ clauses) steps later h = cc
 module _ (start : State) (subtree : Names) where
   -- what each step of a run leaves
   abbrev AreWhole : State → List Deed → Type 0
-  AreWhole st deeds = (steps : ℕ) → steps < length deeds → IsWhole (limits start subtree) (state_after st deeds steps) (state_after st deeds (suc steps)) subtree
+  AreWhole st deeds =
+      (steps : ℕ) → steps < length deeds
+      → IsWhole (limits start subtree) (state_after st deeds steps) (state_after st deeds (suc steps)) subtree
 
   kept-each : (made : ℕ) (st : State) (deeds : List Deed) → verdict_from start made st deeds subtree ≡ Kept → AreWhole st deeds
   kept-each made st [] h steps less = absurd (omega arith)
@@ -93,13 +99,16 @@ module _ (start : State) (subtree : Names) where
       broken-whole (limits start subtree) st new subtree (kept-parts _ _ (verdict_from start (suc made) new deeds subtree) h).0
   kept-each made st (deed ∷ deeds) h (suc steps) less =
       let new = after st deed.0 deed.1 in
-      kept-each (suc made) new deeds (kept-parts (broken start st new subtree) (suc made) (verdict_from start (suc made) new deeds subtree) h).1 steps (omega (arith, less))
+      kept-each (suc made) new deeds
+      (kept-parts (broken start st new subtree) (suc made) (verdict_from start (suc made) new deeds subtree) h).1 steps
+      (omega (arith, less))
 
   each-kept : (made : ℕ) (st : State) (deeds : List Deed) → AreWhole st deeds → verdict_from start made st deeds subtree ≡ Kept
   each-kept made st [] whole = refl
   each-kept made st (deed ∷ deeds) whole =
       let new = after st deed.0 deed.1 in
-      ap (λ clauses. or_later clauses (suc made) (verdict_from start (suc made) new deeds subtree)) (whole-broken (limits start subtree) st new subtree (whole 0 (omega arith)))
+      ap (λ clauses. or_later clauses (suc made) (verdict_from start (suc made) new deeds subtree))
+      (whole-broken (limits start subtree) st new subtree (whole 0 (omega arith)))
       ∙ each-kept (suc made) new deeds (λ steps less. whole (suc steps) (omega (arith, less)))
 
   held-throughout : (deeds : List Deed) → IsHeld start deeds subtree → IsHeldThroughout start deeds subtree
@@ -110,7 +119,9 @@ module _ (start : State) (subtree : Names) where
       record {
         states = λ steps. elim steps as (λ n. n ≤ length deeds → IsAsSet had (state_after start deeds n) subtree) [
           | zero ↦ λ _. whole-as_set had start start subtree (broken-whole had start start subtree parts.0)
-          | suc n ↦ λ within. whole-as_set had (state_after start deeds n) (state_after start deeds (suc n)) subtree (each n (omega (arith, within)))
+          | suc n ↦
+              λ within.
+              whole-as_set had (state_after start deeds n) (state_after start deeds (suc n)) subtree (each n (omega (arith, within)))
         ];
         edge = λ steps less. none-each (state_after start deeds steps) (state_after start deeds (suc steps)) subtree (each steps less).edge;
       }
@@ -120,7 +131,8 @@ module _ (start : State) (subtree : Names) where
       let had = limits start subtree in
       let whole = as_set-whole had start start subtree (held.states 0 (omega arith)) (none-crosses-same start subtree) in
       ap (λ clauses. or_later clauses 0 (verdict_from start 0 start deeds subtree)) (whole-broken had start start subtree whole)
-      ∙ each-kept 0 start deeds (λ steps less. as_set-whole had (state_after start deeds steps) (state_after start deeds (suc steps)) subtree (held.states (suc steps) (omega (arith, less)))
+      ∙ each-kept 0 start deeds (λ steps less. as_set-whole had (state_after start deeds steps) (state_after start deeds (suc steps))
+      subtree (held.states (suc steps) (omega (arith, less)))
       (each-none (state_after start deeds steps) (state_after start deeds (suc steps)) subtree (held.edge steps less)))
 
 pub held-is_throughout : (st : State) (deeds : List Deed) (subtree : Names) → IsHeld st deeds subtree ↔ IsHeldThroughout st deeds subtree
@@ -129,4 +141,5 @@ held-is_throughout st deeds subtree = (held-throughout st subtree deeds, through
 pub contained-is_throughout : (st : State) (user : Identity) (subtree : Names)
     → IsContained st user subtree ↔ ((ops : List Op) → IsHeldThroughout st (by_user user ops) subtree)
 contained-is_throughout st user subtree =
-    (λ contained ops. held-throughout st subtree (by_user user ops) (contained ops), λ throughout ops. throughout-held st subtree (by_user user ops) (throughout ops))
+    (λ contained ops. held-throughout st subtree (by_user user ops) (contained ops),
+      λ throughout ops. throughout-held st subtree (by_user user ops) (throughout ops))

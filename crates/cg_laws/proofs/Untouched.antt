@@ -41,7 +41,8 @@ after-cases st user op P moved stayed = after-by st user op P (λ free. subst P 
 
 -- a cgroup that is there is another than one that isn't
 pub there-other : (st : State) (path q : Names) → has_row st path ≡ false → has_row st q ≡ true → same_path path q ≡ false
-there-other st path q gone there = false_from_ne_true (same_path path q) (λ same. true≢false (sym there ∙ ap (has_row st) (sym (same_path-is path q same)) ∙ gone))
+there-other st path q gone there =
+    false_from_ne_true (same_path path q) (λ same. true≢false (sym there ∙ ap (has_row st) (sym (same_path-is path q same)) ∙ gone))
 
 stays : (st : State) (subtree : Names) → AreUntouched st st subtree
 stays st subtree k d _ = refl
@@ -72,14 +73,17 @@ module _ (st : State) (at : Names) (enabled : ControllerSet) (user : Identity) (
   file-with_enabled : (file : LimitFile) → value_at (with_enabled st at enabled user) subtree file ≡ value_at st subtree file
       → file_at (with_enabled st at enabled user) subtree file ≡ file_at st subtree file
   file-with_enabled file same =
-      elim (is_child at subtree) as (λ b. is_child at subtree ≡ b → file_at (with_enabled st at enabled user) subtree file ≡ file_at st subtree file) [
+      elim (is_child at subtree) as
+      (λ b. is_child at subtree ≡ b → file_at (with_enabled st at enabled user) subtree file ≡ file_at st subtree file) [
         | true ↦ λ child.
             let row = some_value (row_at st subtree) there in
             let was : file_at st subtree file ≡ file_of row.0 file = ap (option_and_then (λ row. file_of row file)) row.1 in
             let now : file_at (with_enabled st at enabled user) subtree file ≡ refitted enabled user file (file_of row.0 file) =
             file_at-with_enabled-child st at enabled user subtree child file
             ∙ ap (option_and_then (λ row. refitted enabled user file (file_of row file))) row.1 in
-            let values = ap (option_map (λ f. f.value)) (sym now) ∙ sym (value_at-file (with_enabled st at enabled user) subtree file) ∙ same ∙ value_at-file st subtree file ∙ ap (option_map (λ f. f.value)) was in
+            let values =
+                ap (option_map (λ f. f.value)) (sym now) ∙ sym (value_at-file (with_enabled st at enabled user) subtree file) ∙ same
+                ∙ value_at-file st subtree file ∙ ap (option_map (λ f. f.value)) was in
             now ∙ refitted-same enabled user file (file_of row.0 file) values ∙ sym was
         | false ↦ λ other. file_at-with_enabled-other st at enabled user subtree other file
       ] refl
@@ -89,8 +93,10 @@ module _ (st : State) (at : Names) (enabled : ControllerSet) (user : Identity) (
   untouched-with_enabled same =
       all_guarded subtree (λ guarded. guarded_entry (with_enabled st at enabled user) subtree guarded ≡ guarded_entry st subtree guarded)
       (λ n. entry_at-with_enabled-procs st at enabled user (take n subtree))
-      (λ file. subst (λ path. entry_at (with_enabled st at enabled user) path (File file) ≡ entry_at st path (File file)) (sym (take_all (length subtree) subtree (omega arith)))
-      (entry_at-file (with_enabled st at enabled user) subtree file ∙ ap (option_map (λ f. f.entry)) (file-with_enabled file (ap (λ values. values file) same)) ∙ sym (entry_at-file st subtree file)))
+      (λ file. subst (λ path. entry_at (with_enabled st at enabled user) path (File file) ≡ entry_at st path (File file))
+      (sym (take_all (length subtree) subtree (omega arith)))
+      (entry_at-file (with_enabled st at enabled user) subtree file
+        ∙ ap (option_map (λ f. f.entry)) (file-with_enabled file (ap (λ values. values file) same)) ∙ sym (entry_at-file st subtree file)))
       (entry_at-with_enabled-subtree_control st at enabled user (take (length subtree - 1) subtree))
       (entry_at-with_enabled-dir st at enabled user (take (length subtree - 1) subtree))
 
@@ -102,7 +108,8 @@ any_none test (x ∷ xs) h = let parts = or_parts (test x) (list_any test xs) h 
 
 pub untouched-after : (st : State) (user : Identity) (subtree : Names) (op : Op) → IsSound st → IsSubtree st subtree
     → has_row (after st user op) subtree ≡ true
-    → limits (after st user op) subtree ≡ limits st subtree → sets_guarded_mode subtree op ≡ false → AreUntouched st (after st user op) subtree
+    → limits (after st user op) subtree ≡ limits st subtree → sets_guarded_mode subtree op ≡ false
+    → AreUntouched st (after st user op) subtree
 untouched-after st user subtree (Move pid to) sound sub there same shut = by_alters st user subtree (Move pid to) (λ guarded. refl)
 untouched-after st user subtree (Control at changes) sound sub there same shut =
     after-by st user (Control at changes) (λ new. limits new subtree ≡ limits st subtree → AreUntouched st new subtree)
@@ -118,21 +125,30 @@ untouched-after st user subtree (Rmdir path) sound sub there same shut =
     let new = after st user (Rmdir path) in
     let gone = ap (λ new. has_row new path) (after-allowed st user (Rmdir path) free) ∙ ap is_some (row_at-without_row-same path st) in
     by_alters st user subtree (Rmdir path) (λ guarded.
-    there-other new path (take guarded.len subtree) gone (take-there new (sound-after st user (Rmdir path) sound) subtree guarded.len there)))
+    there-other new path (take guarded.len subtree) gone
+    (take-there new (sound-after st user (Rmdir path) sound) subtree guarded.len there)))
     (stays st subtree)
-untouched-after st user subtree (Set at file value) sound sub there same shut = by_alters st user subtree (Set at file value) (λ guarded. refl)
-untouched-after st user subtree (Fork parent child) sound sub there same shut = by_alters st user subtree (Fork parent child) (λ guarded. refl)
+untouched-after st user subtree (Set at file value) sound sub there same shut =
+    by_alters st user subtree (Set at file value) (λ guarded. refl)
+untouched-after st user subtree (Fork parent child) sound sub there same shut =
+    by_alters st user subtree (Fork parent child) (λ guarded. refl)
 untouched-after st user subtree (Exit pid) sound sub there same shut = by_alters st user subtree (Exit pid) (λ guarded. refl)
 untouched-after st user subtree (Chmod at name mode) sound sub there same shut =
-    let others = All-from_recursion (λ guarded. is_chmod_of subtree (Chmod at name mode) guarded ≡ false) (guarded_entries subtree) (any_none (is_chmod_of subtree (Chmod at name mode)) (guarded_entries subtree) shut) in
-    All-weaker (λ guarded. is_chmod_of subtree (Chmod at name mode) guarded ≡ false) (λ guarded. guarded_entry (after st user (Chmod at name mode)) subtree guarded ≡ guarded_entry st subtree guarded)
-    (λ guarded other. entry_at-after st user (Chmod at name mode) (take guarded.len subtree) guarded.name other) (guarded_entries subtree) others
+    let others =
+        All-from_recursion (λ guarded. is_chmod_of subtree (Chmod at name mode) guarded ≡ false) (guarded_entries subtree)
+        (any_none (is_chmod_of subtree (Chmod at name mode)) (guarded_entries subtree) shut) in
+    All-weaker (λ guarded. is_chmod_of subtree (Chmod at name mode) guarded ≡ false)
+    (λ guarded. guarded_entry (after st user (Chmod at name mode)) subtree guarded ≡ guarded_entry st subtree guarded)
+    (λ guarded other. entry_at-after st user (Chmod at name mode) (take guarded.len subtree) guarded.name other) (guarded_entries subtree)
+    others
 
 -- the same where a chmod of a guarded entry may be refused
 pub untouched-unopened : (st : State) (user : Identity) (subtree : Names) (op : Op) → IsSound st → IsSubtree st subtree
     → has_row (after st user op) subtree ≡ true
-    → limits (after st user op) subtree ≡ limits st subtree → ¬ (OpensGuarded st user op subtree) → AreUntouched st (after st user op) subtree
+    → limits (after st user op) subtree ≡ limits st subtree → ¬ (OpensGuarded st user op subtree)
+    → AreUntouched st (after st user op) subtree
 untouched-unopened st user subtree op sound sub there same shut =
     after-cases st user op (λ new. AreUntouched st new subtree)
-    (λ free. untouched-after st user subtree op sound sub there same (false_from_ne_true (sets_guarded_mode subtree op) (λ sets. shut (free, sets))))
+    (λ free. untouched-after st user subtree op sound sub there same
+      (false_from_ne_true (sets_guarded_mode subtree op) (λ sets. shut (free, sets))))
     (stays st subtree)

@@ -62,6 +62,16 @@ impl Operations {
         Ok(())
     }
 
+    /// Adds operations after the others. Fails where memory is wanted.
+    pub fn append(&mut self, other: Operations) -> Result<(), NoMemory>
+        ensures ok { OnOk result (self.new ≡ self.old ++ other) }
+        ensures err { OnErr result (self.new ≡ self.old) }
+    {
+        let Operations { mut items } = other;
+        self.items.append(&mut items)?;
+        Ok(())
+    }
+
     /// The operations, in order.
     pub fn as_slice(&self) -> &[Op]
         ensures { result.now ≡ self.now }

@@ -31,31 +31,42 @@ module _ (st : State) (path : Names) where
   -- a level that isn't full bars nothing
   level_free : (k : ℕ) → is_full st path top k ≡ false → first (level_bars st path k) ≡ None
   level_free k free =
-      elim (row_at st (take k path)) as (λ r. elim r as (λ _. Bool) [ None ↦ false | Some row ↦ bars_child (count k) row.max_descendants.value (top - k) row.max_depth.value ] ≡ false
-      → first (present r (λ row. unless (is_under (count k) row.max_descendants.value) (DescendantLimit k) ++ unless (is_under (top - k) row.max_depth.value) (DepthLimit k))) ≡ None) [
+      elim (row_at st (take k path)) as (λ r. elim r as (λ _. Bool)
+            [ None ↦ false | Some row ↦ bars_child (count k) row.max_descendants.value (top - k) row.max_depth.value ] ≡ false
+      → first (present r (λ row. unless (is_under (count k) row.max_descendants.value) (DescendantLimit k)
+                ++ unless (is_under (top - k) row.max_depth.value) (DepthLimit k))) ≡ None) [
         | None ↦ λ h. refl
-        | Some row ↦ λ h. both_pass (is_under (count k) row.max_descendants.value) (is_under (top - k) row.max_depth.value) (DescendantLimit k) (DepthLimit k) h
+        | Some row ↦
+            λ h. both_pass (is_under (count k) row.max_descendants.value) (is_under (top - k) row.max_depth.value) (DescendantLimit k)
+            (DepthLimit k) h
       ] free
 
   -- and a full one does
   level_full : (k : ℕ) → is_full st path top k ≡ true → (r : Refusal) × (first (level_bars st path k) ≡ Some r)
   level_full k full =
-      elim (row_at st (take k path)) as (λ r. elim r as (λ _. Bool) [ None ↦ false | Some row ↦ bars_child (count k) row.max_descendants.value (top - k) row.max_depth.value ] ≡ true
-      → (refusal : Refusal) × (first (present r (λ row. unless (is_under (count k) row.max_descendants.value) (DescendantLimit k) ++ unless (is_under (top - k) row.max_depth.value) (DepthLimit k))) ≡ Some refusal)) [
+      elim (row_at st (take k path)) as (λ r. elim r as (λ _. Bool)
+            [ None ↦ false | Some row ↦ bars_child (count k) row.max_descendants.value (top - k) row.max_depth.value ] ≡ true
+      → (refusal : Refusal) × (first (present r (λ row. unless (is_under (count k) row.max_descendants.value) (DescendantLimit k)
+                    ++ unless (is_under (top - k) row.max_depth.value) (DepthLimit k))) ≡ Some refusal)) [
         | None ↦ λ h. absurd (true≢false (sym h))
-        | Some row ↦ λ h. one_fails (is_under (count k) row.max_descendants.value) (is_under (top - k) row.max_depth.value) (DescendantLimit k) (DepthLimit k) h
+        | Some row ↦
+            λ h. one_fails (is_under (count k) row.max_descendants.value) (is_under (top - k) row.max_depth.value) (DescendantLimit k)
+            (DepthLimit k) h
       ] full
 
   pub limit_none : (m : ℕ) → ((k : ℕ) → k < m → is_full st path top k ≡ false) → first (limit_bars st path m) ≡ None
   limit_none zero free = refl
   limit_none (suc n) free = first_none _ _ (level_free n (free n (omega arith))) ∙ limit_none n (λ k h. free k (omega arith))
 
-  pub limit_some : (m at : ℕ) → at < m → is_full st path top at ≡ true → ((k : ℕ) → at < k → k < m → is_full st path top k ≡ false) → first (limit_bars st path m) ≡ first (level_bars st path at)
+  pub limit_some : (m at : ℕ) → at < m → is_full st path top at ≡ true → ((k : ℕ) → at < k → k < m → is_full st path top k ≡ false)
+      → first (limit_bars st path m) ≡ first (level_bars st path at)
   limit_some zero at low full free = absurd (omega arith)
   limit_some (suc n) at low full free =
       ⊎_elim
-      (λ (same : n ≡ at). let r = level_full at full in ap (λ k. first (limit_bars st path (suc k))) same ∙ first_some _ _ r.0 r.1 ∙ sym r.1)
-      (λ (other : n ≢ at). first_none _ _ (level_free n (free n (omega arith) (omega arith))) ∙ limit_some n at (omega arith) full (λ k h l. free k h (omega arith))) (cases_eq n at)
+      (λ (same : n ≡ at). let r =
+            level_full at full in ap (λ k. first (limit_bars st path (suc k))) same ∙ first_some _ _ r.0 r.1 ∙ sym r.1)
+      (λ (other : n ≢ at). first_none _ _ (level_free n (free n (omega arith) (omega arith)))
+              ∙ limit_some n at (omega arith) full (λ k h l. free k h (omega arith))) (cases_eq n at)
 
   -- by what the tree says of the nearest full cgroup, where the path isn't the root
   module _ (len : ℕ) (level : len + 1 ≡ length path) where
@@ -68,4 +79,5 @@ module _ (st : State) (path : Names) where
     pub limits_nearest : (at : ℕ) → IsNearestFull st path len at → first (limit_bars st path (length path)) ≡ first (level_bars st path at)
     limits_nearest at near =
         let within = near.within in
-        limit_some (length path) at (omega arith) (ap (λ n. is_full st path n at) (sym len_is) ∙ near.full) (λ k h l. ap (λ n. is_full st path n k) (sym len_is) ∙ near.nearer k h (omega arith))
+        limit_some (length path) at (omega arith) (ap (λ n. is_full st path n at) (sym len_is) ∙ near.full)
+        (λ k h l. ap (λ n. is_full st path n k) (sym len_is) ∙ near.nearer k h (omega arith))

@@ -25,24 +25,30 @@ at_front [] subtree others = refl
 at_front (name ∷ front) subtree others = at_front front subtree others
 
 module _ (st : State) (users : List Identity) (place : ℕ) (listed : place < length users) (user : Identity) where
-  one_shown : (subtrees : List Names) (from : ℕ) (found : Answer) → from < length subtrees → IsShown (subtree_at subtrees from) found → AllByRecursion (IsPairShown users subtrees) (pair_unless_contained place from found)
+  one_shown : (subtrees : List Names) (from : ℕ) (found : Answer) → from < length subtrees → IsShown (subtree_at subtrees from) found
+      → AllByRecursion (IsPairShown users subtrees) (pair_unless_contained place from found)
   one_shown subtrees from one.Contained within shown = tt
   one_shown subtrees from (one.Escapes ops) within shown = ((listed, within, shown), tt)
   one_shown subtrees from (one.Unsettled failed) within shown = ((listed, within, shown), tt)
 
   -- the pairs of a user with the subtrees behind a front
-  of_user_shown : (front subtrees all : List Names) (from : ℕ) → front ++ subtrees ≡ all → length front ≡ from → AllByRecursion (IsPairShown users all) (pairs_of st place user from subtrees)
+  of_user_shown : (front subtrees all : List Names) (from : ℕ) → front ++ subtrees ≡ all → length front ≡ from
+      → AllByRecursion (IsPairShown users all) (pairs_of st place user from subtrees)
   of_user_shown front [] all from whole count = tt
   of_user_shown front (subtree ∷ subtrees) all from whole count =
-      let at : subtree_at all from ≡ subtree = ap (λ l. get_or l from []) (sym whole) ∙ ap (λ (n : ℕ). get_or (front ++ subtree ∷ subtrees) n []) (sym count) ∙ at_front front subtree subtrees in
+      let at : subtree_at all from ≡ subtree =
+          ap (λ l. get_or l from []) (sym whole) ∙ ap (λ (n : ℕ). get_or (front ++ subtree ∷ subtrees) n []) (sym count)
+          ∙ at_front front subtree subtrees in
       let within : from < length all = omega (arith, ap length whole, length-append front (subtree ∷ subtrees), count) in
       let shown = subst (λ s. IsShown s (answer st user subtree)) (sym at) (answer_is_shown st user subtree) in
       let more : length (front ++ subtree ∷ []) ≡ suc from = omega (arith, length-append front (subtree ∷ []), count) in
-      all-append (IsPairShown users all) (pair_unless_contained place from (answer st user subtree)) (pairs_of st place user (suc from) subtrees)
+      all-append (IsPairShown users all) (pair_unless_contained place from (answer st user subtree))
+      (pairs_of st place user (suc from) subtrees)
       (one_shown all from (answer st user subtree) within shown)
       (of_user_shown (front ++ subtree ∷ []) subtrees all (suc from) (append_assoc front (subtree ∷ []) subtrees ∙ whole) more)
 
-of_users_shown : (st : State) (all : List Identity) (subtrees : List Names) (front users : List Identity) (from : ℕ) → front ++ users ≡ all → length front ≡ from → AllByRecursion (IsPairShown all subtrees) (pairs_from st from users subtrees)
+of_users_shown : (st : State) (all : List Identity) (subtrees : List Names) (front users : List Identity) (from : ℕ) → front ++ users ≡ all
+    → length front ≡ from → AllByRecursion (IsPairShown all subtrees) (pairs_from st from users subtrees)
 of_users_shown st all subtrees front [] from whole count = tt
 of_users_shown st all subtrees front (user ∷ users) from whole count =
     let listed : from < length all = omega (arith, ap length whole, length-append front (user ∷ users), count) in
@@ -51,15 +57,18 @@ of_users_shown st all subtrees front (user ∷ users) from whole count =
     (of_user_shown st all from listed user [] subtrees subtrees 0 refl refl)
     (of_users_shown st all subtrees (front ++ user ∷ []) users (suc from) (append_assoc front (user ∷ []) users ∙ whole) more)
 
-first_shown : (users : List Identity) (subtrees : List Names) (pairs : List AllAnswer) → AllByRecursion (IsPairShown users subtrees) pairs → IsPairShown users subtrees (unwrap_or (first pairs) Contained)
+first_shown : (users : List Identity) (subtrees : List Names) (pairs : List AllAnswer) → AllByRecursion (IsPairShown users subtrees) pairs
+    → IsPairShown users subtrees (unwrap_or (first pairs) Contained)
 first_shown users subtrees [] all = tt
 first_shown users subtrees (pair ∷ pairs) all = all.0
 
-found_shown : (users : List Identity) (subtrees : List Names) (fault : Option CheckFault) (answer found : AllAnswer) → IsPairShown users subtrees answer → unless_fault fault answer ≡ Ok found → IsPairShown users subtrees found
+found_shown : (users : List Identity) (subtrees : List Names) (fault : Option CheckFault) (answer found : AllAnswer)
+    → IsPairShown users subtrees answer → unless_fault fault answer ≡ Ok found → IsPairShown users subtrees found
 found_shown users subtrees None answer found shown is = let same : answer ≡ found = cc in subst (IsPairShown users subtrees) same shown
 found_shown users subtrees (Some fault) answer found shown is = let never : ⊥ = cc in absurd never
 
-pub audits_are_shown : (st : State) (users : List Identity) (subtrees : List Names) (found : AllAnswer) → all_checked st users subtrees ≡ Ok found → IsPairShown users subtrees found
+pub audits_are_shown : (st : State) (users : List Identity) (subtrees : List Names) (found : AllAnswer)
+    → all_checked st users subtrees ≡ Ok found → IsPairShown users subtrees found
 audits_are_shown st users subtrees found is =
     found_shown users subtrees (first (flat_map (subtree_faults st) subtrees)) (all_answers st users subtrees) found
     (first_shown users subtrees (pairs_from st 0 users subtrees) (of_users_shown st users subtrees [] users 0 refl refl)) is

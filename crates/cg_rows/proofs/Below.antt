@@ -93,7 +93,8 @@ between (n ∷ ns) (m ∷ ms) (k ∷ ks) e f h =
     let parts = and_parts _ _ h in
     let same = same_name-is n k parts.0 in
     elim (name_cmp n m) as (λ r. name_cmp n m ≡ r → ordering_then r (path_cmp ns ms) ≡ Less → inside (n ∷ ns) (m ∷ ms) ≡ true) [
-      | Less ↦ λ c _. not_less _ (sym (ap (λ r. ordering_then r (path_cmp ms ks)) (ap (name_cmp m) (sym same) ∙ turned n m Less c)) ∙ f) refl
+      | Less ↦
+          λ c _. not_less _ (sym (ap (λ r. ordering_then r (path_cmp ms ks)) (ap (name_cmp m) (sym same) ∙ turned n m Less c)) ∙ f) refl
       | Equal ↦ λ c rest.
           let back = ap (name_cmp m) (sym same) ∙ turned n m Equal c in
           and_from _ _ (same_name_tied n m c) (between ns ms ks rest (sym (ap (λ r. ordering_then r (path_cmp ms ks)) back) ∙ f) parts.1)
@@ -113,7 +114,8 @@ module _ {X : Type 0} (test : X → Bool) where
   filter_late xs zero none l = refl
   filter_late [] (suc i) none l = refl
   filter_late (x ∷ xs) (suc i) none l =
-      skip x xs (none 0 x (omega arith) (omega arith)) ∙ filter_late xs i (λ k d _ m. none (suc k) d (omega arith) (omega arith)) (omega arith)
+      skip x xs (none 0 x (omega arith) (omega arith))
+      ∙ filter_late xs i (λ k d _ m. none (suc k) d (omega arith) (omega arith)) (omega arith)
 
   filter_early : (xs : List X) (n : ℕ) → IsPartitionPoint (λ x. test x ≡ true) (λ x. test x ≡ false) xs n → filter test xs ≡ take n xs
   filter_early [] zero parted = refl
@@ -123,13 +125,16 @@ module _ {X : Type 0} (test : X → Bool) where
       ∙ filter_early xs zero (λ k d _ m. absurd (omega arith), λ k d _ m. parted.1 (suc k) d (omega arith) (omega arith))
   filter_early (x ∷ xs) (suc n) parted =
       keep x xs _ (parted.0 0 x (omega arith) (omega arith))
-      (filter_early xs n (λ k d _ m. parted.0 (suc k) d (omega arith) (omega arith), λ k d l m. parted.1 (suc k) d (omega arith) (omega arith)))
+      (filter_early xs n
+        (λ k d _ m. parted.0 (suc k) d (omega arith) (omega arith), λ k d l m. parted.1 (suc k) d (omega arith) (omega arith)))
 
   -- a narrower test finds as much in what passes the test
-  pub any_filtered : (narrow : X → Bool) → ((x : X) → narrow x ≡ true → test x ≡ true) → (xs : List X) → list_any narrow (filter test xs) ≡ list_any narrow xs
+  pub any_filtered : (narrow : X → Bool) → ((x : X) → narrow x ≡ true → test x ≡ true) → (xs : List X)
+      → list_any narrow (filter test xs) ≡ list_any narrow xs
   any_filtered narrow implies [] = refl
   any_filtered narrow implies (x ∷ xs) =
-      elim (test x) as (λ b. test x ≡ b → list_any narrow (cond b (x ∷ filter test xs) (filter test xs)) ≡ (narrow x || list_any narrow xs)) [
+      elim (test x) as
+      (λ b. test x ≡ b → list_any narrow (cond b (x ∷ filter test xs) (filter test xs)) ≡ (narrow x || list_any narrow xs)) [
         | true ↦ λ _. ap (λ b. narrow x || b) (any_filtered narrow implies xs)
         | false ↦ λ e. any_filtered narrow implies xs ∙ sym (ap (λ b. b || list_any narrow xs) (unless narrow implies x e))
       ] refl
@@ -166,7 +171,8 @@ module _ {K X : Type 0} {R : K → K → Ordering} (o : IsTotalOrder R) where
 
 module _ {X : Type 0} where
   -- a binary search for the end of what is inside p is right
-  pub inside_parted : (p : Names) (es : List (Names × X)) (i : ℕ) → is_sorted path_cmp es ≡ true → IsStart path_cmp_total p es i → IsPartitionedBy (λ e. inside p e.0) (drop i es)
+  pub inside_parted : (p : Names) (es : List (Names × X)) (i : ℕ) → is_sorted path_cmp es ≡ true → IsStart path_cmp_total p es i
+      → IsPartitionedBy (λ e. inside p e.0) (drop i es)
   inside_parted p es i s start j k d l m h =
       elim (eq-or-lt_of_le l) [
         | inl e ↦ subst (λ n. inside p (get_or (drop i es) n d).0 ≡ true) (sym e) h
@@ -180,13 +186,16 @@ module _ {X : Type 0} where
       ]
 
   parted_below : (p : Names) (es : List (Names × X)) (i n : ℕ) → IsStart path_cmp_total p es i → n ≤ length (drop i es)
-      → IsPartitionPoint (λ e. inside p e.0 ≡ true) (λ e. inside p e.0 ≡ false) (drop i es) n → IsPartitionPoint (λ e. below p e.0 ≡ true) (λ e. below p e.0 ≡ false) (drop i es) n
-  parted_below p es i n start bound parted = (λ k d l m. sym (same k d (omega arith)) ∙ parted.0 k d l m, λ k d l m. sym (same k d m) ∙ parted.1 k d l m)
+      → IsPartitionPoint (λ e. inside p e.0 ≡ true) (λ e. inside p e.0 ≡ false) (drop i es) n
+      → IsPartitionPoint (λ e. below p e.0 ≡ true) (λ e. below p e.0 ≡ false) (drop i es) n
+  parted_below p es i n start bound parted =
+      (λ k d l m. sym (same k d (omega arith)) ∙ parted.0 k d l m, λ k d l m. sym (same k d m) ∙ parted.1 k d l m)
     where
       same : (k : ℕ) (d : Names × X) → k < length (drop i es) → inside p (get_or (drop i es) k d).0 ≡ below p (get_or (drop i es) k d).0
       same k d m =
           let within : k < length es - i = subst (λ n. k < n) (length-drop i es) m in
-          subst (λ (e : Names × X). inside p e.0 ≡ below p e.0) (sym (get_or-drop i es k d)) (below_after p _ (start.2 (i + k) d (omega arith) (omega arith)))
+          subst (λ (e : Names × X). inside p e.0 ≡ below p e.0) (sym (get_or-drop i es k d))
+          (below_after p _ (start.2 (i + k) d (omega arith) (omega arith)))
 
   pub filter_below : (p : Names) (es : List (Names × X)) (i n : ℕ) → IsStart path_cmp_total p es i → n ≤ length (drop i es)
       → IsPartitionPoint (λ e. inside p e.0 ≡ true) (λ e. inside p e.0 ≡ false) (drop i es) n
@@ -195,9 +204,11 @@ module _ {X : Type 0} where
       sym (filter_late (λ e. below p e.0) es i (λ k d l m. outside_until p _ (start.1 k d l m)) start.0
       ∙ filter_early (λ e. below p e.0) (drop i es) n (parted_below p es i n start bound parted))
 
-  pub found_below : {m : map.FinMap path_cmp X} (p : Names) (es fs : List (Names × X)) (i n : ℕ) → map.from_sorted es ≡ m → is_sorted path_cmp es ≡ true → fs ≡ es → IsStart path_cmp_total p es i
+  pub found_below : {m : map.FinMap path_cmp X} (p : Names) (es fs : List (Names × X)) (i n : ℕ) → map.from_sorted es ≡ m
+      → is_sorted path_cmp es ≡ true → fs ≡ es → IsStart path_cmp_total p es i
       → n ≤ length (take (length fs - i) (drop i fs))
-      → (IsPartitionedBy (λ e. inside p e.0) (take (length fs - i) (drop i fs)) → IsPartitionPoint (λ e. inside p e.0 ≡ true) (λ e. inside p e.0 ≡ false) (take (length fs - i) (drop i fs)) n)
+      → (IsPartitionedBy (λ e. inside p e.0) (take (length fs - i) (drop i fs))
+        → IsPartitionPoint (λ e. inside p e.0 ≡ true) (λ e. inside p e.0 ≡ false) (take (length fs - i) (drop i fs)) n)
       → take n (take (length fs - i) (drop i fs)) ≡ filter (λ e. below p e.0) (map.entries m)
   found_below p es fs i n shows s same start bound parts =
       let rest : take (length fs - i) (drop i fs) ≡ drop i es = take_rest fs i ∙ ap (drop i) same in
@@ -206,13 +217,17 @@ module _ {X : Type 0} where
       ap (take n) rest ∙ filter_below p es i n start (subst (λ (gs : List (Names × X)). n ≤ length gs) rest bound) parted
       ∙ ap (filter (λ e. below p e.0)) (shown_entries path_cmp_total es es shows s refl)
 
-  pub start_of_place : (p : Names) (es fs : List (Names × X)) (i j : ℕ) → is_sorted path_cmp es ≡ true → fs ≡ es → IsPlace path_cmp p fs i → j ≡ i + 1 → IsStart path_cmp_total p es j
+  pub start_of_place : (p : Names) (es fs : List (Names × X)) (i j : ℕ) → is_sorted path_cmp es ≡ true → fs ≡ es → IsPlace path_cmp p fs i
+      → j ≡ i + 1 → IsStart path_cmp_total p es j
   start_of_place p es fs i j s same at e =
-      subst (IsStart path_cmp_total p es) (sym e) (start_after path_cmp_total p es i s (subst (λ (gs : List (Names × X)). IsPlace path_cmp p gs i) same at))
+      subst (IsStart path_cmp_total p es) (sym e)
+      (start_after path_cmp_total p es i s (subst (λ (gs : List (Names × X)). IsPlace path_cmp p gs i) same at))
 
-  pub start_of_gap : (p : Names) (es fs : List (Names × X)) (i j : ℕ) → fs ≡ es → IsGap path_cmp p fs i → j ≡ i → IsStart path_cmp_total p es j
+  pub start_of_gap : (p : Names) (es fs : List (Names × X)) (i j : ℕ) → fs ≡ es → IsGap path_cmp p fs i → j ≡ i
+      → IsStart path_cmp_total p es j
   start_of_gap p es fs i j same gap e =
-      subst (IsStart path_cmp_total p es) (sym e) (start_gap path_cmp_total p es i (subst (λ (gs : List (Names × X)). IsGap path_cmp p gs i) same gap))
+      subst (IsStart path_cmp_total p es) (sym e)
+      (start_gap path_cmp_total p es i (subst (λ (gs : List (Names × X)). IsGap path_cmp p gs i) same gap))
 
 pub inside_within : (p x : Names) → inside p x ≡ true → length p ≤ length x
 inside_within [] x h = omega arith
@@ -227,32 +242,42 @@ child_below p x h =
 -- ---- the questions about what lies below a path
 
 module _ {X : Type 0} (m : map.FinMap path_cmp X) where
-  pub any_below : (p : Names) (test : Names × X → Bool) (es : List (Names × X)) (r : Bool) → es ≡ filter (λ e. below p e.0) (map.entries m) → r ≡ list_any (λ e. is_child p e.0 && test e) es
+  pub any_below : (p : Names) (test : Names × X → Bool) (es : List (Names × X)) (r : Bool) → es ≡ filter (λ e. below p e.0) (map.entries m)
+      → r ≡ list_any (λ e. is_child p e.0 && test e) es
       → r ≡ list_any (λ e. is_child p e.0 && test e) (map.entries m)
-  any_below p test es r found told = told ∙ ap (list_any (λ e. is_child p e.0 && test e)) found ∙ any_filtered (λ e. below p e.0) (λ e. is_child p e.0 && test e) (λ e h. child_below p e.0 (and_parts _ _ h).0) (map.entries m)
+  any_below p test es r found told =
+      told ∙ ap (list_any (λ e. is_child p e.0 && test e)) found
+      ∙ any_filtered (λ e. below p e.0) (λ e. is_child p e.0 && test e) (λ e h. child_below p e.0 (and_parts _ _ h).0) (map.entries m)
 
-  pub any_child_below : (p : Names) (es : List (Names × X)) (r : Bool) → es ≡ filter (λ e. below p e.0) (map.entries m) → r ≡ list_any (λ e. is_child p e.0) es → r ≡ list_any (is_child p) (map.keys m)
+  pub any_child_below : (p : Names) (es : List (Names × X)) (r : Bool) → es ≡ filter (λ e. below p e.0) (map.entries m)
+      → r ≡ list_any (λ e. is_child p e.0) es → r ≡ list_any (is_child p) (map.keys m)
   any_child_below p es r found told =
-      told ∙ ap (list_any (λ e. is_child p e.0)) found ∙ any_filtered (λ e. below p e.0) (λ e. is_child p e.0) (λ e h. child_below p e.0 h) (map.entries m)
+      told ∙ ap (list_any (λ e. is_child p e.0)) found
+      ∙ any_filtered (λ e. below p e.0) (λ e. is_child p e.0) (λ e h. child_below p e.0 h) (map.entries m)
       ∙ sym (list_any-map (is_child p) (λ e. e.0) (map.entries m))
 
-  filter_keys : (test : Names → Bool) (es : List (Names × X)) → filter test (map_list (λ e. e.0) es) ≡ map_list (λ e. e.0) (filter (λ e. test e.0) es)
+  filter_keys : (test : Names → Bool) (es : List (Names × X))
+      → filter test (map_list (λ e. e.0) es) ≡ map_list (λ e. e.0) (filter (λ e. test e.0) es)
   filter_keys test [] = refl
   filter_keys test (e ∷ es) =
-      elim (test e.0) as (λ b. cond b (e.0 ∷ filter test (map_list (λ e. e.0) es)) (filter test (map_list (λ e. e.0) es)) ≡ map_list (λ e. e.0) (cond b (e ∷ filter (λ e. test e.0) es) (filter (λ e. test e.0) es))) [
+      elim (test e.0) as (λ b. cond b (e.0 ∷ filter test (map_list (λ e. e.0) es)) (filter test (map_list (λ e. e.0) es))
+        ≡ map_list (λ e. e.0) (cond b (e ∷ filter (λ e. test e.0) es) (filter (λ e. test e.0) es))) [
         | true ↦ ap (λ ks. e.0 ∷ ks) (filter_keys test es)
         | false ↦ filter_keys test es
       ]
 
-  pub count_found : (p : Names) (es : List (Names × X)) → es ≡ filter (λ e. below p e.0) (map.entries m) → length es ≡ count_by (below p) (map.keys m)
+  pub count_found : (p : Names) (es : List (Names × X)) → es ≡ filter (λ e. below p e.0) (map.entries m)
+      → length es ≡ count_by (below p) (map.keys m)
   count_found p es found =
-      ap length found ∙ sym (length-map (filter (λ e. below p e.0) (map.entries m)) (λ e. e.0)) ∙ ap length (sym (filter_keys (below p) (map.entries m))) ∙ length-filter (below p) (map.keys m)
+      ap length found ∙ sym (length-map (filter (λ e. below p e.0) (map.entries m)) (λ e. e.0))
+      ∙ ap length (sym (filter_keys (below p) (map.entries m))) ∙ length-filter (below p) (map.keys m)
 
   pub depth_found : (p : Names) (n : ℕ) (es : List (Names × X)) → es ≡ filter (λ e. below p e.0) (map.entries m) → n ≡ length p
       → fold max 0 (map_list (λ e. length e.0 - n) es) ≡ fold max 0 (map_list (λ q. length q - length p) (filter (below p) (map.keys m)))
   depth_found p n es found same =
       (λ i. fold max 0 (map_list (λ e. length e.0 - same i) (found i)))
-      ∙ ap (fold max 0) (sym (map-map_keys (λ q. length q - length p) (filter (λ e. below p e.0) (map.entries m))) ∙ ap (map_list (λ q. length q - length p)) (sym (filter_keys (below p) (map.entries m))))
+      ∙ ap (fold max 0) (sym (map-map_keys (λ q. length q - length p) (filter (λ e. below p e.0) (map.entries m)))
+        ∙ ap (map_list (λ q. length q - length p)) (sym (filter_keys (below p) (map.entries m))))
     where
       map-map_keys : (f : Names → ℕ) (es : List (Names × X)) → map_list f (map_list (λ e. e.0) es) ≡ map_list (λ e. f e.0) es
       map-map_keys f [] = refl

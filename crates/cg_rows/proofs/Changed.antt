@@ -18,17 +18,20 @@ use Rattle.cg_steps.proofs.MapLaws.{entries-changed}
 use Rattle.cg_rows.proofs.Sorted.{shown_entries, holds_true}
 
 module _ {X : Type 0} (f : X → X) where
-  split_at : (all : List X) (i : ℕ) (d : X) → i < length all → map_list f (take i all) ++ drop i all ≡ map_list f (take i all) ++ get_or all i d ∷ drop (i + 1) all
+  split_at : (all : List X) (i : ℕ) (d : X) → i < length all
+      → map_list f (take i all) ++ drop i all ≡ map_list f (take i all) ++ get_or all i d ∷ drop (i + 1) all
   split_at all i d l = ap (λ xs. map_list f (take i all) ++ xs) (drop_more all i d l)
 
   front_length : (all : List X) (i : ℕ) → i < length all → length (map_list f (take i all)) ≡ i
   front_length all i l = length-map (take i all) f ∙ length-take-le i all (omega arith)
 
   -- an element that isn't changed yet is as it was
-  pub unchanged_yet : (all xs : List X) (i : ℕ) (d : X) → xs ≡ map_list f (take i all) ++ drop i all → i < length all → get_or xs i d ≡ get_or all i d
+  pub unchanged_yet : (all xs : List X) (i : ℕ) (d : X) → xs ≡ map_list f (take i all) ++ drop i all → i < length all
+      → get_or xs i d ≡ get_or all i d
   unchanged_yet all xs i d so_far l = ap (λ ys. get_or ys i d) (so_far ∙ split_at all i d l) ∙ get_or_at _ _ _ d i (front_length all i l)
 
-  pub changed_one : (all xs : List X) (i : ℕ) (d x : X) → xs ≡ map_list f (take i all) ++ drop i all → i < length all → x ≡ f (get_or xs i d)
+  pub changed_one : (all xs : List X) (i : ℕ) (d x : X) → xs ≡ map_list f (take i all) ++ drop i all → i < length all
+      → x ≡ f (get_or xs i d)
       → set xs i x ≡ map_list f (take (i + 1) all) ++ drop (i + 1) all
   changed_one all xs i d x so_far l new =
       (λ j. set ((so_far ∙ split_at all i d l) j) i ((new ∙ ap f (unchanged_yet all xs i d so_far l)) j))
@@ -38,7 +41,8 @@ module _ {X : Type 0} (f : X → X) where
 
 -- ---- the table of the changed entries
 
-module _ (f : Names → Cgroup → Cgroup) {m : map.FinMap path_cmp Cgroup} (es gs : List (Names × Cgroup)) (shows : map.from_sorted es ≡ m) (sorted : is_sorted path_cmp es ≡ true) (new : gs ≡ map_list (λ e. (e.0, f e.0 e.1)) es) where
+module _ (f : Names → Cgroup → Cgroup) {m : map.FinMap path_cmp Cgroup} (es gs : List (Names × Cgroup)) (shows : map.from_sorted es ≡ m)
+    (sorted : is_sorted path_cmp es ≡ true) (new : gs ≡ map_list (λ e. (e.0, f e.0 e.1)) es) where
   new_entries : gs ≡ map_list (λ e. (e.0, f e.0 e.1)) (map.entries m)
   new_entries = new ∙ ap (map_list (λ e. (e.0, f e.0 e.1))) (shown_entries path_cmp_total es es shows sorted refl)
 

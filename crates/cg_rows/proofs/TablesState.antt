@@ -21,8 +21,10 @@ changed_by : Names → (Cgroup → Cgroup) → map.FinMap path_cmp Cgroup → Op
 changed_by path f rows None = rows
 changed_by path f rows (Some row) = map.insert rows path (f row)
 
-pub tables_changed : (st : State) (rows rows' : map.FinMap path_cmp Cgroup) (processes : LiveAndUsed) (controllers : ControllerSet) (path sought : Names) (f : Cgroup → Cgroup) (row row' : Cgroup)
-    → state_of_tables rows processes controllers ≡ st → Some row ≡ map.get rows sought → sought ≡ path → row' ≡ f row → rows' ≡ map.insert rows path row'
+pub tables_changed : (st : State) (rows rows' : map.FinMap path_cmp Cgroup) (processes : LiveAndUsed) (controllers : ControllerSet)
+    (path sought : Names) (f : Cgroup → Cgroup) (row row' : Cgroup)
+    → state_of_tables rows processes controllers ≡ st → Some row ≡ map.get rows sought → sought ≡ path → row' ≡ f row
+    → rows' ≡ map.insert rows path row'
     → state_of_tables rows' processes controllers ≡ change_at path f st
 unfolding changed_by
 tables_changed st rows rows' processes controllers path sought f row row' shows there same new inserted =
@@ -56,7 +58,8 @@ module _ (controllers : ControllerSet) (row : Cgroup) where
     parents_of [] e = e
     parents_of (name ∷ names) e = absurd (true≢false (sym e ∙ ap is_some (at_other name names)))
 
-    top_down_of : (path : Names) (other : Cgroup) → row_at alone path ≡ Some other → is_within other.enabled (available_at alone path) ≡ true
+    top_down_of : (path : Names) (other : Cgroup) → row_at alone path ≡ Some other
+        → is_within other.enabled (available_at alone path) ≡ true
     top_down_of [] other e = ap (λ (r : Cgroup). is_within r.enabled controllers) (sym (root_is other e)) ∙ is_root_row.enables
     top_down_of (name ∷ names) other e = no_other name names other e
 
@@ -75,8 +78,10 @@ module _ (controllers : ControllerSet) (row : Cgroup) where
     }
 
   pub tables_of_root : (rows : map.FinMap path_cmp Cgroup) (processes : LiveAndUsed) (start : map.FinMap path_cmp Cgroup) (path : Names)
-      → start ≡ map.empty → path ≡ [] → rows ≡ map.insert start path row → processes ≡ no_processes → state_of_tables rows processes controllers ≡ alone
-  tables_of_root rows processes start path s p r none = λ i. state_of_tables ((r ∙ (λ j. map.insert (s j) (p j) row)) i) (none i) controllers
+      → start ≡ map.empty → path ≡ [] → rows ≡ map.insert start path row → processes ≡ no_processes
+      → state_of_tables rows processes controllers ≡ alone
+  tables_of_root rows processes start path s p r none =
+      λ i. state_of_tables ((r ∙ (λ j. map.insert (s j) (p j) row)) i) (none i) controllers
 
 pub no_keys : (m : map.FinMap path_cmp Cgroup) (path : Names) → m ≡ map.empty → map.contains_key m path ≡ false
 no_keys m path e = ap (λ k. map.contains_key k path) e ∙ ap is_some (map.get-empty path_cmp path)

@@ -32,8 +32,10 @@ child_enables-parent : (st : State) (path : Names) (row : Cgroup) (controller : 
 child_enables-parent st path row controller whole is h =
     let found = child_enables-row st path controller h in
     let below : available_at st found.0 ≡ enabled_at st (parent found.0) = simp (is_root-is_child path found.0 found.3) in
-    let within : available_at st found.0 ≡ row.enabled = below ∙ ap (enabled_at st) (parent-is_child path found.0 found.3) ∙ enabled_at-row st path row is in
-    is_within-enables found.1.enabled row.enabled (subst (λ set. is_within found.1.enabled set ≡ true) within (whole.top_down found.0 found.1 found.2)) controller found.4
+    let within : available_at st found.0 ≡ row.enabled =
+        below ∙ ap (enabled_at st) (parent-is_child path found.0 found.3) ∙ enabled_at-row st path row is in
+    is_within-enables found.1.enabled row.enabled
+    (subst (λ set. is_within found.1.enabled set ≡ true) within (whole.top_down found.0 found.1 found.2)) controller found.4
 
 module _ (st : State) (path : Names) (row : Cgroup) (controller : Controller) where
   on_available : (change : Option Bool) → change_bars st path row controller change ≡ []
@@ -67,7 +69,8 @@ live-enables_nothing st path row whole is live =
 
 within-nothing : (set other : ControllerSet) → is_within set other ≡ true → enables_nothing other ≡ true → enables_nothing set ≡ true
 within-nothing set other within nothing =
-    enables_nothing-none set (λ controller. false_from_ne_true _ (λ on. true≢false (sym (is_within-enables set other within controller on) ∙ enables_nothing-enables other nothing controller)))
+    enables_nothing-none set (λ controller. false_from_ne_true _
+      (λ on. true≢false (sym (is_within-enables set other within controller on) ∙ enables_nothing-enables other nothing controller)))
 
 no_internal_cases : (root within nothing live before : Bool) → (root || (within || not live)) ≡ true
     → (live ≡ true → (root || before) ≡ true) → (within ≡ true → before ≡ true → nothing ≡ true) → (root || (nothing || not live)) ≡ true
@@ -83,17 +86,23 @@ each_change st path changes row h Cpu = (no_parts _ _ (no_parts _ _ h).0).0
 each_change st path changes row h Memory = (no_parts _ _ (no_parts _ _ (no_parts _ _ h).0).1).0
 each_change st path changes row h Pids = (no_parts _ _ (no_parts _ _ (no_parts _ _ (no_parts _ _ h).0).1).1).0
 
-module _ (st : State) (path : Names) (changes : List Change) (row : Cgroup) (whole : IsWellFormed st) (is : row_at st path ≡ Some row) (h : changes_bars st path changes row ≡ []) where
+module _ (st : State) (path : Names) (changes : List Change) (row : Cgroup) (whole : IsWellFormed st) (is : row_at st path ≡ Some row)
+    (h : changes_bars st path changes row ≡ []) where
   pub may_enable : MayEnable st path (enabled_after row.enabled changes)
   may_enable = record {
     available = is_within-each _ (available_at st path) (λ controller on.
         on_available st path row controller (effective changes controller) (each_change st path changes row h controller)
-        (is_within-enables row.enabled _ (whole.top_down path row is) controller) (sym (enables-enabled_after row.enabled changes controller) ∙ on));
+        (is_within-enables row.enabled _ (whole.top_down path row is) controller)
+        (sym (enables-enabled_after row.enabled changes controller) ∙ on));
     children = λ controller child.
         enables-enabled_after row.enabled changes controller
-        ∙ on_children st path row controller (effective changes controller) (each_change st path changes row h controller) (child_enables-parent st path row controller whole is) child;
-    no_internal = no_internal_cases (is_root path) (is_within (enabled_after row.enabled changes) row.enabled) (enables_nothing (enabled_after row.enabled changes)) (has_live st path) (enables_nothing row.enabled)
-        (no_unless _ _ (no_parts _ _ h).1) (live-enables_nothing st path row whole is) (within-nothing (enabled_after row.enabled changes) row.enabled);
+        ∙ on_children st path row controller (effective changes controller) (each_change st path changes row h controller)
+        (child_enables-parent st path row controller whole is) child;
+    no_internal =
+        no_internal_cases (is_root path) (is_within (enabled_after row.enabled changes) row.enabled)
+        (enables_nothing (enabled_after row.enabled changes)) (has_live st path) (enables_nothing row.enabled)
+        (no_unless _ _ (no_parts _ _ h).1) (live-enables_nothing st path row whole is)
+        (within-nothing (enabled_after row.enabled changes) row.enabled);
   }
 
 -- where nothing bars a control

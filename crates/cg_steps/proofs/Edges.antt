@@ -28,7 +28,9 @@ not_filtered : (p : ℕ → Bool) (pids : List ℕ) (pid : ℕ) → list_any (eq
 not_filtered p [] pid h passed none = true≢false (sym h)
 not_filtered p (first ∷ pids) pid h passed none =
     elim (eq_by_cmp nat_cmp pid first) as (λ b. eq_by_cmp nat_cmp pid first ≡ b → (b || list_any (eq_by_cmp nat_cmp pid) pids) ≡ true → ⊥) [
-      | true ↦ λ is _. filtered_some _ _ (sym (ap (λ b. cond b (first ∷ filter p pids) (filter p pids)) (ap p (sym (eqb-true pid first (unsigned_ties pid first ∙ is))) ∙ passed)) ∙ none)
+      | true ↦
+          λ is _. filtered_some _ _ (sym (ap (λ b. cond b (first ∷ filter p pids) (filter p pids))
+                          (ap p (sym (eqb-true pid first (unsigned_ties pid first ∙ is))) ∙ passed)) ∙ none)
       | false ↦ λ _ rest. elim (p first) as (λ b. cond b (first ∷ filter p pids) (filter p pids) ≡ [] → ⊥) [
         | true ↦ λ none. filtered_some _ _ none
         | false ↦ λ none. not_filtered p pids pid rest passed none
@@ -42,4 +44,5 @@ not_filtered p (first ∷ pids) pid h passed none =
 pub crosses-some : (st new : State) (subtree : Names) (pid : ℕ) → is_some (process_at st pid) ≡ true
     → is_crossed subtree (place_at st pid) (place_at new pid) ≡ true → crossing st new subtree ≢ []
 crosses-some st new subtree pid live crossed =
-    not_filtered (λ p. is_crossed subtree (place_at st p) (place_at new p)) (pids_of st) pid (sym (contains_key-keys st.live pid) ∙ live) crossed
+    not_filtered (λ p. is_crossed subtree (place_at st p) (place_at new p)) (pids_of st) pid (sym (contains_key-keys st.live pid) ∙ live)
+    crossed

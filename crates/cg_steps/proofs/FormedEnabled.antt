@@ -23,7 +23,8 @@ use Rattle.cg_steps.proofs.FormedParts.{may_hold-row, row-may_hold}
 pub is_child-itself : (path : Names) → is_child path path ≡ false
 is_child-itself path =
     false_from_ne_true (is_child path path) (λ child.
-    true≢false (sym (ap (same_path path) (parent-is_child path path child) ∙ same_path_refl path) ∙ parent-other path (is_root-is_child path path child)))
+    true≢false (sym (ap (same_path path) (parent-is_child path path child) ∙ same_path_refl path)
+      ∙ parent-other path (is_root-is_child path path child)))
 
 module _ (path : Names) (enabled : ControllerSet) (user : Identity) where
   -- the row of the path, of a child and of any other
@@ -33,10 +34,12 @@ module _ (path : Names) (enabled : ControllerSet) (user : Identity) where
       → (same_path path q ≡ false → is_child path q ≡ false → P row)
       → P (enabling path enabled user q row)
   enabling-by P q row here child other =
-      elim (same_path path q) as (λ b. same_path path q ≡ b → P (cond b (enabling_these enabled row) (cond (is_child path q) (with_files_of enabled user row) row))) [
+      elim (same_path path q) as
+      (λ b. same_path path q ≡ b → P (cond b (enabling_these enabled row) (cond (is_child path q) (with_files_of enabled user row) row))) [
         | true ↦ here
         | false ↦ λ apart.
-            elim (is_child path q) as (λ b. is_child path q ≡ b → P (cond b (with_files_of enabled user row) row)) [ true ↦ child | false ↦ other apart ] refl
+            elim (is_child path q) as (λ b. is_child path q ≡ b → P (cond b (with_files_of enabled user row) row))
+            [ true ↦ child | false ↦ other apart ] refl
       ] refl
 
   pub enabled-enabling : (q : Names) (row : Cgroup) → same_path path q ≡ false → (enabling path enabled user q row).enabled ≡ row.enabled
@@ -45,7 +48,8 @@ module _ (path : Names) (enabled : ControllerSet) (user : Identity) where
 
   pub enabled-enabling-same : (row : Cgroup) → (enabling path enabled user path row).enabled ≡ enabled
   enabled-enabling-same row =
-      enabling-by (λ r. r.enabled ≡ enabled) path row (λ _. refl) (λ child. absurd (true≢false (sym child ∙ is_child-itself path))) (λ apart _. absurd (true≢false (sym (same_path_refl path) ∙ apart)))
+      enabling-by (λ r. r.enabled ≡ enabled) path row (λ _. refl) (λ child. absurd (true≢false (sym child ∙ is_child-itself path)))
+      (λ apart _. absurd (true≢false (sym (same_path_refl path) ∙ apart)))
 
 module _ (st : State) (path : Names) (enabled : ControllerSet) (user : Identity) where
   pub has_row-with_enabled : (q : Names) → has_row (with_enabled st path enabled user) q ≡ has_row st q
@@ -55,14 +59,16 @@ module _ (st : State) (path : Names) (enabled : ControllerSet) (user : Identity)
   pub enabled_at-with_enabled-same : has_row st path ≡ true → enabled_at (with_enabled st path enabled user) path ≡ enabled
   enabled_at-with_enabled-same there =
       let row = some_value (row_at st path) there in
-      ap (λ r. elim r [ None ↦ no_controllers | Some row ↦ row.enabled ]) (row_at-with_enabled st path enabled user path ∙ ap (option_map (enabling path enabled user path)) row.1)
+      ap (λ r. elim r [ None ↦ no_controllers | Some row ↦ row.enabled ])
+      (row_at-with_enabled st path enabled user path ∙ ap (option_map (enabling path enabled user path)) row.1)
       ∙ enabled-enabling-same path enabled user row.0
 
   pub enabled_at-with_enabled-other : (q : Names) → same_path path q ≡ false
       → enabled_at (with_enabled st path enabled user) q ≡ enabled_at st q
   enabled_at-with_enabled-other q apart =
       ap (λ r. elim r [ None ↦ no_controllers | Some row ↦ row.enabled ]) (row_at-with_enabled st path enabled user q)
-      ∙ elim (row_at st q) as (λ r. elim (option_map (enabling path enabled user q) r) [ None ↦ no_controllers | Some row ↦ row.enabled ] ≡ elim r [ None ↦ no_controllers | Some row ↦ row.enabled ]) [
+      ∙ elim (row_at st q) as (λ r. elim (option_map (enabling path enabled user q) r) [ None ↦ no_controllers | Some row ↦ row.enabled ]
+        ≡ elim r [ None ↦ no_controllers | Some row ↦ row.enabled ]) [
         | None ↦ refl
         | Some row ↦ enabled-enabling path enabled user q row apart
       ]
@@ -78,10 +84,12 @@ module _ (st : State) (path : Names) (enabled : ControllerSet) (user : Identity)
       → cond (is_root q) default (enabled_at (with_enabled st path enabled user) (parent q))
       ≡ cond (is_root q) default (enabled_at st (parent q))
   above_other default q other =
-      elim (is_root q) as (λ b. is_root q ≡ b → cond b default (enabled_at (with_enabled st path enabled user) (parent q)) ≡ cond b default (enabled_at st (parent q))) [
+      elim (is_root q) as (λ b. is_root q ≡ b
+        → cond b default (enabled_at (with_enabled st path enabled user) (parent q)) ≡ cond b default (enabled_at st (parent q))) [
         | true ↦ λ _. refl
         | false ↦ λ below_root. enabled_at-with_enabled-other (parent q) (false_from_ne_true (same_path path (parent q)) (λ same.
-            true≢false (sym (subst (λ p. is_child p q ≡ true) (sym (same_path-is path (parent q) same)) (is_child-parent q below_root)) ∙ other)))
+            true≢false
+            (sym (subst (λ p. is_child p q ≡ true) (sym (same_path-is path (parent q) same)) (is_child-parent q below_root)) ∙ other)))
       ] refl
 
   above_same : (default : ControllerSet) (q : Names) → same_path path q ≡ true
@@ -102,8 +110,11 @@ module _ (st : State) (path : Names) (enabled : ControllerSet) (user : Identity)
         → is_within (enabling path enabled user q row).enabled (available_at (with_enabled st path enabled user) q) ≡ true
     stays_top_down q row is =
         enabling-by path enabled user (λ r. is_within r.enabled (available_at (with_enabled st path enabled user) q) ≡ true) q row
-        (λ same. ap (is_within enabled) (above_same st.controllers q same ∙ ap (available_at st) (sym (same_path-is path q same))) ∙ may.available)
-        (λ child. ap (is_within row.enabled) (above_child there st.controllers q child) ∙ is_within-each row.enabled enabled (λ controller on. may.children controller (row-child_enables st path q row controller is child on)))
+        (λ same. ap (is_within enabled) (above_same st.controllers q same ∙ ap (available_at st) (sym (same_path-is path q same)))
+          ∙ may.available)
+        (λ child. ap (is_within row.enabled) (above_child there st.controllers q child)
+          ∙ is_within-each row.enabled enabled
+          (λ controller on. may.children controller (row-child_enables st path q row controller is child on)))
         (λ _ other. ap (is_within row.enabled) (above_other st.controllers q other) ∙ whole.top_down q row is)
 
     -- what a row enables is no part of its files
@@ -115,8 +126,10 @@ module _ (st : State) (path : Names) (enabled : ControllerSet) (user : Identity)
     stays_formed q row is =
         let formed = whole.rows q row is in
         enabling-by path enabled user (IsFormedRow (enabled_above (with_enabled st path enabled user) q)) q row
-        (λ same. subst (λ set. IsFormedRow set (enabling_these enabled row)) (sym (above_same no_controllers q same)) (enabling_row (enabled_above st q) row formed))
-        (λ child. subst (λ set. IsFormedRow set (with_files_of enabled user row)) (sym (above_child there no_controllers q child)) (formed_row-with_files_of (enabled_above st q) enabled user row formed))
+        (λ same. subst (λ set. IsFormedRow set (enabling_these enabled row)) (sym (above_same no_controllers q same))
+          (enabling_row (enabled_above st q) row formed))
+        (λ child. subst (λ set. IsFormedRow set (with_files_of enabled user row)) (sym (above_child there no_controllers q child))
+          (formed_row-with_files_of (enabled_above st q) enabled user row formed))
         (λ _ other. subst (λ set. IsFormedRow set row) (sym (above_other no_controllers q other)) formed)
 
     -- where a process is, nothing is enabled, or it is the root

@@ -87,16 +87,21 @@ one_process false x o P changed kept process is = kept process is
 pub formed-without_process : (st : State) (pid : ℕ) → IsWellFormed st → IsWellFormed (without_process st pid)
 formed-without_process st pid formed =
     let left = λ (q : ℕ) (process : Process) (is : process_at (without_process st pid) q ≡ Some process).
-    one_process (nat_eq pid q) None (process_at st q) (λ process. process_at st q ≡ Some process) (λ process _ none. absurd (true≢false (sym (ap is_some none)))) (λ process is. is) process (sym (process_at-without_process st pid q) ∙ is) in
-    with_live st (without_process st pid).live st.used (λ q process is. formed.places q process (left q process is)) (λ q process is. formed.used q process (left q process is)) formed
+    one_process (nat_eq pid q) None (process_at st q) (λ process. process_at st q ≡ Some process)
+    (λ process _ none. absurd (true≢false (sym (ap is_some none)))) (λ process is. is) process
+    (sym (process_at-without_process st pid q) ∙ is) in
+    with_live st (without_process st pid).live st.used (λ q process is. formed.places q process (left q process is))
+    (λ q process is. formed.used q process (left q process is)) formed
 
 pub formed-with_place : (st : State) (pid : ℕ) (path : Names) → may_hold st path ≡ true → IsWellFormed st
     → IsWellFormed (with_place st pid path)
 formed-with_place st pid path hold formed =
     with_live st (with_place st pid path).live st.used
     (λ q process is.
-    one_process (nat_eq pid q) (option_map (placed_at path) (process_at st q)) (process_at st q) (λ process. may_hold st process.place ≡ true)
-    (λ process _ moved. let old = mapped_from (placed_at path) (process_at st q) process moved in subst (λ (p : Process). may_hold st p.place ≡ true) old.2 hold)
+    one_process (nat_eq pid q) (option_map (placed_at path) (process_at st q)) (process_at st q)
+    (λ process. may_hold st process.place ≡ true)
+    (λ process _ moved. let old =
+          mapped_from (placed_at path) (process_at st q) process moved in subst (λ (p : Process). may_hold st p.place ≡ true) old.2 hold)
     (λ process is. formed.places q process is)
     process (sym (process_at-with_place st pid path q) ∙ is))
     (λ q process is.
@@ -117,7 +122,8 @@ formed-with_process st pid uid path hold formed =
     process (sym (process_at-with_process st pid uid path q) ∙ is))
     (λ q process is.
     is_used-with_process st pid uid path q
-    ∙ one_process (nat_eq pid q) (Some (record { uid = uid; place = path })) (process_at st q) (λ process. (nat_eq pid q || is_used st q) ≡ true)
+    ∙ one_process (nat_eq pid q) (Some (record { uid = uid; place = path })) (process_at st q)
+    (λ process. (nat_eq pid q || is_used st q) ≡ true)
     (λ process same _. ap (λ b. b || is_used st q) same)
     (λ process is. ap (λ b. nat_eq pid q || b) (formed.used q process is) ∙ or-true (nat_eq pid q))
     process (sym (process_at-with_process st pid uid path q) ∙ is))

@@ -22,7 +22,8 @@ module _ (st : State) (m : finite.FinMap path_cmp Cgroup) (f : Names → Cgroup 
   same_enabled : (q : Names) → enabled_at (with_rows st m) q ≡ enabled_at st q
   same_enabled q =
       ap (λ r. elim r [ None ↦ no_controllers | Some row ↦ row.enabled ]) (rows q)
-      ∙ elim (row_at st q) as (λ r. elim (option_map (f q) r) [ None ↦ no_controllers | Some row ↦ row.enabled ] ≡ elim r [ None ↦ no_controllers | Some row ↦ row.enabled ]) [ None ↦ refl | Some row ↦ enables_same q row ]
+      ∙ elim (row_at st q) as (λ r. elim (option_map (f q) r) [ None ↦ no_controllers | Some row ↦ row.enabled ]
+              ≡ elim r [ None ↦ no_controllers | Some row ↦ row.enabled ]) [ None ↦ refl | Some row ↦ enables_same q row ]
 
   same_above : (default : ControllerSet) (q : Names)
       → cond (is_root q) default (enabled_at (with_rows st m) (parent q)) ≡ cond (is_root q) default (enabled_at st (parent q))
@@ -31,7 +32,8 @@ module _ (st : State) (m : finite.FinMap path_cmp Cgroup) (f : Names → Cgroup 
   same_hold : (q : Names) → may_hold st q ≡ true → may_hold (with_rows st m) q ≡ true
   same_hold q h =
       let held = may_hold-row st q h in
-      row-may_hold (with_rows st m) q (f q held.0) (rows q ∙ ap (option_map (f q)) held.1) (ap (λ set. is_root q || enables_nothing set) (enables_same q held.0) ∙ held.2)
+      row-may_hold (with_rows st m) q (f q held.0) (rows q ∙ ap (option_map (f q)) held.1)
+      (ap (λ set. is_root q || enables_nothing set) (enables_same q held.0) ∙ held.2)
 
   pub formed-reshaped : ((above : ControllerSet) (q : Names) (row : Cgroup) → IsFormedRow above row → IsFormedRow above (f q row))
       → IsWellFormed st → IsWellFormed (with_rows st m)
@@ -44,7 +46,8 @@ module _ (st : State) (m : finite.FinMap path_cmp Cgroup) (f : Names → Cgroup 
         (λ i. is_within (enabled i) (same_above st.controllers q i)) ∙ formed.top_down q old.0 old.1;
     rows = λ q row is.
         let old = mapped_from (f q) (row_at st q) row (sym (rows q) ∙ is) in
-        subst (λ set. IsFormedRow set row) (sym (same_above no_controllers q)) (subst (IsFormedRow (enabled_above st q)) old.2 (keeps (enabled_above st q) q old.0 (formed.rows q old.0 old.1)));
+        subst (λ set. IsFormedRow set row) (sym (same_above no_controllers q))
+        (subst (IsFormedRow (enabled_above st q)) old.2 (keeps (enabled_above st q) q old.0 (formed.rows q old.0 old.1)));
     places = λ pid process is. same_hold process.place (formed.places pid process is);
     used = formed.used;
   }

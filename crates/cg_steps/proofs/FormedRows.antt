@@ -36,7 +36,8 @@ formed_row-with_value_in above file value row accepted formed = record {
       ∙ is_some-changed (same_file file other) (with_value_of value) (file_of row other) ∙ formed.files other;
   values = λ other held is.
       of_changed (λ (x : LimitEntry). accepts other x.value ≡ true) (same_file file other) (with_value_of value) (file_of row other)
-      (λ x same _. ap (λ f. accepts f value) (sym (same_file-true file other same)) ∙ accepted) (formed.values other) held (sym (file_of-with_value_in file value row other) ∙ is);
+      (λ x same _. ap (λ f. accepts f value) (sym (same_file-true file other same)) ∙ accepted) (formed.values other) held
+      (sym (file_of-with_value_in file value row other) ∙ is);
   modes = λ name entry is. formed.modes name entry (sym (entry_in-with_value_in file value row name) ∙ is);
 }
 
@@ -51,7 +52,8 @@ formed_row-with_mode_in above name mode row small formed = record {
       of_changed (λ (x : LimitEntry). accepts file x.value ≡ true) (same_entry name (File file)) (with_file_mode_of mode) (file_of row file)
       (λ x _. formed.values file x) (formed.values file) held (sym (file_of-with_mode_in name mode row file) ∙ is);
   modes = λ other entry is.
-      of_changed (λ (e : Entry). e.mode ≤ 511) (same_entry name other) (with_mode_of mode) (entry_in row other) (λ e _ _. small) (formed.modes other) entry (sym (entry_in-with_mode_in name mode row other) ∙ is);
+      of_changed (λ (e : Entry). e.mode ≤ 511) (same_entry name other) (with_mode_of mode) (entry_in row other) (λ e _ _. small)
+      (formed.modes other) entry (sym (entry_in-with_mode_in name mode row other) ∙ is);
 }
 
 -- ---- the files that a parent's controllers bring
@@ -67,7 +69,8 @@ file_modes formed file held is = formed.modes (File file) held.entry (ap (option
 -- the entry of a limit file has its mode
 modes_file : (o : Option LimitEntry) → ((held : LimitEntry) → o ≡ Some held → HasMode held) → (entry : Entry)
     → option_map (λ f. f.entry) o ≡ Some entry → entry.mode ≤ 511
-modes_file o each entry is = let from = mapped_from (λ f. f.entry) o entry is in subst (λ (e : Entry). e.mode ≤ 511) from.2 (each from.0 from.1)
+modes_file o each entry is =
+    let from = mapped_from (λ f. f.entry) o entry is in subst (λ (e : Entry). e.mode ≤ 511) from.2 (each from.0 from.1)
 
 -- a file that stays is as before, and a new one is made
 of_refitted : (P : LimitEntry → Type 0) (b : Bool) (had : Option LimitEntry) (made : LimitEntry) → P made
@@ -81,7 +84,8 @@ modes-with_files_of : (above enabled : ControllerSet) (user : Identity) (row : C
     → (name : EntryName) (entry : Entry) → entry_in (with_files_of enabled user row) name ≡ Some entry → entry.mode ≤ 511
 modes-with_files_of above enabled user row formed (File file) entry is =
     modes_file (file_of (with_files_of enabled user row) file)
-    (λ held is. of_refitted HasMode (stands_under enabled file) (file_of row file) (file_made_by user file) (omega arith) (file_modes formed file) held (sym (file_of-with_files_of enabled user row file) ∙ is)) entry is
+    (λ held is. of_refitted HasMode (stands_under enabled file) (file_of row file) (file_made_by user file) (omega arith)
+          (file_modes formed file) held (sym (file_of-with_files_of enabled user row file) ∙ is)) entry is
 modes-with_files_of above enabled user row formed Dir entry is = formed.modes Dir entry is
 modes-with_files_of above enabled user row formed Procs entry is = formed.modes Procs entry is
 modes-with_files_of above enabled user row formed SubtreeControl entry is = formed.modes SubtreeControl entry is
@@ -91,7 +95,8 @@ pub formed_row-with_files_of : (above enabled : ControllerSet) (user : Identity)
 formed_row-with_files_of above enabled user row formed = record {
   files = stands-with_files_of enabled user row;
   values = λ file held is.
-      of_refitted (λ held. accepts file held.value ≡ true) (stands_under enabled file) (file_of row file) (file_made_by user file) (accepts-default_value file) (formed.values file) held (sym (file_of-with_files_of enabled user row file) ∙ is);
+      of_refitted (λ held. accepts file held.value ≡ true) (stands_under enabled file) (file_of row file) (file_made_by user file)
+      (accepts-default_value file) (formed.values file) held (sym (file_of-with_files_of enabled user row file) ∙ is);
   modes = modes-with_files_of above enabled user row formed;
 }
 
@@ -100,7 +105,8 @@ formed_row-with_files_of above enabled user row formed = record {
 of_made : (P : LimitEntry → Type 0) (user : Identity) (enabled : ControllerSet) (file : LimitFile) → P (file_made_by user file)
     → (held : LimitEntry) → file_of (cgroup_made_by user enabled) file ≡ Some held → P held
 of_made P user enabled file made held is =
-    of_refitted P (stands_under enabled file) None (file_made_by user file) made (λ held none. absurd (true≢false (sym (ap is_some none)))) held (sym (file_of-cgroup_made_by user enabled file) ∙ is)
+    of_refitted P (stands_under enabled file) None (file_made_by user file) made (λ held none. absurd (true≢false (sym (ap is_some none))))
+    held (sym (file_of-cgroup_made_by user enabled file) ∙ is)
 
 made_mode : (user : Identity) (mode : ℕ) → mode ≤ 511 → (entry : Entry) → Some (entry_made_by user mode) ≡ Some entry → entry.mode ≤ 511
 made_mode user mode small entry is = subst (λ (e : Entry). e.mode ≤ 511) (same_some _ entry is) small
@@ -110,7 +116,8 @@ modes-cgroup_made_by : (user : Identity) (enabled : ControllerSet) (name : Entry
 modes-cgroup_made_by user enabled Dir entry is = made_mode user 493 (omega arith) entry is
 modes-cgroup_made_by user enabled Procs entry is = made_mode user 420 (omega arith) entry is
 modes-cgroup_made_by user enabled SubtreeControl entry is = made_mode user 420 (omega arith) entry is
-modes-cgroup_made_by user enabled (File file) entry is = modes_file (file_of (cgroup_made_by user enabled) file) (of_made HasMode user enabled file (omega arith)) entry is
+modes-cgroup_made_by user enabled (File file) entry is =
+    modes_file (file_of (cgroup_made_by user enabled) file) (of_made HasMode user enabled file (omega arith)) entry is
 
 pub formed_row-cgroup_made_by : (user : Identity) (enabled : ControllerSet) → IsFormedRow enabled (cgroup_made_by user enabled)
 formed_row-cgroup_made_by user enabled = record {

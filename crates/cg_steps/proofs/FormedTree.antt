@@ -44,7 +44,9 @@ module _ (st : State) (path : Names) (row : Cgroup) (new_row : IsNewRow st path 
   not_root = false_from_ne_true (is_root path) (λ root. true≢false (sym (parent-there st whole path root) ∙ new_row.absent))
 
   not_there : (q : Names) → has_row st q ≡ true → same_path path q ≡ false
-  not_there q there = false_from_ne_true (same_path path q) (λ same. true≢false (sym there ∙ ap (has_row st) (sym (same_path-is path q same)) ∙ new_row.absent))
+  not_there q there =
+      false_from_ne_true (same_path path q)
+      (λ same. true≢false (sym there ∙ ap (has_row st) (sym (same_path-is path q same)) ∙ new_row.absent))
 
   kept_row : (q : Names) → has_row st q ≡ true → row_at (with_row st path row) q ≡ row_at st q
   kept_row q there = row_at-with_row-other path st row q (not_there q there)
@@ -76,7 +78,8 @@ module _ (st : State) (path : Names) (row : Cgroup) (new_row : IsNewRow st path 
     root = there_still [] whole.root;
     parents = λ q h.
         let found = some_value (row_at (with_row st path row) q) h in
-        there_still (parent q) (one_row (λ q r. has_row st (parent q) ≡ true) new_row.parent_there (λ q r is. whole.parents q (ap is_some is)) q found.0 found.1);
+        there_still (parent q)
+        (one_row (λ q r. has_row st (parent q) ≡ true) new_row.parent_there (λ q r is. whole.parents q (ap is_some is)) q found.0 found.1);
     top_down = one_row (λ q r. is_within r.enabled (available_at (with_row st path row) q) ≡ true)
         (ap (is_within row.enabled) (above_new st.controllers) ∙ new_row.within)
         (λ q r is. ap (is_within r.enabled) (above_kept st.controllers q r is) ∙ whole.top_down q r is);
@@ -105,10 +108,12 @@ formed-with_made_row st path user absent there whole = formed-with_row st path _
 
 -- ---- a row that goes
 
-module _ (st : State) (path : Names) (not_root : is_root path ≡ false) (no_child : has_child st path ≡ false) (no_process : has_live st path ≡ false) (whole : IsWellFormed st) where
+module _ (st : State) (path : Names) (not_root : is_root path ≡ false) (no_child : has_child st path ≡ false)
+    (no_process : has_live st path ≡ false) (whole : IsWellFormed st) where
   left_row : (q : Names) (r : Cgroup) → row_at (without_row st path) q ≡ Some r → (same_path path q ≡ false) × (row_at st q ≡ Some r)
   left_row q r is =
-      elim (same_path path q) as (λ b. same_path path q ≡ b → cond b None (row_at st q) ≡ Some r → (same_path path q ≡ false) × (row_at st q ≡ Some r)) [
+      elim (same_path path q) as
+      (λ b. same_path path q ≡ b → cond b None (row_at st q) ≡ Some r → (same_path path q ≡ false) × (row_at st q ≡ Some r)) [
         | true ↦ λ _ none. absurd (true≢false (sym (ap is_some none)))
         | false ↦ λ other is. (other, is)
       ] refl (sym (row_at-without_row st path q) ∙ is)
@@ -122,10 +127,13 @@ module _ (st : State) (path : Names) (not_root : is_root path ≡ false) (no_chi
 
   above_left : (default : ControllerSet) (q : Names) (r : Cgroup) → row_at st q ≡ Some r
       → cond (is_root q) default (enabled_at (without_row st path) (parent q)) ≡ cond (is_root q) default (enabled_at st (parent q))
-  above_left default q r is = same_above st (without_row st path) default q (λ below_root. row_at-without_row-other path st (parent q) (parent_other q r is below_root))
+  above_left default q r is =
+      same_above st (without_row st path) default q
+      (λ below_root. row_at-without_row-other path st (parent q) (parent_other q r is below_root))
 
   root_other : (q : Names) → is_root q ≡ true → same_path path q ≡ false
-  root_other q root = false_from_ne_true (same_path path q) (λ same. true≢false (sym root ∙ ap is_root (sym (same_path-is path q same)) ∙ not_root))
+  root_other q root =
+      false_from_ne_true (same_path path q) (λ same. true≢false (sym root ∙ ap is_root (sym (same_path-is path q same)) ∙ not_root))
 
   pub formed-without_row : IsWellFormed (without_row st path)
   formed-without_row = record {
@@ -135,14 +143,20 @@ module _ (st : State) (path : Names) (not_root : is_root path ≡ false) (no_chi
         let left = left_row q found.0 found.1 in
         elim (is_root q) as (λ b. is_root q ≡ b → has_row (without_row st path) (parent q) ≡ true) [
           | true ↦ λ root. ap (has_row (without_row st path)) (parent-root q root) ∙ h
-          | false ↦ λ below_root. ap is_some (row_at-without_row-other path st (parent q) (parent_other q found.0 left.1 below_root)) ∙ whole.parents q (ap is_some left.1)
+          | false ↦
+              λ below_root. ap is_some (row_at-without_row-other path st (parent q) (parent_other q found.0 left.1 below_root))
+              ∙ whole.parents q (ap is_some left.1)
         ] refl;
     top_down = λ q r is. let left = left_row q r is in ap (is_within r.enabled) (above_left st.controllers q r left.1)
         ∙ whole.top_down q r left.1;
-    rows = λ q r is. let left = left_row q r is in subst (λ set. IsFormedRow set r) (sym (above_left no_controllers q r left.1)) (whole.rows q r left.1);
+    rows =
+        λ q r is. let left =
+            left_row q r is in subst (λ set. IsFormedRow set r) (sym (above_left no_controllers q r left.1)) (whole.rows q r left.1);
     places = λ pid process is.
         let held = may_hold-row st process.place (whole.places pid process is) in
-        let other = false_from_ne_true (same_path path process.place) (λ same. true≢false (sym (process-has_live st path pid process is (same_path_comm process.place path ∙ same)) ∙ no_process)) in
+        let other =
+            false_from_ne_true (same_path path process.place)
+            (λ same. true≢false (sym (process-has_live st path pid process is (same_path_comm process.place path ∙ same)) ∙ no_process)) in
         row-may_hold (without_row st path) process.place held.0 (row_at-without_row-other path st process.place other ∙ held.1) held.2;
     used = whole.used;
   }

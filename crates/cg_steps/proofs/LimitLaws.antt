@@ -22,7 +22,8 @@ same_value-itself (Some Max) = refl
 same_value-itself (Some (At m)) = eq-eqb m m refl
 
 pub same_limits-is : (these those : Limits) → same_limits these those ≡ true → these ≡ those
-same_limits-is these those h = λ i file. same_value-is (these file) (those file) (each_passes (λ file. same_value (these file) (those file)) h file) i
+same_limits-is these those h =
+    λ i file. same_value-is (these file) (those file) (each_passes (λ file. same_value (these file) (those file)) h file) i
 
 pub same_limits-itself : (these : Limits) → same_limits these these ≡ true
 same_limits-itself these = all_pass (λ file. same_value (these file) (these file)) (λ file. same_value-itself (these file)) all_files

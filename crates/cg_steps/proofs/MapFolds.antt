@@ -20,7 +20,8 @@ module _ {K X B : Type 0} (R : K → K → Ordering) (step : K × X → B → B)
   gathered-put swaps k v [] none = refl
   gathered-put swaps k v (e ∷ es) none =
       elim (R k e.0) as (λ r. cond (is_eq r) (Some e.1) (find R k es) ≡ None
-      → gathered step start (by_order r ((k, v) ∷ e ∷ es) ((e.0, v) ∷ es) (e ∷ put R k v es)) ≡ step (k, v) (step e (gathered step start es))) [
+      → gathered step start (by_order r ((k, v) ∷ e ∷ es) ((e.0, v) ∷ es) (e ∷ put R k v es))
+      ≡ step (k, v) (step e (gathered step start es))) [
         | Less ↦ λ none. refl
         | Equal ↦ λ none. absurd (true≢false (ap is_some none))
         | Greater ↦ λ none. ap (step e) (gathered-put swaps k v es none) ∙ swaps e (k, v) (gathered step start es)
@@ -39,7 +40,8 @@ module _ {K X : Type 0} {R : K → K → Ordering} (o : IsTotalOrder R) where
   -- an insert puts a value where it was removed
   pub insert-remove : IsAntisymmetric R → (m : FinMap R X) (k : K) (v : X) → insert (remove m k) k v ≡ insert m k v
   insert-remove same m k v = finite.same_map o same (insert (remove m k) k v) (insert m k v) (λ q.
-      finite.get-insert o (remove m k) k v q ∙ ap (cond (eq_by_cmp R q k) (Some v)) (finite.get-remove o m k q) ∙ once (eq_by_cmp R q k) (Some v) None (get m q) ∙ sym (finite.get-insert o m k v q))
+      finite.get-insert o (remove m k) k v q ∙ ap (cond (eq_by_cmp R q k) (Some v)) (finite.get-remove o m k q)
+      ∙ once (eq_by_cmp R q k) (Some v) None (get m q) ∙ sym (finite.get-insert o m k v q))
     where
       once : {A : Type 0} (b : Bool) (x y z : A) → cond b x (cond b y z) ≡ cond b x z
       once true x y z = refl

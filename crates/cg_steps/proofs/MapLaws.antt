@@ -41,7 +41,8 @@ module _ {K X : Type 0} (R : K → K → Ordering) where
       → find R q (change_entries f es) ≡ option_map (f q) (find R q es)
   find-change_entries same f q [] = refl
   find-change_entries same f q (e ∷ es) =
-      elim (eq_by_cmp R q e.0) as (λ b. eq_by_cmp R q e.0 ≡ b → cond b (Some (f e.0 e.1)) (find R q (change_entries f es)) ≡ option_map (f q) (cond b (Some e.1) (find R q es))) [
+      elim (eq_by_cmp R q e.0) as (λ b. eq_by_cmp R q e.0 ≡ b
+        → cond b (Some (f e.0 e.1)) (find R q (change_entries f es)) ≡ option_map (f q) (cond b (Some e.1) (find R q es))) [
         | true ↦ λ t. ap (λ k. Some (f k e.1)) (sym (same q e.0 ((Equal-is (R q e.0)).0 t)))
         | false ↦ λ t. find-change_entries same f q es
       ] refl
@@ -70,7 +71,9 @@ module _ {K X : Type 0} (R : K → K → Ordering) where
             let d = later.0 in
             let past : eq_by_cmp R d.0 e.0 ≡ false =
             elim (eq_by_cmp R d.0 e.0) as (λ b. eq_by_cmp R d.0 e.0 ≡ b → b ≡ false) [
-              | true ↦ λ tied. absurd (true≢false (ap is_some (sym later.1 ∙ find_below o d.0 e.0 es ((Equal-is _).0 tied) (first_of_both _ _ sorted))))
+              | true ↦
+                  λ tied.
+                  absurd (true≢false (ap is_some (sym later.1 ∙ find_below o d.0 e.0 es ((Equal-is _).0 tied) (first_of_both _ _ sorted))))
               | false ↦ λ _. refl
             ] refl in
             (d, ap (λ b. cond b (Some e.1) (find R d.0 es)) past ∙ later.1, later.2)
@@ -85,7 +88,9 @@ module _ {K X : Type 0} (R : K → K → Ordering) where
             let keys = same k e.0 ((Equal-is _).0 tied) in
             let values : e.1 ≡ x = ap (λ o. unwrap_or o x) is in
             ap (λ b. b || list_any p es) ((λ i. p (sym keys i, values i)) ∙ one)
-        | false ↦ λ _ is. ap (λ b. p e || b) (found_any same p es k x is one) ∙ elim (p e) as (λ b. (b || true) ≡ true) [ true ↦ refl | false ↦ refl ]
+        | false ↦
+            λ _ is. ap (λ b. p e || b) (found_any same p es k x is one)
+            ∙ elim (p e) as (λ b. (b || true) ≡ true) [ true ↦ refl | false ↦ refl ]
       ] refl is
 
   -- a put at a key that is there keeps the keys
@@ -93,8 +98,10 @@ module _ {K X : Type 0} (R : K → K → Ordering) where
       → map (λ e. e.0) (put R k v es) ≡ map (λ e. e.0) es
   keys-put o k v x [] sorted is = absurd (true≢false (sym (ap is_some is)))
   keys-put o k v x (e ∷ es) sorted is =
-      elim (R k e.0) as (λ r. R k e.0 ≡ r → cond (is_eq r) (Some e.1) (find R k es) ≡ Some x → map (λ e. e.0) (by_order r ((k, v) ∷ e ∷ es) ((e.0, v) ∷ es) (e ∷ put R k v es)) ≡ e.0 ∷ map (λ e. e.0) es) [
-        | Less ↦ λ before is. absurd (true≢false (sym (ap is_some is) ∙ ap is_some (find_above o k e.0 es before (first_of_both _ _ sorted))))
+      elim (R k e.0) as (λ r. R k e.0 ≡ r → cond (is_eq r) (Some e.1) (find R k es) ≡ Some x
+        → map (λ e. e.0) (by_order r ((k, v) ∷ e ∷ es) ((e.0, v) ∷ es) (e ∷ put R k v es)) ≡ e.0 ∷ map (λ e. e.0) es) [
+        | Less ↦
+            λ before is. absurd (true≢false (sym (ap is_some is) ∙ ap is_some (find_above o k e.0 es before (first_of_both _ _ sorted))))
         | Equal ↦ λ _ _. refl
         | Greater ↦ λ _ is. ap (λ ks. e.0 ∷ ks) (keys-put o k v x es (second_of_both _ _ sorted) is)
       ] refl is
@@ -141,13 +148,15 @@ module _ {K X : Type 0} {R : K → K → Ordering} (o : IsTotalOrder R) where
       → get (change_value m k f) q ≡ cond (eq_by_cmp R k q) (option_map f (get m q)) (get m q)
   get-change_value m k f q =
       let tied : eq_by_cmp R k q ≡ true → get m q ≡ get m k = λ t. finite.get_tied o m k q ((Equal-is (R k q)).0 t) in
-      elim (get m k) as (λ r. get m k ≡ r → get (elim r [ None ↦ m | Some x ↦ insert m k (f x) ]) q ≡ cond (eq_by_cmp R k q) (option_map f (get m q)) (get m q)) [
+      elim (get m k) as (λ r. get m k ≡ r
+        → get (elim r [ None ↦ m | Some x ↦ insert m k (f x) ]) q ≡ cond (eq_by_cmp R k q) (option_map f (get m q)) (get m q)) [
         | None ↦ λ is. elim (eq_by_cmp R k q) as (λ b. eq_by_cmp R k q ≡ b → get m q ≡ cond b (option_map f (get m q)) (get m q)) [
           | true ↦ λ t. let none = tied t ∙ is in none ∙ sym (ap (option_map f) none)
           | false ↦ λ t. refl
         ] refl
         | Some x ↦ λ is. finite.get-insert o m k (f x) q ∙ ap (λ b. cond b (Some (f x)) (get m q)) ((eq_by_cmp_equiv o).symm q k)
-            ∙ elim (eq_by_cmp R k q) as (λ b. eq_by_cmp R k q ≡ b → cond b (Some (f x)) (get m q) ≡ cond b (option_map f (get m q)) (get m q)) [
+            ∙ elim (eq_by_cmp R k q) as
+            (λ b. eq_by_cmp R k q ≡ b → cond b (Some (f x)) (get m q) ≡ cond b (option_map f (get m q)) (get m q)) [
               | true ↦ λ t. sym (ap (option_map f) (tied t ∙ is))
               | false ↦ λ t. refl
             ] refl
@@ -159,4 +168,5 @@ module _ {K X : Type 0} {R : K → K → Ordering} (o : IsTotalOrder R) where
 
   pub keys-change_value : (m : FinMap R X) (k : K) (f : X → X) → finite.keys (change_value m k f) ≡ finite.keys m
   keys-change_value m k f =
-      elim (get m k) as (λ r. get m k ≡ r → finite.keys (elim r [ None ↦ m | Some x ↦ insert m k (f x) ]) ≡ finite.keys m) [ None ↦ λ _. refl | Some x ↦ λ is. keys-insert-there m k (f x) x is ] refl
+      elim (get m k) as (λ r. get m k ≡ r → finite.keys (elim r [ None ↦ m | Some x ↦ insert m k (f x) ]) ≡ finite.keys m)
+      [ None ↦ λ _. refl | Some x ↦ λ is. keys-insert-there m k (f x) x is ] refl

@@ -80,7 +80,8 @@ gathered-greater : {A : Type 0} (p : A → Bool) (f : A → ℕ) (xs : List A) �
 gathered-greater p f [] = refl
 gathered-greater p f (x ∷ xs) =
     ap (λ n. cond (p x) (max n (f x)) n) (gathered-greater p f xs)
-    ∙ elim (p x) as (λ b. cond b (max (fold max 0 (map f (filter p xs))) (f x)) (fold max 0 (map f (filter p xs))) ≡ fold max 0 (map f (cond b (x ∷ filter p xs) (filter p xs)))) [
+    ∙ elim (p x) as (λ b. cond b (max (fold max 0 (map f (filter p xs))) (f x)) (fold max 0 (map f (filter p xs)))
+      ≡ fold max 0 (map f (cond b (x ∷ filter p xs) (filter p xs)))) [
       | true ↦ omega (arith, fold_max (max 0 (f x)) (map f (filter p xs)))
       | false ↦ refl
     ]
@@ -108,14 +109,16 @@ module _ (st : State) (p : Names) (row : Cgroup) (absent : has_row st p ≡ fals
   pub count_below-with_row : (q : Names) → count_below (with_row st p row) q ≡ cond (below q p) (1 + count_below st q) (count_below st q)
   count_below-with_row q =
       sym (count_from_front (with_row st p row) q)
-      ∙ gathered-insert path_cmp_total (λ e. one_more (below q) e.0) 0 (λ x y. one_more-Commutes (below q) x.0 y.0) st.rows p row (none_value _ absent)
+      ∙ gathered-insert path_cmp_total (λ e. one_more (below q) e.0) 0 (λ x y. one_more-Commutes (below q) x.0 y.0) st.rows p row
+      (none_value _ absent)
       ∙ ap (one_more (below q) p) (count_from_front st q)
 
   pub depth_below-with_row : (q : Names)
       → depth_below (with_row st p row) q ≡ cond (below q p) (max (depth_below st q) (length p - length q)) (depth_below st q)
   depth_below-with_row q =
       sym (depth_from_front (with_row st p row) q)
-      ∙ gathered-insert path_cmp_total (λ e. greater (below q) (λ x. length x - length q) e.0) 0 (λ x y. greater-Commutes (below q) (λ x. length x - length q) x.0 y.0) st.rows p row (none_value _ absent)
+      ∙ gathered-insert path_cmp_total (λ e. greater (below q) (λ x. length x - length q) e.0) 0
+      (λ x y. greater-Commutes (below q) (λ x. length x - length q) x.0 y.0) st.rows p row (none_value _ absent)
       ∙ ap (greater (below q) (λ x. length x - length q) p) (depth_from_front st q)
 
 -- ---- removing one takes it
@@ -125,7 +128,8 @@ module _ (st : State) (p : Names) (row : Cgroup) (there : row_at st p ≡ Some r
       → count_below st q ≡ cond (below q p) (1 + count_below (without_row st p) q) (count_below (without_row st p) q)
   count_below-without_row q =
       sym (count_from_front st q)
-      ∙ gathered-remove path_cmp_total (λ e. one_more (below q) e.0) 0 (λ x y. one_more-Commutes (below q) x.0 y.0) path_cmp-IsAntisymmetric st.rows p row there
+      ∙ gathered-remove path_cmp_total (λ e. one_more (below q) e.0) 0 (λ x y. one_more-Commutes (below q) x.0 y.0) path_cmp-IsAntisymmetric
+      st.rows p row there
       ∙ ap (one_more (below q) p) (count_from_front (without_row st p) q)
 
   pub depth_below-without_row : (q : Names)
@@ -133,5 +137,6 @@ module _ (st : State) (p : Names) (row : Cgroup) (there : row_at st p ≡ Some r
       ≡ cond (below q p) (max (depth_below (without_row st p) q) (length p - length q)) (depth_below (without_row st p) q)
   depth_below-without_row q =
       sym (depth_from_front st q)
-      ∙ gathered-remove path_cmp_total (λ e. greater (below q) (λ x. length x - length q) e.0) 0 (λ x y. greater-Commutes (below q) (λ x. length x - length q) x.0 y.0) path_cmp-IsAntisymmetric st.rows p row there
+      ∙ gathered-remove path_cmp_total (λ e. greater (below q) (λ x. length x - length q) e.0) 0
+      (λ x y. greater-Commutes (below q) (λ x. length x - length q) x.0 y.0) path_cmp-IsAntisymmetric st.rows p row there
       ∙ ap (greater (below q) (λ x. length x - length q) p) (depth_from_front (without_row st p) q)

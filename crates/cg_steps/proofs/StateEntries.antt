@@ -28,7 +28,8 @@ module _ {A : Type 0} (read : Cgroup → Option A) (g : Cgroup → Cgroup) where
   read_same same false r = refl
 
   pub read_changed : (c : Bool) (h : A → A) → ((row : Cgroup) → read (g row) ≡ cond c (option_map h (read row)) (read row))
-      → (b : Bool) (r : Option Cgroup) → option_and_then read (cond b (option_map g r) r) ≡ cond (b && c) (option_map h (option_and_then read r)) (option_and_then read r)
+      → (b : Bool) (r : Option Cgroup)
+      → option_and_then read (cond b (option_map g r) r) ≡ cond (b && c) (option_map h (option_and_then read r)) (option_and_then read r)
   read_changed true h changed true None = refl
   read_changed false h changed true None = refl
   read_changed c h changed true (Some row) = changed row
@@ -59,7 +60,8 @@ module _ (st : State) (p : Names) (file : LimitFile) (value : Limit) (q : Names)
   pub entry_at-with_value : (name : EntryName) → entry_at (with_value st p file value) q name ≡ entry_at st q name
   entry_at-with_value name =
       ap (option_and_then (λ row. entry_in row name)) (row_at-with_value st p file value q)
-      ∙ read_same (λ row. entry_in row name) (with_value_in file value) (λ row. entry_in-with_value_in file value row name) (same_path p q) (row_at st q)
+      ∙ read_same (λ row. entry_in row name) (with_value_in file value) (λ row. entry_in-with_value_in file value row name) (same_path p q)
+      (row_at st q)
 
   pub value_at-with_value : (other : LimitFile)
       → value_at (with_value st p file value) q other
@@ -67,7 +69,8 @@ module _ (st : State) (p : Names) (file : LimitFile) (value : Limit) (q : Names)
   value_at-with_value other =
       ap (option_and_then (λ row. value_in row other)) (row_at-with_value st p file value q)
       ∙ read_changed (λ row. value_in row other) (with_value_in file value) (same_file file other) (λ _. value)
-      (λ row. value_in-with_value_in file value row other ∙ ap (λ o. cond (same_file file other) o (value_in row other)) (set_twice (file_of row other))) (same_path p q) (row_at st q)
+      (λ row. value_in-with_value_in file value row other
+              ∙ ap (λ o. cond (same_file file other) o (value_in row other)) (set_twice (file_of row other))) (same_path p q) (row_at st q)
     where
       set_twice : (o : Option LimitEntry) → option_map (λ x. value) o ≡ option_map (λ (_ : Limit). value) (option_map (λ x. x.value) o)
       set_twice None = refl
@@ -85,12 +88,14 @@ module _ (st : State) (p : Names) (name : EntryName) (mode : ℕ) (q : Names) wh
       ≡ cond (same_path p q && same_entry name other) (option_map (with_mode_of mode) (entry_at st q other)) (entry_at st q other)
   entry_at-with_mode other =
       ap (option_and_then (λ row. entry_in row other)) (row_at-with_mode st p name mode q)
-      ∙ read_changed (λ row. entry_in row other) (with_mode_in name mode) (same_entry name other) (with_mode_of mode) (λ row. entry_in-with_mode_in name mode row other) (same_path p q) (row_at st q)
+      ∙ read_changed (λ row. entry_in row other) (with_mode_in name mode) (same_entry name other) (with_mode_of mode)
+      (λ row. entry_in-with_mode_in name mode row other) (same_path p q) (row_at st q)
 
   pub value_at-with_mode : (file : LimitFile) → value_at (with_mode st p name mode) q file ≡ value_at st q file
   value_at-with_mode file =
       ap (option_and_then (λ row. value_in row file)) (row_at-with_mode st p name mode q)
-      ∙ read_same (λ row. value_in row file) (with_mode_in name mode) (λ row. value_in-with_mode_in name mode row file) (same_path p q) (row_at st q)
+      ∙ read_same (λ row. value_in row file) (with_mode_in name mode) (λ row. value_in-with_mode_in name mode row file) (same_path p q)
+      (row_at st q)
 
   pub enabled_at-with_mode : enabled_at (with_mode st p name mode) q ≡ enabled_at st q
   enabled_at-with_mode = ap enabled_of (row_at-with_mode st p name mode q)
@@ -128,10 +133,16 @@ module _ (st : State) (p q : Names) where
 
 -- an entry or a value of a limit file is that of the file
 pub entry_at-file : (st : State) (q : Names) (file : LimitFile) → entry_at st q (File file) ≡ option_map (λ f. f.entry) (file_at st q file)
-entry_at-file st q file = elim (row_at st q) as (λ r. option_and_then (λ row. entry_in row (File file)) r ≡ option_map (λ f. f.entry) (option_and_then (λ row. file_of row file) r)) [ None ↦ refl | Some row ↦ refl ]
+entry_at-file st q file =
+    elim (row_at st q) as
+    (λ r. option_and_then (λ row. entry_in row (File file)) r ≡ option_map (λ f. f.entry) (option_and_then (λ row. file_of row file) r))
+    [ None ↦ refl | Some row ↦ refl ]
 
 pub value_at-file : (st : State) (q : Names) (file : LimitFile) → value_at st q file ≡ option_map (λ f. f.value) (file_at st q file)
-value_at-file st q file = elim (row_at st q) as (λ r. option_and_then (λ row. value_in row file) r ≡ option_map (λ f. f.value) (option_and_then (λ row. file_of row file) r)) [ None ↦ refl | Some row ↦ refl ]
+value_at-file st q file =
+    elim (row_at st q) as
+    (λ r. option_and_then (λ row. value_in row file) r ≡ option_map (λ f. f.value) (option_and_then (λ row. file_of row file) r))
+    [ None ↦ refl | Some row ↦ refl ]
 
 module _ (st : State) (p : Names) (enabled : ControllerSet) (user : Identity) (q : Names) where
   -- where a reading of each row is the same before and after
@@ -140,20 +151,26 @@ module _ (st : State) (p : Names) (enabled : ControllerSet) (user : Identity) (q
       → option_and_then read (row_at (with_enabled st p enabled user) q) ≡ option_and_then read (row_at st q)
   read_kept read same =
       ap (option_and_then read) (row_at-with_enabled st p enabled user q)
-      ∙ elim (row_at st q) as (λ r. ((row : Cgroup) → r ≡ Some row → read (enabling p enabled user q row) ≡ read row) → option_and_then read (option_map (enabling p enabled user q) r) ≡ option_and_then read r) [
+      ∙ elim (row_at st q) as (λ r. ((row : Cgroup) → r ≡ Some row → read (enabling p enabled user q row) ≡ read row)
+        → option_and_then read (option_map (enabling p enabled user q) r) ≡ option_and_then read r) [
         | None ↦ λ same. refl
         | Some row ↦ λ same. same row refl
       ] same
 
   pub entry_at-with_enabled-dir : entry_at (with_enabled st p enabled user) q Dir ≡ entry_at st q Dir
-  entry_at-with_enabled-dir = read_kept (λ row. entry_in row Dir) (λ row _. enabling-by p enabled user (λ r. entry_in r Dir ≡ entry_in row Dir) q row (λ _. refl) (λ _. refl) (λ _ _. refl))
+  entry_at-with_enabled-dir =
+      read_kept (λ row. entry_in row Dir)
+      (λ row _. enabling-by p enabled user (λ r. entry_in r Dir ≡ entry_in row Dir) q row (λ _. refl) (λ _. refl) (λ _ _. refl))
 
   pub entry_at-with_enabled-procs : entry_at (with_enabled st p enabled user) q Procs ≡ entry_at st q Procs
-  entry_at-with_enabled-procs = read_kept (λ row. entry_in row Procs) (λ row _. enabling-by p enabled user (λ r. entry_in r Procs ≡ entry_in row Procs) q row (λ _. refl) (λ _. refl) (λ _ _. refl))
+  entry_at-with_enabled-procs =
+      read_kept (λ row. entry_in row Procs)
+      (λ row _. enabling-by p enabled user (λ r. entry_in r Procs ≡ entry_in row Procs) q row (λ _. refl) (λ _. refl) (λ _ _. refl))
 
   pub entry_at-with_enabled-subtree_control : entry_at (with_enabled st p enabled user) q SubtreeControl ≡ entry_at st q SubtreeControl
   entry_at-with_enabled-subtree_control =
-      read_kept (λ row. entry_in row SubtreeControl) (λ row _. enabling-by p enabled user (λ r. entry_in r SubtreeControl ≡ entry_in row SubtreeControl) q row (λ _. refl) (λ _. refl) (λ _ _. refl))
+      read_kept (λ row. entry_in row SubtreeControl) (λ row _. enabling-by p enabled user
+        (λ r. entry_in r SubtreeControl ≡ entry_in row SubtreeControl) q row (λ _. refl) (λ _. refl) (λ _ _. refl))
 
   -- the path is no child of itself
   not_both : {P : Type 0} → same_path p q ≡ true → is_child p q ≡ true → P
@@ -163,7 +180,8 @@ module _ (st : State) (p : Names) (enabled : ControllerSet) (user : Identity) (q
   pub file_at-with_enabled-other : is_child p q ≡ false → (file : LimitFile)
       → file_at (with_enabled st p enabled user) q file ≡ file_at st q file
   file_at-with_enabled-other other file =
-      read_kept (λ row. file_of row file) (λ row _. enabling-by p enabled user (λ r. file_of r file ≡ file_of row file) q row (λ _. refl) (λ child. absurd (true≢false (sym child ∙ other))) (λ _ _. refl))
+      read_kept (λ row. file_of row file) (λ row _. enabling-by p enabled user (λ r. file_of r file ≡ file_of row file) q row (λ _. refl)
+        (λ child. absurd (true≢false (sym child ∙ other))) (λ _ _. refl))
 
   -- the files of a cgroup where they stand before and after, or neither
   pub file_at-with_enabled-same : (file : LimitFile)
@@ -172,7 +190,8 @@ module _ (st : State) (p : Names) (enabled : ControllerSet) (user : Identity) (q
   file_at-with_enabled-same file stands =
       read_kept (λ row. file_of row file) (λ row is.
       enabling-by p enabled user (λ r. file_of r file ≡ file_of row file) q row (λ _. refl)
-      (λ _. same-with_files_of enabled user row file (ap (λ r. is_some (option_and_then (λ row. file_of row file) r)) (sym is) ∙ stands (ap is_some is))) (λ _ _. refl))
+      (λ _. same-with_files_of enabled user row file
+              (ap (λ r. is_some (option_and_then (λ row. file_of row file) r)) (sym is) ∙ stands (ap is_some is))) (λ _ _. refl))
 
   -- the files of a child: one that stays is kept as it is, and a new one is the user's
   pub file_at-with_enabled-child : is_child p q ≡ true → (file : LimitFile)
@@ -180,8 +199,10 @@ module _ (st : State) (p : Names) (enabled : ControllerSet) (user : Identity) (q
       ≡ option_and_then (λ row. refitted enabled user file (file_of row file)) (row_at st q)
   file_at-with_enabled-child child file =
       ap (option_and_then (λ row. file_of row file)) (row_at-with_enabled st p enabled user q)
-      ∙ elim (row_at st q) as (λ r. option_and_then (λ row. file_of row file) (option_map (enabling p enabled user q) r) ≡ option_and_then (λ row. refitted enabled user file (file_of row file)) r) [
+      ∙ elim (row_at st q) as (λ r. option_and_then (λ row. file_of row file) (option_map (enabling p enabled user q) r)
+        ≡ option_and_then (λ row. refitted enabled user file (file_of row file)) r) [
         | None ↦ refl
         | Some row ↦ enabling-by p enabled user (λ r. file_of r file ≡ refitted enabled user file (file_of row file)) q row
-            (λ same. not_both same child) (λ _. file_of-with_files_of enabled user row file) (λ _ other. absurd (true≢false (sym child ∙ other)))
+            (λ same. not_both same child) (λ _. file_of-with_files_of enabled user row file)
+            (λ _ other. absurd (true≢false (sym child ∙ other)))
       ]

@@ -16,7 +16,8 @@ use Rattle.cg_steps.proofs.MapLaws.{list_any-map, any_entry, entry_any}
 
 pub has_child-row : (st : State) (path : Names) → has_child st path ≡ true
     → (q : Names) × (row : Cgroup) × (row_at st q ≡ Some row) × (is_child path q ≡ true)
-has_child-row st path h = any_entry path_cmp_total (λ e. is_child path e.0) st.rows (sym (list_any-map (is_child path) (λ e. e.0) (finite.entries st.rows)) ∙ h)
+has_child-row st path h =
+    any_entry path_cmp_total (λ e. is_child path e.0) st.rows (sym (list_any-map (is_child path) (λ e. e.0) (finite.entries st.rows)) ∙ h)
 
 pub row-has_child : (st : State) (path q : Names) (row : Cgroup) → row_at st q ≡ Some row → is_child path q ≡ true
     → has_child st path ≡ true
@@ -41,7 +42,8 @@ row-child_enables st path q row controller is child on =
 pub has_live-process : (st : State) (path : Names) → has_live st path ≡ true
     → (pid : ℕ) × (process : Process) × (process_at st pid ≡ Some process) × (same_path process.place path ≡ true)
 has_live-process st path h =
-    any_entry nat_cmp_total (λ e. same_path e.1.place path) st.live (sym (list_any-map (λ process. same_path process.place path) (λ e. e.1) (finite.entries st.live)) ∙ h)
+    any_entry nat_cmp_total (λ e. same_path e.1.place path) st.live
+    (sym (list_any-map (λ process. same_path process.place path) (λ e. e.1) (finite.entries st.live)) ∙ h)
 
 pub process-has_live : (st : State) (path : Names) (pid : ℕ) (process : Process) → process_at st pid ≡ Some process
     → same_path process.place path ≡ true → has_live st path ≡ true

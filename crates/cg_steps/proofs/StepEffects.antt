@@ -47,7 +47,8 @@ has_row-next st user (Control at changes) q h = has_row-with_enabled st at _ use
 has_row-next st user (Mkdir path) q h = ap is_some (row_at-with_row st path _ q ∙ not_taken (same_path path q) _ _ h)
 has_row-next st user (Rmdir path) q h = ap is_some (row_at-without_row st path q ∙ not_taken (same_path path q) _ _ h)
 has_row-next st user (Set at file value) q h = ap is_some (row_at-with_value st at file value q) ∙ is_some-changed (same_path at q) _ _
-has_row-next st user (Fork parent child) q h = fork-by (λ s. has_row s q ≡ has_row st q) st child (process_at st parent) refl (λ process. refl)
+has_row-next st user (Fork parent child) q h =
+    fork-by (λ s. has_row s q ≡ has_row st q) st child (process_at st parent) refl (λ process. refl)
 has_row-next st user (Exit pid) q h = refl
 has_row-next st user (Chmod at name mode) q h = ap is_some (row_at-with_mode st at name mode q) ∙ is_some-changed (same_path at q) _ _
 
@@ -64,8 +65,11 @@ stands_everywhere enabled file (Some row) free there = absurd (true≢false free
 file_at-with_enabled-kept : (st : State) (at : Names) (enabled : ControllerSet) (user : Identity) (q : Names) (file : LimitFile)
     → (is_child at q && is_some (controller_of file)) ≡ false → file_at (with_enabled st at enabled user) q file ≡ file_at st q file
 file_at-with_enabled-kept st at enabled user q file h =
-    elim (is_child at q) as (λ b. is_child at q ≡ b → (b && is_some (controller_of file)) ≡ false → file_at (with_enabled st at enabled user) q file ≡ file_at st q file) [
-      | true ↦ λ child free. file_at-with_enabled-same st at enabled user q file (λ there. stands_everywhere enabled file (row_at st q) free there)
+    elim (is_child at q) as (λ b. is_child at q ≡ b → (b && is_some (controller_of file)) ≡ false
+      → file_at (with_enabled st at enabled user) q file ≡ file_at st q file) [
+      | true ↦
+          λ child free.
+          file_at-with_enabled-same st at enabled user q file (λ there. stands_everywhere enabled file (row_at st q) free there)
       | false ↦ λ other free. file_at-with_enabled-other st at enabled user q other file
     ] refl h
 
@@ -87,7 +91,8 @@ entry_at-next st user (Control at changes) q name h = entry_at-with_enabled-kept
 entry_at-next st user (Mkdir path) q name h = entry_at-with_row st path _ q name ∙ not_taken (same_path path q) _ _ h
 entry_at-next st user (Rmdir path) q name h = entry_at-without_row st path q name ∙ not_taken (same_path path q) _ _ h
 entry_at-next st user (Set at file value) q name h = entry_at-with_value st at file value q name
-entry_at-next st user (Fork parent child) q name h = fork-by (λ s. entry_at s q name ≡ entry_at st q name) st child (process_at st parent) refl (λ process. refl)
+entry_at-next st user (Fork parent child) q name h =
+    fork-by (λ s. entry_at s q name ≡ entry_at st q name) st child (process_at st parent) refl (λ process. refl)
 entry_at-next st user (Exit pid) q name h = refl
 entry_at-next st user (Chmod at entry mode) q name h = entry_at-with_mode st at entry mode q name
     ∙ not_taken (same_path at q && same_entry entry name) _ _ h
@@ -105,7 +110,8 @@ value_at-next st user (Mkdir path) q file h = value_at-with_row st path _ q file
 value_at-next st user (Rmdir path) q file h = value_at-without_row st path q file ∙ not_taken (same_path path q) _ _ h
 value_at-next st user (Set at written value) q file h = value_at-with_value st at written value q file
     ∙ not_taken (same_path at q && same_file written file) _ _ h
-value_at-next st user (Fork parent child) q file h = fork-by (λ s. value_at s q file ≡ value_at st q file) st child (process_at st parent) refl (λ process. refl)
+value_at-next st user (Fork parent child) q file h =
+    fork-by (λ s. value_at s q file ≡ value_at st q file) st child (process_at st parent) refl (λ process. refl)
 value_at-next st user (Exit pid) q file h = refl
 value_at-next st user (Chmod at entry mode) q file h = value_at-with_mode st at entry mode q file
 
@@ -119,7 +125,8 @@ enabled_at-next st user (Mkdir path) q h = enabled_at-with_row st path (cgroup_m
     ∙ not_taken (same_path path q) _ _ h
 enabled_at-next st user (Rmdir path) q h = enabled_at-without_row st path q ∙ not_taken (same_path path q) _ _ h
 enabled_at-next st user (Set at file value) q h = enabled_at-with_value st at file value q
-enabled_at-next st user (Fork parent child) q h = fork-by (λ s. enabled_at s q ≡ enabled_at st q) st child (process_at st parent) refl (λ process. refl)
+enabled_at-next st user (Fork parent child) q h =
+    fork-by (λ s. enabled_at s q ≡ enabled_at st q) st child (process_at st parent) refl (λ process. refl)
 enabled_at-next st user (Exit pid) q h = refl
 enabled_at-next st user (Chmod at entry mode) q h = enabled_at-with_mode st at entry mode q
 
@@ -133,12 +140,14 @@ process_at-next st user (Mkdir path) pid h = refl
 process_at-next st user (Rmdir path) pid h = refl
 process_at-next st user (Set at file value) pid h = refl
 process_at-next st user (Fork parent child) pid h =
-    fork-by (λ s. process_at s pid ≡ process_at st pid) st child (process_at st parent) refl (λ process. process_at-with_process-other st child process.uid process.place pid h)
+    fork-by (λ s. process_at s pid ≡ process_at st pid) st child (process_at st parent) refl
+    (λ process. process_at-with_process-other st child process.uid process.place pid h)
 process_at-next st user (Exit ended) pid h = process_at-without_process-other st ended pid h
 process_at-next st user (Chmod at entry mode) pid h = refl
 
 -- a reading of whether a PID was used after a step: as it was, or by a fork
-used-by : (Q : Bool → Type 0) (st : State) (user : Identity) (op : Op) (pid : ℕ) → Q (is_used st pid) → ((b : Bool) → b ≡ alters_used op pid → Q (b || is_used st pid)) → Q (is_used (next st user op) pid)
+used-by : (Q : Bool → Type 0) (st : State) (user : Identity) (op : Op) (pid : ℕ) → Q (is_used st pid)
+    → ((b : Bool) → b ≡ alters_used op pid → Q (b || is_used st pid)) → Q (is_used (next st user op) pid)
 used-by Q st user (Move moved to) pid same made = same
 used-by Q st user (Control at changes) pid same made = same
 used-by Q st user (Mkdir path) pid same made = same
@@ -150,7 +159,8 @@ used-by Q st user (Fork parent child) pid same made =
 used-by Q st user (Exit ended) pid same made = same
 used-by Q st user (Chmod at entry mode) pid same made = same
 
-is_used-next : (st : State) (user : Identity) (op : Op) (pid : ℕ) → alters_used op pid ≡ false → is_used (next st user op) pid ≡ is_used st pid
+is_used-next : (st : State) (user : Identity) (op : Op) (pid : ℕ) → alters_used op pid ≡ false
+    → is_used (next st user op) pid ≡ is_used st pid
 is_used-next st user op pid h = used-by (λ used. used ≡ is_used st pid) st user op pid refl (λ b is. ap (λ x. x || is_used st pid) (is ∙ h))
 
 used_still : (b used : Bool) → used ≡ true → (b || used) ≡ true
@@ -166,7 +176,8 @@ controllers-next st user (Control at changes) = refl
 controllers-next st user (Mkdir path) = refl
 controllers-next st user (Rmdir path) = refl
 controllers-next st user (Set at file value) = refl
-controllers-next st user (Fork parent child) = fork-by (λ s. s.controllers ≡ st.controllers) st child (process_at st parent) refl (λ process. refl)
+controllers-next st user (Fork parent child) =
+    fork-by (λ s. s.controllers ≡ st.controllers) st child (process_at st parent) refl (λ process. refl)
 controllers-next st user (Exit pid) = refl
 controllers-next st user (Chmod at entry mode) = refl
 

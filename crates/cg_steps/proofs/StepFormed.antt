@@ -25,7 +25,8 @@ use Rattle.cg_steps.proofs.AllowedControl.{allowed_control}
 module _ (st : State) (user : Identity) (op : Op) where
   pub after-by : (P : State → Type 0) → (bars st user op ≡ [] → P (next st user op)) → P st → P (after st user op)
   after-by P moved stayed =
-      elim (bars st user op) as (λ found. (found ≡ [] → P (next st user op)) → P (elim found [ [] ↦ next st user op | bar ∷ others ↦ st ])) [
+      elim (bars st user op) as
+      (λ found. (found ≡ [] → P (next st user op)) → P (elim found [ [] ↦ next st user op | bar ∷ others ↦ st ])) [
         | [] ↦ λ moved. moved refl
         | bar ∷ others ↦ λ moved. stayed
       ] moved
@@ -52,19 +53,23 @@ may_control : (st : State) (user : Identity) (at : Names) (changes : List Change
     → MayEnable st at (enabled_after (enabled_at st at) changes)
 may_control st user at changes h whole =
     let row = some_value (row_at st at) (there_control st user at changes h) in
-    subst (λ enabled. MayEnable st at (enabled_after enabled changes)) (sym (enabled_at-row st at row.0 row.1)) (allowed_control st user at changes row.0 h whole row.1)
+    subst (λ enabled. MayEnable st at (enabled_after enabled changes)) (sym (enabled_at-row st at row.0 row.1))
+    (allowed_control st user at changes row.0 h whole row.1)
 
 pub formed-next : (st : State) (user : Identity) (op : Op) → IsWellFormed st → HasMode op → bars st user op ≡ []
     → IsWellFormed (next st user op)
 formed-next st user (Move pid to) whole mode h = formed-with_place st pid to (allowed_move st user pid to h) whole
 formed-next st user (Control at changes) whole mode h =
-    formed-with_enabled st at (enabled_after (enabled_at st at) changes) user (there_control st user at changes h) (may_control st user at changes h whole) whole
-formed-next st user (Mkdir path) whole mode h = let new = allowed_mkdir st user path h in formed-with_made_row st path user new.0 new.2 whole
+    formed-with_enabled st at (enabled_after (enabled_at st at) changes) user (there_control st user at changes h)
+    (may_control st user at changes h whole) whole
+formed-next st user (Mkdir path) whole mode h =
+    let new = allowed_mkdir st user path h in formed-with_made_row st path user new.0 new.2 whole
 formed-next st user (Rmdir path) whole mode h =
     let old = allowed_rmdir st user path h in formed-without_row st path old.not_root old.no_child old.no_process whole
 formed-next st user (Set at file value) whole mode h = formed-with_value st at file value (allowed_set st user at file value h) whole
 formed-next st user (Fork parent child) whole mode h =
-    formed_fork st child (process_at st parent) (λ process is. formed-with_process st child process.uid process.place (whole.places parent process is) whole) whole
+    formed_fork st child (process_at st parent)
+    (λ process is. formed-with_process st child process.uid process.place (whole.places parent process is) whole) whole
 formed-next st user (Exit pid) whole mode h = formed-without_process st pid whole
 formed-next st user (Chmod at name mode) whole small h = formed-with_mode st at name mode small whole
 
@@ -73,4 +78,5 @@ formed-after st user op whole mode = after-by st user op IsWellFormed (formed-ne
 
 pub formed-after_all : (st : State) (deeds : List Deed) → IsWellFormed st → HaveModes deeds → IsWellFormed (after_all st deeds)
 formed-after_all st [] whole modes = whole
-formed-after_all st (deed ∷ deeds) whole modes = formed-after_all (after st deed.0 deed.1) deeds (formed-after st deed.0 deed.1 whole modes.0) modes.1
+formed-after_all st (deed ∷ deeds) whole modes =
+    formed-after_all (after st deed.0 deed.1) deeds (formed-after st deed.0 deed.1 whole modes.0) modes.1

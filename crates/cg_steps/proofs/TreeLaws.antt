@@ -46,4 +46,5 @@ module _ (st : State) (whole : IsWellFormed st) where
       let child = take (suc (length top)) path in
       let row = some_value (row_at st child) (take-there path (suc (length top)) there) in
       let level : length child ≡ length top + 1 = omega (arith, length-take-le (suc (length top)) path (omega arith)) in
-      row-has_child st top child row.0 row.1 (both_true (inside-parts top path within (suc (length top)) (omega arith)) (eq-eqb (length child) (length top + 1) level))
+      row-has_child st top child row.0 row.1
+      (both_true (inside-parts top path within (suc (length top)) (omega arith)) (eq-eqb (length child) (length top + 1) level))

@@ -92,7 +92,8 @@ toggled false false h e = true≢false (sym h)
 
 -- ---- the try
 
-module _ (st : State) (user : Identity) (subtree : Names) (on : Bool) (controller : Controller) (whole : IsUnbroken st subtree) (formed : IsWellFormed st) (there : IsSubtree st subtree) where
+module _ (st : State) (user : Identity) (subtree : Names) (on : Bool) (controller : Controller) (whole : IsUnbroken st subtree)
+    (formed : IsWellFormed st) (there : IsSubtree st subtree) where
   abbrev op : Op
   op = Control (parent subtree) (change_of on controller ∷ [])
 
@@ -108,9 +109,12 @@ module _ (st : State) (user : Identity) (subtree : Names) (on : Bool) (controlle
       let file = file_by controller in
       let later = formed-next st user op formed tt free in
       let here = has_row-with_enabled st (parent subtree) (enabled_by on controller above) user subtree ∙ there.0 in
-      let enabled = enabled_at-with_enabled-same st (parent subtree) (enabled_by on controller above) user (formed.parents subtree there.0) in
+      let enabled =
+          enabled_at-with_enabled-same st (parent subtree) (enabled_by on controller above) user (formed.parents subtree there.0) in
       let before = value_stands st subtree file ∙ stands st subtree file formed there.0 there.1 ∙ stands-file_by above controller in
-      let after = value_stands new subtree file ∙ stands new subtree file later here there.1 ∙ stands-file_by (enabled_at new (parent subtree)) controller
+      let after =
+          value_stands new subtree file ∙ stands new subtree file later here there.1
+          ∙ stands-file_by (enabled_at new (parent subtree)) controller
       ∙ ap (λ (e : ControllerSet). enables e controller) enabled ∙ now_enabled on controller above in
       toggled on (enables above controller) changes (sym before ∙ ap is_some (limits_stay st st new subtree none file) ∙ after)
 
@@ -122,7 +126,8 @@ module _ (st : State) (user : Identity) (subtree : Names) (on : Bool) (controlle
       let files : (file : LimitFile) → limits new subtree file ≡ limits st subtree file = λ file.
       value_at-file new subtree file
       ∙ ap (option_map (λ f. f.value)) (file_at-with_enabled-same st (parent subtree) enabled user subtree file (λ _.
-      stands st subtree file formed there.0 there.1 ∙ ap (λ (e : ControllerSet). stands_under e file) (sym (same_enabled on controller above same))))
+      stands st subtree file formed there.0 there.1
+      ∙ ap (λ (e : ControllerSet). stands_under e file) (sym (same_enabled on controller above same))))
       ∙ sym (value_at-file st subtree file) in
       λ i. record {
         limits = λ file. files file i;
@@ -133,7 +138,8 @@ module _ (st : State) (user : Identity) (subtree : Names) (on : Bool) (controlle
       }
 
   breaks_where : bars st user op ≡ [] → step_breaks st new subtree ≡ changes_enabled on controller above
-  breaks_where free = elim (changes_enabled on controller above) as (λ b. changes_enabled on controller above ≡ b → step_breaks st new subtree ≡ b) [
+  breaks_where free =
+      elim (changes_enabled on controller above) as (λ b. changes_enabled on controller above ≡ b → step_breaks st new subtree ≡ b) [
     | true ↦ λ changes. elim (broken st st new subtree) as (λ l. broken st st new subtree ≡ l → not (is_empty l) ≡ true) [
       | [] ↦ λ none. absurd (changed free changes none)
       | clause ∷ clauses ↦ λ _. refl

@@ -53,19 +53,25 @@ module _ (st : State) (subtree : Names) where
       (λ below. sym (ap (levels_pass st subtree len) (sooner len at below)) ∙ now len within)
       (λ above.
       let over : nat_lt len level ≡ false = le-ltb len level (omega (arith, h, above)) in
-      barred_at len at (omega (arith, above)) (sym (ap (levels_pass st subtree len) (later len at above)) ∙ now len within ∙ over) ∙ sym over)
+      barred_at len at (omega (arith, above)) (sym (ap (levels_pass st subtree len) (later len at above)) ∙ now len within ∙ over)
+      ∙ sym over)
       (cases_lt len at)
 
   pub open_full : (at level : ℕ) (row : Cgroup) → at < level → OpenAbove at level → row_at st (take at subtree) ≡ Some row
       → is_under (count_below st (take at subtree)) row.max_descendants.value ≡ false
       → (len : ℕ) → len < length subtree → lets_in st subtree len ≡ nat_lt len at
   open_full at level row h now is full len within = ⊎_elim
-      (λ below. sym (ap (levels_pass st subtree len) (sooner len at below)) ∙ now len within ∙ lt-ltb len level (omega (arith, h, below)) ∙ sym (lt-ltb len at below))
+      (λ below. sym (ap (levels_pass st subtree len) (sooner len at below)) ∙ now len within ∙ lt-ltb len level (omega (arith, h, below))
+        ∙ sym (lt-ltb len at below))
       (λ above.
       let none : level_passes st subtree len at ≡ false =
-      ap (λ r. elim r [ None ↦ true | Some row ↦ is_under (count_below st (take at subtree)) row.max_descendants.value && is_under (len - at) row.max_depth.value ]) is
+      ap (λ r. elim r [
+          | None ↦ true
+          | Some row ↦ is_under (count_below st (take at subtree)) row.max_descendants.value && is_under (len - at) row.max_depth.value
+              ]) is
       ∙ ap (λ b. b && is_under (len - at) row.max_depth.value) full in
-      barred_at len (suc at) (omega (arith, above)) (ap (λ b. b && levels_pass st subtree len at) none) ∙ sym (le-ltb len at (omega (arith, above))))
+      barred_at len (suc at) (omega (arith, above)) (ap (λ b. b && levels_pass st subtree len at) none)
+      ∙ sym (le-ltb len at (omega (arith, above))))
       (cases_lt len at)
 
   pub open_row : (at level : ℕ) (row : Cgroup) → at < level → OpenAbove at level → row_at st (take at subtree) ≡ Some row
@@ -77,7 +83,10 @@ module _ (st : State) (subtree : Names) where
       ∙ now len within ∙ above_lowered len at level row.max_depth.value below h)
       (λ above.
       let here : level_passes st subtree len at ≡ is_under (len - at) row.max_depth.value =
-      ap (λ r. elim r [ None ↦ true | Some row ↦ is_under (count_below st (take at subtree)) row.max_descendants.value && is_under (len - at) row.max_depth.value ]) is
+      ap (λ r. elim r [
+          | None ↦ true
+          | Some row ↦ is_under (count_below st (take at subtree)) row.max_descendants.value && is_under (len - at) row.max_depth.value
+              ]) is
       ∙ ap (λ b. b && is_under (len - at) row.max_depth.value) under in
       ap (levels_pass st subtree len) (let e : min (at + 1) (suc len) ≡ suc at = omega arith in e)
       ∙ (λ i. here i && levels_pass st subtree len at)
@@ -90,7 +99,10 @@ module _ (st : State) (subtree : Names) where
       (λ below. ap (levels_pass st subtree len) (let e : min (at + 1) (suc len) ≡ min at (suc len) = omega arith in e) ∙ now len within)
       (λ above.
       let here : level_passes st subtree len at ≡ true =
-      ap (λ r. elim r [ None ↦ true | Some row ↦ is_under (count_below st (take at subtree)) row.max_descendants.value && is_under (len - at) row.max_depth.value ]) gone in
+      ap (λ r. elim r [
+          | None ↦ true
+          | Some row ↦ is_under (count_below st (take at subtree)) row.max_descendants.value && is_under (len - at) row.max_depth.value
+              ]) gone in
       ap (levels_pass st subtree len) (let e : min (at + 1) (suc len) ≡ suc at = omega arith in e)
       ∙ (λ i. here i && levels_pass st subtree len at) ∙ sym (ap (levels_pass st subtree len) (later len at above)) ∙ now len within)
       (cases_lt len at)

@@ -29,11 +29,13 @@ use Rattle.cg_tries.proofs.Single.{move_try, where_so}
 -- ---- whether a move is allowed
 
 move_clauses : (found : Option Cgroup) (may holds : Cgroup → Bool) (pass : Bool) (r s t u : Refusal)
-    → not (is_some (first (absent found r ++ present found (λ row. unless (may row) s) ++ [] ++ unless pass t ++ present found (λ row. unless (holds row) u))))
+    → not (is_some (first (absent found r ++ present found (λ row. unless (may row) s) ++ [] ++ unless pass t
+          ++ present found (λ row. unless (holds row) u))))
     ≡ (elim found [ None ↦ false | Some row ↦ may row && holds row ] && pass)
 move_clauses None may holds pass r s t u = refl
 move_clauses (Some row) may holds pass r s t u =
-    elim (may row) as (λ m. not (is_some (first ([] ++ unless m s ++ [] ++ unless pass t ++ unless (holds row) u))) ≡ ((m && holds row) && pass)) [
+    elim (may row) as
+    (λ m. not (is_some (first ([] ++ unless m s ++ [] ++ unless pass t ++ unless (holds row) u))) ≡ ((m && holds row) && pass)) [
       | true ↦ elim pass as (λ p. not (is_some (first (unless p t ++ unless (holds row) u))) ≡ (holds row && p)) [
         | true ↦ elim (holds row) as (λ h. not (is_some (first (unless h u))) ≡ (h && true)) [ true ↦ refl | false ↦ refl ]
         | false ↦ elim (holds row) as (λ h. false ≡ (h && false)) [ true ↦ refl | false ↦ refl ]
@@ -50,7 +52,8 @@ move_allowed st user pid place path at =
     ++ absent (at i) (NoSuchProcess pid)
     ++ present (at i) (λ place. unless (passes st user place path) (NoAccess (length (common place path)) Procs))
     ++ present (row_at st path) (λ row. unless (is_root path || enables_nothing row.enabled) (InternalProcess (length path)))))))
-    ∙ move_clauses (row_at st path) (λ row. writes user row.procs) (λ row. is_root path || enables_nothing row.enabled) (passes st user place path) _ _ _ _
+    ∙ move_clauses (row_at st path) (λ row. writes user row.procs) (λ row. is_root path || enables_nothing row.enabled)
+    (passes st user place path) _ _ _ _
 
 -- on the other side of the edge, what lies above a place inside is what lies above the subtree
 pub common_inside : (subtree place path : Names) → inside subtree place ≡ true → inside subtree path ≡ false
@@ -61,7 +64,8 @@ common_inside (name ∷ subtree) (other ∷ place) [] within out = refl
 common_inside (name ∷ subtree) (other ∷ place) (third ∷ path) within out =
     let parts = and_parts (same_name name other) (inside subtree place) within in
     let same : name ≡ other = (bytes_decides name other).0 parts.0 in
-    elim (same_name name third) as (λ b. same_name name third ≡ b → cond (same_name other third) (other ∷ common place path) [] ≡ cond b (name ∷ common subtree path) []) [
+    elim (same_name name third) as
+    (λ b. same_name name third ≡ b → cond (same_name other third) (other ∷ common place path) [] ≡ cond b (name ∷ common subtree path) []) [
       | true ↦ λ e.
           ap (λ b. cond b (other ∷ common place path) []) (ap (λ (n : Name). same_name n third) (sym same) ∙ e)
           ∙ (λ i. sym same i ∷ common_inside subtree place path parts.1 (sym (ap (λ b. b && inside subtree path) e) ∙ out) i)
@@ -78,8 +82,13 @@ find-flat_map p g (x ∷ xs) = find-append p (g x) (flat_map g xs) ∙ ap (optio
 pub find-map_filter : {A B : Type 0} (p : B → Bool) (f : A → B) (t : A → Bool) (xs : List A)
     → find p (map f (filter t xs)) ≡ option_map f (find (λ x. t x && p (f x)) xs)
 find-map_filter p f t [] = refl
-find-map_filter p f t (x ∷ xs) = elim (t x) as (λ b. find p (map f (cond b (x ∷ filter t xs) (filter t xs))) ≡ option_map f (cond (b && p (f x)) (Some x) (find (λ y. t y && p (f y)) xs))) [
-  | true ↦ elim (p (f x)) as (λ c. cond c (Some (f x)) (find p (map f (filter t xs))) ≡ option_map f (cond c (Some x) (find (λ y. t y && p (f y)) xs))) [ true ↦ refl | false ↦ find-map_filter p f t xs ]
+find-map_filter p f t (x ∷ xs) =
+    elim (t x) as (λ b. find p (map f (cond b (x ∷ filter t xs) (filter t xs)))
+      ≡ option_map f (cond (b && p (f x)) (Some x) (find (λ y. t y && p (f y)) xs))) [
+  | true ↦
+      elim (p (f x)) as
+      (λ c. cond c (Some (f x)) (find p (map f (filter t xs))) ≡ option_map f (cond c (Some x) (find (λ y. t y && p (f y)) xs)))
+      [ true ↦ refl | false ↦ find-map_filter p f t xs ]
   | false ↦ find-map_filter p f t xs
 ]
 
@@ -101,18 +110,23 @@ find-guarded p false (x ∷ xs) = ap (λ b. cond b (Some x) (find (λ y. p y && 
 module _ (st : State) (user : Identity) (subtree : Names) (whole : IsUnbroken st subtree) where
   -- the path is on the other side of the edge, and moving the process there breaks
   abbrev tried : ℕ → Names → Names → Bool
-  tried pid place path = cond (inside subtree place) (not (inside subtree path)) (inside subtree path) && breaks st user subtree (Move pid path ∷ [])
+  tried pid place path =
+      cond (inside subtree place) (not (inside subtree path)) (inside subtree path) && breaks st user subtree (Move pid path ∷ [])
 
   tried-is : (pid : ℕ) (place path : Names) → place_at st pid ≡ Some place
-      → tried pid place path ≡ (cond (inside subtree place) (not (inside subtree path)) (inside subtree path) && (receives st user path && passes st user place path))
-  tried-is pid place path at = where_so _ _ _ (λ over. move_try st user subtree pid place path whole at over ∙ move_allowed st user pid place path at)
+      → tried pid place path ≡ (cond (inside subtree place) (not (inside subtree path)) (inside subtree path)
+        && (receives st user path && passes st user place path))
+  tried-is pid place path at =
+      where_so _ _ _ (λ over. move_try st user subtree pid place path whole at over ∙ move_allowed st user pid place path at)
 
   from_inside : (pid : ℕ) (place : Names) → place_at st pid ≡ Some place → inside subtree place ≡ true → (path : Names)
       → tried pid place path ≡ can_leave_to st user subtree path
   from_inside pid place at within path =
       tried-is pid place path at
       ∙ ap (λ b. cond b (not (inside subtree path)) (inside subtree path) && (receives st user path && passes st user place path)) within
-      ∙ elim (inside subtree path) as (λ b. inside subtree path ≡ b → (not b && (receives st user path && passes st user place path)) ≡ (not b && (receives st user path && passes st user subtree path))) [
+      ∙ elim (inside subtree path) as (λ b. inside subtree path ≡ b
+        → (not b && (receives st user path && passes st user place path))
+        ≡ (not b && (receives st user path && passes st user subtree path))) [
         | true ↦ λ _. refl
         | false ↦ λ out. ap (λ (p : Names). receives st user path && passes_at st user p) (common_inside subtree place path within out)
       ] refl
@@ -122,27 +136,41 @@ module _ (st : State) (user : Identity) (subtree : Names) (whole : IsUnbroken st
   from_outside pid place at out path =
       tried-is pid place path at
       ∙ ap (λ b. cond b (not (inside subtree path)) (inside subtree path) && (receives st user path && passes st user place path)) out
-      ∙ elim (inside subtree path) as (λ b. inside subtree path ≡ b → (b && (receives st user path && passes st user place path)) ≡ ((b && receives st user path) && passes st user place subtree)) [
-        | true ↦ λ within. ap (λ (p : Names). receives st user path && passes_at st user p) (common_comm place path ∙ common_inside subtree path place within out ∙ common_comm subtree place)
+      ∙ elim (inside subtree path) as (λ b. inside subtree path ≡ b
+        → (b && (receives st user path && passes st user place path)) ≡ ((b && receives st user path) && passes st user place subtree)) [
+        | true ↦
+            λ within. ap (λ (p : Names). receives st user path && passes_at st user p)
+            (common_comm place path ∙ common_inside subtree path place within out ∙ common_comm subtree place)
         | false ↦ λ _. refl
       ] refl
 
   one_process : (pid : ℕ) (found : Option Names) → place_at st pid ≡ found
       → find (breaks st user subtree) (present found (λ place. map (λ path. Move pid path ∷ []) (across st subtree place)))
-      ≡ option_and_then (λ place. option_map (λ path. Move pid path ∷ []) (goes_from st user subtree (find (can_leave_to st user subtree) (paths_of st)) (find (can_enter_at st user subtree) (paths_of st)) place)) found
+      ≡ option_and_then (λ place. option_map (λ path. Move pid path ∷ [])
+        (goes_from st user subtree (find (can_leave_to st user subtree) (paths_of st)) (find (can_enter_at st user subtree) (paths_of st))
+                place)) found
   one_process pid None at = refl
   one_process pid (Some place) at =
-      find-map_filter (breaks st user subtree) (λ path. Move pid path ∷ []) (λ path. cond (inside subtree place) (not (inside subtree path)) (inside subtree path)) (paths_of st)
-      ∙ elim (inside subtree place) as (λ b. inside subtree place ≡ b → option_map (λ path. Move pid path ∷ []) (find (tried pid place) (paths_of st))
-      ≡ option_map (λ path. Move pid path ∷ []) (cond b (find (can_leave_to st user subtree) (paths_of st)) (cond (passes st user place subtree) (find (can_enter_at st user subtree) (paths_of st)) None))) [
-        | true ↦ λ within. ap (option_map (λ path. Move pid path ∷ [])) (find-same (tried pid place) (can_leave_to st user subtree) (paths_of st) (from_inside pid place at within))
+      find-map_filter (breaks st user subtree) (λ path. Move pid path ∷ [])
+      (λ path. cond (inside subtree place) (not (inside subtree path)) (inside subtree path)) (paths_of st)
+      ∙ elim (inside subtree place) as (λ b. inside subtree place ≡ b
+      → option_map (λ path. Move pid path ∷ []) (find (tried pid place) (paths_of st))
+      ≡ option_map (λ path. Move pid path ∷ []) (cond b (find (can_leave_to st user subtree) (paths_of st))
+        (cond (passes st user place subtree) (find (can_enter_at st user subtree) (paths_of st)) None))) [
+        | true ↦
+            λ within. ap (option_map (λ path. Move pid path ∷ []))
+            (find-same (tried pid place) (can_leave_to st user subtree) (paths_of st) (from_inside pid place at within))
         | false ↦ λ out. ap (option_map (λ path. Move pid path ∷ []))
-            (find-same (tried pid place) (λ path. can_enter_at st user subtree path && passes st user place subtree) (paths_of st) (from_outside pid place at out)
+            (find-same (tried pid place) (λ path. can_enter_at st user subtree path && passes st user place subtree) (paths_of st)
+            (from_outside pid place at out)
             ∙ find-guarded (can_enter_at st user subtree) (passes st user place subtree) (paths_of st))
       ] refl
 
   pub first_move-is : find (breaks st user subtree) (move_tries st subtree) ≡ first_move st user subtree
   first_move-is =
-      find-flat_map (breaks st user subtree) (λ pid. present (place_at st pid) (λ place. map (λ path. Move pid path ∷ []) (across st subtree place))) (pids_of st)
-      ∙ first_given-same _ (move_of st user subtree (find (can_leave_to st user subtree) (paths_of st)) (find (can_enter_at st user subtree) (paths_of st))) (pids_of st)
+      find-flat_map (breaks st user subtree)
+      (λ pid. present (place_at st pid) (λ place. map (λ path. Move pid path ∷ []) (across st subtree place))) (pids_of st)
+      ∙ first_given-same _
+      (move_of st user subtree (find (can_leave_to st user subtree) (paths_of st)) (find (can_enter_at st user subtree) (paths_of st)))
+      (pids_of st)
       (λ pid. one_process pid (place_at st pid) refl)

@@ -34,7 +34,8 @@ use Rattle.cg_tries.proofs.ProbeWalk.{unwritten}
 use Rattle.cg_tries.proofs.ProbeLaws.{first_probe-is}
 
 joined : (sets controls : Option (List Op)) (removed : Bool) (removal : List Op) (others : Option (List Op))
-    → option_or (option_or sets controls) (cond removed (Some removal) others) ≡ option_or (option_or sets (option_or controls (cond removed (Some removal) None))) others
+    → option_or (option_or sets controls) (cond removed (Some removal) others)
+    ≡ option_or (option_or sets (option_or controls (cond removed (Some removal) None))) others
 joined (Some sets) controls removed removal others = refl
 joined None (Some controls) removed removal others = refl
 joined None None true removal others = refl
@@ -45,13 +46,16 @@ module _ (st : State) (user : Identity) (subtree : Names) (whole : IsUnbroken st
   nothing_kept = breaks-run st user subtree [] ∙ ap (λ (l : List Clause). not (is_empty l && true)) whole
 
   one_set : (file : LimitFile) (found : Option Limit) → limits st subtree file ≡ found
-      → find (breaks st user subtree) (present found (λ value. (Set subtree file (other_value file value) ∷ []) ∷ [])) ≡ option_and_then (λ value. if_allowed st user (Set subtree file (other_value file value))) found
+      → find (breaks st user subtree) (present found (λ value. (Set subtree file (other_value file value) ∷ []) ∷ []))
+      ≡ option_and_then (λ value. if_allowed st user (Set subtree file (other_value file value))) found
   one_set file None is = refl
-  one_set file (Some value) is = ap (λ b. cond b (Some (Set subtree file (other_value file value) ∷ [])) None) (set_try st user subtree file value whole is)
+  one_set file (Some value) is =
+      ap (λ b. cond b (Some (Set subtree file (other_value file value) ∷ [])) None) (set_try st user subtree file value whole is)
 
   first_set-is : find (breaks st user subtree) (set_tries st subtree) ≡ first_set st user subtree
   first_set-is =
-      find-flat_map (breaks st user subtree) (λ file. present (limits st subtree file) (λ value. (Set subtree file (other_value file value) ∷ []) ∷ [])) all_files
+      find-flat_map (breaks st user subtree)
+      (λ file. present (limits st subtree file) (λ value. (Set subtree file (other_value file value) ∷ []) ∷ [])) all_files
       ∙ first_given-same _ (set_of st user subtree) all_files (λ file. one_set file (limits st subtree file) refl)
 
   module _ (formed : IsWellFormed st) (there : IsSubtree st subtree) where
@@ -61,22 +65,30 @@ module _ (st : State) (user : Identity) (subtree : Names) (whole : IsUnbroken st
     with_effect : (off on : Bool) (enabled : Bool) (controller : Controller)
         → cond (off && enabled) (Some (change false controller ∷ [])) (cond (on && not enabled) (Some (change true controller ∷ [])) None)
         ≡ cond (cond enabled off on) (Some (change (not enabled) controller ∷ [])) None
-    with_effect off on true controller = (λ i. cond (and-true off i) (Some (change false controller ∷ [])) (cond (and-false on i) (Some (change true controller ∷ [])) None))
-    with_effect off on false controller = (λ i. cond (and-false off i) (Some (change false controller ∷ [])) (cond (and-true on i) (Some (change true controller ∷ [])) None))
+    with_effect off on true controller =
+        (λ i. cond (and-true off i) (Some (change false controller ∷ [])) (cond (and-false on i) (Some (change true controller ∷ [])) None))
+    with_effect off on false controller =
+        (λ i. cond (and-false off i) (Some (change false controller ∷ [])) (cond (and-true on i) (Some (change true controller ∷ [])) None))
 
     one_control : (controller : Controller)
-        → find (breaks st user subtree) ((change false controller ∷ []) ∷ (change true controller ∷ []) ∷ []) ≡ control_of st user subtree controller
+        → find (breaks st user subtree) ((change false controller ∷ []) ∷ (change true controller ∷ []) ∷ [])
+        ≡ control_of st user subtree controller
     one_control controller =
-        (λ i. cond (control_try st user subtree false controller whole formed there i) (Some (change false controller ∷ [])) (cond (control_try st user subtree true controller whole formed there i) (Some (change true controller ∷ [])) None))
-        ∙ with_effect (allowed st user (change false controller)) (allowed st user (change true controller)) (enables (enabled_at st (parent subtree)) controller) controller
-        ∙ elim (enables (enabled_at st (parent subtree)) controller) as (λ e. cond (cond e (allowed st user (change false controller)) (allowed st user (change true controller))) (Some (change (not e) controller ∷ [])) None ≡ if_allowed st user (change (not e) controller)) [
+        (λ i. cond (control_try st user subtree false controller whole formed there i) (Some (change false controller ∷ []))
+          (cond (control_try st user subtree true controller whole formed there i) (Some (change true controller ∷ [])) None))
+        ∙ with_effect (allowed st user (change false controller)) (allowed st user (change true controller))
+        (enables (enabled_at st (parent subtree)) controller) controller
+        ∙ elim (enables (enabled_at st (parent subtree)) controller) as
+        (λ e. cond (cond e (allowed st user (change false controller)) (allowed st user (change true controller)))
+                    (Some (change (not e) controller ∷ [])) None ≡ if_allowed st user (change (not e) controller)) [
           | true ↦ refl
           | false ↦ refl
         ]
 
     first_control-is : find (breaks st user subtree) (control_tries subtree) ≡ first_control st user subtree
     first_control-is =
-        find-flat_map (breaks st user subtree) (λ controller. (change false controller ∷ []) ∷ (change true controller ∷ []) ∷ []) all_controllers
+        find-flat_map (breaks st user subtree) (λ controller. (change false controller ∷ []) ∷ (change true controller ∷ []) ∷ [])
+        all_controllers
         ∙ first_given-same _ (control_of st user subtree) all_controllers one_control
 
     pub plain-is : find (breaks st user subtree) (plain_tries st subtree)
@@ -88,10 +100,13 @@ module _ (st : State) (user : Identity) (subtree : Names) (whole : IsUnbroken st
         ap (λ b. cond b (Some []) (find p (writes ++ (Rmdir subtree ∷ []) ∷ others))) nothing_kept
         ∙ find-append p writes ((Rmdir subtree ∷ []) ∷ others)
         ∙ (λ i. option_or (find-append p (set_tries st subtree) (control_tries subtree) i)
-        (cond (rmdir_try st user subtree whole i) (Some (Rmdir subtree ∷ [])) (find-append p (move_tries st subtree) (probe_tries st subtree (length subtree)) i)))
+        (cond (rmdir_try st user subtree whole i) (Some (Rmdir subtree ∷ []))
+          (find-append p (move_tries st subtree) (probe_tries st subtree (length subtree)) i)))
         ∙ (λ i. option_or (option_or (first_set-is i) (first_control-is i))
-        (cond (allowed st user (Rmdir subtree)) (Some (Rmdir subtree ∷ [])) (option_or (first_move-is st user subtree whole i) (first_probe-is st user subtree whole formed there.0 i))))
-        ∙ joined (first_set st user subtree) (first_control st user subtree) (allowed st user (Rmdir subtree)) (Rmdir subtree ∷ []) (option_or (first_move st user subtree) (first_probe st user subtree))
+        (cond (allowed st user (Rmdir subtree)) (Some (Rmdir subtree ∷ []))
+          (option_or (first_move-is st user subtree whole i) (first_probe-is st user subtree whole formed there.0 i))))
+        ∙ joined (first_set st user subtree) (first_control st user subtree) (allowed st user (Rmdir subtree)) (Rmdir subtree ∷ [])
+        (option_or (first_move st user subtree) (first_probe st user subtree))
 
 -- ---- where the user writes no cgroup.procs above
 
@@ -114,7 +129,8 @@ common-shorter subtree path out =
     absurd (true≢false (sym (common-inside_second subtree path) ∙ ap (λ (p : Names). inside p path) is ∙ out)))
     (cases_lt (length shared) (length subtree))
 
-module _ (st : State) (user : Identity) (subtree : Names) (none : (len : ℕ) → len < length subtree → passes_at st user (take len subtree) ≡ false) where
+module _ (st : State) (user : Identity) (subtree : Names)
+    (none : (len : ℕ) → len < length subtree → passes_at st user (take len subtree) ≡ false) where
   apart : (path : Names) → inside subtree path ≡ false → passes st user subtree path ≡ false
   apart path out = ap (λ (p : Names). passes_at st user p) (common-take_first subtree path)
       ∙ none (length (common subtree path)) (common-shorter subtree path out)
@@ -125,33 +141,48 @@ module _ (st : State) (user : Identity) (subtree : Names) (none : (len : ℕ) �
 
   stays : (place : Names) (within : Bool) → inside subtree place ≡ within
       → goes_from st user subtree None (find (can_enter_at st user subtree) (paths_of st)) place ≡ None
-  stays place true h = ap (λ b. cond b None (cond (passes st user place subtree) (find (can_enter_at st user subtree) (paths_of st)) None)) h
+  stays place true h =
+      ap (λ b. cond b None (cond (passes st user place subtree) (find (can_enter_at st user subtree) (paths_of st)) None)) h
   stays place false h =
-      (λ i. cond (h i) None (cond (passes_at st user (common_comm place subtree i)) (find (can_enter_at st user subtree) (paths_of st)) None))
+      (λ i.
+        cond (h i) None (cond (passes_at st user (common_comm place subtree i)) (find (can_enter_at st user subtree) (paths_of st)) None))
       ∙ ap (λ b. cond b (find (can_enter_at st user subtree) (paths_of st)) None) (apart place h)
 
   unwritten_at : (len : ℕ) → len < length subtree → writes_both st user (take len subtree) ≡ false
-  unwritten_at len within = elim (row_at st (take len subtree)) as (λ r. elim r [ None ↦ true | Some row ↦ writes user row.procs ] ≡ false → elim r [ None ↦ false | Some row ↦ writes user row.dir && writes user row.procs ] ≡ false) [
+  unwritten_at len within =
+      elim (row_at st (take len subtree)) as (λ r. elim r [ None ↦ true | Some row ↦ writes user row.procs ] ≡ false
+        → elim r [ None ↦ false | Some row ↦ writes user row.dir && writes user row.procs ] ≡ false) [
     | None ↦ λ h. absurd (true≢false h)
     | Some row ↦ λ h. ap (λ b. writes user row.dir && b) h ∙ and-false (writes user row.dir)
   ] (none len within)
 
   no_path : (len : ℕ) → len ≤ length subtree → first_probe_path st user subtree len ≡ None
   no_path zero h = refl
-  no_path (suc len) h = ap (λ o. option_or o (first_probe_path st user subtree len)) (unwritten st user subtree len (unwritten_at len (omega (arith, h))))
+  no_path (suc len) h =
+      ap (λ o. option_or o (first_probe_path st user subtree len)) (unwritten st user subtree len (unwritten_at len (omega (arith, h))))
       ∙ no_path len (omega (arith, h))
 
   pub no_move : first_move st user subtree ≡ None
   no_move =
       let out = find-none (can_leave_to st user subtree) (paths_of st) (λ path. no_leave path (inside subtree path) refl) in
-      given-none (move_of st user subtree (find (can_leave_to st user subtree) (paths_of st)) (find (can_enter_at st user subtree) (paths_of st))) (pids_of st)
-      (λ pid. elim (place_at st pid) as (λ o. option_and_then (λ place. option_map (λ path. Move pid path ∷ []) (goes_from st user subtree (find (can_leave_to st user subtree) (paths_of st)) (find (can_enter_at st user subtree) (paths_of st)) place)) o ≡ None) [
+      given-none
+      (move_of st user subtree (find (can_leave_to st user subtree) (paths_of st)) (find (can_enter_at st user subtree) (paths_of st)))
+      (pids_of st)
+      (λ pid. elim (place_at st pid) as (λ o. option_and_then (λ place.
+          option_map (λ path. Move pid path ∷ []) (goes_from st user subtree (find (can_leave_to st user subtree) (paths_of st))
+                            (find (can_enter_at st user subtree) (paths_of st)) place)) o ≡ None) [
         | None ↦ refl
-        | Some place ↦ ap (option_map (λ path. Move pid path ∷ [])) (ap (λ o. goes_from st user subtree o (find (can_enter_at st user subtree) (paths_of st)) place) out ∙ stays place (inside subtree place) refl)
+        | Some place ↦
+            ap (option_map (λ path. Move pid path ∷ [])) (ap
+              (λ o. goes_from st user subtree o (find (can_enter_at st user subtree) (paths_of st)) place) out
+              ∙ stays place (inside subtree place) refl)
       ])
 
   pub no_probe : first_probe st user subtree ≡ None
-  no_probe = elim (first_inside st subtree) as (λ o. option_and_then (λ pid. option_map (λ path. Mkdir path ∷ Move pid path ∷ []) (first_probe_path st user subtree (length subtree))) o ≡ None) [
+  no_probe =
+      elim (first_inside st subtree) as (λ o.
+        option_and_then (λ pid. option_map (λ path. Mkdir path ∷ Move pid path ∷ []) (first_probe_path st user subtree (length subtree))) o
+        ≡ None) [
     | None ↦ refl
     | Some pid ↦ ap (option_map (λ path. Mkdir path ∷ Move pid path ∷ [])) (no_path (length subtree) (omega arith))
   ]

@@ -56,9 +56,11 @@ level-passed None count down r s = refl
 level-passed (Some row) count down r s = passed-both (is_under count row.max_descendants.value) (is_under down row.max_depth.value) r s
 
 made : (above : Option Cgroup) (row : Cgroup) (user : Identity) (limits : List Refusal) (r s : Refusal) → above ≡ Some row
-    → passed (absent above r ++ unless (elim above [ None ↦ true | Some row ↦ writes user row.dir ]) s ++ present above (λ row. limits)) ≡ (writes user row.dir && passed limits)
+    → passed (absent above r ++ unless (elim above [ None ↦ true | Some row ↦ writes user row.dir ]) s ++ present above (λ row. limits))
+    ≡ (writes user row.dir && passed limits)
 made above row user limits r s is =
-    (λ i. passed (absent (is i) r ++ unless (elim (is i) [ None ↦ true | Some row ↦ writes user row.dir ]) s ++ present (is i) (λ row. limits)))
+    (λ i.
+      passed (absent (is i) r ++ unless (elim (is i) [ None ↦ true | Some row ↦ writes user row.dir ]) s ++ present (is i) (λ row. limits)))
     ∙ passed-append (unless (writes user row.dir) s) limits ∙ ap (λ b. b && passed limits) (passed-unless (writes user row.dir) s)
 
 shuffled : (dir lets procs : Bool) → ((dir && lets) && procs) ≡ (lets && (dir && procs))
@@ -67,7 +69,8 @@ shuffled true false procs = refl
 shuffled false true procs = refl
 shuffled false false procs = refl
 
-module _ (st : State) (user : Identity) (subtree : Names) (len : ℕ) (name : Name) (formed : IsWellFormed st) (there : has_row st subtree ≡ true) (within : len < length subtree) where
+module _ (st : State) (user : Identity) (subtree : Names) (len : ℕ) (name : Name) (formed : IsWellFormed st)
+    (there : has_row st subtree ≡ true) (within : len < length subtree) where
   abbrev path : Names
   path = take len subtree ++ name ∷ []
 
@@ -83,10 +86,12 @@ module _ (st : State) (user : Identity) (subtree : Names) (len : ℕ) (name : Na
   limits-passed zero h = refl
   limits-passed (suc at) h =
       passed-append (level_bars st path at) (limit_bars st path at)
-      ∙ (λ i. level-passed (row_at st (take at path)) (count_below st (take at path)) (length path - 1 - at) (DescendantLimit at) (DepthLimit at) i && limits-passed at (omega (arith, h)) i)
+      ∙ (λ i. level-passed (row_at st (take at path)) (count_below st (take at path)) (length path - 1 - at) (DescendantLimit at)
+                (DepthLimit at) i && limits-passed at (omega (arith, h)) i)
       ∙ (λ i. elim (row_at st (front at (omega (arith, h)) i)) [
         | None ↦ true
-        | Some row ↦ is_under (count_below st (front at (omega (arith, h)) i)) row.max_descendants.value && is_under (down at i) row.max_depth.value
+        | Some row ↦
+            is_under (count_below st (front at (omega (arith, h)) i)) row.max_descendants.value && is_under (down at i) row.max_depth.value
       ] && levels_pass st subtree len at)
     where
       down : (at : ℕ) → length path - 1 - at ≡ len - at
@@ -105,16 +110,21 @@ module _ (st : State) (user : Identity) (subtree : Names) (len : ℕ) (name : Na
 
   -- a child may be made and moved to where the limits let it in, and both files of the ancestor are written
   pub probe_allowed : has_row st path ≡ false
-      → (allowed st user (Mkdir path) && passes_at st user (take len subtree)) ≡ (lets_in st subtree len && writes_both st user (take len subtree))
+      → (allowed st user (Mkdir path) && passes_at st user (take len subtree))
+      ≡ (lets_in st subtree len && writes_both st user (take len subtree))
   probe_allowed free =
       let row = ancestor-row.0 in
       let none = none_value (row_at st path) free in
       let limits = ap (λ (n : ℕ). passed (limit_bars st path n)) length_path ∙ limits-passed (suc len) (omega arith) in
-      let passes : passes_at st user (take len subtree) ≡ writes user row.procs = ap (λ r. elim r [ None ↦ true | Some row ↦ writes user row.procs ]) ancestor-row.1 in
-      let both : writes_both st user (take len subtree) ≡ (writes user row.dir && writes user row.procs) = ap (λ r. elim r [ None ↦ false | Some row ↦ writes user row.dir && writes user row.procs ]) ancestor-row.1 in
-      ap (λ r. passed (present r (λ row. Exists ∷ []) ++ absent (row_above st path) (NoSuchCgroup (length path - 1)) ++ unless (writes_above st user path) (NoAccess (length path - 1) Dir)
+      let passes : passes_at st user (take len subtree) ≡ writes user row.procs =
+          ap (λ r. elim r [ None ↦ true | Some row ↦ writes user row.procs ]) ancestor-row.1 in
+      let both : writes_both st user (take len subtree) ≡ (writes user row.dir && writes user row.procs) =
+          ap (λ r. elim r [ None ↦ false | Some row ↦ writes user row.dir && writes user row.procs ]) ancestor-row.1 in
+      ap (λ r. passed (present r (λ row. Exists ∷ []) ++ absent (row_above st path) (NoSuchCgroup (length path - 1))
+      ++ unless (writes_above st user path) (NoAccess (length path - 1) Dir)
       ++ present (row_above st path) (λ row. limit_bars st path (length path))) && passes_at st user (take len subtree)) none
-      ∙ ap (λ b. b && passes_at st user (take len subtree)) (made (row_above st path) row user (limit_bars st path (length path)) (NoSuchCgroup (length path - 1)) (NoAccess (length path - 1) Dir) above-row)
+      ∙ ap (λ b. b && passes_at st user (take len subtree)) (made (row_above st path) row user (limit_bars st path (length path))
+        (NoSuchCgroup (length path - 1)) (NoAccess (length path - 1) Dir) above-row)
       ∙ (λ i. (writes user row.dir && limits i) && passes i)
       ∙ shuffled (writes user row.dir) (lets_in st subtree len) (writes user row.procs)
       ∙ ap (λ b. lets_in st subtree len && b) (sym both)
@@ -130,7 +140,9 @@ found-so p (y ∷ xs) x h = elim (p y) as (λ b. p y ≡ b → cond b (Some y) (
 
 is_inside-place : (st : State) (subtree : Names) (pid : ℕ) → is_inside st subtree pid ≡ true
     → (place : Names) × (place_at st pid ≡ Some place) × (inside subtree place ≡ true)
-is_inside-place st subtree pid h = elim (place_at st pid) as (λ o. place_at st pid ≡ o → elim o [ None ↦ false | Some place ↦ inside subtree place ] ≡ true → (place : Names) × (place_at st pid ≡ Some place) × (inside subtree place ≡ true)) [
+is_inside-place st subtree pid h =
+    elim (place_at st pid) as (λ o. place_at st pid ≡ o → elim o [ None ↦ false | Some place ↦ inside subtree place ] ≡ true
+      → (place : Names) × (place_at st pid ≡ Some place) × (inside subtree place ≡ true)) [
   | None ↦ λ _ h. absurd (true≢false (sym h))
   | Some place ↦ λ at h. (place, at, h)
 ] refl h
@@ -144,13 +156,15 @@ no_probe None = refl
 no_probe (Some pid) = refl
 
 guarded : (b : Bool) (path : Names) (pid : Option ℕ)
-    → option_map (probing path) (cond b pid None) ≡ option_and_then (λ pid. option_map (λ path. probing path pid) (cond b (Some path) None)) pid
+    → option_map (probing path) (cond b pid None)
+    ≡ option_and_then (λ pid. option_map (λ path. probing path pid) (cond b (Some path) None)) pid
 guarded true path None = refl
 guarded true path (Some pid) = refl
 guarded false path None = refl
 guarded false path (Some pid) = refl
 
-module _ (st : State) (user : Identity) (subtree : Names) (whole : IsUnbroken st subtree) (formed : IsWellFormed st) (there : has_row st subtree ≡ true) where
+module _ (st : State) (user : Identity) (subtree : Names) (whole : IsUnbroken st subtree) (formed : IsWellFormed st)
+    (there : has_row st subtree ≡ true) where
   by_path : Option Names → Option (List Op)
   by_path path = option_and_then (λ pid. option_map (λ path. probing path pid) path) (first_inside st subtree)
 
@@ -161,25 +175,38 @@ module _ (st : State) (user : Identity) (subtree : Names) (whole : IsUnbroken st
   at_number len number within free =
       let path = probe (take len subtree) number in
       let may = lets_in st subtree len && writes_both st user (take len subtree) in
-      let each : (pid : ℕ) → (is_inside st subtree pid && breaks st user subtree (probing path pid)) ≡ (is_inside st subtree pid && may) = λ pid.
+      let each : (pid : ℕ) → (is_inside st subtree pid && breaks st user subtree (probing path pid)) ≡ (is_inside st subtree pid && may) =
+          λ pid.
       where_so _ _ _ (λ h. let place = is_inside-place st subtree pid h in
-      probe_try st user subtree len _ pid place.0 whole formed there within free place.1 place.2 ∙ probe_allowed st user subtree len _ formed there within free) in
+      probe_try st user subtree len _ pid place.0 whole formed there within free place.1 place.2
+      ∙ probe_allowed st user subtree len _ formed there within free) in
       find-map_filter (breaks st user subtree) (probing path) (is_inside st subtree) (pids_of st)
-      ∙ ap (option_map (probing path)) (find-same _ (λ pid. is_inside st subtree pid && may) (pids_of st) each ∙ find-guarded (is_inside st subtree) may (pids_of st))
+      ∙ ap (option_map (probing path))
+      (find-same _ (λ pid. is_inside st subtree pid && may) (pids_of st) each ∙ find-guarded (is_inside st subtree) may (pids_of st))
       ∙ guarded may path (first_inside st subtree)
 
   at_ancestor : (len : ℕ) → len < length subtree
       → find (breaks st user subtree) (probe_tries_at st subtree (take len subtree)) ≡ by_path (probe_path st user subtree len)
   unfolding by_path
   at_ancestor len within = elim (free_probe st (take len subtree)) as (λ o. free_probe st (take len subtree) ≡ o
-      → find (breaks st user subtree) (present o (λ number. cond (nat_le (length (path_text (probe (take len subtree) number))) 4095) (map (probing (probe (take len subtree) number)) (filter (is_inside st subtree) (pids_of st))) []))
-      ≡ by_path (cond (lets_in st subtree len && writes_both st user (take len subtree)) (option_and_then (short_probe (take len subtree)) o) None)) [
-        | None ↦ λ _. no_probe (first_inside st subtree) ∙ ap by_path (no_path (lets_in st subtree len && writes_both st user (take len subtree)))
+      → find (breaks st user subtree) (present o (λ number. cond (nat_le (length (path_text (probe (take len subtree) number))) 4095)
+          (map (probing (probe (take len subtree) number)) (filter (is_inside st subtree) (pids_of st))) []))
+      ≡ by_path
+      (cond (lets_in st subtree len && writes_both st user (take len subtree)) (option_and_then (short_probe (take len subtree)) o) None)) [
+        | None ↦
+            λ _. no_probe (first_inside st subtree)
+            ∙ ap by_path (no_path (lets_in st subtree len && writes_both st user (take len subtree)))
         | Some number ↦ λ e. elim (nat_le (length (path_text (probe (take len subtree) number))) 4095) as (λ b.
-            find (breaks st user subtree) (cond b (map (probing (probe (take len subtree) number)) (filter (is_inside st subtree) (pids_of st))) [])
-            ≡ by_path (cond (lets_in st subtree len && writes_both st user (take len subtree)) (cond b (Some (probe (take len subtree) number)) None) None)) [
-              | true ↦ at_number len number within (not-true _ (found-so (λ number. not (has_row st (probe (take len subtree) number))) (numbers_from 0 (length (paths_of st) + 1)) number e))
-              | false ↦ no_probe (first_inside st subtree) ∙ ap by_path (no_path (lets_in st subtree len && writes_both st user (take len subtree)))
+            find (breaks st user subtree)
+            (cond b (map (probing (probe (take len subtree) number)) (filter (is_inside st subtree) (pids_of st))) [])
+            ≡ by_path (cond (lets_in st subtree len && writes_both st user (take len subtree))
+              (cond b (Some (probe (take len subtree) number)) None) None)) [
+              | true ↦
+                  at_number len number within (not-true _ (found-so (λ number. not (has_row st (probe (take len subtree) number)))
+                      (numbers_from 0 (length (paths_of st) + 1)) number e))
+              | false ↦
+                  no_probe (first_inside st subtree)
+                  ∙ ap by_path (no_path (lets_in st subtree len && writes_both st user (take len subtree)))
             ]
       ] refl
     where
@@ -191,10 +218,14 @@ module _ (st : State) (user : Identity) (subtree : Names) (whole : IsUnbroken st
 
   or_by : (first later : Option Names) → option_or (by_path first) (by_path later) ≡ by_path (option_or first later)
   unfolding by_path
-  or_by first later = elim (first_inside st subtree) as (λ o. option_or (option_and_then (λ pid. option_map (λ path. probing path pid) first) o) (option_and_then (λ pid. option_map (λ path. probing path pid) later) o)
+  or_by first later =
+      elim (first_inside st subtree) as (λ o. option_or (option_and_then (λ pid. option_map (λ path. probing path pid) first) o)
+      (option_and_then (λ pid. option_map (λ path. probing path pid) later) o)
       ≡ option_and_then (λ pid. option_map (λ path. probing path pid) (option_or first later)) o) [
         | None ↦ refl
-        | Some pid ↦ elim first as (λ o. option_or (option_map (λ path. probing path pid) o) (option_map (λ path. probing path pid) later) ≡ option_map (λ path. probing path pid) (option_or o later)) [ None ↦ refl | Some path ↦ refl ]
+        | Some pid ↦
+            elim first as (λ o. option_or (option_map (λ path. probing path pid) o) (option_map (λ path. probing path pid) later)
+                          ≡ option_map (λ path. probing path pid) (option_or o later)) [ None ↦ refl | Some path ↦ refl ]
       ]
 
   at_all : (len : ℕ) → len ≤ length subtree

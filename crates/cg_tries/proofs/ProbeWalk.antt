@@ -11,7 +11,8 @@ module _ (st : State) (user : Identity) (subtree : Names) where
   probe_next : (len : ℕ) → 0 < len
       → first_probe_path st user subtree len ≡ option_or (probe_path st user subtree (len - 1)) (first_probe_path st user subtree (len - 1))
   probe_next zero h = absurd (omega arith)
-  probe_next (suc len) h = ap (λ n. option_or (probe_path st user subtree n) (first_probe_path st user subtree n)) (let e : len ≡ suc len - 1 = omega arith in e)
+  probe_next (suc len) h =
+      ap (λ n. option_or (probe_path st user subtree n) (first_probe_path st user subtree n)) (let e : len ≡ suc len - 1 = omega arith in e)
 
   pub probe_past : (len : ℕ) → 0 < len → probe_path st user subtree (len - 1) ≡ None
       → first_probe_path st user subtree (len - 1) ≡ first_probe_path st user subtree len
@@ -32,10 +33,13 @@ module _ (st : State) (user : Identity) (subtree : Names) where
   module _ (level : ℕ) (open_levels : (len : ℕ) → len < length subtree → lets_in st subtree len ≡ nat_lt len level) where
     pub opened : (len : ℕ) → len < length subtree → len < level → writes_both st user (take len subtree) ≡ true
         → probe_path st user subtree len ≡ free_path st (take len subtree)
-    opened len within h writes = (λ i. cond ((open_levels len within ∙ lt-ltb len level h) i && writes i) (free_path st (take len subtree)) None)
+    opened len within h writes =
+        (λ i. cond ((open_levels len within ∙ lt-ltb len level h) i && writes i) (free_path st (take len subtree)) None)
 
     closed : (len : ℕ) → len < length subtree → level ≤ len → probe_path st user subtree len ≡ None
-    closed len within h = ap (λ b. cond (b && writes_both st user (take len subtree)) (free_path st (take len subtree)) None) (open_levels len within ∙ le-ltb len level h)
+    closed len within h =
+        ap (λ b. cond (b && writes_both st user (take len subtree)) (free_path st (take len subtree)) None)
+        (open_levels len within ∙ le-ltb len level h)
 
     -- nothing comes from below it
     pub from_level : (more : ℕ) → level + more ≤ length subtree
@@ -43,5 +47,6 @@ module _ (st : State) (user : Identity) (subtree : Names) where
     from_level zero h = ap (first_probe_path st user subtree) (let e : level ≡ level + 0 = omega arith in e)
     from_level (suc more) h =
         from_level more (omega (arith, h))
-        ∙ sym (ap (λ o. option_or o (first_probe_path st user subtree (level + more))) (closed (level + more) (omega (arith, h)) (omega arith)))
+        ∙ sym
+        (ap (λ o. option_or o (first_probe_path st user subtree (level + more))) (closed (level + more) (omega (arith, h)) (omega arith)))
         ∙ ap (first_probe_path st user subtree) (let e : suc (level + more) ≡ level + suc more = omega arith in e)

@@ -48,7 +48,8 @@ common-child (suc len) (first ∷ subtree) name within other =
     ap (λ b. cond b (first ∷ common subtree (take len subtree ++ name ∷ [])) []) ((bytes_decides first first).1 refl)
     ∙ ap (λ (p : Names). first ∷ p) (common-child len subtree name (omega (arith, within)) (λ e. other (ap (λ (p : Names). first ∷ p) e)))
 
-module _ (st : State) (user : Identity) (subtree : Names) (len : ℕ) (name : Name) (formed : IsWellFormed st) (there : has_row st subtree ≡ true) (within : len < length subtree) (free : has_row st (take len subtree ++ name ∷ []) ≡ false) where
+module _ (st : State) (user : Identity) (subtree : Names) (len : ℕ) (name : Name) (formed : IsWellFormed st)
+    (there : has_row st subtree ≡ true) (within : len < length subtree) (free : has_row st (take len subtree ++ name ∷ []) ≡ false) where
   abbrev ancestor : Names
   ancestor = take len subtree
 
@@ -62,14 +63,19 @@ module _ (st : State) (user : Identity) (subtree : Names) (len : ℕ) (name : Na
   outside = false_from_ne_true _ (λ h.
       let short = inside-length subtree path h in
       let same : length subtree ≡ length path = omega (arith, short, length_path, within) in
-      let is : path ≡ subtree = sym (take_all (length path) path (omega arith)) ∙ ap (λ (n : ℕ). take n path) (sym same) ∙ inside-is subtree path h in
+      let is : path ≡ subtree =
+          sym (take_all (length path) path (omega arith)) ∙ ap (λ (n : ℕ). take n path) (sym same) ∙ inside-is subtree path h in
       true≢false (sym there ∙ ap (has_row st) (sym is) ∙ free))
 
   shared : common subtree path ≡ ancestor
-  shared = common-child len subtree name within (λ is. true≢false (sym (take-there st formed subtree (suc len) there) ∙ ap (has_row st) (sym is) ∙ free))
+  shared =
+      common-child len subtree name within
+      (λ is. true≢false (sym (take-there st formed subtree (suc len) there) ∙ ap (has_row st) (sym is) ∙ free))
 
   not_ancestor : same_path path ancestor ≡ false
-  not_ancestor = same_path-not path ancestor (λ is. let l = ap length is in let f = length-take-le len subtree (omega (arith, within)) in omega (arith, l, f, length_path))
+  not_ancestor =
+      same_path-not path ancestor
+      (λ is. let l = ap length is in let f = length-take-le len subtree (omega (arith, within)) in omega (arith, l, f, length_path))
 
   not_subtree : same_path path subtree ≡ false
   not_subtree = same_path-not path subtree (λ is. true≢false (sym there ∙ ap (has_row st) (sym is) ∙ free))
@@ -87,8 +93,12 @@ module _ (st : State) (user : Identity) (subtree : Names) (len : ℕ) (name : Na
   alike =
       let files : (file : LimitFile) → limits made subtree file ≡ limits st subtree file = λ file.
       value_at-with_row st path row subtree file ∙ ap (λ b. cond b (value_in row file) (limits st subtree file)) not_subtree in
-      let count = count_below-with_row st path row free subtree ∙ ap (λ b. cond b (1 + count_below st subtree) (count_below st subtree)) no_child_of in
-      let depth = depth_below-with_row st path row free subtree ∙ ap (λ b. cond b (max (depth_below st subtree) (length path - length subtree)) (depth_below st subtree)) no_child_of in
+      let count =
+          count_below-with_row st path row free subtree
+          ∙ ap (λ b. cond b (1 + count_below st subtree) (count_below st subtree)) no_child_of in
+      let depth =
+          depth_below-with_row st path row free subtree
+          ∙ ap (λ b. cond b (max (depth_below st subtree) (length path - length subtree)) (depth_below st subtree)) no_child_of in
       λ i. record {
         limits = λ file. files file i;
         count = count i;
@@ -106,14 +116,19 @@ module _ (st : State) (user : Identity) (subtree : Names) (len : ℕ) (name : Na
       ∙ and_from (writes user row.procs) (is_root path || true) (writes-made_by user 420 refl) (or-true (is_root path))
 
   passes_same : passes_at made user ancestor ≡ passes_at st user ancestor
-  passes_same = ap (λ r. elim r [ None ↦ true | Some row ↦ writes user row.procs ]) (row_at-with_row st path row ancestor ∙ ap (λ b. cond b (Some row) (row_at st ancestor)) not_ancestor)
+  passes_same =
+      ap (λ r. elim r [ None ↦ true | Some row ↦ writes user row.procs ])
+      (row_at-with_row st path row ancestor ∙ ap (λ b. cond b (Some row) (row_at st ancestor)) not_ancestor)
 
-  module _ (pid : ℕ) (place : Names) (whole : IsUnbroken st subtree) (at : place_at st pid ≡ Some place) (is : inside subtree place ≡ true) where
+  module _ (pid : ℕ) (place : Names) (whole : IsUnbroken st subtree) (at : place_at st pid ≡ Some place) (is : inside subtree place ≡ true)
+      where
     over : cond (inside subtree place) (not (inside subtree path)) (inside subtree path) ≡ true
     over = λ i. cond (is i) (not (outside i)) (inside subtree path)
 
     probe_try_by : breaks st user subtree (Mkdir path ∷ Move pid path ∷ []) ≡ (allowed st user (Mkdir path) && passes_at st user ancestor)
-    probe_try_by = elim (bars st user (Mkdir path)) as (λ l. bars st user (Mkdir path) ≡ l → breaks st user subtree (Mkdir path ∷ Move pid path ∷ []) ≡ (not (is_some (first l)) && passes_at st user ancestor)) [
+    probe_try_by =
+        elim (bars st user (Mkdir path)) as (λ l. bars st user (Mkdir path) ≡ l
+          → breaks st user subtree (Mkdir path ∷ Move pid path ∷ []) ≡ (not (is_some (first l)) && passes_at st user ancestor)) [
       | [] ↦ λ e.
           let to : after st user (Mkdir path) ≡ made = ap (λ l. elim l [ [] ↦ made | bar ∷ others ↦ st ]) e in
           breaks-alike_first st user subtree (Mkdir path) (ap (λ (s : State). seen s subtree) to ∙ alike) (Move pid path ∷ [])
@@ -128,7 +143,8 @@ module _ (st : State) (user : Identity) (subtree : Names) (len : ℕ) (name : Na
           ∙ ap (λ (s : State). breaks s user subtree (Move pid path ∷ [])) to
           ∙ move_try st user subtree pid place path whole at over
           ∙ move_allowed st user pid place path at
-          ∙ ap (λ r. elim r [ None ↦ false | Some row ↦ writes user row.procs && (is_root path || enables_nothing row.enabled) ] && passes_at st user (common place path)) (none_value (row_at st path) free)
+          ∙ ap (λ r. elim r [ None ↦ false | Some row ↦ writes user row.procs && (is_root path || enables_nothing row.enabled) ]
+                      && passes_at st user (common place path)) (none_value (row_at st path) free)
     ] refl
 
 pub probe_try : (st : State) (user : Identity) (subtree : Names) (len : ℕ) (name : Name) (pid : ℕ) (place : Names) → IsUnbroken st subtree

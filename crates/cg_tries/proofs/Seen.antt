@@ -59,12 +59,14 @@ there-seen None = refl
 there-seen (Some row) = refl
 
 descendants-seen : (count : ℕ) (found : Option Cgroup)
-    → elim found [ None ↦ true | Some row ↦ is_within_limit count row.max_descendants.value ] ≡ fits count (option_and_then (λ row. value_in row MaxDescendants) found)
+    → elim found [ None ↦ true | Some row ↦ is_within_limit count row.max_descendants.value ]
+    ≡ fits count (option_and_then (λ row. value_in row MaxDescendants) found)
 descendants-seen count None = refl
 descendants-seen count (Some row) = refl
 
 depth-seen : (count : ℕ) (found : Option Cgroup)
-    → elim found [ None ↦ true | Some row ↦ is_within_limit count row.max_depth.value ] ≡ fits count (option_and_then (λ row. value_in row MaxDepth) found)
+    → elim found [ None ↦ true | Some row ↦ is_within_limit count row.max_depth.value ]
+    ≡ fits count (option_and_then (λ row. value_in row MaxDepth) found)
 depth-seen count None = refl
 depth-seen count (Some row) = refl
 
@@ -103,12 +105,14 @@ keeps-from : (start : State) (steps : ℕ) (st : State) (deeds : List Deed) (sub
 keeps-from start steps st [] subtree = refl
 keeps-from start steps st (deed ∷ deeds) subtree =
     keeps-later (broken start st (after st deed.0 deed.1) subtree) (suc steps) _
-    ∙ ap (λ b. is_empty (broken start st (after st deed.0 deed.1) subtree) && b) (keeps-from start (suc steps) (after st deed.0 deed.1) deeds subtree)
+    ∙ ap (λ b. is_empty (broken start st (after st deed.0 deed.1) subtree) && b)
+    (keeps-from start (suc steps) (after st deed.0 deed.1) deeds subtree)
 
 pub breaks-run : (st : State) (user : Identity) (subtree : Names) (ops : List Op)
     → breaks st user subtree ops ≡ not (is_empty (broken st st st subtree) && keeps st st (by_user user ops) subtree)
 breaks-run st user subtree ops =
-    ap not (keeps-later (broken st st st subtree) 0 _ ∙ ap (λ b. is_empty (broken st st st subtree) && b) (keeps-from st 0 st (by_user user ops) subtree))
+    ap not (keeps-later (broken st st st subtree) 0 _
+      ∙ ap (λ b. is_empty (broken st st st subtree) && b) (keeps-from st 0 st (by_user user ops) subtree))
 
 -- ---- alike states
 
@@ -123,7 +127,8 @@ keeps-start : (start other st : State) (deeds : List Deed) (subtree : Names) →
     → keeps start st deeds subtree ≡ keeps other st deeds subtree
 keeps-start start other st [] subtree same = refl
 keeps-start start other st (deed ∷ deeds) subtree same = λ i.
-    is_empty (broken-start start other st (after st deed.0 deed.1) subtree same i) && keeps-start start other (after st deed.0 deed.1) deeds subtree same i
+    is_empty (broken-start start other st (after st deed.0 deed.1) subtree same i)
+    && keeps-start start other (after st deed.0 deed.1) deeds subtree same i
 
 broken-alike : (st new : State) (subtree : Names) → IsAlike st new subtree → broken new new new subtree ≡ broken st st st subtree
 broken-alike st new subtree alike =
@@ -149,6 +154,8 @@ breaks-alike_first st user subtree op alike ops =
     let new = after st user op in
     let same : limits st subtree ≡ limits new subtree = sym (ap (λ (s : Seen). s.limits) alike) in
     breaks-run st user subtree (op ∷ ops)
-    ∙ (λ i. not (is_empty (broken st st st subtree) && (is_empty (step-alike st new subtree alike i) && keeps-start st new new (by_user user ops) subtree same i)))
+    ∙ (λ i. not (is_empty (broken st st st subtree)
+        && (is_empty (step-alike st new subtree alike i) && keeps-start st new new (by_user user ops) subtree same i)))
     ∙ twice (is_empty (broken st st st subtree)) (keeps new new (by_user user ops) subtree)
-    ∙ sym (breaks-run new user subtree ops ∙ ap (λ (l : List Clause). not (is_empty l && keeps new new (by_user user ops) subtree)) (broken-alike st new subtree alike))
+    ∙ sym (breaks-run new user subtree ops
+      ∙ ap (λ (l : List Clause). not (is_empty l && keeps new new (by_user user ops) subtree)) (broken-alike st new subtree alike))

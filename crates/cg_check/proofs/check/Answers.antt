@@ -17,10 +17,13 @@ returns-in-None-clause-contained g c same =
 
 pub returns-in-Some-failed_guard-clause-answer : goal.returns-in-Some-failed_guard-clause-answer
 returns-in-Some-failed_guard-clause-answer g c =
-    unguarded-gives (g.H.Hierarchy.state c.args.tree.now) c.args.user.now c.args.subtree.now c.in-Some-failed_guard.failed c.unguarded.result
-    (sym c.in_default.is ∙ c.fault_of.ensures.fault) (sym c.in-Some-failed_guard.is ∙ c.failed_guard.ensures) c.unguarded.ensures.ok c.unguarded.ensures.err
+    unguarded-gives (g.H.Hierarchy.state c.args.tree.now) c.args.user.now c.args.subtree.now c.in-Some-failed_guard.failed
+    c.unguarded.result
+    (sym c.in_default.is ∙ c.fault_of.ensures.fault) (sym c.in-Some-failed_guard.is ∙ c.failed_guard.ensures) c.unguarded.ensures.ok
+    c.unguarded.ensures.err
 
 pub returns-in-Some-failed_guard-clause-contained : goal.returns-in-Some-failed_guard-clause-contained
 returns-in-Some-failed_guard-clause-contained g c =
-    unguarded-uncontained (g.H.Hierarchy.state c.args.tree.now) c.args.user.now c.args.subtree.now c.in-Some-failed_guard.failed c.unguarded.result
+    unguarded-uncontained (g.H.Hierarchy.state c.args.tree.now) c.args.user.now c.args.subtree.now c.in-Some-failed_guard.failed
+    c.unguarded.result
     (sym c.in-Some-failed_guard.is ∙ c.failed_guard.ensures) c.unguarded.ensures.ok

@@ -8,9 +8,12 @@ returns-in-Some-clause-answer g c = search (rules, fault-gives)
 pub returns-in_default-first_unguarded-clause-contained :
     goal.returns-in_default-first_unguarded-clause-contained
 returns-in_default-first_unguarded-clause-contained g c is some =
-    are-contained (g.H.Hierarchy.state c.args.tree.now) c.args.users.now c.args.subtrees.now (sym c.in_default.ensures.fault) (c.in_default.ensures.formed refl) c.in_default-first_unguarded.ensures some
+    are-contained (g.H.Hierarchy.state c.args.tree.now) c.args.users.now c.args.subtrees.now (sym c.in_default.ensures.fault)
+    (c.in_default.ensures.formed refl) c.in_default-first_unguarded.ensures some
 
 pub returns-in_err-answer-clause-answer : goal.returns-in_err-answer-clause-answer
 returns-in_err-answer-clause-answer g c =
-    err-gives (g.H.Hierarchy.state c.args.tree.now) c.args.users.now c.args.subtrees.now (c.in-Some-first_unguarded.user, c.in-Some-first_unguarded.subtree) c.index-users-user.result c.index-subtrees-subtree.result
-    (sym c.in_default.ensures.fault) c.in-Some-first_unguarded.ensures c.index-users-user.is c.index-subtrees-subtree.is c.in_err-answer.field-0.0 c.from_residual.result c.in_err-answer.ensures.answer c.from_residual.ensures
+    err-gives (g.H.Hierarchy.state c.args.tree.now) c.args.users.now c.args.subtrees.now
+    (c.in-Some-first_unguarded.user, c.in-Some-first_unguarded.subtree) c.index-users-user.result c.index-subtrees-subtree.result
+    (sym c.in_default.ensures.fault) c.in-Some-first_unguarded.ensures c.index-users-user.is c.index-subtrees-subtree.is
+    c.in_err-answer.field-0.0 c.from_residual.result c.in_err-answer.ensures.answer c.from_residual.ensures

@@ -11,16 +11,19 @@ loop-subtree-init g c = record { left = refl; covered = c.requires.covered; aske
 
 pub guarded_users-left-requires-clause-subtree : goal.guarded_users-left-requires-clause-subtree
 guarded_users-left-requires-clause-subtree g c =
-    subtree_at (g.H.Hierarchy.state c.args.tree.now) c.args.subtrees.now c.loop-subtree.subtree-index c.subtree-item.result c.loop-subtree-test.true c.subtree-item.is c.requires.there
+    subtree_at (g.H.Hierarchy.state c.args.tree.now) c.args.subtrees.now c.loop-subtree.subtree-index c.subtree-item.result
+    c.loop-subtree-test.true c.subtree-item.is c.requires.there
 
 pub loop-subtree-preserved : goal.loop-subtree-preserved
 loop-subtree-preserved g c = record {
   left =
-      guarded_turn (g.H.Hierarchy.state c.args.tree.now) c.args.subtrees.now c.loop-subtree.subtree-index c.subtree-item.result c.loop-subtree.left.now c.guarded_users-left.result.now
+      guarded_turn (g.H.Hierarchy.state c.args.tree.now) c.args.subtrees.now c.loop-subtree.subtree-index c.subtree-item.result
+      c.loop-subtree.left.now c.guarded_users-left.result.now
       c.loop-subtree-test.true c.subtree-item.is c.guarded_users-left.ensures.users
       ∙ c.loop-subtree.invariant.left;
   covered =
-      front_covered (option_copied c.args.identities) (is_guarded (g.H.Hierarchy.state c.args.tree.now) c.subtree-item.result) c.loop-subtree.left.now c.guarded_users-left.result.now c.guarded_users-left.ensures.users
+      front_covered (option_copied c.args.identities) (is_guarded (g.H.Hierarchy.state c.args.tree.now) c.subtree-item.result)
+      c.loop-subtree.left.now c.guarded_users-left.result.now c.guarded_users-left.ensures.users
       c.loop-subtree.invariant.covered;
   asked = c.guarded_users-left.ensures.asked;
 }
@@ -28,11 +31,13 @@ loop-subtree-preserved g c = record {
 pub split_at-requires : goal.split_at-requires
 split_at-requires g c =
     guarded_within (g.H.Hierarchy.state c.args.tree.now) c.args.subtrees.now c.args.users.now c.loop-subtree.left.now
-    (guarded_end (g.H.Hierarchy.state c.args.tree.now) c.args.subtrees.now c.loop-subtree.subtree-index c.loop-subtree.left.now c.loop-subtree-test.false ∙ c.loop-subtree.invariant.left)
+    (guarded_end (g.H.Hierarchy.state c.args.tree.now) c.args.subtrees.now c.loop-subtree.subtree-index c.loop-subtree.left.now
+            c.loop-subtree-test.false ∙ c.loop-subtree.invariant.left)
 
 pub returns : goal.returns
 returns g c =
     c.split_at.ensures.back
     ∙ ap (λ n. drop n c.args.users.now)
     (guarded_count (g.H.Hierarchy.state c.args.tree.now) c.args.subtrees.now c.args.users.now c.loop-subtree.left.now
-    (guarded_end (g.H.Hierarchy.state c.args.tree.now) c.args.subtrees.now c.loop-subtree.subtree-index c.loop-subtree.left.now c.loop-subtree-test.false ∙ c.loop-subtree.invariant.left))
+    (guarded_end (g.H.Hierarchy.state c.args.tree.now) c.args.subtrees.now c.loop-subtree.subtree-index c.loop-subtree.left.now
+            c.loop-subtree-test.false ∙ c.loop-subtree.invariant.left))

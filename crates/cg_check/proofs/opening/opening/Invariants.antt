@@ -5,4 +5,5 @@ use Rattle.cg_check.proofs.opening.opening.Given as goal
 
 -- with those of the entries that are still to come, all
 abbrev pub invariant-loop-place : goal.invariant-loop-place
-invariant-loop-place g l = l.chmods ++ opening_from (g.H.Hierarchy.state l.tree) l.user l.subtree l.place ≡ opening (g.H.Hierarchy.state l.tree) l.user l.subtree
+invariant-loop-place g l =
+    l.chmods ++ opening_from (g.H.Hierarchy.state l.tree) l.user l.subtree l.place ≡ opening (g.H.Hierarchy.state l.tree) l.user l.subtree

@@ -11,10 +11,13 @@ set_enabled-requires-clause-keeps g c =
     let st = g.H.Hierarchy.state c.args.tree.now in
     let at = c.args.at.now in
     let is = ap (row_at st) (sym (take_whole at c.depth.result c.depth.ensures.depth)) ∙ sym c.in-Some.ensures.row in
-    subst (MayEnable st at) (sym c.enabled_after-enabled.ensures) (allowed_control st c.args.user.now at c.args.changes.now c.in-Some.cgroup.now c.requires c.get.ensures.formed is)
+    subst (MayEnable st at) (sym c.enabled_after-enabled.ensures)
+    (allowed_control st c.args.user.now at c.args.changes.now c.in-Some.cgroup.now c.requires c.get.ensures.formed is)
 
 pub unreachable-requires : goal.unreachable-requires
 unreachable-requires g c =
     let st = g.H.Hierarchy.state c.args.tree.now in
     let at = c.args.at.now in
-    true≢false (sym (there_control st c.args.user.now at c.args.changes.now c.requires) ∙ ap (λ p. is_some (row_at st p)) (sym (take_whole at c.depth.result c.depth.ensures.depth)) ∙ ap is_some (sym c.in_default.ensures.row))
+    true≢false (sym (there_control st c.args.user.now at c.args.changes.now c.requires)
+      ∙ ap (λ p. is_some (row_at st p)) (sym (take_whole at c.depth.result c.depth.ensures.depth))
+      ∙ ap is_some (sym c.in_default.ensures.row))

@@ -2,4 +2,6 @@ use Rattle.cg_steps.proofs.StepEffects.{has_row-after, entry_at-after, value_at-
 use Rattle.cg_steps.proofs.laws.step_leaves_cgroups.Goals as goal
 
 pub returns : goal.returns
-returns c = record { rows = has_row-after; entries = entry_at-after; values = value_at-after; enabled = enabled_at-after; controllers = controllers-after }
+returns c =
+    record
+    { rows = has_row-after; entries = entry_at-after; values = value_at-after; enabled = enabled_at-after; controllers = controllers-after }

@@ -11,4 +11,5 @@ returns g c =
     let subtree = c.args.subtree.now in
     let out = c.first_to_leave_to-out.ensures ∙ ap (find (can_leave_to st user subtree)) c.requires.paths in
     let into = c.first_to_enter_at-into.ensures ∙ ap (find (can_enter_at st user subtree)) c.requires.paths in
-    subst (λ (moved : Option (List Op)). IfOk c.first_moved.result (λ found. found ≡ moved)) (λ i. first_given (move_of st user subtree (out i) (into i)) (c.requires.pids i)) c.first_moved.ensures
+    subst (λ (moved : Option (List Op)). IfOk c.first_moved.result (λ found. found ≡ moved))
+    (λ i. first_given (move_of st user subtree (out i) (into i)) (c.requires.pids i)) c.first_moved.ensures

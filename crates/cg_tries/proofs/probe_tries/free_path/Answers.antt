@@ -22,9 +22,12 @@ returns-then-not-is_there g c =
     let is = short_is ancestor c.loop-number.number c.in-Some.path some in
     let gone : free c.loop-number.number ≡ not (has_row st c.in-Some.path) = ap (λ p. not (has_row st p)) is in
     let first = numbers_next free c.loop-number.number c.args.count c.loop-number-test.true
-    ∙ ap (λ b. cond b (Some c.loop-number.number) (find free (numbers_from (c.loop-number.number + 1) (c.args.count - (c.loop-number.number + 1))))) (gone ∙ ap not (sym c.is_there.ensures ∙ c.if-not-is_there.true)) in
+    ∙ ap (λ b.
+      cond b (Some c.loop-number.number) (find free (numbers_from (c.loop-number.number + 1) (c.args.count - (c.loop-number.number + 1)))))
+    (gone ∙ ap not (sym c.is_there.ensures ∙ c.if-not-is_there.true)) in
     sym some
-    ∙ ap (option_and_then (short_probe ancestor)) (sym first ∙ c.loop-number.invariant ∙ ap (λ n. find free (numbers_from 0 n)) c.requires.count)
+    ∙ ap (option_and_then (short_probe ancestor))
+    (sym first ∙ c.loop-number.invariant ∙ ap (λ n. find free (numbers_from 0 n)) c.requires.count)
 
 pub loop-number-preserved : goal.loop-number-preserved
 loop-number-preserved g c =
@@ -35,5 +38,7 @@ loop-number-preserved g c =
     let is = short_is ancestor c.loop-number.number c.in-Some.path some in
     let there : free c.loop-number.number ≡ not (has_row st c.in-Some.path) = ap (λ p. not (has_row st p)) is in
     sym (numbers_next free c.loop-number.number c.args.count c.loop-number-test.true
-    ∙ ap (λ b. cond b (Some c.loop-number.number) (find free (numbers_from (c.loop-number.number + 1) (c.args.count - (c.loop-number.number + 1))))) (there ∙ ap not (sym c.is_there.ensures ∙ c.if-not-is_there.false)))
+    ∙ ap (λ b.
+      cond b (Some c.loop-number.number) (find free (numbers_from (c.loop-number.number + 1) (c.args.count - (c.loop-number.number + 1)))))
+    (there ∙ ap not (sym c.is_there.ensures ∙ c.if-not-is_there.false)))
     ∙ c.loop-number.invariant

@@ -6,5 +6,6 @@ use Rattle.cg_tries.proofs.probe_tries.free_path.Given as goal
 -- the first is among those that are still to come
 abbrev pub invariant-loop-number : goal.invariant-loop-number
 invariant-loop-number g l =
-    find (λ number. not (has_row (g.H.Hierarchy.state l.tree) (probe (take l.len l.subtree) number))) (numbers_from l.number (l.count - l.number))
+    find (λ number. not (has_row (g.H.Hierarchy.state l.tree) (probe (take l.len l.subtree) number)))
+    (numbers_from l.number (l.count - l.number))
     ≡ find (λ number. not (has_row (g.H.Hierarchy.state l.tree) (probe (take l.len l.subtree) number))) (numbers_from 0 l.count)

@@ -9,4 +9,6 @@ returns c =
     let p = c.args.self.now in
     let q = c.args.other.now in
     let len = c.args.len in
-    same_text_path (take len p) (take len q) _ _ (path_names (take len p) (IsPath-take p len c.front.ensures.path)) (path_names (take len q) (IsPath-take q len c.front-2.ensures.path)) (sym c.front.ensures.text) (sym c.front-2.ensures.text) _ c.eq.ensures
+    same_text_path (take len p) (take len q) _ _ (path_names (take len p) (IsPath-take p len c.front.ensures.path))
+    (path_names (take len q) (IsPath-take q len c.front-2.ensures.path)) (sym c.front.ensures.text) (sym c.front-2.ensures.text) _
+    c.eq.ensures

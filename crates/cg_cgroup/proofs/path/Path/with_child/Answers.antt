@@ -12,7 +12,12 @@ pub returns-then-end-gt-LONGEST_TEXT-clause-bad : goal.returns-then-end-gt-LONGE
 returns-then-end-gt-LONGEST_TEXT-clause-bad c =
     let n = ap length c.front-parent.ensures.text in
     λ e.
-    not_path-push (take c.args.len c.args.self.now) c.args.name.now (elim c.then-end-gt-LONGEST_TEXT.branch [ then-end-gt-LONGEST_TEXT-via-then-end-gt-LONGEST_TEXT w ↦ inl (omega (arith, n, w.if-end-gt-LONGEST_TEXT.true)) | then-end-gt-LONGEST_TEXT-via-else-end-gt-LONGEST_TEXT+then-not-is_name w ↦ inr (ap is_name (sym w.as_bytes.ensures.value) ∙ sym w.is_name.ensures ∙ w.if-not-is_name.true) ])
+    not_path-push (take c.args.len c.args.self.now) c.args.name.now
+    (elim c.then-end-gt-LONGEST_TEXT.branch [
+        | then-end-gt-LONGEST_TEXT-via-then-end-gt-LONGEST_TEXT w ↦ inl (omega (arith, n, w.if-end-gt-LONGEST_TEXT.true))
+        | then-end-gt-LONGEST_TEXT-via-else-end-gt-LONGEST_TEXT+then-not-is_name w ↦
+            inr (ap is_name (sym w.as_bytes.ensures.value) ∙ sym w.is_name.ensures ∙ w.if-not-is_name.true)
+      ])
 
 pub slice_bounds-from_slice-end : goal.slice_bounds-from_slice-end
 slice_bounds-from_slice-end c =
@@ -24,17 +29,23 @@ good : (c : goal.In_ok-push) → IsPath (take c.args.len c.args.self.now ++ c.ar
 good c =
     let path = c.args.self.now in
     let n = ap length c.front-parent.ensures.text in
-    IsPath-push (take c.args.len path) c.args.name.now (IsPath-take path c.args.len c.front-parent.ensures.path) (ap is_name (sym c.as_bytes.ensures.value) ∙ sym c.is_name.ensures ∙ c.if-not-is_name.false) (omega arith)
+    IsPath-push (take c.args.len path) c.args.name.now (IsPath-take path c.args.len c.front-parent.ensures.path)
+    (ap is_name (sym c.as_bytes.ensures.value) ∙ sym c.is_name.ensures ∙ c.if-not-is_name.false) (omega arith)
 
 text : (c : goal.In_ok-push) → string_bytes c.in_ok-text.text ≡ names_text (take c.args.len c.args.self.now ++ c.args.name.now ∷ [])
 text c =
-    c.in_ok-text.ensures.ok ∙ ap (λ (x : List ℕ). x ++ 47 ∷ c.args.name.now) c.front-parent.ensures.text ∙ sym (names_text-push (take c.args.len c.args.self.now) c.args.name.now)
+    c.in_ok-text.ensures.ok ∙ ap (λ (x : List ℕ). x ++ 47 ∷ c.args.name.now) c.front-parent.ensures.text
+    ∙ sym (names_text-push (take c.args.len c.args.self.now) c.args.name.now)
 
 pub invariant_of-result : goal.invariant_of-result
 invariant_of-result c =
     let path = c.args.self.now in
-    let ends = c.in_ok-ends.ensures.items ∙ ap (take c.args.len) (c.as_slice.ensures.value ∙ kept_ends _ _ path c.self.invariant c.self.view_is) ∙ take-ends_from path 0 c.args.len in
-    IsKept-at _ _ (take c.args.len path ++ c.args.name.now ∷ []) (good c) (text c) (c.in_ok-push.ensures.items ∙ ends_push (take c.args.len path) c.args.name.now _ _ ends (ap (λ (x : List ℕ). length x + 1 + length c.args.name.now) c.front-parent.ensures.text))
+    let ends =
+        c.in_ok-ends.ensures.items ∙ ap (take c.args.len) (c.as_slice.ensures.value ∙ kept_ends _ _ path c.self.invariant c.self.view_is)
+        ∙ take-ends_from path 0 c.args.len in
+    IsKept-at _ _ (take c.args.len path ++ c.args.name.now ∷ []) (good c) (text c)
+    (c.in_ok-push.ensures.items ∙ ends_push (take c.args.len path) c.args.name.now _ _ ends
+      (ap (λ (x : List ℕ). length x + 1 + length c.args.name.now) c.front-parent.ensures.text))
 
 pub returns-clause-ok : goal.returns-clause-ok
 returns-clause-ok c = names_of-at _ (take c.args.len c.args.self.now ++ c.args.name.now ∷ []) (good c) (text c)

@@ -12,12 +12,15 @@ returns-else-byte-eq47 c =
     let text = c.args.text.now in
     let byte = sym c.is_name_byte.ensures ∙ c.if-is_name_byte.false in
     let ends : ((get_or text at 0 == 47) && has_length len) ≡ false = elim c.else-byte-eq47.branch [
-      | else-byte-eq47-via-then-byte-eq47+else-is_word_length w ↦ and_right (get_or text at 0 == 47) (has_length len) (sym w.is_word_length.ensures ∙ w.if-is_word_length.false)
-      | else-byte-eq47-via-else-byte-eq47 w ↦ and_left (get_or text at 0 == 47) (has_length len) (ne_eqb (get_or text at 0) 47 w.if-byte-eq47.false)
+      | else-byte-eq47-via-then-byte-eq47+else-is_word_length w ↦
+          and_right (get_or text at 0 == 47) (has_length len) (sym w.is_word_length.ensures ∙ w.if-is_word_length.false)
+      | else-byte-eq47-via-else-byte-eq47 w ↦
+          and_left (get_or text at 0 == 47) (has_length len) (ne_eqb (get_or text at 0) 47 w.if-byte-eq47.false)
     ] in
     sym (words_stop len at text c.loop-byte-test.true c.loop-byte.invariant.1 byte ends)
 
 pub returns : goal.returns
 returns c =
     c.is_word_length-2.ensures
-    ∙ sym (words_of c.args.text.now ∙ c.loop-byte.invariant.1 ∙ at_drop_all (words_from c.loop-byte.len) c.args.text.now c.loop-byte.byte-index c.loop-byte-test.false)
+    ∙ sym (words_of c.args.text.now ∙ c.loop-byte.invariant.1
+      ∙ at_drop_all (words_from c.loop-byte.len) c.args.text.now c.loop-byte.byte-index c.loop-byte-test.false)

@@ -11,7 +11,8 @@ loop-at-preserved c =
     elim c.if-byte-eq47.branch [
       | then-byte-eq47+in_ok-push w ↦
           let is = rw value at w.if-byte-eq47.true in
-          ap (λ ends. ends.items) w.ends-is ∙ w.in_ok-push.ensures.items ∙ ap (λ (ends : List ℕ). ends ++ (c.loop-at.at + 1) ∷ []) c.loop-at.invariant
+          ap (λ ends. ends.items) w.ends-is ∙ w.in_ok-push.ensures.items
+          ∙ ap (λ (ends : List ℕ). ends ++ (c.loop-at.at + 1) ∷ []) c.loop-at.invariant
           ∙ sym (slash_read c.loop-at.at c.args.names.now inside is)
       | else-byte-eq47 w ↦
           let differs = rw value at w.if-byte-eq47.false in
@@ -23,5 +24,6 @@ returns c =
     let value = c.as_bytes-byte-items.ensures.value in
     let read = rw value at c.loop-at-test.false in
     c.in_ok-push-2.ensures.items
-    ∙ ap (λ (ends : List ℕ). ends ++ (length c.args.names.now + 1) ∷ []) (c.loop-at.invariant ∙ ap (slashes 0) (take_all c.loop-at.at c.args.names.now read))
+    ∙ ap (λ (ends : List ℕ). ends ++ (length c.args.names.now + 1) ∷ [])
+    (c.loop-at.invariant ∙ ap (slashes 0) (take_all c.loop-at.at c.args.names.now read))
     ∙ ends_at_slashes c.args.names.now

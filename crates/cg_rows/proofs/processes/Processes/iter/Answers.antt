@@ -5,4 +5,6 @@ use Rattle.cg_rows.proofs.StdMaps.{entries-shown}
 use Rattle.cg_rows.proofs.processes.Processes.iter.Goals as goal
 
 pub returns : goal.returns
-returns c = c.iter.ensures.rest ∙ sym (entries-shown nat_cmp_total map.nat_cmp-IsAntisymmetric c.self.inside.live.entries c.iter.ensures.ordered) ∙ ap (λ s. map.entries s.live) c.self.view_is
+returns c =
+    c.iter.ensures.rest ∙ sym (entries-shown nat_cmp_total map.nat_cmp-IsAntisymmetric c.self.inside.live.entries c.iter.ensures.ordered)
+    ∙ ap (λ s. map.entries s.live) c.self.view_is

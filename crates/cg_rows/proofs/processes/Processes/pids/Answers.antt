@@ -9,4 +9,6 @@ pub returns : goal.returns
 returns c =
     let collected : c.in_ok-collect.field-0.items ≡ keys c.self.inside.live = search rules in
     collected
-    ∙ ap (map_list (λ e. e.0)) (sym (entries-shown nat_cmp_total map.nat_cmp-IsAntisymmetric c.self.inside.live.entries c.keys.ensures.ordered)) ∙ ap (λ s. map.keys s.live) c.self.view_is
+    ∙ ap (map_list (λ e. e.0))
+    (sym (entries-shown nat_cmp_total map.nat_cmp-IsAntisymmetric c.self.inside.live.entries c.keys.ensures.ordered))
+    ∙ ap (λ s. map.keys s.live) c.self.view_is

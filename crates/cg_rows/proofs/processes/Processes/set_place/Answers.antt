@@ -12,7 +12,8 @@ use Rattle.cg_rows.proofs.processes.Processes.set_place.Goals as goal
 
 pub unreachable-requires : goal.unreachable-requires
 unreachable-requires c =
-    true≢false (sym c.requires ∙ ap (λ s. is_some (map.get s.live c.args.pid)) (sym c.self.view_is) ∙ ap is_some (get-shown nat_cmp_total c.self.inside.live.entries c.args.pid)
+    true≢false (sym c.requires ∙ ap (λ s. is_some (map.get s.live c.args.pid)) (sym c.self.view_is)
+    ∙ ap is_some (get-shown nat_cmp_total c.self.inside.live.entries c.args.pid)
     ∙ ap is_some (sym c.get_mut.ensures.value) ∙ ap (λ o. is_some (option_copied_mut o)) c.in_default.is)
 
 pub returns : goal.returns
@@ -24,5 +25,8 @@ returns c =
     let found = c.in-Some.ensures.value in
     let updates = (c.get_mut.follows.holds placed).3 (ap is_some (sym found)) in
     (λ i. record { live = shown-insert nat_cmp_total map.nat_cmp-IsAntisymmetric live _ pid placed updates.0 i; used = used })
-    ∙ ap (λ (o : Option Process). record { live = elim o [ None ↦ map.from_entries live | Some process ↦ map.insert (map.from_entries live) pid (placed_at c.args.place process) ]; used = used }) (found ∙ sym (get-shown nat_cmp_total live pid))
+    ∙ ap (λ (o : Option Process). record {live =
+            elim o
+            [ None ↦ map.from_entries live | Some process ↦ map.insert (map.from_entries live) pid (placed_at c.args.place process) ];
+            used = used}) (found ∙ sym (get-shown nat_cmp_total live pid))
     ∙ ap (λ s. with_place_of s pid c.args.place) c.self.view_is

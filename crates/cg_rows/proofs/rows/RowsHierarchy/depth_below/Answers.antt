@@ -7,5 +7,6 @@ use Rattle.cg_rows.proofs.rows.RowsHierarchy.depth_below.Goals as goal
 pub returns : goal.returns
 returns c =
     let p = take c.args.len c.args.path.now in
-    c.deepest.ensures ∙ depth_found c.self.inside.rows p c.args.len _ c.below.ensures (sym (length-take-le c.args.len c.args.path.now c.requires.within))
+    c.deepest.ensures
+    ∙ depth_found c.self.inside.rows p c.args.len _ c.below.ensures (sym (length-take-le c.args.len c.args.path.now c.requires.within))
     ∙ ap (λ s. depth_below s p) c.self.view_is

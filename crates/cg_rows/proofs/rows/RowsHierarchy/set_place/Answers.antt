@@ -11,9 +11,11 @@ set_place-requires c = ap (λ s. is_some (process_at s c.args.pid)) c.self.view_
 
 pub returns-clause-ok : goal.returns-clause-ok
 returns-clause-ok c =
-    ap (λ p. state_of_tables c.self.inside.rows p c.self.inside.controllers) (c.set_place.ensures ∙ ap (with_place_of c.self.inside.processes c.args.pid) c.in_ok-place.ensures)
+    ap (λ p. state_of_tables c.self.inside.rows p c.self.inside.controllers)
+    (c.set_place.ensures ∙ ap (with_place_of c.self.inside.processes c.args.pid) c.in_ok-place.ensures)
     ∙ ap (λ s. with_place s c.args.pid c.args.path.now) c.self.view_is
 
 pub invariant_of-self : goal.invariant_of-self
 invariant_of-self c =
-    subst IsWellFormed (sym (returns-clause-ok c)) (formed-with_place _ _ _ c.requires.may_hold (subst IsWellFormed c.self.view_is c.self.invariant))
+    subst IsWellFormed (sym (returns-clause-ok c))
+    (formed-with_place _ _ _ c.requires.may_hold (subst IsWellFormed c.self.view_is c.self.invariant))

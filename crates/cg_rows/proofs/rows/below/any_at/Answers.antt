@@ -10,5 +10,6 @@ pub returns : goal.returns
 returns c =
     let p = take c.args.len c.args.path.now in
     let live = entries c.args.processes.now.live in
-    any_from_yields_List (λ e. same_path e.1.place p) _ _ _ c.any.ensures.ran (YieldsList-from_rest live c.iter.ensures) (λ x b q t. search rules)
+    any_from_yields_List (λ e. same_path e.1.place p) _ _ _ c.any.ensures.ran (YieldsList-from_rest live c.iter.ensures)
+    (λ x b q t. search rules)
     ∙ sym (list_any-map (λ process. same_path process.place p) (λ e. e.1) live)
