@@ -327,7 +327,7 @@ class Repository(unittest.TestCase):
     def test_how_it_is_kept_is_never_reached(self):
         for name in ("check::check_bytes", "audit::audit_bytes", "may::may_bytes", "replay::replay_bytes", "replay::replay_from"):
             reached = self.reached(f"cg_cli::{name}")
-            self.assertFalse({"cg_indexed", "cg_rows"} & {crate for crate, _ in reached}, name)
+            self.assertFalse({"cg_places", "cg_counts", "cg_indexed", "cg_rows"} & {crate for crate, _ in reached}, name)
             self.assertNotIn(("cg_text", "tree_of"), reached, name)
 
     def test_all_that_definitions_name_is_there(self):

@@ -1,21 +1,3 @@
-pub mod TextKeys
-mod Alike
-pub mod Climb
-pub mod Limits
-pub mod Refits
-pub mod Kin
-pub mod Values
-pub mod Counts
-pub mod Puts
-pub mod Read
-pub mod Changed
-pub mod Added
-pub mod Removed
-pub mod Begun
-pub mod Enabled
 pub mod Living
 pub mod States
-pub mod Listed
-pub mod Depths
 pub mod Taken
-pub mod Seen

@@ -20,13 +20,13 @@ use Rattle.cg_steps.proofs.MapFolds.{gathered, gathered-insert, gathered-remove,
 use Rattle.cg_steps.proofs.StateTests.{has_child-row, has_live-process}
 use Rattle.cg_steps.proofs.FormedParts.{may_hold-row}
 use Rattle.cg_steps.proofs.TreeLaws.{below-has_child}
-use Rattle.cg_indexed.specs.Kept.{Held, change_held, change_each_held, tallied_held}
+use Rattle.cg_counts.specs.Kept.{Held, change_held, change_each_held, tallied_held}
 use Rattle.cg_indexed.specs.Indexed.{count_live}
 use Rattle.cg_steps.proofs.StateCounts.{one_more, one_more-Commutes}
-use Rattle.cg_indexed.specs.declared.links.Tally.TheVariants.{More, Fewer}
-use Rattle.cg_indexed.proofs.Counts.{gathered-count, any-count, count-none}
-use Rattle.cg_indexed.proofs.Enabled.{below-is_child}
-use Rattle.cg_indexed.proofs.Values.{get-put, get-without}
+use Rattle.cg_places.specs.declared.links.Tally.TheVariants.{More, Fewer}
+use Rattle.cg_places.proofs.Counted.{gathered-count, any-count, count-none}
+use Rattle.cg_counts.proofs.Enabled.{below-is_child}
+use Rattle.cg_places.proofs.Values.{get-put, get-without}
 
 -- ---- children, counted
 

@@ -22,10 +22,10 @@ use Rattle.cg_steps.proofs.StateLaws.{row_at-with_row-other, row_at-with_row-sam
 use Rattle.cg_steps.proofs.FormedParts.{enabled_at-row}
 use Rattle.cg_rows.specs.Processes.{LiveAndUsed}
 use Rattle.cg_rows.specs.RowsForm.{state_of_tables}
-use Rattle.cg_indexed.specs.Kept.{Held, AreFittedBelow, cgroups_of, change_held, change_each_held, with_row_of, enabling_held, new_held}
+use Rattle.cg_counts.specs.Kept.{Held, AreFittedBelow, cgroups_of, change_held, change_each_held, with_row_of, enabling_held, new_held}
 use Rattle.cg_indexed.specs.Indexed.{state_of, IsIndexed}
 use Rattle.cg_indexed.proofs.Living.{AreCounted, get-change_held, counted_change}
-use Rattle.cg_indexed.proofs.Values.{same_maps, get-mapped, values-insert, option_map-twice}
+use Rattle.cg_places.proofs.Values.{same_maps, get-mapped, values-insert, option_map-twice}
 
 -- where the cgroup alone stays
 pub cgroups_same : (held : FinMap path_cmp Held) (p : Names) (f : Held → Held) → ((h : Held) → (f h).cgroup ≡ h.cgroup) → cgroups_of (change_held held p f) ≡ cgroups_of held

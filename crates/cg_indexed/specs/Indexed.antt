@@ -10,7 +10,7 @@ use Rattle.cg_cgroup.specs.declared.files.ControllerSet.{ControllerSet}
 use Rattle.cg_cgroup.specs.declared.process.Process.{Process}
 use Rattle.cg_rows.specs.Processes.{LiveAndUsed}
 use Rattle.cg_rows.specs.RowsForm.{state_of_tables}
-use Rattle.cg_indexed.specs.Kept.{Held, cgroups_of}
+use Rattle.cg_counts.specs.Kept.{Held, cgroups_of}
 
 -- the state of these cgroups and processes
 abbrev pub state_of : map.FinMap path_cmp Held → LiveAndUsed → ControllerSet → State

@@ -1,6 +1,1 @@
-pub mod TextKeys
-pub mod Levels
-pub mod Links
-pub mod Nodes
-pub mod Kept
 pub mod Indexed

@@ -1,16 +1,17 @@
 //! `Indexed`: a tree kept by places, with kept counts.
 ghost use Rattle.std.specs.Prelude.{◌≡◌, IfOk};
 ghost use Rattle.cg_rows.specs.RowsForm.{IsRoot, state_of_root};
-ghost use Rattle.cg_indexed.specs.Kept.{map_values, new_held};
+ghost use Rattle.cg_places.specs.Values.{map_values};
+ghost use Rattle.cg_counts.specs.Kept.{new_held};
 
-use crate::cgroups::Cgroups;
-use crate::links::Tally;
 use cg_cgroup::cgroup::Cgroup;
 use cg_cgroup::files::{Controller, ControllerSet, EntryName, Limit, LimitFile};
 use cg_cgroup::memory::NoMemory;
 use cg_cgroup::path::Path;
 use cg_cgroup::process::{Pid, Process};
 use cg_cgroup::user::{Mode, User};
+use cg_counts::cgroups::Cgroups;
+use cg_places::links::Tally;
 use cg_rows::processes::Processes;
 use cg_rows::rows::Rows;
 use cg_tree::hierarchy::Hierarchy;

@@ -5,7 +5,7 @@ use Rattle.cg_model.specs.WellFormed.{IsWellFormed}
 use Rattle.cg_rows.specs.Processes.{LiveAndUsed, no_processes}
 use Rattle.cg_rows.specs.RowsForm.{state_of_root}
 use Rattle.cg_rows.proofs.TablesState.{formed_root}
-use Rattle.cg_indexed.specs.Kept.{Held, new_held}
+use Rattle.cg_counts.specs.Kept.{Held, new_held}
 use Rattle.cg_indexed.specs.Indexed.{state_of, IsIndexed}
 use Rattle.cg_indexed.proofs.Living.{counted_alone}
 use Rattle.cg_indexed.proofs.States.{cgroups_alone}

@@ -6,9 +6,9 @@ use Rattle.cg_cgroup.specs.Paths.{parent}
 use Rattle.cg_model.specs.States.{State, with_row}
 use Rattle.cg_model.specs.WellFormed.{IsWellFormed, has_row}
 use Rattle.cg_rows.specs.RowsForm.{state_of_tables}
-use Rattle.cg_indexed.specs.Kept.{Held, new_held}
+use Rattle.cg_counts.specs.Kept.{Held, new_held}
 use Rattle.cg_indexed.specs.Indexed.{state_of, IsIndexed}
-use Rattle.cg_indexed.proofs.Values.{values-insert}
+use Rattle.cg_places.proofs.Values.{values-insert}
 use Rattle.cg_indexed.proofs.Living.{counted_more_path, none_live}
 use Rattle.cg_indexed.proofs.States.{not_root_new, parent_of_new}
 use Rattle.cg_indexed.proofs.indexed.IndexedHierarchy.add.Goals as goal

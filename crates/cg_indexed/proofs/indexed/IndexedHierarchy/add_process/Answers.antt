@@ -6,9 +6,9 @@ use Rattle.cg_model.specs.WellFormed.{IsWellFormed, may_hold}
 use Rattle.cg_steps.proofs.FormedLaws.{formed-with_process}
 use Rattle.cg_rows.specs.Processes.{LiveAndUsed, with_new}
 use Rattle.cg_rows.specs.RowsForm.{state_of_tables}
-use Rattle.cg_indexed.specs.Kept.{change_held, tallied_held}
+use Rattle.cg_counts.specs.Kept.{change_held, tallied_held}
 use Rattle.cg_indexed.specs.Indexed.{state_of, IsIndexed}
-use Rattle.cg_indexed.specs.declared.links.Tally.TheVariants.{More}
+use Rattle.cg_places.specs.declared.links.Tally.TheVariants.{More}
 use Rattle.cg_indexed.proofs.Living.{counted_more, count_live-insert, unused_not_live, held_there}
 use Rattle.cg_indexed.proofs.States.{cgroups_same}
 use Rattle.cg_indexed.proofs.indexed.IndexedHierarchy.add_process.Goals as goal

@@ -4,9 +4,9 @@ use Rattle.cg_model.specs.WellFormed.{IsWellFormed}
 use Rattle.cg_steps.proofs.FormedLaws.{formed-without_process}
 use Rattle.cg_rows.specs.Processes.{without}
 use Rattle.cg_rows.specs.RowsForm.{state_of_tables}
-use Rattle.cg_indexed.specs.Kept.{change_held, tallied_held}
+use Rattle.cg_counts.specs.Kept.{change_held, tallied_held}
 use Rattle.cg_indexed.specs.Indexed.{state_of, IsIndexed}
-use Rattle.cg_indexed.specs.declared.links.Tally.TheVariants.{Fewer}
+use Rattle.cg_places.specs.declared.links.Tally.TheVariants.{Fewer}
 use Rattle.cg_indexed.proofs.Living.{counted_less, home_there}
 use Rattle.cg_indexed.proofs.States.{cgroups_same}
 use Rattle.cg_indexed.proofs.indexed.IndexedHierarchy.end_process.Goals as goal

@@ -2,7 +2,7 @@ use Rattle.std.proofs.Common.{◌≡◌, ap, sym, ◌∙◌, Ok, Err}
 use Rattle.std.specs.Prelude.{IfOk}
 use Rattle.std.specs.FinMap as map
 use Rattle.cg_model.specs.States.{paths_of}
-use Rattle.cg_indexed.proofs.Values.{keys-mapped}
+use Rattle.cg_places.proofs.Values.{keys-mapped}
 use Rattle.cg_indexed.proofs.indexed.IndexedHierarchy.paths.Goals as goal
 
 pub returns : goal.returns

@@ -5,7 +5,7 @@ use Rattle.cg_model.specs.WellFormed.{IsWellFormed, has_row}
 use Rattle.cg_steps.proofs.FormedLaws.{formed-without_row}
 use Rattle.cg_rows.specs.RowsForm.{state_of_tables}
 use Rattle.cg_indexed.specs.Indexed.{state_of, IsIndexed}
-use Rattle.cg_indexed.proofs.Values.{values-remove}
+use Rattle.cg_places.proofs.Values.{values-remove}
 use Rattle.cg_indexed.proofs.Living.{counted_less_path}
 use Rattle.cg_indexed.proofs.indexed.IndexedHierarchy.remove.Goals as goal
 

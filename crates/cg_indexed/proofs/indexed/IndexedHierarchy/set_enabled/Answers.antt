@@ -4,7 +4,7 @@ use Rattle.cg_model.specs.States.{State, with_enabled}
 use Rattle.cg_model.specs.WellFormed.{IsWellFormed, has_row}
 use Rattle.cg_steps.proofs.FormedLaws.{formed-with_enabled}
 use Rattle.cg_rows.specs.RowsForm.{state_of_tables}
-use Rattle.cg_indexed.specs.Kept.{change_each_held, enabling_held}
+use Rattle.cg_counts.specs.Kept.{change_each_held, enabling_held}
 use Rattle.cg_indexed.specs.Indexed.{state_of, IsIndexed}
 use Rattle.cg_indexed.proofs.Living.{counted_each}
 use Rattle.cg_indexed.proofs.States.{cgroups_each, fitted_formed, nothing_enabled, same_sets}

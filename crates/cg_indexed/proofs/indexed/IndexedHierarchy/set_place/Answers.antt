@@ -6,9 +6,9 @@ use Rattle.cg_steps.proofs.FormedLaws.{formed-with_place}
 use Rattle.cg_steps.proofs.MapLaws.{change_value-there}
 use Rattle.cg_rows.specs.Processes.{LiveAndUsed, with_place_of}
 use Rattle.cg_rows.specs.RowsForm.{state_of_tables}
-use Rattle.cg_indexed.specs.Kept.{cgroups_of, change_held, tallied_held}
+use Rattle.cg_counts.specs.Kept.{cgroups_of, change_held, tallied_held}
 use Rattle.cg_indexed.specs.Indexed.{state_of, IsIndexed}
-use Rattle.cg_indexed.specs.declared.links.Tally.TheVariants.{More, Fewer}
+use Rattle.cg_places.specs.declared.links.Tally.TheVariants.{More, Fewer}
 use Rattle.cg_indexed.proofs.Living.{AreCounted, counted_less, counted_more, count_live-put, home_there, held_there, few_others}
 use Rattle.cg_indexed.proofs.States.{cgroups_same}
 use Rattle.cg_indexed.proofs.indexed.IndexedHierarchy.set_place.Goals as goal

@@ -1,0 +1,10 @@
+pub mod Climb
+pub mod Limits
+pub mod Kin
+pub mod Counts
+pub mod Read
+pub mod Changed
+pub mod Added
+pub mod Removed
+pub mod Begun
+pub mod Enabled

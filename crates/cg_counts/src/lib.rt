@@ -1,0 +1,4 @@
+//! Cgroups by path, with kept counts.
+#![tactic(auto)]
+
+pub mod cgroups;

@@ -1,7 +1,0 @@
-use Rattle.std.proofs.Common.{ap, sym, take, ◌∙◌}
-use Rattle.cg_indexed.specs.Levels.{deepest}
-use Rattle.cg_indexed.proofs.Read.{paths_are}
-use Rattle.cg_indexed.proofs.cgroups.Cgroups.depth_below.Goals as goal
-
-pub returns : goal.returns
-returns c = c.depth_below.ensures ∙ ap (deepest (take c.args.len c.args.path.now)) (sym (paths_are c.self.inside.places c.self.inside.nodes c.args.self.now c.self.view_is))

@@ -1,5 +1,0 @@
-use Rattle.cg_indexed.proofs.Listed.{AreListed}
-use Rattle.cg_indexed.proofs.path_index.PathIndex.paths.Given as goal
-
-abbrev pub invariant-loop-text : goal.invariant-loop-text
-invariant-loop-text l = AreListed l.initial.text-iterator l.text-iterator l.paths.keys

@@ -1,0 +1,5 @@
+pub mod TextKeys
+pub mod Levels
+pub mod Links
+pub mod Nodes
+pub mod Values
