@@ -51,11 +51,13 @@ module _ (places : FinMap path_cmp ℕ) (links : List Link) (placed : ArePlaced 
   -- nothing is below a path that isn't there
   pub none_below : (p : Names) → map.get places p ≡ None → count_by (below p) (map.keys places) ≡ 0
   none_below p none =
-      count-none (below p) (map.keys places) (⊎_elim (λ (some : list_any (below p) (map.keys places) ≡ true). absurd (no_one some)) (λ (h : list_any (below p) (map.keys places) ≡ false). h) (cases_Bool (list_any (below p) (map.keys places))))
+      count-none (below p) (map.keys places) (⊎_elim (λ (some : list_any (below p) (map.keys places) ≡ true). absurd (no_one some))
+        (λ (h : list_any (below p) (map.keys places) ≡ false). h) (cases_Bool (list_any (below p) (map.keys places))))
     where
       no_one : list_any (below p) (map.keys places) ≡ true → ⊥
       no_one some =
-          let found = any_entry path_cmp_total (λ e. below p e.0) places (sym (list_any-map (below p) (λ e. e.0) (map.entries places)) ∙ some) in
+          let found =
+              any_entry path_cmp_total (λ e. below p e.0) places (sym (list_any-map (below p) (λ e. e.0) (map.entries places)) ∙ some) in
           let q = found.0 in
           let is_part = (inside_decides p q).0 (first_so (inside p q) _ found.3) in
           let size = inside-length p q (first_so (inside p q) _ found.3) in
@@ -72,7 +74,8 @@ module _ (places : FinMap path_cmp ℕ) (links : List Link) (placed : ArePlaced 
 
 -- ---- something at a place that no path has
 
-module _ (places : FinMap path_cmp ℕ) (links : List Link) (nodes : List Node) (kept : AreKept places links nodes) (k : ℕ) (free : (q : Names) (j : ℕ) → map.get places q ≡ Some j → j ≢ k) (link : Link) (node : Node) where
+module _ (places : FinMap path_cmp ℕ) (links : List Link) (nodes : List Node) (kept : AreKept places links nodes) (k : ℕ)
+    (free : (q : Names) (j : ℕ) → map.get places q ≡ Some j → j ≢ k) (link : Link) (node : Node) where
   abbrev more_links : List Link
   more_links = put_at links k link
 
@@ -83,7 +86,9 @@ module _ (places : FinMap path_cmp ℕ) (links : List Link) (nodes : List Node) 
   same_link q j has = put_other links k link j no_link (kept.placed.within q j has) (free q j has)
 
   same_node : (q : Names) (j : ℕ) → map.get places q ≡ Some j → node_at more_nodes j ≡ node_at nodes j
-  same_node q j has = let l = kept.placed.within q j has in put_other nodes k node j (new_node no_cgroup None) (omega (arith, l, kept.paired)) (free q j has)
+  same_node q j has =
+      let l = kept.placed.within q j has in
+      put_other nodes k node j (new_node no_cgroup None) (omega (arith, l, kept.paired)) (free q j has)
 
   paired_more : length more_nodes ≡ length more_links
   paired_more = put_paired nodes links k node link kept.paired
@@ -93,8 +98,10 @@ module _ (places : FinMap path_cmp ℕ) (links : List Link) (nodes : List Node) 
       kept_reread places links more_links nodes more_nodes kept (put_longer links k link) paired_more
       (λ q j has. ap (λ l. l.above) (same_link q j has))
       (λ q j has. ap (λ l. l.below) (same_link q j has))
-      (λ q j has. ap (λ l. l.max_descendants) (same_link q j has) ∙ kept.descendants q j has ∙ ap (λ n. n.cgroup.max_descendants.value) (sym (same_node q j has)))
-      (λ q j has. ap (λ l. l.max_depth) (same_link q j has) ∙ kept.depths q j has ∙ ap (λ n. n.cgroup.max_depth.value) (sym (same_node q j has)))
+      (λ q j has. ap (λ l. l.max_descendants) (same_link q j has) ∙ kept.descendants q j has
+        ∙ ap (λ n. n.cgroup.max_descendants.value) (sym (same_node q j has)))
+      (λ q j has. ap (λ l. l.max_depth) (same_link q j has) ∙ kept.depths q j has
+        ∙ ap (λ n. n.cgroup.max_depth.value) (sym (same_node q j has)))
       (λ q j has. ap enabled_of (same_node q j has))
       (λ q j has. ap (λ n. n.uses) (same_node q j has))
       (λ q j has a of. sym (ap (λ n. n.kin) (same_node q j has)) ∙ of)
@@ -104,9 +111,12 @@ module _ (places : FinMap path_cmp ℕ) (links : List Link) (nodes : List Node) 
 
 -- ---- a path more
 
-module _ (places : FinMap path_cmp ℕ) (links : List Link) (nodes : List Node) (kept : AreKept places links nodes) (few : map.len places < 9223372036854775808)
-    (p : Names) (root : is_root p ≡ false) (none : map.get places p ≡ None) (i : ℕ) (parent_is : map.get places (parent p) ≡ Some i) (row : Cgroup)
-    (share : Option ℕ) (parents : (a : ℕ) → share ≡ Some a → a ≡ i) (k : ℕ) (fits : k ≤ length links) (free : (q : Names) (j : ℕ) → map.get places q ≡ Some j → j ≢ k) where
+module _ (places : FinMap path_cmp ℕ) (links : List Link) (nodes : List Node) (kept : AreKept places links nodes)
+    (few : map.len places < 9223372036854775808)
+    (p : Names) (root : is_root p ≡ false) (none : map.get places p ≡ None) (i : ℕ) (parent_is : map.get places (parent p) ≡ Some i)
+    (row : Cgroup)
+    (share : Option ℕ) (parents : (a : ℕ) → share ≡ Some a → a ≡ i) (k : ℕ) (fits : k ≤ length links)
+    (free : (q : Names) (j : ℕ) → map.get places q ≡ Some j → j ≢ k) where
   abbrev pushed_links : List Link
   pushed_links = put_at links k (new_link i row)
 
@@ -155,14 +165,17 @@ module _ (places : FinMap path_cmp ℕ) (links : List Link) (nodes : List Node) 
   placed_next : ArePlaced next pushed_links
   placed_next = record {
     within = λ q j is.
-        ⊎_elim (λ h. let l = put_within links k (new_link i row) fits in omega (arith, l, h.1)) (λ h. let l = kept.placed.within q j h.1 in let more = put_longer links k (new_link i row) in omega (arith, l, more)) (which q j is);
+        ⊎_elim (λ h. let l = put_within links k (new_link i row) fits in omega (arith, l, h.1))
+        (λ h. let l = kept.placed.within q j h.1 in let more = put_longer links k (new_link i row) in omega (arith, l, more))
+        (which q j is);
     apart = λ q r j is has.
         ⊎_elim
         (λ h. ⊎_elim (λ g. h.0 ∙ sym g.0) (λ g. absurd (free r j g.1 h.1)) (which r j has))
         (λ h. ⊎_elim (λ g. absurd (free q j h.1 g.1)) (λ g. kept.placed.apart q r j h.1 g.1) (which r j has)) (which q j is);
     above = λ q j is.
         ⊎_elim
-        (λ h. ap (λ x. map.get next (parent x)) h.0 ∙ parent_next ∙ ap (λ n. Some n.above) (sym (ap (link_at pushed_links) h.1 ∙ new_link_there)))
+        (λ h. ap (λ x. map.get next (parent x)) h.0 ∙ parent_next
+          ∙ ap (λ n. Some n.above) (sym (ap (link_at pushed_links) h.1 ∙ new_link_there)))
         (λ h.
         let up = kept.placed.above q j h.1 in
         next_other (parent q) (old_other (parent q) _ up) ∙ up ∙ ap (λ n. Some n.above) (sym (old_link q j h.1))) (which q j is);
@@ -175,19 +188,32 @@ module _ (places : FinMap path_cmp ℕ) (links : List Link) (nodes : List Node) 
   after_nodes = slice_set pushed_nodes i (recounted no_controllers row.enabled (node_at pushed_nodes i))
 
   -- each link after the climb, and each node after the recount
-  link_after : (q : Names) (j : ℕ) → map.get next q ≡ Some j → link_at after_links j ≡ cond (inside q (parent p)) ((tallied_link More) (link_at pushed_links j)) (link_at pushed_links j)
-  link_after q j is = changed_at (tallied_link More) (λ n. refl) next (length p) (parent p) i pushed_links placed_next parent_next (length-parent p root) q j is
+  link_after : (q : Names) (j : ℕ) → map.get next q ≡ Some j
+      → link_at after_links j ≡ cond (inside q (parent p)) ((tallied_link More) (link_at pushed_links j)) (link_at pushed_links j)
+  link_after q j is =
+      changed_at (tallied_link More) (λ n. refl) next (length p) (parent p) i pushed_links placed_next parent_next (length-parent p root) q
+      j is
 
-  node_after : (q : Names) (j : ℕ) → map.get next q ≡ Some j → node_at after_nodes j ≡ cond (same_path q (parent p)) (recounted no_controllers row.enabled (node_at pushed_nodes i)) (node_at pushed_nodes j)
+  node_after : (q : Names) (j : ℕ) → map.get next q ≡ Some j → node_at after_nodes j
+      ≡ cond (same_path q (parent p)) (recounted no_controllers row.enabled (node_at pushed_nodes i)) (node_at pushed_nodes j)
   node_after q j is =
-      node_set next pushed_links placed_next (parent p) i parent_next pushed_nodes (recounted no_controllers row.enabled (node_at pushed_nodes i)) (paired_more places links nodes kept k free (new_link i row) (new_node row share)) q j is
+      node_set next pushed_links placed_next (parent p) i parent_next pushed_nodes
+      (recounted no_controllers row.enabled (node_at pushed_nodes i))
+      (paired_more places links nodes kept k free (new_link i row) (new_node row share)) q j is
 
   -- what neither changes
-  kept_link : {A : Type 0} (g : Link → A) → ((l : Link) → g ((tallied_link More) l) ≡ g l) → (q : Names) (j : ℕ) → map.get next q ≡ Some j → g (link_at after_links j) ≡ g (link_at pushed_links j)
-  kept_link g same = changed_keeps (tallied_link More) (λ n. refl) next g same (length p) (parent p) i pushed_links placed_next parent_next (length-parent p root)
+  kept_link : {A : Type 0} (g : Link → A) → ((l : Link) → g ((tallied_link More) l) ≡ g l) → (q : Names) (j : ℕ) → map.get next q ≡ Some j
+      → g (link_at after_links j) ≡ g (link_at pushed_links j)
+  kept_link g same =
+      changed_keeps (tallied_link More) (λ n. refl) next g same (length p) (parent p) i pushed_links placed_next parent_next
+      (length-parent p root)
 
-  kept_of : {A : Type 0} (g : Node → A) → g (recounted no_controllers row.enabled (node_at pushed_nodes i)) ≡ g (node_at pushed_nodes i) → (q : Names) (j : ℕ) → map.get next q ≡ Some j → g (node_at after_nodes j) ≡ g (node_at pushed_nodes j)
-  kept_of g = kept_of_node next pushed_links placed_next (parent p) i parent_next g pushed_nodes (recounted no_controllers row.enabled (node_at pushed_nodes i)) (paired_more places links nodes kept k free (new_link i row) (new_node row share))
+  kept_of : {A : Type 0} (g : Node → A) → g (recounted no_controllers row.enabled (node_at pushed_nodes i)) ≡ g (node_at pushed_nodes i)
+      → (q : Names) (j : ℕ) → map.get next q ≡ Some j → g (node_at after_nodes j) ≡ g (node_at pushed_nodes j)
+  kept_of g =
+      kept_of_node next pushed_links placed_next (parent p) i parent_next g pushed_nodes
+      (recounted no_controllers row.enabled (node_at pushed_nodes i))
+      (paired_more places links nodes kept k free (new_link i row) (new_node row share))
 
   row_after : (q : Names) (j : ℕ) → map.get next q ≡ Some j → held_of (node_at after_nodes j) ≡ held_of (node_at pushed_nodes j)
   row_after = kept_of held_of refl
@@ -196,7 +222,9 @@ module _ (places : FinMap path_cmp ℕ) (links : List Link) (nodes : List Node) 
   cgroup_after q j is = ap (λ (h : Held). h.cgroup) (row_after q j is)
 
   -- the map of what is read, one path more
-  map_next : {A : Type 0} (g : Node → A) → ((q : Names) (j : ℕ) → map.get next q ≡ Some j → g (node_at after_nodes j) ≡ g (node_at pushed_nodes j)) → values_of g next after_nodes ≡ map.insert (values_of g places nodes) p (g (new_node row share))
+  map_next : {A : Type 0} (g : Node → A)
+      → ((q : Names) (j : ℕ) → map.get next q ≡ Some j → g (node_at after_nodes j) ≡ g (node_at pushed_nodes j))
+      → values_of g next after_nodes ≡ map.insert (values_of g places nodes) p (g (new_node row share))
   map_next g same =
       values_put g places next nodes after_nodes p k (g (new_node row share)) next_get (same p k next_same ∙ ap g new_node_there)
       (λ q j apart has. same q j (next_other q (same_path-other q p apart) ∙ has) ∙ ap g (old_node q j has))
@@ -208,13 +236,16 @@ module _ (places : FinMap path_cmp ℕ) (links : List Link) (nodes : List Node) 
   sets_next = map_next enabled_of (λ q j is. ap (λ (h : Held). h.cgroup.enabled) (row_after q j is))
 
   -- counting afresh after the change
-  count_next : (q : Names) → count_by (below q) (map.keys next) ≡ cond (inside q (parent p)) (1 + count_by (below q) (map.keys places)) (count_by (below q) (map.keys places))
+  count_next : (q : Names) → count_by (below q) (map.keys next)
+      ≡ cond (inside q (parent p)) (1 + count_by (below q) (map.keys places)) (count_by (below q) (map.keys places))
   count_next q =
       let old = values_of held_of places nodes in
       let rows = λ (m : FinMap path_cmp Held). (tree_of m).rows in
       ap (count_by (below q)) (sym (keys_next))
-      ∙ count_below-with_row (tree_of old) p row (ap is_some (row_is places nodes old refl p ∙ ap (option_map (λ j. (node_at nodes j).cgroup)) none)) q
-      ∙ (λ t. cond (below_parent q p root t) (1 + count_by (below q) (paths_are places nodes old refl t)) (count_by (below q) (paths_are places nodes old refl t)))
+      ∙ count_below-with_row (tree_of old) p row
+      (ap is_some (row_is places nodes old refl p ∙ ap (option_map (λ j. (node_at nodes j).cgroup)) none)) q
+      ∙ (λ t. cond (below_parent q p root t) (1 + count_by (below q) (paths_are places nodes old refl t))
+        (count_by (below q) (paths_are places nodes old refl t)))
     where
       keys_next : map.keys (with_row (tree_of (values_of held_of places nodes)) p row).rows ≡ map.keys next
       keys_next =
@@ -227,18 +258,21 @@ module _ (places : FinMap path_cmp ℕ) (links : List Link) (nodes : List Node) 
       omega (arith, most, length-map (map.entries places) (λ e. e.0), map.len-entries places)
 
   counts : (q : Names) (j : ℕ) → map.get next q ≡ Some j
-      → (cond (inside q (parent p)) ((tallied_link More) (link_at pushed_links j)) (link_at pushed_links j)).below ≡ cond (inside q (parent p)) (1 + count_by (below q) (map.keys places)) (count_by (below q) (map.keys places))
+      → (cond (inside q (parent p)) ((tallied_link More) (link_at pushed_links j)) (link_at pushed_links j)).below
+      ≡ cond (inside q (parent p)) (1 + count_by (below q) (map.keys places)) (count_by (below q) (map.keys places))
   counts q j is =
       ⊎_elim
       (λ h.
       let out : inside q (parent p) ≡ false = ap (λ x. inside x (parent p)) h.0 ∙ not_inside_parent p root in
       ap (λ b. (cond b ((tallied_link More) (link_at pushed_links j)) (link_at pushed_links j)).below) out
       ∙ ap (λ n. n.below) (ap (link_at pushed_links) h.1 ∙ new_link_there)
-      ∙ sym (ap (λ b. cond b (1 + count_by (below q) (map.keys places)) (count_by (below q) (map.keys places))) out ∙ ap (λ x. count_by (below x) (map.keys places)) h.0 ∙ none_below places links kept.placed p none))
+      ∙ sym (ap (λ b. cond b (1 + count_by (below q) (map.keys places)) (count_by (below q) (map.keys places))) out
+        ∙ ap (λ x. count_by (below x) (map.keys places)) h.0 ∙ none_below places links kept.placed p none))
       (λ h.
       let old = ap (λ n. n.below) (old_link q j h.1) ∙ kept.below q j h.1 in
       let small = few_below q in
-      elim (inside q (parent p)) as (λ b. (cond b ((tallied_link More) (link_at pushed_links j)) (link_at pushed_links j)).below ≡ cond b (1 + count_by (below q) (map.keys places)) (count_by (below q) (map.keys places))) [
+      elim (inside q (parent p)) as (λ b. (cond b ((tallied_link More) (link_at pushed_links j)) (link_at pushed_links j)).below
+        ≡ cond b (1 + count_by (below q) (map.keys places)) (count_by (below q) (map.keys places))) [
         | true ↦ omega (arith, old, small)
         | false ↦ old
       ]) (which q j is)
@@ -252,25 +286,33 @@ module _ (places : FinMap path_cmp ℕ) (links : List Link) (nodes : List Node) 
       let most = few_uses sets q q controller in
       let same : map.len sets ≡ map.len places =
       let long = ap length (keys-values enabled_of places nodes) in
-      omega (arith, long, length-map (map.entries sets) (λ e. e.0), length-map (map.entries places) (λ e. e.0), map.len-entries sets, map.len-entries places) in
+      omega (arith, long, length-map (map.entries sets) (λ e. e.0), length-map (map.entries places) (λ e. e.0), map.len-entries sets,
+              map.len-entries places) in
       omega arith
 
-  uses_next : (q : Names) (j : ℕ) → map.get next q ≡ Some j → (controller : Controller) → uses_of (node_at after_nodes j).uses controller ≡ child_uses (values_of enabled_of next after_nodes) q controller
+  uses_next : (q : Names) (j : ℕ) → map.get next q ≡ Some j → (controller : Controller)
+      → uses_of (node_at after_nodes j).uses controller ≡ child_uses (values_of enabled_of next after_nodes) q controller
   uses_next q j is controller =
       let u = child_uses sets q controller in
-      let afresh = ap (λ m. child_uses m q controller) sets_next ∙ uses-insert sets p row.enabled (value_none enabled_of places nodes p none) q controller
+      let afresh =
+          ap (λ m. child_uses m q controller) sets_next
+          ∙ uses-insert sets p row.enabled (value_none enabled_of places nodes p none) q controller
       ∙ ap (λ b. cond (b && enables row.enabled controller) (1 + u) u) (is_child-parents q p root) in
       ap (λ n. uses_of n.uses controller) (node_after q j is)
-      ∙ elim (same_path q (parent p)) as (λ b. same_path q (parent p) ≡ b → uses_of (cond b (recounted no_controllers row.enabled (node_at pushed_nodes i)) (node_at pushed_nodes j)).uses controller ≡ cond (b && enables row.enabled controller) (1 + u) u) [
+      ∙ elim (same_path q (parent p)) as (λ b. same_path q (parent p) ≡ b
+        → uses_of (cond b (recounted no_controllers row.enabled (node_at pushed_nodes i)) (node_at pushed_nodes j)).uses controller
+        ≡ cond (b && enables row.enabled controller) (1 + u) u) [
         | true ↦ λ e.
             let at_parent : map.get places q ≡ Some i = ap (map.get places) (same_path-is q (parent p) e) ∙ parent_is in
             let was = ap (λ n. uses_of n.uses controller) (old_node q i at_parent) ∙ kept.uses q i at_parent controller in
-            recount_exact no_controllers row.enabled (node_at pushed_nodes i).uses controller u (was ∙ sym (none_enabled controller u)) (few_before q controller)
+            recount_exact no_controllers row.enabled (node_at pushed_nodes i).uses controller u (was ∙ sym (none_enabled controller u))
+            (few_before q controller)
         | false ↦ λ e.
             ⊎_elim
             (λ h.
             ap (λ n. uses_of n.uses controller) (ap (node_at pushed_nodes) h.1 ∙ new_node_there) ∙ nothing controller
-            ∙ sym (ap (λ x. child_uses sets x controller) h.0 ∙ no_uses-childless sets p p controller (λ r child. value_none enabled_of places nodes r (no_child_there places links kept.placed p none r child))))
+            ∙ sym (ap (λ x. child_uses sets x controller) h.0 ∙ no_uses-childless sets p p controller
+              (λ r child. value_none enabled_of places nodes r (no_child_there places links kept.placed p none r child))))
             (λ h. ap (λ n. uses_of n.uses controller) (old_node q j h.1) ∙ kept.uses q j h.1 controller) (which q j is)
       ] refl
       ∙ sym afresh
@@ -286,12 +328,14 @@ module _ (places : FinMap path_cmp ℕ) (links : List Link) (nodes : List Node) 
       nothing Pids = refl
 
   -- a limit of each link is that of the cgroup
-  limit_next : {A : Type 0} (g : Link → A) (h : Cgroup → A) → ((l : Link) → g ((tallied_link More) l) ≡ g l) → g (new_link i row) ≡ h row → ((q : Names) (j : ℕ) → map.get places q ≡ Some j → g (link_at links j) ≡ h (node_at nodes j).cgroup)
+  limit_next : {A : Type 0} (g : Link → A) (h : Cgroup → A) → ((l : Link) → g ((tallied_link More) l) ≡ g l) → g (new_link i row) ≡ h row
+      → ((q : Names) (j : ℕ) → map.get places q ≡ Some j → g (link_at links j) ≡ h (node_at nodes j).cgroup)
       → (q : Names) (j : ℕ) → map.get next q ≡ Some j → g (link_at after_links j) ≡ h (node_at after_nodes j).cgroup
   limit_next g h same new old q j is =
       kept_link g same q j is
       ∙ ⊎_elim
-      (λ w. ap g (ap (link_at pushed_links) w.1 ∙ new_link_there) ∙ new ∙ ap (λ n. h n.cgroup) (sym (ap (node_at pushed_nodes) w.1 ∙ new_node_there)))
+      (λ w. ap g (ap (link_at pushed_links) w.1 ∙ new_link_there) ∙ new
+        ∙ ap (λ n. h n.cgroup) (sym (ap (node_at pushed_nodes) w.1 ∙ new_node_there)))
       (λ w. ap g (old_link q j w.1) ∙ old q j w.1 ∙ ap (λ n. h n.cgroup) (sym (old_node q j w.1))) (which q j is)
       ∙ ap h (sym (cgroup_after q j is))
 
@@ -300,20 +344,30 @@ module _ (places : FinMap path_cmp ℕ) (links : List Link) (nodes : List Node) 
 
   new_kin : (q : Names) (j : ℕ) → map.get next q ≡ Some j → j ≡ k → IsKin after_links j (node_at after_nodes j)
   new_kin q j is last a has =
-      let share_is : share ≡ Some a = sym (kept_of (λ n. n.kin) refl q j is ∙ ap (λ n. n.kin) (ap (node_at pushed_nodes) last ∙ new_node_there)) ∙ has in
-      let up : (link_at after_links j).above ≡ a = above_after q j is ∙ ap (λ l. l.above) (ap (link_at pushed_links) last ∙ new_link_there) ∙ sym (parents a share_is) in
+      let share_is : share ≡ Some a =
+          sym (kept_of (λ n. n.kin) refl q j is ∙ ap (λ n. n.kin) (ap (node_at pushed_nodes) last ∙ new_node_there)) ∙ has in
+      let up : (link_at after_links j).above ≡ a =
+          above_after q j is ∙ ap (λ l. l.above) (ap (link_at pushed_links) last ∙ new_link_there) ∙ sym (parents a share_is) in
       both_true (eq-eqb (link_at after_links j).above a up)
-      (elim (nat_eq j a) as (λ b. nat_eq j a ≡ b → not b ≡ true) [ true ↦ λ e. let same = eqb-true j a e in absurd (free (parent p) i parent_is (sym (parents a share_is) ∙ sym same ∙ last)) | false ↦ λ e. refl ] refl)
+      (elim (nat_eq j a) as (λ b. nat_eq j a ≡ b → not b ≡ true) [
+          | true ↦ λ e. let same = eqb-true j a e in absurd (free (parent p) i parent_is (sym (parents a share_is) ∙ sym same ∙ last))
+          | false ↦ λ e. refl
+                ] refl)
 
   kin_next : (q : Names) (j : ℕ) → map.get next q ≡ Some j → IsKin after_links j (node_at after_nodes j)
   kin_next q j is =
       ⊎_elim (λ h. new_kin q j is h.1)
-      (λ h. kin_reread links after_links j (node_at nodes j) (node_at after_nodes j) (kept_of (λ n. n.kin) refl q j is ∙ ap (λ n. n.kin) (old_node q j h.1)) (above_after q j is ∙ ap (λ l. l.above) (old_link q j h.1)) (kept.kin q j h.1)) (which q j is)
+      (λ h. kin_reread links after_links j (node_at nodes j) (node_at after_nodes j)
+        (kept_of (λ n. n.kin) refl q j is ∙ ap (λ n. n.kin) (old_node q j h.1)) (above_after q j is ∙ ap (λ l. l.above) (old_link q j h.1))
+              (kept.kin q j h.1)) (which q j is)
 
   pub kept_next : AreKept next after_links after_nodes
   kept_next = record {
     placed = placed_changed (tallied_link More) (λ n. refl) next (length p) i pushed_links placed_next;
-    paired = length-set pushed_nodes i (recounted no_controllers row.enabled (node_at pushed_nodes i)) ∙ paired_more places links nodes kept k free (new_link i row) (new_node row share) ∙ sym (changed_length (tallied_link More) (λ n. refl) (length p) i pushed_links);
+    paired =
+        length-set pushed_nodes i (recounted no_controllers row.enabled (node_at pushed_nodes i))
+        ∙ paired_more places links nodes kept k free (new_link i row) (new_node row share)
+        ∙ sym (changed_length (tallied_link More) (λ n. refl) (length p) i pushed_links);
     below = λ q j is. ap (λ n. n.below) (link_after q j is) ∙ counts q j is ∙ sym (count_next q);
     descendants = limit_next (λ l. l.max_descendants) (λ r. r.max_descendants.value) (λ l. refl) refl kept.descendants;
     depths = limit_next (λ l. l.max_depth) (λ r. r.max_depth.value) (λ l. refl) refl kept.depths;

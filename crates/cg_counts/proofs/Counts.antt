@@ -27,7 +27,8 @@ enabling_child q controller e = is_child q e.0 && enables e.1 controller
 
 module _ (sets : FinMap path_cmp ControllerSet) (p : Names) where
   pub uses-insert : (s : ControllerSet) → map.get sets p ≡ None → (q : Names) (controller : Controller)
-      → child_uses (map.insert sets p s) q controller ≡ cond (is_child q p && enables s controller) (1 + child_uses sets q controller) (child_uses sets q controller)
+      → child_uses (map.insert sets p s) q controller
+      ≡ cond (is_child q p && enables s controller) (1 + child_uses sets q controller) (child_uses sets q controller)
   uses-insert s none q controller =
       let test = enabling_child q controller in
       sym (gathered-count test (map.entries (map.insert sets p s)))
@@ -35,7 +36,8 @@ module _ (sets : FinMap path_cmp ControllerSet) (p : Names) where
       ∙ ap (one_more test (p, s)) (gathered-count test (map.entries sets))
 
   pub uses-remove : (s : ControllerSet) → map.get sets p ≡ Some s → (q : Names) (controller : Controller)
-      → child_uses sets q controller ≡ cond (is_child q p && enables s controller) (1 + child_uses (map.remove sets p) q controller) (child_uses (map.remove sets p) q controller)
+      → child_uses sets q controller ≡ cond (is_child q p && enables s controller) (1 + child_uses (map.remove sets p) q controller)
+      (child_uses (map.remove sets p) q controller)
   uses-remove s is q controller =
       let test = enabling_child q controller in
       sym (gathered-count test (map.entries sets))
@@ -43,12 +45,14 @@ module _ (sets : FinMap path_cmp ControllerSet) (p : Names) where
       ∙ ap (one_more test (p, s)) (gathered-count test (map.entries (map.remove sets p)))
 
   pub uses-put : (s : ControllerSet) (q : Names) (controller : Controller)
-      → child_uses (map.insert sets p s) q controller ≡ cond (is_child q p && enables s controller) (1 + child_uses (map.remove sets p) q controller) (child_uses (map.remove sets p) q controller)
+      → child_uses (map.insert sets p s) q controller ≡ cond (is_child q p && enables s controller)
+      (1 + child_uses (map.remove sets p) q controller) (child_uses (map.remove sets p) q controller)
   uses-put s q controller =
       let test = enabling_child q controller in
       sym (gathered-count test (map.entries (map.insert sets p s)))
       ∙ ap (λ m. gathered (one_more test) 0 (map.entries m)) (sym (insert-remove path_cmp_total path_cmp-IsAntisymmetric sets p s))
-      ∙ gathered-insert path_cmp_total (one_more test) 0 (one_more-Commutes test) (map.remove sets p) p s (get-remove-same path_cmp_total sets p)
+      ∙ gathered-insert path_cmp_total (one_more test) 0 (one_more-Commutes test) (map.remove sets p) p s
+      (get-remove-same path_cmp_total sets p)
       ∙ ap (one_more test (p, s)) (gathered-count test (map.entries (map.remove sets p)))
 
   pub few_uses : (q : Names) (controller : Controller) → child_uses sets q controller ≤ map.len sets
@@ -57,7 +61,8 @@ module _ (sets : FinMap path_cmp ControllerSet) (p : Names) where
       omega (arith, most, map.len-entries sets)
 
   -- no child of a path enables anything where none is there
-  pub no_uses-childless : (q : Names) (controller : Controller) → ((r : Names) → is_child q r ≡ true → map.get sets r ≡ None) → child_uses sets q controller ≡ 0
+  pub no_uses-childless : (q : Names) (controller : Controller) → ((r : Names) → is_child q r ≡ true → map.get sets r ≡ None)
+      → child_uses sets q controller ≡ 0
   no_uses-childless q controller childless =
       let test = enabling_child q controller in
       count-none test (map.entries sets)
@@ -70,7 +75,9 @@ module _ (sets : FinMap path_cmp ControllerSet) (p : Names) where
 
 -- ---- what a recount gives
 
-uses-after : (had has : ControllerSet) (uses : Uses) (controller : Controller) → uses_of (uses_after had has uses) controller ≡ more_if (enables has controller) (less_if (enables had controller) (uses_of uses controller))
+uses-after : (had has : ControllerSet) (uses : Uses) (controller : Controller)
+    → uses_of (uses_after had has uses) controller
+    ≡ more_if (enables has controller) (less_if (enables had controller) (uses_of uses controller))
 uses-after had has uses Cpu = refl
 uses-after had has uses Memory = refl
 uses-after had has uses Pids = refl
@@ -81,16 +88,19 @@ exact true false n r h small = omega (arith, h)
 exact false true n r h small = omega (arith, h)
 exact false false n r h small = h
 
-pub recount_exact : (had has : ControllerSet) (uses : Uses) (controller : Controller) (r : ℕ) → uses_of uses controller ≡ cond (enables had controller) (1 + r) r → r < 9223372036854775808
+pub recount_exact : (had has : ControllerSet) (uses : Uses) (controller : Controller) (r : ℕ)
+    → uses_of uses controller ≡ cond (enables had controller) (1 + r) r → r < 9223372036854775808
     → uses_of (uses_after had has uses) controller ≡ cond (enables has controller) (1 + r) r
-recount_exact had has uses controller r h small = uses-after had has uses controller ∙ exact (enables had controller) (enables has controller) (uses_of uses controller) r h small
+recount_exact had has uses controller r h small =
+    uses-after had has uses controller ∙ exact (enables had controller) (enables has controller) (uses_of uses controller) r h small
 
 exact_less : (was : Bool) (n r : ℕ) → n ≡ cond was (1 + r) r → less_if was n ≡ r
 exact_less true n r h = omega (arith, h)
 exact_less false n r h = h
 
 -- a child fewer
-pub recount_fewer : (had : ControllerSet) (uses : Uses) (controller : Controller) (r : ℕ) → uses_of uses controller ≡ cond (enables had controller) (1 + r) r → uses_of (uses_after had no_controllers uses) controller ≡ r
+pub recount_fewer : (had : ControllerSet) (uses : Uses) (controller : Controller) (r : ℕ)
+    → uses_of uses controller ≡ cond (enables had controller) (1 + r) r → uses_of (uses_after had no_controllers uses) controller ≡ r
 recount_fewer had uses Cpu r h = exact_less had.cpu uses.cpu r h
 recount_fewer had uses Memory r h = exact_less had.memory uses.memory r h
 recount_fewer had uses Pids r h = exact_less had.pids uses.pids r h

@@ -45,7 +45,8 @@ below-is_child p q child =
 abbrev pub fitted_node : ControllerSet → Identity → Node → Node
 fitted_node enabled user node = record node { cgroup = with_files_of enabled user node.cgroup }
 
-file_from : {A : Type 0} (had has : Bool) (held : Option A) (made : A) → is_some held ≡ had → cond (differs had has) (cond has (Some made) None) held ≡ cond has (Some (unwrap_or held made)) None
+file_from : {A : Type 0} (had has : Bool) (held : Option A) (made : A) → is_some held ≡ had
+    → cond (differs had has) (cond has (Some made) None) held ≡ cond has (Some (unwrap_or held made)) None
 file_from true true None made h = absurd (true≢false (sym h))
 file_from true true (Some x) made h = refl
 file_from true false held made h = refl
@@ -57,20 +58,25 @@ file_from false false (Some x) made h = absurd (true≢false h)
 abbrev pub IsFitted : ControllerSet → Cgroup → Type 0
 IsFitted above row = (file : LimitFile) → is_some (file_of row file) ≡ stands_under above file
 
-file_taken : (had enabled : ControllerSet) (user : Identity) (row : Cgroup) (file : LimitFile) → is_some (file_of row file) ≡ stands_under had file
-    → file_of (with_files_from (differing had enabled) (cgroup_made_by user enabled) row) file ≡ file_of (with_files_of enabled user row) file
+file_taken : (had enabled : ControllerSet) (user : Identity) (row : Cgroup) (file : LimitFile)
+    → is_some (file_of row file) ≡ stands_under had file
+    → file_of (with_files_from (differing had enabled) (cgroup_made_by user enabled) row) file
+    ≡ file_of (with_files_of enabled user row) file
 file_taken had enabled user row MaxDescendants fitted = refl
 file_taken had enabled user row MaxDepth fitted = refl
 file_taken had enabled user row CpuWeight fitted = file_from had.cpu enabled.cpu _ (file_made_by user CpuWeight) fitted
 file_taken had enabled user row PidsMax fitted = file_from had.pids enabled.pids _ (file_made_by user PidsMax) fitted
 file_taken had enabled user row file fitted = file_from had.memory enabled.memory _ (file_made_by user file) fitted
 
-files_from : (had enabled : ControllerSet) (user : Identity) (row : Cgroup) → IsFitted had row → with_files_from (differing had enabled) (cgroup_made_by user enabled) row ≡ with_files_of enabled user row
+files_from : (had enabled : ControllerSet) (user : Identity) (row : Cgroup) → IsFitted had row
+    → with_files_from (differing had enabled) (cgroup_made_by user enabled) row ≡ with_files_of enabled user row
 files_from had enabled user row fitted =
-    same_cgroup (with_files_of enabled user row) (with_files_from (differing had enabled) (cgroup_made_by user enabled) row) (record { dir = refl; procs = refl; subtree_control = refl; enabled = refl })
+    same_cgroup (with_files_of enabled user row) (with_files_from (differing had enabled) (cgroup_made_by user enabled) row)
+    (record { dir = refl; procs = refl; subtree_control = refl; enabled = refl })
     (λ file. file_taken had enabled user row file (fitted file))
 
-module _ (places : FinMap path_cmp ℕ) (links : List Link) (nodes : List Node) (kept : AreKept places links nodes) (few : map.len places < 9223372036854775808) (p : Names) (i : ℕ) (is : map.get places p ≡ Some i)
+module _ (places : FinMap path_cmp ℕ) (links : List Link) (nodes : List Node) (kept : AreKept places links nodes)
+    (few : map.len places < 9223372036854775808) (p : Names) (i : ℕ) (is : map.get places p ≡ Some i)
     (enabled : ControllerSet) (user : Identity) where
   abbrev above : ℕ
   above = (link_at links i).above
@@ -103,57 +109,72 @@ module _ (places : FinMap path_cmp ℕ) (links : List Link) (nodes : List Node) 
     ] refl
   ] refl
 
-  node_of_set : (q : Names) (j : ℕ) → map.get places q ≡ Some j → node_at set j ≡ cond (same_path q p) (enabling_node enabled (node_at nodes i)) (node_at nodes j)
+  node_of_set : (q : Names) (j : ℕ) → map.get places q ≡ Some j
+      → node_at set j ≡ cond (same_path q p) (enabling_node enabled (node_at nodes i)) (node_at nodes j)
   node_of_set q j has = node_set places links kept.placed p i is nodes (enabling_node enabled (node_at nodes i)) kept.paired q j has
 
   -- what the path's own place has is read by the path
-  here : {A : Type 0} (g : Node → A) (q : Names) (j : ℕ) → map.get places q ≡ Some j → same_path q p ≡ true → g (node_at nodes i) ≡ g (node_at nodes j)
+  here : {A : Type 0} (g : Node → A) (q : Names) (j : ℕ) → map.get places q ≡ Some j → same_path q p ≡ true
+      → g (node_at nodes i) ≡ g (node_at nodes j)
   here g q j has e = ap (λ k. g (node_at nodes k)) (same_some i j (sym is ∙ ap (map.get places) (sym (same_path-is q p e)) ∙ has))
 
-  cgroup_of_set : (q : Names) (j : ℕ) → map.get places q ≡ Some j → (node_at set j).cgroup ≡ cond (same_path q p) (enabling_these enabled (node_at nodes j).cgroup) (node_at nodes j).cgroup
+  cgroup_of_set : (q : Names) (j : ℕ) → map.get places q ≡ Some j
+      → (node_at set j).cgroup ≡ cond (same_path q p) (enabling_these enabled (node_at nodes j).cgroup) (node_at nodes j).cgroup
   cgroup_of_set q j has =
       ap (λ n. n.cgroup) (node_of_set q j has)
-      ∙ elim (same_path q p) as (λ b. same_path q p ≡ b → (cond b (enabling_node enabled (node_at nodes i)) (node_at nodes j)).cgroup ≡ cond b (enabling_these enabled (node_at nodes j).cgroup) (node_at nodes j).cgroup) [
+      ∙ elim (same_path q p) as (λ b. same_path q p ≡ b → (cond b (enabling_node enabled (node_at nodes i)) (node_at nodes j)).cgroup
+        ≡ cond b (enabling_these enabled (node_at nodes j).cgroup) (node_at nodes j).cgroup) [
         | true ↦ λ e. ap (enabling_these enabled) (here (λ n. n.cgroup) q j has e)
         | false ↦ λ e. refl
       ] refl
 
-  rest_of_set : {A : Type 0} (g : Node → A) → ((n : Node) → g (enabling_node enabled n) ≡ g n) → (q : Names) (j : ℕ) → map.get places q ≡ Some j → g (node_at set j) ≡ g (node_at nodes j)
+  rest_of_set : {A : Type 0} (g : Node → A) → ((n : Node) → g (enabling_node enabled n) ≡ g n) → (q : Names) (j : ℕ)
+      → map.get places q ≡ Some j → g (node_at set j) ≡ g (node_at nodes j)
   rest_of_set g same q j has =
       ap g (node_of_set q j has)
-      ∙ elim (same_path q p) as (λ b. same_path q p ≡ b → g (cond b (enabling_node enabled (node_at nodes i)) (node_at nodes j)) ≡ g (node_at nodes j)) [
+      ∙ elim (same_path q p) as
+      (λ b. same_path q p ≡ b → g (cond b (enabling_node enabled (node_at nodes i)) (node_at nodes j)) ≡ g (node_at nodes j)) [
         | true ↦ λ e. same (node_at nodes i) ∙ here g q j has e
         | false ↦ λ e. refl
       ] refl
 
   -- and the recount changes counts alone, at the parent
-  rest_after : {A : Type 0} (g : Node → A) → ((n : Node) → g (recounted had enabled n) ≡ g n) → (q : Names) (j : ℕ) → map.get places q ≡ Some j → g (node_at after j) ≡ g (node_at set j)
+  rest_after : {A : Type 0} (g : Node → A) → ((n : Node) → g (recounted had enabled n) ≡ g n) → (q : Names) (j : ℕ)
+      → map.get places q ≡ Some j → g (node_at after j) ≡ g (node_at set j)
   rest_after g same q j has =
-      elim (nat_eq above i) as (λ b. g (node_at (cond b set (slice_set set above (recounted had enabled (node_at set above)))) j) ≡ g (node_at set j)) [
+      elim (nat_eq above i) as
+      (λ b. g (node_at (cond b set (slice_set set above (recounted had enabled (node_at set above)))) j) ≡ g (node_at set j)) [
         | true ↦ refl
         | false ↦
-            ap g (node_set places links kept.placed (parent p) above parent_is set (recounted had enabled (node_at set above)) paired_set q j has)
-            ∙ elim (same_path q (parent p)) as (λ b. same_path q (parent p) ≡ b → g (cond b (recounted had enabled (node_at set above)) (node_at set j)) ≡ g (node_at set j)) [
-              | true ↦ λ e. same (node_at set above) ∙ ap (λ k. g (node_at set k)) (same_some above j (sym parent_is ∙ ap (map.get places) (sym (same_path-is q (parent p) e)) ∙ has))
+            ap g (node_set places links kept.placed (parent p) above parent_is set (recounted had enabled (node_at set above)) paired_set q
+              j has)
+            ∙ elim (same_path q (parent p)) as
+            (λ b. same_path q (parent p) ≡ b → g (cond b (recounted had enabled (node_at set above)) (node_at set j)) ≡ g (node_at set j)) [
+              | true ↦
+                  λ e. same (node_at set above) ∙ ap (λ k. g (node_at set k))
+                  (same_some above j (sym parent_is ∙ ap (map.get places) (sym (same_path-is q (parent p) e)) ∙ has))
               | false ↦ λ e. refl
             ] refl
       ]
 
-  cgroup_after : (q : Names) (j : ℕ) → map.get places q ≡ Some j → (node_at after j).cgroup ≡ cond (same_path q p) (enabling_these enabled (node_at nodes j).cgroup) (node_at nodes j).cgroup
+  cgroup_after : (q : Names) (j : ℕ) → map.get places q ≡ Some j
+      → (node_at after j).cgroup ≡ cond (same_path q p) (enabling_these enabled (node_at nodes j).cgroup) (node_at nodes j).cgroup
   cgroup_after q j has = rest_after (λ n. n.cgroup) (λ n. refl) q j has ∙ cgroup_of_set q j has
 
   live_after : (q : Names) (j : ℕ) → map.get places q ≡ Some j → (node_at after j).live ≡ (node_at nodes j).live
   live_after q j has = rest_after (λ n. n.live) (λ n. refl) q j has ∙ rest_of_set (λ n. n.live) (λ n. refl) q j has
 
   length_after : length after ≡ length links
-  length_after = elim (nat_eq above i) as (λ b. length (cond b set (slice_set set above (recounted had enabled (node_at set above)))) ≡ length links) [
+  length_after =
+      elim (nat_eq above i) as (λ b. length (cond b set (slice_set set above (recounted had enabled (node_at set above)))) ≡ length links) [
     | true ↦ paired_set
     | false ↦ length-set set above (recounted had enabled (node_at set above)) ∙ paired_set
   ]
 
   kin_before : (q : Names) (j : ℕ) → map.get places q ≡ Some j → (a : ℕ) → (node_at after j).kin ≡ Some a → (node_at nodes j).kin ≡ Some a
   kin_before q j has a is =
-      kin_of_either (same_path q p) (enabling_node enabled (node_at nodes i)) (node_at nodes j) a refl (sym (rest_after (λ n. n.kin) (λ n. refl) q j has ∙ ap (λ n. n.kin) (node_of_set q j has)) ∙ is)
+      kin_of_either (same_path q p) (enabling_node enabled (node_at nodes i)) (node_at nodes j) a refl
+      (sym (rest_after (λ n. n.kin) (λ n. refl) q j has ∙ ap (λ n. n.kin) (node_of_set q j has)) ∙ is)
 
   -- ---- the sets that are enabled, and how often
 
@@ -163,7 +184,8 @@ module _ (places : FinMap path_cmp ℕ) (links : List Link) (nodes : List Node) 
   abbrev without : Names → Controller → ℕ
   without q controller = child_uses (map.remove sets p) q controller
 
-  before : (q : Names) (controller : Controller) → child_uses sets q controller ≡ cond (is_child q p && enables had controller) (1 + without q controller) (without q controller)
+  before : (q : Names) (controller : Controller)
+      → child_uses sets q controller ≡ cond (is_child q p && enables had controller) (1 + without q controller) (without q controller)
   before q controller = uses-remove sets p had (value_there enabled_of places nodes p i is) q controller
 
   few_without : (q : Names) (controller : Controller) → without q controller < 9223372036854775808
@@ -171,31 +193,48 @@ module _ (places : FinMap path_cmp ℕ) (links : List Link) (nodes : List Node) 
       let most = few_uses sets q q controller in
       let long = ap length (keys-values enabled_of places nodes) in
       let same : map.len sets ≡ map.len places =
-      omega (arith, long, length-map (map.entries sets) (λ e. e.0), length-map (map.entries places) (λ e. e.0), map.len-entries sets, map.len-entries places) in
-      fewer (is_child q p && enables had controller) (without q controller) (child_uses sets q controller) (before q controller) (omega arith)
+      omega (arith, long, length-map (map.entries sets) (λ e. e.0), length-map (map.entries places) (λ e. e.0), map.len-entries sets,
+              map.len-entries places) in
+      fewer (is_child q p && enables had controller) (without q controller) (child_uses sets q controller) (before q controller)
+      (omega arith)
     where
       fewer : (b : Bool) (r n : ℕ) → n ≡ cond b (1 + r) r → n < 9223372036854775808 → r < 9223372036854775808
       fewer true r n h l = omega (arith, h, l)
       fewer false r n h l = omega (arith, h, l)
 
   uses_after_is : (q : Names) (j : ℕ) → map.get places q ≡ Some j → (controller : Controller)
-      → uses_of (node_at after j).uses controller ≡ cond (is_child q p && enables enabled controller) (1 + without q controller) (without q controller)
+      → uses_of (node_at after j).uses controller
+      ≡ cond (is_child q p && enables enabled controller) (1 + without q controller) (without q controller)
   uses_after_is q j has controller =
       let r = without q controller in
       let was = rest_of_set (λ n. uses_of n.uses controller) (λ n. refl) q j has ∙ kept.uses q j has controller ∙ before q controller in
-      ap (λ b. uses_of (node_at (cond b set (slice_set set above (recounted had enabled (node_at set above)))) j).uses controller) own_parent
-      ∙ elim (is_root p) as (λ b. is_root p ≡ b → uses_of (node_at (cond b set (slice_set set above (recounted had enabled (node_at set above)))) j).uses controller ≡ cond (is_child q p && enables enabled controller) (1 + r) r) [
+      ap (λ b. uses_of (node_at (cond b set (slice_set set above (recounted had enabled (node_at set above)))) j).uses controller)
+      own_parent
+      ∙ elim (is_root p) as (λ b. is_root p ≡ b → uses_of
+        (node_at (cond b set (slice_set set above (recounted had enabled (node_at set above)))) j).uses controller
+        ≡ cond (is_child q p && enables enabled controller) (1 + r) r) [
         | true ↦ λ root.
-            let no_parent : is_child q p ≡ false = elim (is_child q p) as (λ b. is_child q p ≡ b → b ≡ false) [ true ↦ λ c. absurd (true≢false (sym root ∙ is_root-is_child q p c)) | false ↦ λ c. refl ] refl in
-            was ∙ ap (λ b. cond (b && enables had controller) (1 + r) r) no_parent ∙ sym (ap (λ b. cond (b && enables enabled controller) (1 + r) r) no_parent)
+            let no_parent : is_child q p ≡ false =
+                elim (is_child q p) as (λ b. is_child q p ≡ b → b ≡ false)
+                [ true ↦ λ c. absurd (true≢false (sym root ∙ is_root-is_child q p c)) | false ↦ λ c. refl ] refl in
+            was ∙ ap (λ b. cond (b && enables had controller) (1 + r) r) no_parent
+            ∙ sym (ap (λ b. cond (b && enables enabled controller) (1 + r) r) no_parent)
         | false ↦ λ root.
-            ap (λ n. uses_of n.uses controller) (node_set places links kept.placed (parent p) above parent_is set (recounted had enabled (node_at set above)) paired_set q j has)
-            ∙ elim (same_path q (parent p)) as (λ b. same_path q (parent p) ≡ b → is_child q p ≡ b → uses_of (cond b (recounted had enabled (node_at set above)) (node_at set j)).uses controller ≡ cond (is_child q p && enables enabled controller) (1 + r) r) [
+            ap (λ n. uses_of n.uses controller) (node_set places links kept.placed (parent p) above parent_is set
+              (recounted had enabled (node_at set above)) paired_set q j has)
+            ∙ elim (same_path q (parent p)) as (λ b. same_path q (parent p) ≡ b → is_child q p ≡ b
+              → uses_of (cond b (recounted had enabled (node_at set above)) (node_at set j)).uses controller
+              ≡ cond (is_child q p && enables enabled controller) (1 + r) r) [
               | true ↦ λ e c.
-                  let same : above ≡ j = same_some above j (sym parent_is ∙ ap (map.get places) (sym (same_path-is q (parent p) e)) ∙ has) in
-                  recount_exact had enabled (node_at set above).uses controller r (ap (λ k. uses_of (node_at set k).uses controller) same ∙ was ∙ ap (λ b. cond (b && enables had controller) (1 + r) r) c) (few_without q controller)
+                  let same : above ≡ j =
+                      same_some above j (sym parent_is ∙ ap (map.get places) (sym (same_path-is q (parent p) e)) ∙ has) in
+                  recount_exact had enabled (node_at set above).uses controller r
+                  (ap (λ k. uses_of (node_at set k).uses controller) same ∙ was ∙ ap (λ b. cond (b && enables had controller) (1 + r) r) c)
+                  (few_without q controller)
                   ∙ sym (ap (λ b. cond (b && enables enabled controller) (1 + r) r) c)
-              | false ↦ λ e c. was ∙ ap (λ b. cond (b && enables had controller) (1 + r) r) c ∙ sym (ap (λ b. cond (b && enables enabled controller) (1 + r) r) c)
+              | false ↦
+                  λ e c. was ∙ ap (λ b. cond (b && enables had controller) (1 + r) r) c
+                  ∙ sym (ap (λ b. cond (b && enables enabled controller) (1 + r) r) c)
             ] refl (is_child-parents q p root)
       ] refl
 
@@ -206,10 +245,14 @@ module _ (places : FinMap path_cmp ℕ) (links : List Link) (nodes : List Node) 
   links_to_is q j has =
       elim (is_child p q) as (λ b. is_child p q ≡ b → links_to links i j ≡ b) [
         | true ↦ λ child.
-            let up : (link_at links j).above ≡ i = same_some (link_at links j).above i (sym (kept.placed.above q j has) ∙ ap (map.get places) (parent-is_child p q child) ∙ is) in
+            let up : (link_at links j).above ≡ i =
+                same_some (link_at links j).above i (sym (kept.placed.above q j has) ∙ ap (map.get places) (parent-is_child p q child) ∙ is)
+                in
             let other : nat_eq j i ≡ false =
             elim (nat_eq j i) as (λ b. nat_eq j i ≡ b → b ≡ false) [
-              | true ↦ λ e. absurd (true≢false (sym child ∙ ap (is_child p) (kept.placed.apart q p i (has ∙ ap Some (eqb-true j i e)) is) ∙ is_child-itself p))
+              | true ↦
+                  λ e. absurd (true≢false
+                    (sym child ∙ ap (is_child p) (kept.placed.apart q p i (has ∙ ap Some (eqb-true j i e)) is) ∙ is_child-itself p))
               | false ↦ λ e. refl
             ] refl in
             (λ t. eq-eqb (link_at links j).above i up t && not (other t))
@@ -220,7 +263,9 @@ module _ (places : FinMap path_cmp ℕ) (links : List Link) (nodes : List Node) 
                   let parents : parent q ≡ p = kept.placed.apart (parent q) p i (kept.placed.above q j has ∙ ap Some up) is in
                   let other : nat_eq j i ≡ false = not_true (nat_eq j i) (second_so (nat_eq (link_at links j).above i) _ e) in
                   absurd (elim (is_root q) as (λ b. is_root q ≡ b → ⊥) [
-                    | true ↦ λ root. true≢false (sym (eq-eqb j i (same_some j i (sym has ∙ ap (map.get places) (sym (parent-root q root) ∙ parents) ∙ is))) ∙ other)
+                    | true ↦
+                        λ root. true≢false
+                        (sym (eq-eqb j i (same_some j i (sym has ∙ ap (map.get places) (sym (parent-root q root) ∙ parents) ∙ is))) ∙ other)
                     | false ↦ λ no_root. true≢false (sym (ap (λ x. is_child x q) (sym parents) ∙ is_child-parent q no_root) ∙ not_child)
                   ] refl)
               | false ↦ λ e. refl
@@ -236,33 +281,46 @@ module _ (places : FinMap path_cmp ℕ) (links : List Link) (nodes : List Node) 
   no_child nothing q j has =
       elim (is_child p q) as (λ b. is_child p q ≡ b → b ≡ false) [
         | true ↦ λ child.
-            let one = list_any-map (below p) (λ e. e.0) (map.entries places) ∙ entry_any path_cmp-IsAntisymmetric (λ e. below p e.0) places q j has (below-is_child p q child) in
+            let one =
+                list_any-map (below p) (λ e. e.0) (map.entries places)
+                ∙ entry_any path_cmp-IsAntisymmetric (λ e. below p e.0) places q j has (below-is_child p q child) in
             let none = any-count (below p) (map.keys places) ∙ ap (nat_lt 0) (sym (kept.below p i is) ∙ nothing) in
             absurd (true≢false (sym one ∙ none))
         | false ↦ λ e. refl
       ] refl
 
-  module _ (last : List Node) (long : length last ≡ length links) (refits : (q : Names) (j : ℕ) → map.get places q ≡ Some j → node_at last j ≡ cond (is_child p q) (fitted_node enabled user (node_at after j)) (node_at after j)) where
-    rest_last : {A : Type 0} (g : Node → A) → ((n : Node) → g (fitted_node enabled user n) ≡ g n) → (q : Names) (j : ℕ) → map.get places q ≡ Some j → g (node_at last j) ≡ g (node_at after j)
+  module _ (last : List Node) (long : length last ≡ length links) (refits : (q : Names) (j : ℕ) → map.get places q ≡ Some j
+              → node_at last j ≡ cond (is_child p q) (fitted_node enabled user (node_at after j)) (node_at after j)) where
+    rest_last : {A : Type 0} (g : Node → A) → ((n : Node) → g (fitted_node enabled user n) ≡ g n) → (q : Names) (j : ℕ)
+        → map.get places q ≡ Some j → g (node_at last j) ≡ g (node_at after j)
     rest_last g same q j has =
-        ap g (refits q j has) ∙ elim (is_child p q) as (λ b. g (cond b (fitted_node enabled user (node_at after j)) (node_at after j)) ≡ g (node_at after j)) [ true ↦ same (node_at after j) | false ↦ refl ]
+        ap g (refits q j has) ∙ elim (is_child p q) as
+        (λ b. g (cond b (fitted_node enabled user (node_at after j)) (node_at after j)) ≡ g (node_at after j))
+        [ true ↦ same (node_at after j) | false ↦ refl ]
 
-    cgroup_last : (q : Names) (j : ℕ) → map.get places q ≡ Some j → (node_at last j).cgroup ≡ enabling p enabled user q (node_at nodes j).cgroup
+    cgroup_last : (q : Names) (j : ℕ) → map.get places q ≡ Some j
+        → (node_at last j).cgroup ≡ enabling p enabled user q (node_at nodes j).cgroup
     cgroup_last q j has =
         ap (λ n. n.cgroup) (refits q j has)
-        ∙ elim (same_path q p) as (λ b. same_path q p ≡ b → (cond (is_child p q) (fitted_node enabled user (node_at after j)) (node_at after j)).cgroup
-        ≡ cond b (enabling_these enabled (node_at nodes j).cgroup) (cond (is_child p q) (with_files_of enabled user (node_at nodes j).cgroup) (node_at nodes j).cgroup)) [
+        ∙ elim (same_path q p) as (λ b. same_path q p ≡ b
+        → (cond (is_child p q) (fitted_node enabled user (node_at after j)) (node_at after j)).cgroup
+        ≡ cond b (enabling_these enabled (node_at nodes j).cgroup)
+        (cond (is_child p q) (with_files_of enabled user (node_at nodes j).cgroup) (node_at nodes j).cgroup)) [
           | true ↦ λ e.
-              ap (λ b. (cond b (fitted_node enabled user (node_at after j)) (node_at after j)).cgroup) (ap (is_child p) (same_path-is q p e) ∙ is_child-itself p)
+              ap (λ b. (cond b (fitted_node enabled user (node_at after j)) (node_at after j)).cgroup)
+              (ap (is_child p) (same_path-is q p e) ∙ is_child-itself p)
               ∙ cgroup_after q j has ∙ ap (λ b. cond b (enabling_these enabled (node_at nodes j).cgroup) (node_at nodes j).cgroup) e
           | false ↦ λ e.
-              let old = cgroup_after q j has ∙ ap (λ b. cond b (enabling_these enabled (node_at nodes j).cgroup) (node_at nodes j).cgroup) e in
-              elim (is_child p q) as (λ b. (cond b (fitted_node enabled user (node_at after j)) (node_at after j)).cgroup ≡ cond b (with_files_of enabled user (node_at nodes j).cgroup) (node_at nodes j).cgroup) [
+              let old =
+                  cgroup_after q j has ∙ ap (λ b. cond b (enabling_these enabled (node_at nodes j).cgroup) (node_at nodes j).cgroup) e in
+              elim (is_child p q) as (λ b. (cond b (fitted_node enabled user (node_at after j)) (node_at after j)).cgroup
+                ≡ cond b (with_files_of enabled user (node_at nodes j).cgroup) (node_at nodes j).cgroup) [
                 | true ↦ ap (with_files_of enabled user) old
                 | false ↦ old
               ]
         ] refl
-        ∙ ap (λ b. cond b (enabling_these enabled (node_at nodes j).cgroup) (cond (is_child p q) (with_files_of enabled user (node_at nodes j).cgroup) (node_at nodes j).cgroup)) (same_path_comm q p)
+        ∙ ap (λ b. cond b (enabling_these enabled (node_at nodes j).cgroup)
+                  (cond (is_child p q) (with_files_of enabled user (node_at nodes j).cgroup) (node_at nodes j).cgroup)) (same_path_comm q p)
 
     pub held_enabled : values_of held_of places last ≡ change_each_held (enabling_held p enabled user) (values_of held_of places nodes)
     held_enabled =
@@ -271,23 +329,31 @@ module _ (places : FinMap path_cmp ℕ) (links : List Link) (nodes : List Node) 
           live = (rest_last (λ n. n.live) (λ n. refl) q j has ∙ live_after q j has) t;
         })
 
-    set_last : (q : Names) (j : ℕ) → map.get places q ≡ Some j → enabled_of (node_at last j) ≡ cond (same_path q p) enabled (enabled_of (node_at nodes j))
+    set_last : (q : Names) (j : ℕ) → map.get places q ≡ Some j
+        → enabled_of (node_at last j) ≡ cond (same_path q p) enabled (enabled_of (node_at nodes j))
     set_last q j has =
         rest_last enabled_of (λ n. refl) q j has ∙ ap (λ (r : Cgroup). r.enabled) (cgroup_after q j has)
-        ∙ elim (same_path q p) as (λ b. (cond b (enabling_these enabled (node_at nodes j).cgroup) (node_at nodes j).cgroup).enabled ≡ cond b enabled (node_at nodes j).cgroup.enabled) [ true ↦ refl | false ↦ refl ]
+        ∙ elim (same_path q p) as (λ b. (cond b (enabling_these enabled (node_at nodes j).cgroup) (node_at nodes j).cgroup).enabled
+                  ≡ cond b enabled (node_at nodes j).cgroup.enabled) [ true ↦ refl | false ↦ refl ]
 
     sets_last : values_of enabled_of places last ≡ map.insert sets p enabled
     sets_last =
-        values_put enabled_of places places nodes last p i enabled again (set_last p i is ∙ ap (λ b. cond b enabled (enabled_of (node_at nodes i))) (same_path_refl p))
+        values_put enabled_of places places nodes last p i enabled again
+        (set_last p i is ∙ ap (λ b. cond b enabled (enabled_of (node_at nodes i))) (same_path_refl p))
         (λ q j apart has. set_last q j has ∙ ap (λ b. cond b enabled (enabled_of (node_at nodes j))) apart)
       where
         again : (q : Names) → map.get places q ≡ cond (same_path q p) (Some i) (map.get places q)
-        again q = elim (same_path q p) as (λ b. same_path q p ≡ b → map.get places q ≡ cond b (Some i) (map.get places q)) [ true ↦ λ e. ap (map.get places) (same_path-is q p e) ∙ is | false ↦ λ e. refl ] refl
+        again q =
+            elim (same_path q p) as (λ b. same_path q p ≡ b → map.get places q ≡ cond b (Some i) (map.get places q))
+            [ true ↦ λ e. ap (map.get places) (same_path-is q p e) ∙ is | false ↦ λ e. refl ] refl
 
     -- the limits of the profile's core stay
-    core_last : {A : Type 0} (h : Cgroup → A) → ((r : Cgroup) → h (with_files_of enabled user r) ≡ h r) → ((r : Cgroup) → h (enabling_these enabled r) ≡ h r) → (q : Names) (j : ℕ) → map.get places q ≡ Some j → h (node_at last j).cgroup ≡ h (node_at nodes j).cgroup
+    core_last : {A : Type 0} (h : Cgroup → A) → ((r : Cgroup) → h (with_files_of enabled user r) ≡ h r)
+        → ((r : Cgroup) → h (enabling_these enabled r) ≡ h r) → (q : Names) (j : ℕ) → map.get places q ≡ Some j
+        → h (node_at last j).cgroup ≡ h (node_at nodes j).cgroup
     core_last h files these q j has =
-        rest_last (λ n. h n.cgroup) (λ n. files n.cgroup) q j has ∙ rest_after (λ n. h n.cgroup) (λ n. refl) q j has ∙ rest_of_set (λ n. h n.cgroup) (λ n. these n.cgroup) q j has
+        rest_last (λ n. h n.cgroup) (λ n. files n.cgroup) q j has ∙ rest_after (λ n. h n.cgroup) (λ n. refl) q j has
+        ∙ rest_of_set (λ n. h n.cgroup) (λ n. these n.cgroup) q j has
 
     pub kept_enabled : AreKept places links last
     kept_enabled = record {
@@ -304,13 +370,15 @@ module _ (places : FinMap path_cmp ℕ) (links : List Link) (nodes : List Node) 
 
   -- by what the calls of `enable` ensure
 
-  alone : (link_at links i).below ≡ 0 → (q : Names) (j : ℕ) → map.get places q ≡ Some j → node_at after j ≡ cond (is_child p q) (fitted_node enabled user (node_at after j)) (node_at after j)
+  alone : (link_at links i).below ≡ 0 → (q : Names) (j : ℕ) → map.get places q ≡ Some j
+      → node_at after j ≡ cond (is_child p q) (fitted_node enabled user (node_at after j)) (node_at after j)
   alone nothing q j has = sym (ap (λ b. cond b (fitted_node enabled user (node_at after j)) (node_at after j)) (no_child nothing q j has))
 
   pub kept_alone : (link_at links i).below ≡ 0 → AreKept places links after
   kept_alone nothing = kept_enabled after length_after (alone nothing)
 
-  pub held_alone : (link_at links i).below ≡ 0 → values_of held_of places after ≡ change_each_held (enabling_held p enabled user) (values_of held_of places nodes)
+  pub held_alone : (link_at links i).below ≡ 0
+      → values_of held_of places after ≡ change_each_held (enabling_held p enabled user) (values_of held_of places nodes)
   held_alone nothing = held_enabled after length_after (alone nothing)
 
   module _ (fitted : (q : Names) (j : ℕ) → map.get places q ≡ Some j → is_child p q ≡ true → IsFitted had (node_at nodes j).cgroup) where
@@ -324,7 +392,9 @@ module _ (places : FinMap path_cmp ℕ) (links : List Link) (nodes : List Node) 
     fitted_after : (q : Names) (j : ℕ) → map.get places q ≡ Some j → is_child p q ≡ true → IsFitted had (node_at after j).cgroup
     fitted_after q j has child file =
         ap (λ r. is_some (file_of r file)) (cgroup_after q j has)
-        ∙ elim (same_path q p) as (λ b. is_some (file_of (cond b (enabling_these enabled (node_at nodes j).cgroup) (node_at nodes j).cgroup) file) ≡ is_some (file_of (node_at nodes j).cgroup file)) [
+        ∙ elim (same_path q p) as (λ b.
+          is_some (file_of (cond b (enabling_these enabled (node_at nodes j).cgroup) (node_at nodes j).cgroup) file)
+          ≡ is_some (file_of (node_at nodes j).cgroup file)) [
           | true ↦ files_stay (node_at nodes j).cgroup file
           | false ↦ refl
         ]
@@ -334,17 +404,23 @@ module _ (places : FinMap path_cmp ℕ) (links : List Link) (nodes : List Node) 
         files_stay row MaxDescendants = refl
         files_stay row file = refl
 
-    refitted : (last : List Node) → Refits links i changed fresh after last → (q : Names) (j : ℕ) → map.get places q ≡ Some j → node_at last j ≡ cond (is_child p q) (fitted_node enabled user (node_at after j)) (node_at after j)
+    refitted : (last : List Node) → Refits links i changed fresh after last → (q : Names) (j : ℕ) → map.get places q ≡ Some j
+        → node_at last j ≡ cond (is_child p q) (fitted_node enabled user (node_at after j)) (node_at after j)
     refitted last r q j has =
         let l = kept.placed.within q j has in
-        r.each j (omega (arith, l, length_after)) (λ a is. kept.kin q j has a (kin_before q j has a is)) ∙ ap (λ b. cond b (refitted_node changed fresh (node_at after j)) (node_at after j)) (links_to_is q j has)
-        ∙ elim (is_child p q) as (λ b. is_child p q ≡ b → cond b (refitted_node changed fresh (node_at after j)) (node_at after j) ≡ cond b (fitted_node enabled user (node_at after j)) (node_at after j)) [
-          | true ↦ λ child. ap (λ (r : Cgroup). record (node_at after j) { cgroup = r }) (files_from had enabled user (node_at after j).cgroup (fitted_after q j has child))
+        r.each j (omega (arith, l, length_after)) (λ a is. kept.kin q j has a (kin_before q j has a is))
+        ∙ ap (λ b. cond b (refitted_node changed fresh (node_at after j)) (node_at after j)) (links_to_is q j has)
+        ∙ elim (is_child p q) as (λ b. is_child p q ≡ b → cond b (refitted_node changed fresh (node_at after j)) (node_at after j)
+          ≡ cond b (fitted_node enabled user (node_at after j)) (node_at after j)) [
+          | true ↦
+              λ child. ap (λ (r : Cgroup). record (node_at after j) { cgroup = r })
+              (files_from had enabled user (node_at after j).cgroup (fitted_after q j has child))
           | false ↦ λ e. refl
         ] refl
 
     pub kept_refitted : (last : List Node) → Refits links i changed fresh after last → AreKept places links last
     kept_refitted last r = kept_enabled last (r.len ∙ length_after) (refitted last r)
 
-    pub held_refitted : (last : List Node) → Refits links i changed fresh after last → values_of held_of places last ≡ change_each_held (enabling_held p enabled user) (values_of held_of places nodes)
+    pub held_refitted : (last : List Node) → Refits links i changed fresh after last
+        → values_of held_of places last ≡ change_each_held (enabling_held p enabled user) (values_of held_of places nodes)
     held_refitted last r = held_enabled last (r.len ∙ length_after) (refitted last r)

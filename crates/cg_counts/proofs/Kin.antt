@@ -7,7 +7,8 @@ use Rattle.cg_cgroup.specs.declared.cgroup.Cgroup.{Cgroup}
 use Rattle.cg_places.specs.Nodes.{Node, new_node, kin_if, IsKin}
 use Rattle.cg_places.specs.declared.links.Link.{Link}
 
-pub kin_reread : (links links' : List Link) (j : ℕ) (n n' : Node) → n'.kin ≡ n.kin → (link_at links' j).above ≡ (link_at links j).above → IsKin links j n → IsKin links' j n'
+pub kin_reread : (links links' : List Link) (j : ℕ) (n n' : Node) → n'.kin ≡ n.kin → (link_at links' j).above ≡ (link_at links j).above
+    → IsKin links j n → IsKin links' j n'
 kin_reread links links' j n n' kin above old a is = ap (λ x. nat_eq x a && not (nat_eq j a)) above ∙ old a (sym kin ∙ is)
 
 -- one of its own is nobody's kin
@@ -21,7 +22,8 @@ pub record IsPutNew (at above : ℕ) (row : Cgroup) (old new : List Node) : Type
   pub parents : (a : ℕ) → kin ≡ Some a → a ≡ above
   pub put : new ≡ put_at old at (new_node row kin)
 
-pub is_put_new : (shares : Bool) {at above : ℕ} {row : Cgroup} {old new : List Node} → new ≡ put_at old at (new_node row (kin_if shares above)) → IsPutNew at above row old new
+pub is_put_new : (shares : Bool) {at above : ℕ} {row : Cgroup} {old new : List Node}
+    → new ≡ put_at old at (new_node row (kin_if shares above)) → IsPutNew at above row old new
 is_put_new shares {at} {above} put = record { kin = kin_if shares above; parents = parents shares; put = put }
   where
     parents : (b : Bool) (a : ℕ) → kin_if b above ≡ Some a → a ≡ above

@@ -31,17 +31,21 @@ module _ (places : FinMap path_cmp ℕ) (nodes : List Node) (m : FinMap path_cmp
   held_is q = ap (λ n. map.get n q) (sym shows) ∙ get-values held_of places nodes q
 
   pub row_is : (q : Names) → row_at (tree_of m) q ≡ option_map (λ i. (node_at nodes i).cgroup) (map.get places q)
-  row_is q = get-mapped (λ h. h.cgroup) m q ∙ ap (option_map (λ h. h.cgroup)) (held_is q) ∙ option_map-twice (λ h. h.cgroup) (λ i. held_of (node_at nodes i)) (map.get places q)
+  row_is q =
+      get-mapped (λ h. h.cgroup) m q ∙ ap (option_map (λ h. h.cgroup)) (held_is q)
+      ∙ option_map-twice (λ h. h.cgroup) (λ i. held_of (node_at nodes i)) (map.get places q)
 
   pub there_is : (q : Names) → has_row (tree_of m) q ≡ is_some (map.get places q)
   there_is q = ap is_some (row_is q) ∙ is_some-mapped (λ i. (node_at nodes i).cgroup) (map.get places q)
 
   -- a child's files stand as its parent has them
-  pub fitted_is : (p : Names) (i : ℕ) → map.get places p ≡ Some i → AreFittedBelow (tree_of m) p → (q : Names) (j : ℕ) → map.get places q ≡ Some j → is_child p q ≡ true
+  pub fitted_is : (p : Names) (i : ℕ) → map.get places p ≡ Some i → AreFittedBelow (tree_of m) p → (q : Names) (j : ℕ)
+      → map.get places q ≡ Some j → is_child p q ≡ true
       → (file : LimitFile) → is_some (file_of (node_at nodes j).cgroup file) ≡ stands_under (node_at nodes i).cgroup.enabled file
   fitted_is p i is fitted q j has child file =
       fitted q (node_at nodes j).cgroup child (row_is q ∙ ap (option_map (λ k. (node_at nodes k).cgroup)) has) file
-      ∙ ap (λ set. stands_under set file) (enabled_at-row (tree_of m) p (node_at nodes i).cgroup (row_is p ∙ ap (option_map (λ k. (node_at nodes k).cgroup)) is))
+      ∙ ap (λ set. stands_under set file)
+      (enabled_at-row (tree_of m) p (node_at nodes i).cgroup (row_is p ∙ ap (option_map (λ k. (node_at nodes k).cgroup)) is))
 
   pub is_placed : (q : Names) → has_row (tree_of m) q ≡ true → map.contains_key places q ≡ true
   is_placed q there = sym (there_is q) ∙ there
@@ -51,10 +55,12 @@ module _ (places : FinMap path_cmp ℕ) (nodes : List Node) (m : FinMap path_cmp
 
   pub sets_are : values_of enabled_of places nodes ≡ map_values (λ row. row.enabled) (cgroups_of m)
   sets_are = same_maps _ _ (λ q.
-      get-values enabled_of places nodes q ∙ sym (option_map-twice (λ row. row.enabled) (λ i. (node_at nodes i).cgroup) (map.get places q)) ∙ ap (option_map (λ row. row.enabled)) (sym (row_is q))
+      get-values enabled_of places nodes q ∙ sym (option_map-twice (λ row. row.enabled) (λ i. (node_at nodes i).cgroup) (map.get places q))
+      ∙ ap (option_map (λ row. row.enabled)) (sym (row_is q))
       ∙ sym (get-mapped (λ row. row.enabled) (cgroups_of m) q))
 
-  pub child_enables_is : (p : Names) (controller : Controller) → child_enables (tree_of m) p controller ≡ nat_lt 0 (child_uses (values_of enabled_of places nodes) p controller)
+  pub child_enables_is : (p : Names) (controller : Controller)
+      → child_enables (tree_of m) p controller ≡ nat_lt 0 (child_uses (values_of enabled_of places nodes) p controller)
   child_enables_is p controller =
       let test = λ (e : Names × ControllerSet). is_child p e.0 && enables e.1 controller in
       sym (list_any-map test (λ (e : Names × Cgroup). (e.0, e.1.enabled)) (map.entries (cgroups_of m)))
@@ -66,13 +72,19 @@ module _ (places : FinMap path_cmp ℕ) (nodes : List Node) (m : FinMap path_cmp
     pub count_is : (p : Names) (i : ℕ) → map.get places p ≡ Some i → (link_at links i).below ≡ count_below (tree_of m) p
     count_is p i is = kept.below p i is ∙ ap (count_by (below p)) (sym paths_are)
 
-    pub full_is : (path : Names) (len k at : ℕ) → map.get places (take k path) ≡ Some at → is_full_link (link_at links at) (len - k) ≡ is_full (tree_of m) path len k
+    pub full_is : (path : Names) (len k at : ℕ) → map.get places (take k path) ≡ Some at
+        → is_full_link (link_at links at) (len - k) ≡ is_full (tree_of m) path len k
     full_is path len k at is =
         let p = take k path in
         let row = row_is p ∙ ap (option_map (λ i. (node_at nodes i).cgroup)) is in
-        (λ t. is_full_link (record { above = 0; below = count_is p at is t; max_descendants = kept.descendants p at is t; max_depth = kept.depths p at is t }) (len - k))
-        ∙ ap (λ o. elim o as (λ _. Bool) [ None ↦ false | Some r ↦ bars_child (count_below (tree_of m) p) r.max_descendants.value (len - k) r.max_depth.value ]) (sym row)
+        (λ t. is_full_link (record
+            { above = 0; below = count_is p at is t; max_descendants = kept.descendants p at is t; max_depth = kept.depths p at is t })
+          (len - k))
+        ∙ ap (λ o. elim o as (λ _. Bool)
+                  [ None ↦ false | Some r ↦ bars_child (count_below (tree_of m) p) r.max_descendants.value (len - k) r.max_depth.value ])
+                  (sym row)
 
 -- the place of a path is that of a node
-pub place_within : (places : FinMap path_cmp ℕ) (links : List Link) (nodes : List Node) → AreKept places links nodes → (p : Names) (i : ℕ) → map.get places p ≡ Some i → i < length nodes
+pub place_within : (places : FinMap path_cmp ℕ) (links : List Link) (nodes : List Node) → AreKept places links nodes → (p : Names) (i : ℕ)
+    → map.get places p ≡ Some i → i < length nodes
 place_within places links nodes kept p i is = let l = kept.placed.within p i is in omega (arith, l, kept.paired)

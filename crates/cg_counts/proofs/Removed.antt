@@ -28,7 +28,8 @@ use Rattle.cg_counts.proofs.Read.{paths_are, row_is}
 use Rattle.cg_counts.proofs.Climb.{changed_at, changed_keeps, placed_changed, changed_length, below_parent}
 use Rattle.cg_counts.proofs.Changed.{node_set, kept_of_node, kept_reread}
 
-module _ (places : FinMap path_cmp ℕ) (links : List Link) (nodes : List Node) (kept : AreKept places links nodes) (p : Names) (root : is_root p ≡ false) (here : ℕ) (is : map.get places p ≡ Some here)
+module _ (places : FinMap path_cmp ℕ) (links : List Link) (nodes : List Node) (kept : AreKept places links nodes) (p : Names)
+    (root : is_root p ≡ false) (here : ℕ) (is : map.get places p ≡ Some here)
     (childless : list_any (is_child p) (map.keys places) ≡ false) where
   abbrev i : ℕ
   i = (link_at links here).above
@@ -55,7 +56,8 @@ module _ (places : FinMap path_cmp ℕ) (links : List Link) (nodes : List Node) 
   left : (q : Names) (j : ℕ) → map.get next q ≡ Some j → (q ≢ p) × (map.get places q ≡ Some j)
   left q j has =
       elim (same_path q p) as (λ b. same_path q p ≡ b → (q ≢ p) × (map.get places q ≡ Some j)) [
-        | true ↦ λ e. absurd (true≢false (sym (ap is_some (sym (get-without places p q ∙ ap (λ b. cond b None (map.get places q)) e) ∙ has))))
+        | true ↦
+            λ e. absurd (true≢false (sym (ap is_some (sym (get-without places p q ∙ ap (λ b. cond b None (map.get places q)) e) ∙ has))))
         | false ↦ λ e. let apart = same_path-other q p e in (apart, sym (next_other q apart) ∙ has)
       ] refl
 
@@ -65,7 +67,9 @@ module _ (places : FinMap path_cmp ℕ) (links : List Link) (nodes : List Node) 
       elim (is_root q) as (λ b. is_root q ≡ b → ⊥) [
         | true ↦ λ e. apart (sym (parent-root q e) ∙ same)
         | false ↦ λ no_root.
-            true≢false (sym (list_any-map (is_child p) (λ e. e.0) (map.entries places) ∙ entry_any path_cmp-IsAntisymmetric (λ e. is_child p e.0) places q j has (ap (λ x. is_child x q) (sym same) ∙ is_child-parent q no_root)) ∙ childless)
+            true≢false (sym (list_any-map (is_child p) (λ e. e.0) (map.entries places)
+                ∙ entry_any path_cmp-IsAntisymmetric (λ e. is_child p e.0) places q j has
+                              (ap (λ x. is_child x q) (sym same) ∙ is_child-parent q no_root)) ∙ childless)
       ] refl
 
   placed_next : ArePlaced next links
@@ -79,24 +83,37 @@ module _ (places : FinMap path_cmp ℕ) (links : List Link) (nodes : List Node) 
   parent_left : map.get next (parent p) ≡ Some i
   parent_left = let level = length-parent p root in next_other (parent p) (λ same. absurd (omega (arith, ap length same))) ∙ parent_is
 
-  link_after : (q : Names) (j : ℕ) → map.get next q ≡ Some j → link_at after_links j ≡ cond (inside q (parent p)) ((tallied_link Fewer) (link_at links j)) (link_at links j)
-  link_after q j has = changed_at (tallied_link Fewer) (λ n. refl) next (length p) (parent p) i links placed_next parent_left (length-parent p root) q j has
+  link_after : (q : Names) (j : ℕ) → map.get next q ≡ Some j
+      → link_at after_links j ≡ cond (inside q (parent p)) ((tallied_link Fewer) (link_at links j)) (link_at links j)
+  link_after q j has =
+      changed_at (tallied_link Fewer) (λ n. refl) next (length p) (parent p) i links placed_next parent_left (length-parent p root) q j has
 
-  node_after : (q : Names) (j : ℕ) → map.get next q ≡ Some j → node_at after_nodes j ≡ cond (same_path q (parent p)) (recounted enabled no_controllers (node_at nodes i)) (node_at nodes j)
-  node_after q j has = node_set next links placed_next (parent p) i parent_left nodes (recounted enabled no_controllers (node_at nodes i)) kept.paired q j has
+  node_after : (q : Names) (j : ℕ) → map.get next q ≡ Some j
+      → node_at after_nodes j ≡ cond (same_path q (parent p)) (recounted enabled no_controllers (node_at nodes i)) (node_at nodes j)
+  node_after q j has =
+      node_set next links placed_next (parent p) i parent_left nodes (recounted enabled no_controllers (node_at nodes i)) kept.paired q j
+      has
 
   -- what neither changes
-  kept_link : {A : Type 0} (g : Link → A) → ((l : Link) → g ((tallied_link Fewer) l) ≡ g l) → (q : Names) (j : ℕ) → map.get next q ≡ Some j → g (link_at after_links j) ≡ g (link_at links j)
-  kept_link g same = changed_keeps (tallied_link Fewer) (λ n. refl) next g same (length p) (parent p) i links placed_next parent_left (length-parent p root)
+  kept_link : {A : Type 0} (g : Link → A) → ((l : Link) → g ((tallied_link Fewer) l) ≡ g l) → (q : Names) (j : ℕ) → map.get next q ≡ Some j
+      → g (link_at after_links j) ≡ g (link_at links j)
+  kept_link g same =
+      changed_keeps (tallied_link Fewer) (λ n. refl) next g same (length p) (parent p) i links placed_next parent_left
+      (length-parent p root)
 
-  kept_of : {A : Type 0} (g : Node → A) → g (recounted enabled no_controllers (node_at nodes i)) ≡ g (node_at nodes i) → (q : Names) (j : ℕ) → map.get next q ≡ Some j → g (node_at after_nodes j) ≡ g (node_at nodes j)
-  kept_of g = kept_of_node next links placed_next (parent p) i parent_left g nodes (recounted enabled no_controllers (node_at nodes i)) kept.paired
+  kept_of : {A : Type 0} (g : Node → A) → g (recounted enabled no_controllers (node_at nodes i)) ≡ g (node_at nodes i) → (q : Names) (j : ℕ)
+      → map.get next q ≡ Some j → g (node_at after_nodes j) ≡ g (node_at nodes j)
+  kept_of g =
+      kept_of_node next links placed_next (parent p) i parent_left g nodes (recounted enabled no_controllers (node_at nodes i)) kept.paired
 
   row_after : (q : Names) (j : ℕ) → map.get next q ≡ Some j → held_of (node_at after_nodes j) ≡ held_of (node_at nodes j)
   row_after = kept_of held_of refl
 
-  map_left : {A : Type 0} (g : Node → A) → ((q : Names) (j : ℕ) → map.get next q ≡ Some j → g (node_at after_nodes j) ≡ g (node_at nodes j)) → values_of g next after_nodes ≡ map.remove (values_of g places nodes) p
-  map_left g same = values_gone g places next nodes after_nodes p (get-without places p) (λ q j apart has. same q j (next_other q (same_path-other q p apart) ∙ has))
+  map_left : {A : Type 0} (g : Node → A) → ((q : Names) (j : ℕ) → map.get next q ≡ Some j → g (node_at after_nodes j) ≡ g (node_at nodes j))
+      → values_of g next after_nodes ≡ map.remove (values_of g places nodes) p
+  map_left g same =
+      values_gone g places next nodes after_nodes p (get-without places p)
+      (λ q j apart has. same q j (next_other q (same_path-other q p apart) ∙ has))
 
   pub held_left : values_of held_of next after_nodes ≡ map.remove (values_of held_of places nodes) p
   held_left = map_left held_of row_after
@@ -105,11 +122,13 @@ module _ (places : FinMap path_cmp ℕ) (links : List Link) (nodes : List Node) 
   sets_left = map_left enabled_of (λ q j has. ap (λ (h : Held). h.cgroup.enabled) (row_after q j has))
 
   -- counting afresh before the change
-  count_before : (q : Names) → count_by (below q) (map.keys places) ≡ cond (inside q (parent p)) (1 + count_by (below q) (map.keys next)) (count_by (below q) (map.keys next))
+  count_before : (q : Names) → count_by (below q) (map.keys places)
+      ≡ cond (inside q (parent p)) (1 + count_by (below q) (map.keys next)) (count_by (below q) (map.keys next))
   count_before q =
       let old = values_of held_of places nodes in
       ap (count_by (below q)) (sym (paths_are places nodes old refl))
-      ∙ count_below-without_row (tree_of old) p (node_at nodes here).cgroup (row_is places nodes old refl p ∙ ap (option_map (λ j. (node_at nodes j).cgroup)) is) q
+      ∙ count_below-without_row (tree_of old) p (node_at nodes here).cgroup
+      (row_is places nodes old refl p ∙ ap (option_map (λ j. (node_at nodes j).cgroup)) is) q
       ∙ (λ t. cond (below_parent q p root t) (1 + count_by (below q) (keys_left t)) (count_by (below q) (keys_left t)))
     where
       keys_left : map.keys (without_row (tree_of (values_of held_of places nodes)) p).rows ≡ map.keys next
@@ -117,10 +136,13 @@ module _ (places : FinMap path_cmp ℕ) (links : List Link) (nodes : List Node) 
           sym (ap map.keys (values-remove (λ (h : Held). h.cgroup) (values_of held_of places nodes) p))
           ∙ ap (λ m. map.keys (tree_of m).rows) (sym held_left) ∙ paths_are next after_nodes (values_of held_of next after_nodes) refl
 
-  counts : (q : Names) (j : ℕ) → map.get places q ≡ Some j → (cond (inside q (parent p)) ((tallied_link Fewer) (link_at links j)) (link_at links j)).below ≡ count_by (below q) (map.keys next)
+  counts : (q : Names) (j : ℕ) → map.get places q ≡ Some j
+      → (cond (inside q (parent p)) ((tallied_link Fewer) (link_at links j)) (link_at links j)).below ≡ count_by (below q) (map.keys next)
   counts q j has =
       let old = kept.below q j has in
-      elim (inside q (parent p)) as (λ b. count_by (below q) (map.keys places) ≡ cond b (1 + count_by (below q) (map.keys next)) (count_by (below q) (map.keys next)) → (cond b ((tallied_link Fewer) (link_at links j)) (link_at links j)).below ≡ count_by (below q) (map.keys next)) [
+      elim (inside q (parent p)) as (λ b. count_by (below q) (map.keys places)
+        ≡ cond b (1 + count_by (below q) (map.keys next)) (count_by (below q) (map.keys next))
+        → (cond b ((tallied_link Fewer) (link_at links j)) (link_at links j)).below ≡ count_by (below q) (map.keys next)) [
         | true ↦ λ h. omega (arith, old, h)
         | false ↦ λ h. old ∙ h
       ] (count_before q)
@@ -128,12 +150,17 @@ module _ (places : FinMap path_cmp ℕ) (links : List Link) (nodes : List Node) 
   abbrev sets : FinMap path_cmp ControllerSet
   sets = values_of enabled_of places nodes
 
-  uses_left : (q : Names) (j : ℕ) → map.get next q ≡ Some j → (controller : Controller) → uses_of (node_at after_nodes j).uses controller ≡ child_uses (values_of enabled_of next after_nodes) q controller
+  uses_left : (q : Names) (j : ℕ) → map.get next q ≡ Some j → (controller : Controller)
+      → uses_of (node_at after_nodes j).uses controller ≡ child_uses (values_of enabled_of next after_nodes) q controller
   uses_left q j has controller =
       let r = child_uses (map.remove sets p) q controller in
-      let before = uses-remove sets p enabled (value_there enabled_of places nodes p here is) q controller ∙ ap (λ b. cond (b && enables enabled controller) (1 + r) r) (is_child-parents q p root) in
+      let before =
+          uses-remove sets p enabled (value_there enabled_of places nodes p here is) q controller
+          ∙ ap (λ b. cond (b && enables enabled controller) (1 + r) r) (is_child-parents q p root) in
       ap (λ n. uses_of n.uses controller) (node_after q j has)
-      ∙ elim (same_path q (parent p)) as (λ b. same_path q (parent p) ≡ b → child_uses sets q controller ≡ cond (b && enables enabled controller) (1 + r) r → uses_of (cond b (recounted enabled no_controllers (node_at nodes i)) (node_at nodes j)).uses controller ≡ r) [
+      ∙ elim (same_path q (parent p)) as (λ b. same_path q (parent p) ≡ b
+        → child_uses sets q controller ≡ cond (b && enables enabled controller) (1 + r) r
+        → uses_of (cond b (recounted enabled no_controllers (node_at nodes i)) (node_at nodes j)).uses controller ≡ r) [
         | true ↦ λ e h.
             let at_parent : map.get places q ≡ Some i = ap (map.get places) (same_path-is q (parent p) e) ∙ parent_is in
             recount_fewer enabled (node_at nodes i).uses controller r (kept.uses q i at_parent controller ∙ h)
@@ -142,19 +169,25 @@ module _ (places : FinMap path_cmp ℕ) (links : List Link) (nodes : List Node) 
       ∙ ap (λ m. child_uses m q controller) (sym sets_left)
 
   -- a limit of each link is that of the cgroup
-  limit_left : {A : Type 0} (g : Link → A) (h : Cgroup → A) → ((l : Link) → g ((tallied_link Fewer) l) ≡ g l) → ((q : Names) (j : ℕ) → map.get places q ≡ Some j → g (link_at links j) ≡ h (node_at nodes j).cgroup)
+  limit_left : {A : Type 0} (g : Link → A) (h : Cgroup → A) → ((l : Link) → g ((tallied_link Fewer) l) ≡ g l)
+      → ((q : Names) (j : ℕ) → map.get places q ≡ Some j → g (link_at links j) ≡ h (node_at nodes j).cgroup)
       → (q : Names) (j : ℕ) → map.get next q ≡ Some j → g (link_at after_links j) ≡ h (node_at after_nodes j).cgroup
-  limit_left g h same old q j has = kept_link g same q j has ∙ old q j (left q j has).1 ∙ ap (λ (x : Held). h x.cgroup) (sym (row_after q j has))
+  limit_left g h same old q j has =
+      kept_link g same q j has ∙ old q j (left q j has).1 ∙ ap (λ (x : Held). h x.cgroup) (sym (row_after q j has))
 
   kept_lowered : AreKept next after_links after_nodes
   kept_lowered = record {
     placed = placed_changed (tallied_link Fewer) (λ n. refl) next (length p) i links placed_next;
-    paired = length-set nodes i (recounted enabled no_controllers (node_at nodes i)) ∙ kept.paired ∙ sym (changed_length (tallied_link Fewer) (λ n. refl) (length p) i links);
+    paired =
+        length-set nodes i (recounted enabled no_controllers (node_at nodes i)) ∙ kept.paired
+        ∙ sym (changed_length (tallied_link Fewer) (λ n. refl) (length p) i links);
     below = λ q j has. ap (λ n. n.below) (link_after q j has) ∙ counts q j (left q j has).1;
     descendants = limit_left (λ l. l.max_descendants) (λ r. r.max_descendants.value) (λ l. refl) kept.descendants;
     depths = limit_left (λ l. l.max_depth) (λ r. r.max_depth.value) (λ l. refl) kept.depths;
     uses = uses_left;
-    kin = λ q j has. kin_reread links after_links j (node_at nodes j) (node_at after_nodes j) (kept_of (λ n. n.kin) refl q j has) (kept_link (λ l. l.above) (λ l. refl) q j has) (kept.kin q j (left q j has).1);
+    kin =
+        λ q j has. kin_reread links after_links j (node_at nodes j) (node_at after_nodes j) (kept_of (λ n. n.kin) refl q j has)
+        (kept_link (λ l. l.above) (λ l. refl) q j has) (kept.kin q j (left q j has).1);
   }
 
   -- its place is left: no path that is there has it
@@ -165,7 +198,8 @@ module _ (places : FinMap path_cmp ℕ) (links : List Link) (nodes : List Node) 
   stays : (q : Names) (j : ℕ) → map.get next q ≡ Some j → link_at last_links j ≡ link_at after_links j
   stays q j has =
       let old = left q j has in
-      get_or-set_other after_links here j (to_nowhere (link_at after_links here)) no_link (λ same. old.0 (kept.placed.apart q p here (old.1 ∙ ap Some same) is))
+      get_or-set_other after_links here j (to_nowhere (link_at after_links here)) no_link
+      (λ same. old.0 (kept.placed.apart q p here (old.1 ∙ ap Some same) is))
 
   pub kept_left : AreKept next last_links after_nodes
   kept_left =

@@ -37,11 +37,14 @@ has_child-counted st formed q = same ∙ any-count (below q) (paths_of st)
     same = elim (has_child st q) as (λ b. has_child st q ≡ b → b ≡ list_any (below q) (paths_of st)) [
       | true ↦ λ e.
           let found = has_child-row st q e in
-          sym (list_any-map (below q) (λ e. e.0) (map.entries st.rows) ∙ entry_any path_cmp-IsAntisymmetric (λ e. below q e.0) st.rows found.0 found.1 found.2 (below-is_child q found.0 found.3))
+          sym (list_any-map (below q) (λ e. e.0) (map.entries st.rows)
+            ∙ entry_any path_cmp-IsAntisymmetric (λ e. below q e.0) st.rows found.0 found.1 found.2 (below-is_child q found.0 found.3))
       | false ↦ λ e.
           elim (list_any (below q) (paths_of st)) as (λ b. list_any (below q) (paths_of st) ≡ b → false ≡ b) [
             | true ↦ λ one.
-                let found = any_entry path_cmp_total (λ e. below q e.0) st.rows (sym (list_any-map (below q) (λ e. e.0) (map.entries st.rows)) ∙ one) in
+                let found =
+                    any_entry path_cmp_total (λ e. below q e.0) st.rows
+                    (sym (list_any-map (below q) (λ e. e.0) (map.entries st.rows)) ∙ one) in
                 absurd (true≢false (sym (below-has_child st formed q found.0 found.3 (ap is_some found.2)) ∙ e))
             | false ↦ λ no_one. refl
           ] refl
@@ -55,29 +58,37 @@ has_live-counted st q = any-count (λ process. same_path process.place q) (map.v
 abbrev pub at : Names → ℕ × Process → Bool
 at q e = same_path e.1.place q
 
-gathered-values : (q : Names) (es : List (ℕ × Process)) → gathered (one_more (λ (process : Process). same_path process.place q)) 0 (map_list (λ e. e.1) es) ≡ gathered (one_more (at q)) 0 es
+gathered-values : (q : Names) (es : List (ℕ × Process))
+    → gathered (one_more (λ (process : Process). same_path process.place q)) 0 (map_list (λ e. e.1) es) ≡ gathered (one_more (at q)) 0 es
 gathered-values q [] = refl
 gathered-values q (e ∷ es) = ap (one_more (at q) e) (gathered-values q es)
 
 pub gathered_live : (live : FinMap nat_cmp Process) (q : Names) → gathered (one_more (at q)) 0 (map.entries live) ≡ count_live live q
-gathered_live live q = sym (gathered-values q (map.entries live)) ∙ gathered-count (λ (process : Process). same_path process.place q) (map.values live)
+gathered_live live q =
+    sym (gathered-values q (map.entries live)) ∙ gathered-count (λ (process : Process). same_path process.place q) (map.values live)
 
 module _ (live : FinMap nat_cmp Process) (pid : ℕ) where
-  pub count_live-insert : (process : Process) → map.get live pid ≡ None → (q : Names) → count_live (map.insert live pid process) q ≡ cond (same_path process.place q) (1 + count_live live q) (count_live live q)
+  pub count_live-insert : (process : Process) → map.get live pid ≡ None → (q : Names)
+      → count_live (map.insert live pid process) q ≡ cond (same_path process.place q) (1 + count_live live q) (count_live live q)
   count_live-insert process none q =
       sym (gathered_live (map.insert live pid process) q)
-      ∙ gathered-insert nat_cmp_total (one_more (at q)) 0 (one_more-Commutes (at q)) live pid process none ∙ ap (one_more (at q) (pid, process)) (gathered_live live q)
+      ∙ gathered-insert nat_cmp_total (one_more (at q)) 0 (one_more-Commutes (at q)) live pid process none
+      ∙ ap (one_more (at q) (pid, process)) (gathered_live live q)
 
-  pub count_live-remove : (process : Process) → map.get live pid ≡ Some process → (q : Names) → count_live live q ≡ cond (same_path process.place q) (1 + count_live (map.remove live pid) q) (count_live (map.remove live pid) q)
+  pub count_live-remove : (process : Process) → map.get live pid ≡ Some process → (q : Names)
+      → count_live live q ≡ cond (same_path process.place q) (1 + count_live (map.remove live pid) q) (count_live (map.remove live pid) q)
   count_live-remove process is q =
       sym (gathered_live live q)
-      ∙ gathered-remove nat_cmp_total (one_more (at q)) 0 (one_more-Commutes (at q)) map.nat_cmp-IsAntisymmetric live pid process is ∙ ap (one_more (at q) (pid, process)) (gathered_live (map.remove live pid) q)
+      ∙ gathered-remove nat_cmp_total (one_more (at q)) 0 (one_more-Commutes (at q)) map.nat_cmp-IsAntisymmetric live pid process is
+      ∙ ap (one_more (at q) (pid, process)) (gathered_live (map.remove live pid) q)
 
-  pub count_live-put : (process : Process) (q : Names) → count_live (map.insert live pid process) q ≡ cond (same_path process.place q) (1 + count_live (map.remove live pid) q) (count_live (map.remove live pid) q)
+  pub count_live-put : (process : Process) (q : Names) → count_live (map.insert live pid process) q
+      ≡ cond (same_path process.place q) (1 + count_live (map.remove live pid) q) (count_live (map.remove live pid) q)
   count_live-put process q =
       ap (λ m. count_live m q) (sym (insert-remove nat_cmp_total map.nat_cmp-IsAntisymmetric live pid process))
       ∙ sym (gathered_live (map.insert (map.remove live pid) pid process) q)
-      ∙ gathered-insert nat_cmp_total (one_more (at q)) 0 (one_more-Commutes (at q)) (map.remove live pid) pid process (get-remove-same nat_cmp_total live pid)
+      ∙ gathered-insert nat_cmp_total (one_more (at q)) 0 (one_more-Commutes (at q)) (map.remove live pid) pid process
+      (get-remove-same nat_cmp_total live pid)
       ∙ ap (one_more (at q) (pid, process)) (gathered_live (map.remove live pid) q)
 
 pub few_live : (live : FinMap nat_cmp Process) (q : Names) → count_live live q ≤ map.len live
@@ -103,13 +114,18 @@ none_live st formed p absent =
 abbrev pub AreCounted : FinMap path_cmp Held → FinMap nat_cmp Process → Type 0
 AreCounted held live = (q : Names) (h : Held) → map.get held q ≡ Some h → h.live ≡ count_live live q
 
-pub get-change_held : (held : FinMap path_cmp Held) (p : Names) (f : Held → Held) (q : Names) → map.get (change_held held p f) q ≡ cond (same_path p q) (option_map f (map.get held q)) (map.get held q)
-get-change_held held p f q = get-change_value path_cmp_total held p f q ∙ ap (λ b. cond b (option_map f (map.get held q)) (map.get held q)) (sym (same_path-ties p q))
+pub get-change_held : (held : FinMap path_cmp Held) (p : Names) (f : Held → Held) (q : Names)
+    → map.get (change_held held p f) q ≡ cond (same_path p q) (option_map f (map.get held q)) (map.get held q)
+get-change_held held p f q =
+    get-change_value path_cmp_total held p f q
+    ∙ ap (λ b. cond b (option_map f (map.get held q)) (map.get held q)) (sym (same_path-ties p q))
 
 module _ (held : FinMap path_cmp Held) (p : Names) (f : Held → Held) (live : FinMap nat_cmp Process) where
-  pub counted_change : ((q : Names) (h : Held) → map.get held q ≡ Some h → (cond (same_path p q) (f h) h).live ≡ count_live live q) → AreCounted (change_held held p f) live
+  pub counted_change : ((q : Names) (h : Held) → map.get held q ≡ Some h → (cond (same_path p q) (f h) h).live ≡ count_live live q)
+      → AreCounted (change_held held p f) live
   counted_change each q h is =
-      elim (same_path p q) as (λ b. ((k : Held) → map.get held q ≡ Some k → (cond b (f k) k).live ≡ count_live live q) → cond b (option_map f (map.get held q)) (map.get held q) ≡ Some h → h.live ≡ count_live live q) [
+      elim (same_path p q) as (λ b. ((k : Held) → map.get held q ≡ Some k → (cond b (f k) k).live ≡ count_live live q)
+        → cond b (option_map f (map.get held q)) (map.get held q) ≡ Some h → h.live ≡ count_live live q) [
         | true ↦ λ rule e. let found = mapped_from f (map.get held q) h e in ap (λ (k : Held). k.live) (sym found.2) ∙ rule found.0 found.1
         | false ↦ λ rule e. rule h e
       ] (each q) (sym (get-change_held held p f q) ∙ is)
@@ -131,35 +147,45 @@ live_of_more true h = refl
 live_of_more false h = refl
 
 -- a process fewer
-pub counted_less : (held : FinMap path_cmp Held) (live : FinMap nat_cmp Process) (pid : ℕ) (process : Process) → AreCounted held live → map.get live pid ≡ Some process → AreCounted (change_held held process.place (tallied_held Fewer)) (map.remove live pid)
+pub counted_less : (held : FinMap path_cmp Held) (live : FinMap nat_cmp Process) (pid : ℕ) (process : Process) → AreCounted held live
+    → map.get live pid ≡ Some process → AreCounted (change_held held process.place (tallied_held Fewer)) (map.remove live pid)
 counted_less held live pid process counted is =
     counted_change held process.place (tallied_held Fewer) (map.remove live pid) (λ q h has.
-    live_of_less (same_path process.place q) h ∙ less_exact (same_path process.place q) h.live (count_live (map.remove live pid) q) (counted q h has ∙ count_live-remove live pid process is q))
+    live_of_less (same_path process.place q) h ∙ less_exact (same_path process.place q) h.live (count_live (map.remove live pid) q)
+    (counted q h has ∙ count_live-remove live pid process is q))
 
 -- a process more, where these are the others
-pub counted_more : (held : FinMap path_cmp Held) (others live : FinMap nat_cmp Process) (p : Names) → AreCounted held others → ((q : Names) → count_live live q ≡ cond (same_path p q) (1 + count_live others q) (count_live others q)) → map.len others < 9223372036854775808
+pub counted_more : (held : FinMap path_cmp Held) (others live : FinMap nat_cmp Process) (p : Names) → AreCounted held others
+    → ((q : Names) → count_live live q ≡ cond (same_path p q) (1 + count_live others q) (count_live others q))
+    → map.len others < 9223372036854775808
     → AreCounted (change_held held p (tallied_held More)) live
 counted_more held others live p counted one few =
     counted_change held p (tallied_held More) live (λ q h has.
     let most = few_live others q in
-    live_of_more (same_path p q) h ∙ more_exact (same_path p q) h.live (count_live others q) (counted q h has) (omega (arith, most, few)) ∙ sym (one q))
+    live_of_more (same_path p q) h ∙ more_exact (same_path p q) h.live (count_live others q) (counted q h has) (omega (arith, most, few))
+    ∙ sym (one q))
 
 -- ---- limits are told by the rows alone
 
-pub same_limits : (st new : State) (path : Names) (len : ℕ) → ((k : ℕ) → is_full new path len k ≡ is_full st path len k) → (found : Option ℕ) → MatchOption found (NoneIsFull st path len) (IsNearestFull st path len) → MatchOption found (NoneIsFull new path len) (IsNearestFull new path len)
+pub same_limits : (st new : State) (path : Names) (len : ℕ) → ((k : ℕ) → is_full new path len k ≡ is_full st path len k)
+    → (found : Option ℕ) → MatchOption found (NoneIsFull st path len) (IsNearestFull st path len)
+    → MatchOption found (NoneIsFull new path len) (IsNearestFull new path len)
 same_limits st new path len same None none = λ k l. same k ∙ none k l
-same_limits st new path len same (Some at) near = record { within = near.within; full = same at ∙ near.full; nearer = λ k h l. same k ∙ near.nearer k h l }
+same_limits st new path len same (Some at) near =
+    record { within = near.within; full = same at ∙ near.full; nearer = λ k h l. same k ∙ near.nearer k h l }
 
 -- ---- a cgroup fewer, and one more
 
-pub counted_less_path : (held : FinMap path_cmp Held) (p : Names) (live : FinMap nat_cmp Process) → AreCounted held live → AreCounted (map.remove held p) live
+pub counted_less_path : (held : FinMap path_cmp Held) (p : Names) (live : FinMap nat_cmp Process) → AreCounted held live
+    → AreCounted (map.remove held p) live
 counted_less_path held p live counted q h is =
     elim (same_path q p) as (λ b. cond b None (map.get held q) ≡ Some h → h.live ≡ count_live live q) [
       | true ↦ λ e. absurd (true≢false (sym (ap is_some e)))
       | false ↦ λ e. counted q h e
     ] (sym (get-without held p q) ∙ is)
 
-pub counted_more_path : (held : FinMap path_cmp Held) (p : Names) (new : Held) (live : FinMap nat_cmp Process) → AreCounted held live → new.live ≡ count_live live p → AreCounted (map.insert held p new) live
+pub counted_more_path : (held : FinMap path_cmp Held) (p : Names) (new : Held) (live : FinMap nat_cmp Process) → AreCounted held live
+    → new.live ≡ count_live live p → AreCounted (map.insert held p new) live
 counted_more_path held p new live counted none q h is =
     elim (same_path q p) as (λ b. same_path q p ≡ b → cond b (Some new) (map.get held q) ≡ Some h → h.live ≡ count_live live q) [
       | true ↦ λ same e. ap (λ (k : Held). k.live) (sym (same_some new h e)) ∙ none ∙ ap (count_live live) (sym (same_path-is q p same))
@@ -168,14 +194,16 @@ counted_more_path held p new live counted none q h is =
 
 -- ---- cgroups changed, and not their counts
 
-pub counted_each : (held : FinMap path_cmp Held) (f : Names → Held → Held) (live : FinMap nat_cmp Process) → ((q : Names) (h : Held) → (f q h).live ≡ h.live) → AreCounted held live → AreCounted (change_each_held f held) live
+pub counted_each : (held : FinMap path_cmp Held) (f : Names → Held → Held) (live : FinMap nat_cmp Process)
+    → ((q : Names) (h : Held) → (f q h).live ≡ h.live) → AreCounted held live → AreCounted (change_each_held f held) live
 counted_each held f live same counted q h is =
     let found = mapped_from (f q) (map.get held q) h (sym (get-changed path_cmp-IsAntisymmetric f held q) ∙ is) in
     ap (λ (k : Held). k.live) (sym found.2) ∙ same q found.0 ∙ counted q found.0 found.1
 
 -- ---- where a live process is, there is a cgroup
 
-pub home_there : (st : State) → IsWellFormed st → (pid : ℕ) (process : Process) → map.get st.live pid ≡ Some process → has_row st process.place ≡ true
+pub home_there : (st : State) → IsWellFormed st → (pid : ℕ) (process : Process) → map.get st.live pid ≡ Some process
+    → has_row st process.place ≡ true
 home_there st formed pid process is = ap is_some (may_hold-row st process.place (formed.places pid process is)).1
 
 pub held_there : (st : State) (p : Names) → may_hold st p ≡ true → has_row st p ≡ true
@@ -184,7 +212,8 @@ held_there st p may = ap is_some (may_hold-row st p may).1
 -- a PID that was never used is no live one's
 pub unused_not_live : (st : State) → IsWellFormed st → (pid : ℕ) → is_used st pid ≡ false → map.get st.live pid ≡ None
 unused_not_live st formed pid unused =
-    elim (map.get st.live pid) as (λ o. map.get st.live pid ≡ o → o ≡ None) [ None ↦ λ e. refl | Some process ↦ λ e. absurd (true≢false (sym (formed.used pid process e) ∙ unused)) ] refl
+    elim (map.get st.live pid) as (λ o. map.get st.live pid ≡ o → o ≡ None)
+    [ None ↦ λ e. refl | Some process ↦ λ e. absurd (true≢false (sym (formed.used pid process e) ∙ unused)) ] refl
 
 -- no more processes are left
 pub few_others : (live : FinMap nat_cmp Process) (pid : ℕ) → map.len (map.remove live pid) ≤ map.len live
@@ -199,7 +228,9 @@ few_others live pid =
 -- where no process lives
 
 pub counted_alone : (held : FinMap path_cmp Held) (p : Names) (h : Held) → h.live ≡ 0 → AreCounted (map.insert map.empty p h) map.empty
-counted_alone held p h none = counted_more_path map.empty p h map.empty (λ q k is. absurd (true≢false (sym (ap is_some (sym (map.get-empty path_cmp q) ∙ is))))) (none ∙ sym nobody)
+counted_alone held p h none =
+    counted_more_path map.empty p h map.empty (λ q k is. absurd (true≢false (sym (ap is_some (sym (map.get-empty path_cmp q) ∙ is)))))
+    (none ∙ sym nobody)
   where
     nobody : count_live map.empty p ≡ 0
     nobody = let most = few_live map.empty p in omega (arith, most, map.len-empty nat_cmp Process)

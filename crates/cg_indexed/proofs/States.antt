@@ -28,47 +28,65 @@ use Rattle.cg_indexed.proofs.Living.{AreCounted, get-change_held, counted_change
 use Rattle.cg_places.proofs.Values.{same_maps, get-mapped, values-insert, option_map-twice}
 
 -- where the cgroup alone stays
-pub cgroups_same : (held : FinMap path_cmp Held) (p : Names) (f : Held → Held) → ((h : Held) → (f h).cgroup ≡ h.cgroup) → cgroups_of (change_held held p f) ≡ cgroups_of held
+pub cgroups_same : (held : FinMap path_cmp Held) (p : Names) (f : Held → Held) → ((h : Held) → (f h).cgroup ≡ h.cgroup)
+    → cgroups_of (change_held held p f) ≡ cgroups_of held
 cgroups_same held p f same = same_maps _ _ (λ q.
     get-mapped (λ h. h.cgroup) (change_held held p f) q ∙ ap (option_map (λ (h : Held). h.cgroup)) (get-change_held held p f q)
-    ∙ elim (same_path p q) as (λ b. option_map (λ (h : Held). h.cgroup) (cond b (option_map f (map.get held q)) (map.get held q)) ≡ option_map (λ (h : Held). h.cgroup) (map.get held q)) [
-      | true ↦ elim (map.get held q) as (λ o. option_map (λ (h : Held). h.cgroup) (option_map f o) ≡ option_map (λ (h : Held). h.cgroup) o) [ None ↦ refl | Some h ↦ ap Some (same h) ]
+    ∙ elim (same_path p q) as (λ b. option_map (λ (h : Held). h.cgroup) (cond b (option_map f (map.get held q)) (map.get held q))
+      ≡ option_map (λ (h : Held). h.cgroup) (map.get held q)) [
+      | true ↦
+          elim (map.get held q) as (λ o. option_map (λ (h : Held). h.cgroup) (option_map f o) ≡ option_map (λ (h : Held). h.cgroup) o)
+          [ None ↦ refl | Some h ↦ ap Some (same h) ]
       | false ↦ refl
     ]
     ∙ sym (get-mapped (λ h. h.cgroup) held q))
 
 -- a cgroup put in the place of one is that one changed
-pub cgroups_put : (held : FinMap path_cmp Held) (p : Names) (g : Cgroup → Cgroup) (row new : Cgroup) → Some row ≡ map.get (cgroups_of held) p → new ≡ g row
-    → cgroups_of (change_held held p (with_row_of new)) ≡ elim (map.get (cgroups_of held) p) as (λ _. FinMap path_cmp Cgroup) [ None ↦ cgroups_of held | Some r ↦ map.insert (cgroups_of held) p (g r) ]
+pub cgroups_put : (held : FinMap path_cmp Held) (p : Names) (g : Cgroup → Cgroup) (row new : Cgroup)
+    → Some row ≡ map.get (cgroups_of held) p → new ≡ g row
+    → cgroups_of (change_held held p (with_row_of new)) ≡ elim (map.get (cgroups_of held) p) as (λ _. FinMap path_cmp Cgroup)
+    [ None ↦ cgroups_of held | Some r ↦ map.insert (cgroups_of held) p (g r) ]
 cgroups_put held p g row new is by =
-    let there : is_some (map.get held p) ≡ true = sym (is_some-mapped (λ (h : Held). h.cgroup) (map.get held p)) ∙ ap is_some (sym (get-mapped (λ (h : Held). h.cgroup) held p) ∙ sym is) in
+    let there : is_some (map.get held p) ≡ true =
+        sym (is_some-mapped (λ (h : Held). h.cgroup) (map.get held p))
+        ∙ ap is_some (sym (get-mapped (λ (h : Held). h.cgroup) held p) ∙ sym is) in
     let h = some_value (map.get held p) there in
-    ap cgroups_of (change_value-there held p (with_row_of new) h.0 h.1) ∙ values-insert (λ (h : Held). h.cgroup) held p (with_row_of new h.0) ∙ ap (map.insert (cgroups_of held) p) by
+    ap cgroups_of (change_value-there held p (with_row_of new) h.0 h.1)
+    ∙ values-insert (λ (h : Held). h.cgroup) held p (with_row_of new h.0) ∙ ap (map.insert (cgroups_of held) p) by
     ∙ sym (change_value-there (cgroups_of held) p g row (sym is))
 
-pub cgroups_each : (held : FinMap path_cmp Held) (p : Names) (enabled : ControllerSet) (user : Identity) → cgroups_of (change_each_held (enabling_held p enabled user) held) ≡ change_each (enabling p enabled user) (cgroups_of held)
+pub cgroups_each : (held : FinMap path_cmp Held) (p : Names) (enabled : ControllerSet) (user : Identity)
+    → cgroups_of (change_each_held (enabling_held p enabled user) held) ≡ change_each (enabling p enabled user) (cgroups_of held)
 cgroups_each held p enabled user = same_maps _ _ (λ q.
-    get-mapped (λ h. h.cgroup) (change_each_held (enabling_held p enabled user) held) q ∙ ap (option_map (λ (h : Held). h.cgroup)) (get-changed path_cmp-IsAntisymmetric (enabling_held p enabled user) held q)
-    ∙ elim (map.get held q) as (λ o. option_map (λ (h : Held). h.cgroup) (option_map (enabling_held p enabled user q) o) ≡ option_map (enabling p enabled user q) (option_map (λ (h : Held). h.cgroup) o)) [ None ↦ refl | Some h ↦ refl ]
-    ∙ ap (option_map (enabling p enabled user q)) (sym (get-mapped (λ h. h.cgroup) held q)) ∙ sym (get-changed path_cmp-IsAntisymmetric (enabling p enabled user) (cgroups_of held) q))
+    get-mapped (λ h. h.cgroup) (change_each_held (enabling_held p enabled user) held) q
+    ∙ ap (option_map (λ (h : Held). h.cgroup)) (get-changed path_cmp-IsAntisymmetric (enabling_held p enabled user) held q)
+    ∙ elim (map.get held q) as (λ o. option_map (λ (h : Held). h.cgroup) (option_map (enabling_held p enabled user q) o)
+          ≡ option_map (enabling p enabled user q) (option_map (λ (h : Held). h.cgroup) o)) [ None ↦ refl | Some h ↦ refl ]
+    ∙ ap (option_map (enabling p enabled user q)) (sym (get-mapped (λ h. h.cgroup) held q))
+    ∙ sym (get-changed path_cmp-IsAntisymmetric (enabling p enabled user) (cgroups_of held) q))
 
 -- ---- what a cgroup enables stays where a value or a mode changes
 
 -- what the cgroup that is there enables
-pub enabled_there : (held : FinMap path_cmp Held) (p : Names) (row : Cgroup) (new : Cgroup) → Some row ≡ map.get (cgroups_of held) p → new.enabled ≡ row.enabled → option_map (λ (h : Held). h.cgroup.enabled) (map.get held p) ≡ Some new.enabled
+pub enabled_there : (held : FinMap path_cmp Held) (p : Names) (row : Cgroup) (new : Cgroup) → Some row ≡ map.get (cgroups_of held) p
+    → new.enabled ≡ row.enabled → option_map (λ (h : Held). h.cgroup.enabled) (map.get held p) ≡ Some new.enabled
 enabled_there held p row new is same =
-    sym (option_map-twice (λ (r : Cgroup). r.enabled) (λ (h : Held). h.cgroup) (map.get held p)) ∙ ap (option_map (λ (r : Cgroup). r.enabled)) (sym (get-mapped (λ (h : Held). h.cgroup) held p) ∙ sym is)
+    sym (option_map-twice (λ (r : Cgroup). r.enabled) (λ (h : Held). h.cgroup) (map.get held p))
+    ∙ ap (option_map (λ (r : Cgroup). r.enabled)) (sym (get-mapped (λ (h : Held). h.cgroup) held p) ∙ sym is)
     ∙ ap Some (sym same)
 
 -- ---- what a path enables and its children's files
 
 pub fitted_formed : (st : State) → IsWellFormed st → (p : Names) → AreFittedBelow st p
 fitted_formed st formed p q row child has file =
-    let above : enabled_above st q ≡ enabled_at st p = ap (λ b. cond b no_controllers (enabled_at st (parent q))) (is_root-is_child p q child) ∙ ap (enabled_at st) (parent-is_child p q child) in
+    let above : enabled_above st q ≡ enabled_at st p =
+        ap (λ b. cond b no_controllers (enabled_at st (parent q))) (is_root-is_child p q child)
+        ∙ ap (enabled_at st) (parent-is_child p q child) in
     (formed.rows q row has).files file ∙ ap (λ set. stands_under set file) above
 
 -- where what a path enables stays, all stays
-pub nothing_enabled : (st : State) → IsWellFormed st → (p : Names) (row : Cgroup) (enabled : ControllerSet) (user : Identity) → row_at st p ≡ Some row → row.enabled ≡ enabled → with_enabled st p enabled user ≡ st
+pub nothing_enabled : (st : State) → IsWellFormed st → (p : Names) (row : Cgroup) (enabled : ControllerSet) (user : Identity)
+    → row_at st p ≡ Some row → row.enabled ≡ enabled → with_enabled st p enabled user ≡ st
 nothing_enabled st formed p row enabled user is same =
     ap (λ rows. record st { rows = rows }) (same_maps _ _ (λ q.
     get-changed path_cmp-IsAntisymmetric (enabling p enabled user) st.rows q
@@ -79,13 +97,18 @@ nothing_enabled st formed p row enabled user is same =
   where
     stays : (q : Names) (r : Cgroup) → map.get st.rows q ≡ Some r → enabling p enabled user q r ≡ r
     stays q r has =
-        elim (same_path p q) as (λ b. same_path p q ≡ b → cond b (enabling_these enabled r) (cond (is_child p q) (with_files_of enabled user r) r) ≡ r) [
+        elim (same_path p q) as
+        (λ b. same_path p q ≡ b → cond b (enabling_these enabled r) (cond (is_child p q) (with_files_of enabled user r) r) ≡ r) [
           | true ↦ λ e.
-              let own : r.enabled ≡ enabled = ap (λ (x : Cgroup). x.enabled) (same_some r row (sym has ∙ ap (map.get st.rows) (sym (same_path-is p q e)) ∙ is)) ∙ same in
+              let own : r.enabled ≡ enabled =
+                  ap (λ (x : Cgroup). x.enabled) (same_some r row (sym has ∙ ap (map.get st.rows) (sym (same_path-is p q e)) ∙ is))
+                  ∙ same in
               ap (λ (set : ControllerSet). record r { enabled = set }) (sym own)
           | false ↦ λ e.
               elim (is_child p q) as (λ b. is_child p q ≡ b → cond b (with_files_of enabled user r) r ≡ r) [
-                | true ↦ λ child. with_files_of-same enabled user r (λ file. fitted_formed st formed p q r child has file ∙ ap (λ set. stands_under set file) (enabled_at-row st p row is ∙ same))
+                | true ↦
+                    λ child. with_files_of-same enabled user r (λ file. fitted_formed st formed p q r child has file
+                      ∙ ap (λ set. stands_under set file) (enabled_at-row st p row is ∙ same))
                 | false ↦ λ not_child. refl
               ] refl
         ] refl
@@ -96,7 +119,8 @@ pub not_root_new : (st : State) (p : Names) → IsWellFormed st → has_row st p
 not_root_new st [] formed absent = absurd (true≢false (sym formed.root ∙ absent))
 not_root_new st (name ∷ p) formed absent = refl
 
-pub parent_of_new : (st : State) (p : Names) (row : Cgroup) → is_root p ≡ false → IsWellFormed (with_row st p row) → has_row st (parent p) ≡ true
+pub parent_of_new : (st : State) (p : Names) (row : Cgroup) → is_root p ≡ false → IsWellFormed (with_row st p row)
+    → has_row st (parent p) ≡ true
 parent_of_new st p row root formed =
     sym (ap is_some (row_at-with_row-other p st row (parent p) (parent-other p root)))
     ∙ formed.parents p (ap is_some (row_at-with_row-same p st row))
@@ -108,20 +132,28 @@ live_of_row true row h = refl
 live_of_row false row h = refl
 
 -- such a cgroup is the one that was there, changed
-module _ (held : FinMap path_cmp Held) (processes : LiveAndUsed) (controllers : ControllerSet) (st : State) (view : state_of held processes controllers ≡ st) (p : Names) (g : Cgroup → Cgroup) (row new : Cgroup)
-    (there : Some row ≡ map.get (cgroups_of held) p) (by : new ≡ g row) (now : FinMap path_cmp Held) (put : now ≡ change_held held p (with_row_of new)) where
+module _ (held : FinMap path_cmp Held) (processes : LiveAndUsed) (controllers : ControllerSet) (st : State)
+    (view : state_of held processes controllers ≡ st) (p : Names) (g : Cgroup → Cgroup) (row new : Cgroup)
+    (there : Some row ≡ map.get (cgroups_of held) p) (by : new ≡ g row) (now : FinMap path_cmp Held)
+    (put : now ≡ change_held held p (with_row_of new)) where
   pub put_shows : state_of now processes controllers ≡ change_at p g st
-  put_shows = ap (λ rows. state_of_tables rows processes controllers) (ap cgroups_of put ∙ cgroups_put held p g row new there by) ∙ ap (change_at p g) view
+  put_shows =
+      ap (λ rows. state_of_tables rows processes controllers) (ap cgroups_of put ∙ cgroups_put held p g row new there by)
+      ∙ ap (change_at p g) view
 
   pub put_indexed : IsIndexed held processes controllers → IsWellFormed (change_at p g st) → IsIndexed now processes controllers
   put_indexed was formed = record {
     formed = subst IsWellFormed (sym put_shows) formed;
-    live = subst (λ m. AreCounted m processes.live) (sym put) (counted_change held p (with_row_of new) processes.live (λ q h is. live_of_row _ new h ∙ was.live q h is));
+    live =
+        subst (λ m. AreCounted m processes.live) (sym put)
+        (counted_change held p (with_row_of new) processes.live (λ q h is. live_of_row _ new h ∙ was.live q h is));
   }
 
 -- what has a part is there
-pub there_by_part : {A : Type 0} (st : State) (p : Names) (part : Cgroup → Option A) → is_some (option_and_then part (row_at st p)) ≡ true → is_some (row_at st p) ≡ true
-there_by_part st p part h = elim (row_at st p) as (λ o. is_some (option_and_then part o) ≡ true → is_some o ≡ true) [ None ↦ λ e. e | Some r ↦ λ e. refl ] h
+pub there_by_part : {A : Type 0} (st : State) (p : Names) (part : Cgroup → Option A) → is_some (option_and_then part (row_at st p)) ≡ true
+    → is_some (row_at st p) ≡ true
+there_by_part st p part h =
+    elim (row_at st p) as (λ o. is_some (option_and_then part o) ≡ true → is_some o ≡ true) [ None ↦ λ e. e | Some r ↦ λ e. refl ] h
 
 -- ---- sets that a comparison finds no difference in
 
@@ -139,7 +171,9 @@ pub same_sets : (a b : ControllerSet) → not (beq a.cpu b.cpu && (beq a.memory 
 same_sets a b h =
     let all = not_not _ h in
     let rest = second_so (beq a.cpu b.cpu) _ all in
-    λ i. record { cpu = same_flag a.cpu b.cpu (first_so _ _ all) i; memory = same_flag a.memory b.memory (first_so _ _ rest) i; pids = same_flag a.pids b.pids (second_so (beq a.memory b.memory) _ rest) i }
+    λ i. record {cpu = same_flag a.cpu b.cpu (first_so _ _ all) i;
+      memory = same_flag a.memory b.memory (first_so _ _ rest) i;
+      pids = same_flag a.pids b.pids (second_so (beq a.memory b.memory) _ rest) i}
 
 -- ---- a root alone
 
@@ -147,4 +181,5 @@ pub cgroups_alone : (row : Cgroup) → cgroups_of (map.insert map.empty [] (new_
 cgroups_alone row =
     values-insert (λ (h : Held). h.cgroup) map.empty [] (new_held row)
     ∙ ap (λ (m : FinMap path_cmp Cgroup). map.insert m [] row)
-    (same_maps _ _ (λ q. get-mapped (λ (h : Held). h.cgroup) map.empty q ∙ ap (option_map (λ (h : Held). h.cgroup)) (map.get-empty path_cmp q) ∙ sym (map.get-empty path_cmp q)))
+    (same_maps _ _ (λ q. get-mapped (λ (h : Held). h.cgroup) map.empty q
+        ∙ ap (option_map (λ (h : Held). h.cgroup)) (map.get-empty path_cmp q) ∙ sym (map.get-empty path_cmp q)))

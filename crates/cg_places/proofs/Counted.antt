@@ -29,7 +29,8 @@ module _ {A : Type 0} (p : A → Bool) where
   none_counted : (xs : List A) → list_any p xs ≡ false → gathered (one_more p) 0 xs ≡ 0
   none_counted [] h = refl
   none_counted (x ∷ xs) h =
-      elim (p x) as (λ b. (b || list_any p xs) ≡ false → cond b (1 + gathered (one_more p) 0 xs) (gathered (one_more p) 0 xs) ≡ 0) [ true ↦ λ e. absurd (true≢false e) | false ↦ λ e. none_counted xs e ] h
+      elim (p x) as (λ b. (b || list_any p xs) ≡ false → cond b (1 + gathered (one_more p) 0 xs) (gathered (one_more p) 0 xs) ≡ 0)
+      [ true ↦ λ e. absurd (true≢false e) | false ↦ λ e. none_counted xs e ] h
 
   pub count-none : (xs : List A) → list_any p xs ≡ false → count_by p xs ≡ 0
   count-none xs h = sym (gathered-count xs) ∙ none_counted xs h

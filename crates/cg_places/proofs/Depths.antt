@@ -34,17 +34,23 @@ plain : (c : ℕ) → is_name_byte c ≡ true → nat_eq c 47 ≡ false
 plain c h = not_true (nat_eq c 47) (second_so (nat_le 33 c && nat_le c 126) _ h)
 
 other_way : (c : ℕ) → nat_eq c 47 ≡ false → nat_eq 47 c ≡ false
-other_way c h = elim (nat_eq 47 c) as (λ b. nat_eq 47 c ≡ b → b ≡ false) [ true ↦ λ e. absurd (true≢false (sym (eq-eqb c 47 (sym (eqb-true 47 c e))) ∙ h)) | false ↦ λ e. refl ] refl
+other_way c h =
+    elim (nat_eq 47 c) as (λ b. nat_eq 47 c ≡ b → b ≡ false)
+    [ true ↦ λ e. absurd (true≢false (sym (eq-eqb c 47 (sym (eqb-true 47 c e))) ∙ h)) | false ↦ λ e. refl ] refl
 
 and_false : (b : Bool) → (b && false) ≡ false
 and_false true = refl
 and_false false = refl
 
 step : (c d : ℕ) (x y : List ℕ) → levels_below (c ∷ x) (d ∷ y) ≡ cond (nat_eq c d) (levels_below x y) 0
-step c d x y = elim (nat_eq c d) as (λ b. cond (b && starts_with nat_eq y x) (levels_behind (drop (length x) y)) 0 ≡ cond b (levels_below x y) 0) [ true ↦ refl | false ↦ refl ]
+step c d x y =
+    elim (nat_eq c d) as (λ b. cond (b && starts_with nat_eq y x) (levels_behind (drop (length x) y)) 0 ≡ cond b (levels_below x y) 0)
+    [ true ↦ refl | false ↦ refl ]
 
 no_more : (d : ℕ) (y : List ℕ) (p : Names) → nat_eq d 47 ≡ false → levels_below (names_text p) (d ∷ y) ≡ 0
-no_more d y [] h = ap (λ b. cond (nat_lt 1 (length (d ∷ y)) && b) (count_by (λ b. b == 47) (d ∷ y)) 0) h ∙ ap (λ b. cond b (count_by (λ b. b == 47) (d ∷ y)) 0) (and_false (nat_lt 1 (length (d ∷ y))))
+no_more d y [] h =
+    ap (λ b. cond (nat_lt 1 (length (d ∷ y)) && b) (count_by (λ b. b == 47) (d ∷ y)) 0) h
+    ∙ ap (λ b. cond b (count_by (λ b. b == 47) (d ∷ y)) 0) (and_false (nat_lt 1 (length (d ∷ y))))
 no_more d y (a ∷ p) h = step 47 d (a ++ names_text p) y ∙ ap (λ b. cond b (levels_below (a ++ names_text p) y) 0) (other_way d h)
 
 too_long : (c : ℕ) (x : List ℕ) (q : Names) → nat_eq c 47 ≡ false → levels_below (c ∷ x) (names_text q) ≡ 0
@@ -58,17 +64,20 @@ names_step [] (d ∷ b) p q h k = no_more d (b ++ names_text q) p (plain d (firs
 names_step (c ∷ a) [] p q h k = too_long c (a ++ names_text p) q (plain c (first_so (is_name_byte c) _ h))
 names_step (c ∷ a) (d ∷ b) p q h k =
     step c d (a ++ names_text p) (b ++ names_text q)
-    ∙ elim (nat_eq c d) as (λ t. cond t (levels_below (a ++ names_text p) (b ++ names_text q)) 0 ≡ cond (t && same_name a b) (levels_below (names_text p) (names_text q)) 0) [
+    ∙ elim (nat_eq c d) as (λ t. cond t (levels_below (a ++ names_text p) (b ++ names_text q)) 0
+      ≡ cond (t && same_name a b) (levels_below (names_text p) (names_text q)) 0) [
       | true ↦ names_step a b p q (second_so (is_name_byte c) _ h) (second_so (is_name_byte d) _ k)
       | false ↦ refl
     ]
 
 -- ---- slashes count names
 
-plain_adds_none : (name : Name) (rest : List ℕ) → list_all is_name_byte name ≡ true → gathered (one_more (λ b. b == 47)) 0 (name ++ rest) ≡ gathered (one_more (λ b. b == 47)) 0 rest
+plain_adds_none : (name : Name) (rest : List ℕ) → list_all is_name_byte name ≡ true
+    → gathered (one_more (λ b. b == 47)) 0 (name ++ rest) ≡ gathered (one_more (λ b. b == 47)) 0 rest
 plain_adds_none [] rest h = refl
 plain_adds_none (c ∷ name) rest h =
-    ap (λ b. cond b (1 + gathered (one_more (λ b. b == 47)) 0 (name ++ rest)) (gathered (one_more (λ b. b == 47)) 0 (name ++ rest))) (plain c (first_so (is_name_byte c) _ h))
+    ap (λ b. cond b (1 + gathered (one_more (λ b. b == 47)) 0 (name ++ rest)) (gathered (one_more (λ b. b == 47)) 0 (name ++ rest)))
+    (plain c (first_so (is_name_byte c) _ h))
     ∙ plain_adds_none name rest (second_so (is_name_byte c) _ h)
 
 slashes : (q : Names) → list_all is_name q ≡ true → gathered (one_more (λ b. b == 47)) 0 (names_text q) ≡ length q
@@ -90,24 +99,30 @@ abbrev level : Names → Names → ℕ
 level p q = cond (below p q) (length q - length p) 0
 
 long_enough : (b : Name) → is_name b ≡ true → 0 < length b
-long_enough b h = ltb-true 0 (length b) (first_so (nat_lt 0 (length b)) _ (first_so (nat_lt 0 (length b) && nat_le (length b) 255) _ (first_so (is_word b) _ h)))
+long_enough b h =
+    ltb-true 0 (length b)
+    (first_so (nat_lt 0 (length b)) _ (first_so (nat_lt 0 (length b) && nat_le (length b) 255) _ (first_so (is_word b) _ h)))
 
 levels_text : (p q : Names) → list_all is_name p ≡ true → list_all is_name q ≡ true → levels_below (names_text p) (names_text q) ≡ level p q
 levels_text [] [] h k = refl
 levels_text [] (b ∷ q) h k =
     let long = long_enough b (first_so (is_name b) _ k) in
     let size = length-append b (names_text q) in
-    let more : nat_lt 1 (length (47 ∷ (b ++ names_text q))) ≡ true = lt-ltb 1 (length (47 ∷ (b ++ names_text q))) (omega (arith, long, size)) in
+    let more : nat_lt 1 (length (47 ∷ (b ++ names_text q))) ≡ true =
+        lt-ltb 1 (length (47 ∷ (b ++ names_text q))) (omega (arith, long, size)) in
     let deep : nat_lt 0 (length (b ∷ q)) ≡ true = lt-ltb 0 (length (b ∷ q)) (omega arith) in
-    ap (λ t. cond (t && true) (count_by (λ b. b == 47) (names_text (b ∷ q))) 0) more ∙ sym (gathered-count (λ b. b == 47) (names_text (b ∷ q))) ∙ slashes (b ∷ q) k
+    ap (λ t. cond (t && true) (count_by (λ b. b == 47) (names_text (b ∷ q))) 0) more
+    ∙ sym (gathered-count (λ b. b == 47) (names_text (b ∷ q))) ∙ slashes (b ∷ q) k
     ∙ omega arith ∙ sym (ap (λ t. cond t (length (b ∷ q) - 0) 0) deep)
 levels_text (a ∷ p) [] h k = refl
 levels_text (a ∷ p) (b ∷ q) h k =
     names_step a b p q (is_name-bytes a (first_so (is_name a) _ h)) (is_name-bytes b (first_so (is_name b) _ k))
-    ∙ elim (same_name a b) as (λ t. cond t (levels_below (names_text p) (names_text q)) 0 ≡ cond ((t && inside p q) && nat_lt (length (a ∷ p)) (length (b ∷ q))) (length (b ∷ q) - length (a ∷ p)) 0) [
+    ∙ elim (same_name a b) as (λ t. cond t (levels_below (names_text p) (names_text q)) 0
+      ≡ cond ((t && inside p q) && nat_lt (length (a ∷ p)) (length (b ∷ q))) (length (b ∷ q) - length (a ∷ p)) 0) [
       | true ↦
           let less : length q - length p ≡ length (b ∷ q) - length (a ∷ p) = omega arith in
-          levels_text p q (second_so (is_name a) _ h) (second_so (is_name b) _ k) ∙ (λ i. cond (inside p q && sym (lt_suc (length p) (length q)) i) (less i) 0)
+          levels_text p q (second_so (is_name a) _ h) (second_so (is_name b) _ k)
+          ∙ (λ i. cond (inside p q && sym (lt_suc (length p) (length q)) i) (less i) 0)
       | false ↦ refl
     ]
 
@@ -133,29 +148,35 @@ levels_key p t h is = ap (levels_below (names_text p)) (sym is.same) ∙ of_path
 
 greatest : {A : Type 0} (h : A → ℕ) (xs : List A) → fold max 0 (map_list h xs) ≡ gathered (λ x n. max n (h x)) 0 xs
 greatest h [] = refl
-greatest h (x ∷ xs) = fold_max (max 0 (h x)) (map_list h xs) ∙ (let start : max 0 (h x) ≡ h x = omega arith in ap (max (fold max 0 (map_list h xs))) start) ∙ ap (λ n. max n (h x)) (greatest h xs)
+greatest h (x ∷ xs) =
+    fold_max (max 0 (h x)) (map_list h xs) ∙ (let start : max 0 (h x) ≡ h x = omega arith in ap (max (fold max 0 (map_list h xs))) start)
+    ∙ ap (λ n. max n (h x)) (greatest h xs)
   where
     fold_max : (a : ℕ) (ns : List ℕ) → fold max a ns ≡ max (fold max 0 ns) a
     fold_max a [] = omega arith
     fold_max a (n ∷ ns) = omega (arith, fold_max (max a n) ns, fold_max (max 0 n) ns)
 
-filtered : {A : Type 0} (t : A → Bool) (h : A → ℕ) (xs : List A) → fold max 0 (map_list h (filter t xs)) ≡ gathered (λ x n. max n (cond (t x) (h x) 0)) 0 xs
+filtered : {A : Type 0} (t : A → Bool) (h : A → ℕ) (xs : List A)
+    → fold max 0 (map_list h (filter t xs)) ≡ gathered (λ x n. max n (cond (t x) (h x) 0)) 0 xs
 filtered t h xs = greatest h (filter t xs) ∙ each xs
   where
     each : (ys : List _) → gathered (λ x n. max n (h x)) 0 (filter t ys) ≡ gathered (λ x n. max n (cond (t x) (h x) 0)) 0 ys
     each [] = refl
     each (y ∷ ys) =
-        elim (t y) as (λ b. gathered (λ x n. max n (h x)) 0 (cond b (y ∷ filter t ys) (filter t ys)) ≡ max (gathered (λ x n. max n (cond (t x) (h x) 0)) 0 ys) (cond b (h y) 0)) [
+        elim (t y) as (λ b. gathered (λ x n. max n (h x)) 0 (cond b (y ∷ filter t ys) (filter t ys))
+          ≡ max (gathered (λ x n. max n (cond (t x) (h x) 0)) 0 ys) (cond b (h y) 0)) [
           | true ↦ ap (λ n. max n (h y)) (each ys)
           | false ↦ each ys ∙ omega arith
         ]
 
-through : {A B : Type 0} (g : A → B) (h : B → ℕ) (xs : List A) → gathered (λ x n. max n (h x)) 0 (map_list g xs) ≡ gathered (λ x n. max n (h (g x))) 0 xs
+through : {A B : Type 0} (g : A → B) (h : B → ℕ) (xs : List A)
+    → gathered (λ x n. max n (h x)) 0 (map_list g xs) ≡ gathered (λ x n. max n (h (g x))) 0 xs
 through g h [] = refl
 through g h (x ∷ xs) = ap (λ n. max n (h (g x))) (through g h xs)
 
 -- the keys above a key don't have it
-none_above : (k : String Global) (es : List (String Global × ℕ)) → AllByRecursion (λ x. string_cmp k x ≡ Less) (keys_of es) → number_at es (string_bytes k) ≡ None
+none_above : (k : String Global) (es : List (String Global × ℕ)) → AllByRecursion (λ x. string_cmp k x ≡ Less) (keys_of es)
+    → number_at es (string_bytes k) ≡ None
 none_above k [] h = refl
 none_above k (e ∷ es) h = ap (λ r. cond (is_eq r) (Some e.1) (number_at es (string_bytes k))) h.0 ∙ none_above k es h.1
 
@@ -171,20 +192,26 @@ module _ (p : Names) where
   swaps x y n = omega arith
 
   -- what is gathered of the table is what is gathered of its entries
-  over_entries : (es : List (String Global × ℕ)) → AllByRecursion HasText es → IsStrictlySortedBy string_cmp (keys_of es) → gathered by_key 0 (map.entries (numbers_of es)) ≡ gathered by_key 0 (map_list number_of es)
+  over_entries : (es : List (String Global × ℕ)) → AllByRecursion HasText es → IsStrictlySortedBy string_cmp (keys_of es)
+      → gathered by_key 0 (map.entries (numbers_of es)) ≡ gathered by_key 0 (map_list number_of es)
   unfolding IsStrictlySortedBy
-  over_entries [] are ordered = ap (gathered by_key 0) (nothing (map.entries (map.empty {X = ℕ} {R = path_cmp})) (omega (arith, map.len-entries (map.empty {X = ℕ} {R = path_cmp}), map.len-empty path_cmp ℕ)))
+  over_entries [] are ordered =
+      ap (gathered by_key 0) (nothing (map.entries (map.empty {X = ℕ} {R = path_cmp}))
+        (omega (arith, map.len-entries (map.empty {X = ℕ} {R = path_cmp}), map.len-empty path_cmp ℕ)))
   over_entries (e ∷ es) are ordered =
       let k = names_at (string_bytes e.0) in
       let none : map.get (numbers_of es) k ≡ None =
-      map.get-from_entries path_cmp_total (map_list number_of es) k ∙ find-texts k es are.0.path are.1 ∙ ap (number_at es) are.0.same ∙ none_above e.0 es ordered.0 in
+      map.get-from_entries path_cmp_total (map_list number_of es) k ∙ find-texts k es are.0.path are.1 ∙ ap (number_at es) are.0.same
+      ∙ none_above e.0 es ordered.0 in
       gathered-insert path_cmp_total by_key 0 swaps (numbers_of es) k e.1 none ∙ ap (by_key (k, e.1)) (over_entries es are.1 ordered.1)
 
-  each_key : (es : List (String Global × ℕ)) → IsPath p → AllByRecursion HasText es → gathered (λ k n. max n (levels_below (names_text p) (string_bytes k))) 0 (keys_of es) ≡ gathered by_key 0 (map_list number_of es)
+  each_key : (es : List (String Global × ℕ)) → IsPath p → AllByRecursion HasText es
+      → gathered (λ k n. max n (levels_below (names_text p) (string_bytes k))) 0 (keys_of es) ≡ gathered by_key 0 (map_list number_of es)
   each_key [] h are = refl
   each_key (e ∷ es) h are = (λ i. max (each_key es h are.1 i) (levels_key p (string_bytes e.0) h are.0 i))
 
-  pub deepest_is : (es : List (String Global × ℕ)) (m : FinMap path_cmp ℕ) (front : List ℕ) → numbers_of es ≡ m → front ≡ names_text p → IsPath p → AreTexts es → IsStrictlySortedBy string_cmp (keys_of es)
+  pub deepest_is : (es : List (String Global × ℕ)) (m : FinMap path_cmp ℕ) (front : List ℕ) → numbers_of es ≡ m → front ≡ names_text p
+      → IsPath p → AreTexts es → IsStrictlySortedBy string_cmp (keys_of es)
       → fold max 0 (map_list (λ k. levels_below front (string_bytes k)) (keys_of es)) ≡ deepest p (map.keys m)
   deepest_is es m front shows is h are ordered =
       ap (λ f. fold max 0 (map_list (λ k. levels_below f (string_bytes k)) (keys_of es))) is

@@ -22,26 +22,33 @@ use Rattle.cg_places.specs.TextKeys.{number_of, numbers_of, IsText, HasText}
 pub record AreListed (es rest : List (String Global × ℕ)) (paths : List Names) : Type 0 where
   pub texts : AllByRecursion HasText rest
   pub ordered : IsStrictlySortedBy path_cmp paths
-  pub all : (q : Names) → (list_any (is_at (path_cmp q)) paths || is_some (find path_cmp q (map_list number_of rest))) ≡ is_some (find path_cmp q (map_list number_of es))
+  pub all : (q : Names) → (list_any (is_at (path_cmp q)) paths || is_some (find path_cmp q (map_list number_of rest)))
+      ≡ is_some (find path_cmp q (map_list number_of es))
 
-pub listed_none : (es rest : List (String Global × ℕ)) (paths : List Names) → rest ≡ es → paths ≡ [] → AllByRecursion HasText es → IsStrictlySortedBy path_cmp paths → AreListed es rest paths
+pub listed_none : (es rest : List (String Global × ℕ)) (paths : List Names) → rest ≡ es → paths ≡ [] → AllByRecursion HasText es
+    → IsStrictlySortedBy path_cmp paths → AreListed es rest paths
 listed_none es rest paths same none texts ordered = record {
   ordered = ordered;
   texts = subst (AllByRecursion HasText) (sym same) texts;
   all = λ q. (λ i. list_any (is_at (path_cmp q)) (none i) || is_some (find path_cmp q (map_list number_of (same i))));
 }
 
-pub listed_text : (es rest next : List (String Global × ℕ)) (k : String Global) (v : ℕ) (paths : List Names) → AreListed es rest paths → rest ≡ (k, v) ∷ next → IsText (string_bytes k)
+pub listed_text : (es rest next : List (String Global × ℕ)) (k : String Global) (v : ℕ) (paths : List Names) → AreListed es rest paths
+    → rest ≡ (k, v) ∷ next → IsText (string_bytes k)
 listed_text es rest next k v paths so_far takes = (subst (AllByRecursion HasText) takes so_far.texts).0
 
-pub listed_more : (es rest next : List (String Global × ℕ)) (k : String Global) (v : ℕ) (path : Names) (paths more : List Names) → AreListed es rest paths → rest ≡ (k, v) ∷ next → path ≡ names_at (string_bytes k)
-    → ((q : Names) → list_any (is_at (path_cmp q)) more ≡ cond (is_at (path_cmp path) q) true (list_any (is_at (path_cmp q)) paths)) → IsStrictlySortedBy path_cmp more → AreListed es next more
+pub listed_more : (es rest next : List (String Global × ℕ)) (k : String Global) (v : ℕ) (path : Names) (paths more : List Names)
+    → AreListed es rest paths → rest ≡ (k, v) ∷ next → path ≡ names_at (string_bytes k)
+    → ((q : Names) → list_any (is_at (path_cmp q)) more ≡ cond (is_at (path_cmp path) q) true (list_any (is_at (path_cmp q)) paths))
+    → IsStrictlySortedBy path_cmp more → AreListed es next more
 listed_more es rest next k v path paths more so_far takes is new ordered = record {
   ordered = ordered;
   texts = (subst (AllByRecursion HasText) takes so_far.texts).1;
   all = λ q.
-      ap (λ b. b || is_some (find path_cmp q (map_list number_of next))) (new q ∙ ap (λ b. cond b true (list_any (is_at (path_cmp q)) paths)) (tie q))
-      ∙ moved (eq_by_cmp path_cmp q (names_at (string_bytes k))) (list_any (is_at (path_cmp q)) paths) v (find path_cmp q (map_list number_of next))
+      ap (λ b. b || is_some (find path_cmp q (map_list number_of next)))
+      (new q ∙ ap (λ b. cond b true (list_any (is_at (path_cmp q)) paths)) (tie q))
+      ∙ moved (eq_by_cmp path_cmp q (names_at (string_bytes k))) (list_any (is_at (path_cmp q)) paths) v
+      (find path_cmp q (map_list number_of next))
       ∙ ap (λ r. list_any (is_at (path_cmp q)) paths || is_some (find path_cmp q (map_list number_of r))) (sym takes) ∙ so_far.all q;
 }
   where
@@ -54,9 +61,11 @@ listed_more es rest next k v path paths more so_far takes is new ordered = recor
     moved false a v o = refl
 
 -- and once all are
-pub listed_all : (es rest : List (String Global × ℕ)) (paths : List Names) → AreListed es rest paths → rest ≡ [] → (q : Names) → list_any (is_at (path_cmp q)) paths ≡ map.contains_key (numbers_of es) q
+pub listed_all : (es rest : List (String Global × ℕ)) (paths : List Names) → AreListed es rest paths → rest ≡ [] → (q : Names)
+    → list_any (is_at (path_cmp q)) paths ≡ map.contains_key (numbers_of es) q
 listed_all es rest paths so_far none q =
-    sym (or_false (list_any (is_at (path_cmp q)) paths)) ∙ ap (λ r. list_any (is_at (path_cmp q)) paths || is_some (find path_cmp q (map_list number_of r))) (sym none) ∙ so_far.all q
+    sym (or_false (list_any (is_at (path_cmp q)) paths))
+    ∙ ap (λ r. list_any (is_at (path_cmp q)) paths || is_some (find path_cmp q (map_list number_of r))) (sym none) ∙ so_far.all q
     ∙ sym (ap is_some (map.get-from_entries path_cmp_total (map_list number_of es) q))
   where
     or_false : (b : Bool) → (b || false) ≡ b
@@ -72,7 +81,8 @@ keys_again : (ks : List Names) → map_list (λ e. e.0) (entries_of ks) ≡ ks
 keys_again [] = refl
 keys_again (k ∷ ks) = ap (λ rest. k ∷ rest) (keys_again ks)
 
-below_all-listed : (k : Names) (ks : List Names) → AllByRecursion (λ x. path_cmp k x ≡ Less) ks → below_all path_cmp k (entries_of ks) ≡ true
+below_all-listed : (k : Names) (ks : List Names) → AllByRecursion (λ x. path_cmp k x ≡ Less) ks
+    → below_all path_cmp k (entries_of ks) ≡ true
 below_all-listed k [] h = refl
 below_all-listed k (x ∷ ks) h = λ i. is_lt (h.0 i) && below_all-listed k ks h.1 i
 
@@ -84,7 +94,9 @@ is_sorted-listed (k ∷ ks) h = λ i. below_all-listed k ks h.0 i && is_sorted-l
 found_any : (q : Names) (ks : List Names) → is_some (find path_cmp q (entries_of ks)) ≡ list_any (is_at (path_cmp q)) ks
 found_any q [] = refl
 found_any q (k ∷ ks) =
-    elim (is_at (path_cmp q) k) as (λ b. is_some (cond b (Some tt) (find path_cmp q (entries_of ks))) ≡ (b || list_any (is_at (path_cmp q)) ks)) [ true ↦ refl | false ↦ found_any q ks ]
+    elim (is_at (path_cmp q) k) as
+    (λ b. is_some (cond b (Some tt) (find path_cmp q (entries_of ks))) ≡ (b || list_any (is_at (path_cmp q)) ks))
+    [ true ↦ refl | false ↦ found_any q ks ]
 
 same_units : (a b : Option (Unit {0})) → is_some a ≡ is_some b → a ≡ b
 same_units None None h = refl
@@ -92,11 +104,14 @@ same_units None (Some y) h = absurd (true≢false (sym h))
 same_units (Some x) None h = absurd (true≢false h)
 same_units (Some x) (Some y) h = refl
 
-pub keys_listed : {X : Type 0} (ks : List Names) (m : FinMap path_cmp X) → IsStrictlySortedBy path_cmp ks → ((q : Names) → list_any (is_at (path_cmp q)) ks ≡ map.contains_key m q) → ks ≡ map.keys m
+pub keys_listed : {X : Type 0} (ks : List Names) (m : FinMap path_cmp X) → IsStrictlySortedBy path_cmp ks
+    → ((q : Names) → list_any (is_at (path_cmp q)) ks ≡ map.contains_key m q) → ks ≡ map.keys m
 keys_listed ks m ordered same =
     let es = entries_of ks in
     let sorted = passes _ (is_sorted-listed ks ordered) in
     let units = map_values (λ _. tt) m in
     let maps : map.from_sorted {R = path_cmp} es ≡ units =
-    same_maps _ _ (λ q. same_units _ _ (ap is_some (map.get-from_sorted path_cmp es q sorted) ∙ found_any q ks ∙ same q ∙ sym (ap is_some (get-mapped (λ _. tt) m q) ∙ is_some-mapped (λ _. tt) (map.get m q)))) in
-    sym (keys_again ks) ∙ ap (map_list (λ e. e.0)) (sym (map.entries-from_sorted path_cmp es sorted)) ∙ ap map.keys maps ∙ keys-mapped (λ _. tt) m
+    same_maps _ _ (λ q. same_units _ _ (ap is_some (map.get-from_sorted path_cmp es q sorted) ∙ found_any q ks ∙ same q
+            ∙ sym (ap is_some (get-mapped (λ _. tt) m q) ∙ is_some-mapped (λ _. tt) (map.get m q)))) in
+    sym (keys_again ks) ∙ ap (map_list (λ e. e.0)) (sym (map.entries-from_sorted path_cmp es sorted)) ∙ ap map.keys maps
+    ∙ keys-mapped (λ _. tt) m

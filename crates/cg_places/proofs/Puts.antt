@@ -12,9 +12,11 @@ use Rattle.cg_places.specs.Links.{link_at, is_vacant, place_for, put_at, ArePlac
 use Rattle.cg_places.specs.declared.links.Link.{Link}
 
 -- an element changed through a slice of a vector
-pub set_through : {A : Type 0} (xs : Vec A) (i : ℕ) (f : A → A) (d : A) (now new : List A) → now ≡ xs.items → length new ≡ length now → new ≡ slice_set now i (f (get_or now i d))
+pub set_through : {A : Type 0} (xs : Vec A) (i : ℕ) (f : A → A) (d : A) (now new : List A) → now ≡ xs.items → length new ≡ length now
+    → new ≡ slice_set now i (f (get_or now i d))
     → (with_items xs new).items ≡ slice_set xs.items i (f (get_or xs.items i d))
-set_through xs i f d now new is long set = with_items_is xs new (omega (arith, long, ap length is, xs.ok.0)) ∙ set ∙ ap (λ ys. slice_set ys i (f (get_or ys i d))) is
+set_through xs i f d now new is long set =
+    with_items_is xs new (omega (arith, long, ap length is, xs.ok.0)) ∙ set ∙ ap (λ ys. slice_set ys i (f (get_or ys i d))) is
 
 module _ {A : Type 0} (xs : List A) (i : ℕ) (x : A) where
   pub put_here : (d : A) → i ≤ length xs → get_or (put_at xs i x) i d ≡ x
@@ -45,17 +47,20 @@ module _ {A : Type 0} (xs : List A) (i : ℕ) (x : A) where
         | false ↦ λ e. omega (arith, l, length-append xs (x ∷ []))
       ] refl
 
-pub put_paired : {A B : Type 0} (xs : List A) (ys : List B) (i : ℕ) (x : A) (y : B) → length xs ≡ length ys → length (put_at xs i x) ≡ length (put_at ys i y)
+pub put_paired : {A B : Type 0} (xs : List A) (ys : List B) (i : ℕ) (x : A) (y : B) → length xs ≡ length ys
+    → length (put_at xs i x) ≡ length (put_at ys i y)
 put_paired xs ys i x y same =
     ap (λ n. length (cond (nat_lt i n) (slice_set xs i x) (xs ++ x ∷ []))) same
-    ∙ elim (nat_lt i (length ys)) as (λ b. length (cond b (slice_set xs i x) (xs ++ x ∷ [])) ≡ length (cond b (slice_set ys i y) (ys ++ y ∷ []))) [
+    ∙ elim (nat_lt i (length ys)) as
+    (λ b. length (cond b (slice_set xs i x) (xs ++ x ∷ [])) ≡ length (cond b (slice_set ys i y) (ys ++ y ∷ []))) [
       | true ↦ length-set xs i x ∙ same ∙ sym (length-set ys i y)
       | false ↦ omega (arith, same, length-append xs (x ∷ []), length-append ys (y ∷ []))
     ]
 
 pub put_mapped : {A B : Type 0} (f : A → B) (xs : List A) (i : ℕ) (x : A) → map_list f (put_at xs i x) ≡ put_at (map_list f xs) i (f x)
 put_mapped f xs i x =
-    elim (nat_lt i (length xs)) as (λ b. map_list f (cond b (slice_set xs i x) (xs ++ x ∷ [])) ≡ cond b (slice_set (map_list f xs) i (f x)) (map_list f xs ++ f x ∷ [])) [
+    elim (nat_lt i (length xs)) as
+    (λ b. map_list f (cond b (slice_set xs i x) (xs ++ x ∷ [])) ≡ cond b (slice_set (map_list f xs) i (f x)) (map_list f xs ++ f x ∷ [])) [
       | true ↦ map-set f xs i x
       | false ↦ map_push f xs x
     ]
@@ -66,15 +71,18 @@ put_mapped f xs i x =
 pub place_fits : (links : List Link) (left : Option ℕ) → place_for links left ≤ length links
 place_fits links None = omega arith
 place_fits links (Some k) =
-    elim (nat_lt k (length links)) as (λ b. nat_lt k (length links) ≡ b → cond (b && not (nat_lt (link_at links k).above (length links))) k (length links) ≤ length links) [
+    elim (nat_lt k (length links)) as
+    (λ b. nat_lt k (length links) ≡ b → cond (b && not (nat_lt (link_at links k).above (length links))) k (length links) ≤ length links) [
       | true ↦ λ e.
           let within = ltb-true k (length links) e in
-          elim (nat_lt (link_at links k).above (length links)) as (λ b. cond (true && not b) k (length links) ≤ length links) [ true ↦ omega arith | false ↦ omega (arith, within) ]
+          elim (nat_lt (link_at links k).above (length links)) as (λ b. cond (true && not b) k (length links) ≤ length links)
+          [ true ↦ omega arith | false ↦ omega (arith, within) ]
       | false ↦ λ e. omega arith
     ] refl
 
 -- no path has it, since the parent of each path has a place
-pub nobodys : (places : FinMap path_cmp ℕ) (links : List Link) → ArePlaced places links → (left : Option ℕ) (k : ℕ) → k ≡ place_for links left → (q : Names) (j : ℕ) → map.get places q ≡ Some j → j ≢ k
+pub nobodys : (places : FinMap path_cmp ℕ) (links : List Link) → ArePlaced places links → (left : Option ℕ) (k : ℕ)
+    → k ≡ place_for links left → (q : Names) (j : ℕ) → map.get places q ≡ Some j → j ≢ k
 nobodys places links placed None k place q j has same = let here = placed.within q j has in omega (arith, here, same, place)
 nobodys places links placed (Some i) k place q j has same =
     let here = placed.within q j has in
@@ -82,7 +90,8 @@ nobodys places links placed (Some i) k place q j has same =
     elim (is_vacant links i) as (λ b. is_vacant links i ≡ b → j ≡ cond b i (length links) → ⊥) [
       | true ↦ λ e is.
           let leads : (link_at links i).above < length links = omega (arith, up, ap (λ n. (link_at links n).above) is) in
-          true≢false (sym e ∙ ap (λ b. nat_lt i (length links) && not b) (lt-ltb (link_at links i).above (length links) leads) ∙ neither (nat_lt i (length links)))
+          true≢false (sym e ∙ ap (λ b. nat_lt i (length links) && not b) (lt-ltb (link_at links i).above (length links) leads)
+            ∙ neither (nat_lt i (length links)))
       | false ↦ λ e is. omega (arith, here, is)
     ] refl (same ∙ place)
   where

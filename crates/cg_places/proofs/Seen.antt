@@ -22,22 +22,27 @@ pub length_seen : (shared : List Shared) (slots : List Slot) → length (nodes_o
 length_seen shared slots = length-map slots (node_of shared)
 
 -- one changed
-pub set_seen : (shared : List Shared) (slots : List Slot) (i : ℕ) (slot : Slot) (f : Node → Node) → node_of shared slot ≡ f (node_of shared (slot_at slots i))
+pub set_seen : (shared : List Shared) (slots : List Slot) (i : ℕ) (slot : Slot) (f : Node → Node)
+    → node_of shared slot ≡ f (node_of shared (slot_at slots i))
     → nodes_of shared (slice_set slots i slot) ≡ slice_set (nodes_of shared slots) i (f (node_at (nodes_of shared slots) i))
-set_seen shared slots i slot f new = map-set (node_of shared) slots i slot ∙ ap (slice_set (nodes_of shared slots) i) (new ∙ ap f (sym (node_seen shared slots i)))
+set_seen shared slots i slot f new =
+    map-set (node_of shared) slots i slot ∙ ap (slice_set (nodes_of shared slots) i) (new ∙ ap f (sym (node_seen shared slots i)))
 
 -- one changed in a list that shows the nodes
-pub changed_seen : (shared : List Shared) (slots new : List Slot) (old : List Node) (i : ℕ) (f : Slot → Slot) (g : Node → Node) → nodes_of shared slots ≡ old → ((slot : Slot) → node_of shared (f slot) ≡ g (node_of shared slot))
+pub changed_seen : (shared : List Shared) (slots new : List Slot) (old : List Node) (i : ℕ) (f : Slot → Slot) (g : Node → Node)
+    → nodes_of shared slots ≡ old → ((slot : Slot) → node_of shared (f slot) ≡ g (node_of shared slot))
     → new ≡ slice_set slots i (f (slot_at slots i)) → nodes_of shared new ≡ slice_set old i (g (node_at old i))
 changed_seen shared slots new old i f g view same set =
-    ap (nodes_of shared) set ∙ set_seen shared slots i (f (slot_at slots i)) g (same (slot_at slots i)) ∙ ap (λ nodes. slice_set nodes i (g (node_at nodes i))) view
+    ap (nodes_of shared) set ∙ set_seen shared slots i (f (slot_at slots i)) g (same (slot_at slots i))
+    ∙ ap (λ nodes. slice_set nodes i (g (node_at nodes i))) view
 
 pub no_share : {A : Type 0} (k : ℕ) → None ≡ Some k → A
 no_share k h = absurd (true≢false (ap is_none h))
 
 -- ---- what is shared is there
 
-pub are_set : (shared : List Shared) (slots : List Slot) (i : ℕ) (slot : Slot) → AreShared shared slots → ((k : ℕ) → slot.shared ≡ Some k → k < length shared) → i < length slots → AreShared shared (slice_set slots i slot)
+pub are_set : (shared : List Shared) (slots : List Slot) (i : ℕ) (slot : Slot) → AreShared shared slots
+    → ((k : ℕ) → slot.shared ≡ Some k → k < length shared) → i < length slots → AreShared shared (slice_set slots i slot)
 are_set shared slots i slot are new l = record {
   within = λ j k within is.
       elim (nat_eq j i) as (λ b. nat_eq j i ≡ b → k < length shared) [
@@ -46,7 +51,9 @@ are_set shared slots i slot are new l = record {
             new k (sym (ap (λ (s : Slot). s.shared) (ap (slot_at (slice_set slots i slot)) (eqb-true j i e) ∙ at)) ∙ is)
         | false ↦ λ e.
             are.within j k (omega (arith, within, length-set slots i slot))
-            (sym (ap (λ (s : Slot). s.shared) (get_or-set_other slots i j slot (new_slot no_cgroup None) (λ same. true≢false (sym (eq-eqb j i same) ∙ e)))) ∙ is)
+            (sym (ap (λ (s : Slot). s.shared)
+                              (get_or-set_other slots i j slot (new_slot no_cgroup None) (λ same. true≢false (sym (eq-eqb j i same) ∙ e))))
+                              ∙ is)
       ] refl;
 }
 
@@ -57,57 +64,73 @@ are_grown old new slots are grows = record {
       omega (arith, within, ap length grows.grown, length-append old grows.rest);
 }
 
-are_more : (shared : List Shared) (slots : List Slot) (slot : Slot) → AreShared shared slots → ((k : ℕ) → slot.shared ≡ Some k → k < length shared) → AreShared shared (slots ++ slot ∷ [])
+are_more : (shared : List Shared) (slots : List Slot) (slot : Slot) → AreShared shared slots
+    → ((k : ℕ) → slot.shared ≡ Some k → k < length shared) → AreShared shared (slots ++ slot ∷ [])
 are_more shared slots slot are new = record {
   within = λ i k l is.
       elim (nat_lt i (length slots)) as (λ b. nat_lt i (length slots) ≡ b → k < length shared) [
         | true ↦ λ e.
             let within = ltb-true i (length slots) e in
-            are.within i k within (sym (ap (λ (s : Slot). s.shared) (get_or_append_left slots (slot ∷ []) (new_slot no_cgroup None) i within)) ∙ is)
+            are.within i k within
+            (sym (ap (λ (s : Slot). s.shared) (get_or_append_left slots (slot ∷ []) (new_slot no_cgroup None) i within)) ∙ is)
         | false ↦ λ e.
             let past = ltb-false i (length slots) e in
             let last : i ≡ length slots = omega (arith, past, l, length-append slots (slot ∷ [])) in
-            new k (sym (ap (λ (s : Slot). s.shared) (ap (slot_at (slots ++ slot ∷ [])) last ∙ get_or_at slots slot [] (new_slot no_cgroup None) (length slots) refl)) ∙ is)
+            new k (sym (ap (λ (s : Slot). s.shared)
+                              (ap (slot_at (slots ++ slot ∷ [])) last
+                                                              ∙ get_or_at slots slot [] (new_slot no_cgroup None) (length slots) refl)) ∙ is)
       ] refl;
 }
 
-pub are_put : (shared : List Shared) (slots : List Slot) (i : ℕ) (slot : Slot) → AreShared shared slots → ((k : ℕ) → slot.shared ≡ Some k → k < length shared) → AreShared shared (put_at slots i slot)
+pub are_put : (shared : List Shared) (slots : List Slot) (i : ℕ) (slot : Slot) → AreShared shared slots
+    → ((k : ℕ) → slot.shared ≡ Some k → k < length shared) → AreShared shared (put_at slots i slot)
 are_put shared slots i slot are new =
-    elim (nat_lt i (length slots)) as (λ b. nat_lt i (length slots) ≡ b → AreShared shared (cond b (slice_set slots i slot) (slots ++ slot ∷ []))) [
+    elim (nat_lt i (length slots)) as
+    (λ b. nat_lt i (length slots) ≡ b → AreShared shared (cond b (slice_set slots i slot) (slots ++ slot ∷ []))) [
       | true ↦ λ e. are_set shared slots i slot are new (ltb-true i (length slots) e)
       | false ↦ λ e. are_more shared slots slot are new
     ] refl
 
 -- ---- a new one at a place
 
-pub seen_grown : (old new : List Shared) (slots : List Slot) → AreShared old slots → HasGrown old new → nodes_of new slots ≡ nodes_of old slots
+pub seen_grown : (old new : List Shared) (slots : List Slot) → AreShared old slots → HasGrown old new
+    → nodes_of new slots ≡ nodes_of old slots
 seen_grown old new slots are grows =
-    ext_get_or (new_node no_cgroup None) (nodes_of new slots) (nodes_of old slots) (length_seen new slots ∙ sym (length_seen old slots)) (λ i l.
+    ext_get_or (new_node no_cgroup None) (nodes_of new slots) (nodes_of old slots) (length_seen new slots ∙ sym (length_seen old slots)) (λ
+    i l.
     let l' : i < length slots = omega (arith, l, length_seen new slots) in
     node_seen new slots i
     ∙ one (slot_at slots i).cgroup (slot_at slots i).live (slot_at slots i).uses (slot_at slots i).shared (λ k. are.within i k l')
     ∙ sym (node_seen old slots i))
   where
     one : (row : Cgroup) (live : ℕ) (uses : Uses) (o : Option ℕ) → ((k : ℕ) → o ≡ Some k → k < length old)
-        → node_of new (record { cgroup = row; live = live; uses = uses; shared = o }) ≡ node_of old (record { cgroup = row; live = live; uses = uses; shared = o })
+        → node_of new (record { cgroup = row; live = live; uses = uses; shared = o })
+        ≡ node_of old (record { cgroup = row; live = live; uses = uses; shared = o })
     one row live uses None within = refl
     one row live uses (Some k) within =
-        let there : shared_at new k ≡ shared_at old k = ap (λ xs. shared_at xs k) grows.grown ∙ get_or_append_left old grows.rest (record { above = 0; cgroup = no_cgroup }) k (within k refl) in
+        let there : shared_at new k ≡ shared_at old k =
+            ap (λ xs. shared_at xs k) grows.grown
+            ∙ get_or_append_left old grows.rest (record { above = 0; cgroup = no_cgroup }) k (within k refl) in
         (λ t. record { cgroup = (there t).cgroup; live = live; uses = uses; kin = Some (there t).above })
 
-pub seen_put : (shared : List Shared) (slots : List Slot) (i : ℕ) (row : Cgroup) (above k : ℕ) → shared_at shared k ≡ record { above = above; cgroup = row }
+pub seen_put : (shared : List Shared) (slots : List Slot) (i : ℕ) (row : Cgroup) (above k : ℕ)
+    → shared_at shared k ≡ record { above = above; cgroup = row }
     → nodes_of shared (put_at slots i (new_slot row (Some k))) ≡ put_at (nodes_of shared slots) i (new_node row (Some above))
 seen_put shared slots i row above k is =
-    put_mapped (node_of shared) slots i (new_slot row (Some k)) ∙ ap (λ (x : Shared). put_at (nodes_of shared slots) i (new_node x.cgroup (Some x.above))) is
+    put_mapped (node_of shared) slots i (new_slot row (Some k))
+    ∙ ap (λ (x : Shared). put_at (nodes_of shared slots) i (new_node x.cgroup (Some x.above))) is
 
 -- ---- refits
 
-module _ (links : List Link) (at : ℕ) (changed : ControllerSet) (fresh : Cgroup) (shared shared' : List Shared) (slots slots' : List Slot) (are : AreShared shared slots)
+module _ (links : List Link) (at : ℕ) (changed : ControllerSet) (fresh : Cgroup) (shared shared' : List Shared) (slots slots' : List Slot)
+    (are : AreShared shared slots)
     (rows : RefitsShared at changed fresh shared shared') (own : RefitsSlots links at changed fresh slots slots') where
   share_stays : (i : ℕ) → i < length slots → (slot_at slots' i).shared ≡ (slot_at slots i).shared
   share_stays i l =
       ap (λ (s : Slot). s.shared) (own.each i l)
-      ∙ elim (links_to links at i && is_none (slot_at slots i).shared) as (λ b. (cond b (refitted_slot changed fresh (slot_at slots i)) (slot_at slots i)).shared ≡ (slot_at slots i).shared) [ true ↦ refl | false ↦ refl ]
+      ∙ elim (links_to links at i && is_none (slot_at slots i).shared) as
+      (λ b. (cond b (refitted_slot changed fresh (slot_at slots i)) (slot_at slots i)).shared ≡ (slot_at slots i).shared)
+      [ true ↦ refl | false ↦ refl ]
 
   pub are_refitted : AreShared shared' slots'
   are_refitted = record {
@@ -127,27 +150,43 @@ module _ (links : List Link) (at : ℕ) (changed : ControllerSet) (fresh : Cgrou
       ] refl
 
   own_node : (row : Cgroup) (live : ℕ) (uses : Uses) (b : Bool)
-      → node_of shared' (cond (b && true) (refitted_slot changed fresh (record { cgroup = row; live = live; uses = uses; shared = None })) (record { cgroup = row; live = live; uses = uses; shared = None }))
-      ≡ cond b (refitted_node changed fresh (record { cgroup = row; live = live; uses = uses; kin = None })) (record { cgroup = row; live = live; uses = uses; kin = None })
+      → node_of shared' (cond (b && true) (refitted_slot changed fresh (record { cgroup = row; live = live; uses = uses; shared = None }))
+        (record { cgroup = row; live = live; uses = uses; shared = None }))
+      ≡ cond b (refitted_node changed fresh (record { cgroup = row; live = live; uses = uses; kin = None }))
+      (record { cgroup = row; live = live; uses = uses; kin = None })
   own_node row live uses true = refl
   own_node row live uses false = refl
 
-  shared_node : (row : Cgroup) (live : ℕ) (uses : Uses) (k i : ℕ) → k < length shared → IsKin links i (node_of shared (record { cgroup = row; live = live; uses = uses; shared = Some k }))
-      → node_of shared' (cond (links_to links at i && false) (refitted_slot changed fresh (record { cgroup = row; live = live; uses = uses; shared = Some k })) (record { cgroup = row; live = live; uses = uses; shared = Some k }))
-      ≡ cond (links_to links at i) (refitted_node changed fresh (node_of shared (record { cgroup = row; live = live; uses = uses; shared = Some k }))) (node_of shared (record { cgroup = row; live = live; uses = uses; shared = Some k }))
+  shared_node : (row : Cgroup) (live : ℕ) (uses : Uses) (k i : ℕ) → k < length shared
+      → IsKin links i (node_of shared (record { cgroup = row; live = live; uses = uses; shared = Some k }))
+      → node_of shared' (cond (links_to links at i && false)
+        (refitted_slot changed fresh (record { cgroup = row; live = live; uses = uses; shared = Some k }))
+        (record { cgroup = row; live = live; uses = uses; shared = Some k }))
+      ≡ cond (links_to links at i)
+      (refitted_node changed fresh (node_of shared (record { cgroup = row; live = live; uses = uses; shared = Some k })))
+      (node_of shared (record { cgroup = row; live = live; uses = uses; shared = Some k }))
   shared_node row live uses k i l kin =
       let slot : Slot = record { cgroup = row; live = live; uses = uses; shared = Some k } in
       let here = shared_at shared k in
-      elim (links_to links at i) as (λ b. node_of shared' (cond (b && false) (refitted_slot changed fresh slot) slot) ≡ node_of shared' slot) [ true ↦ refl | false ↦ refl ]
-      ∙ ap (seen live uses) (rows.each k l ∙ ap (λ b. cond b (refitted_shared changed fresh here) here) (same_parent i here.above (kin here.above refl)))
-      ∙ elim (links_to links at i) as (λ b. seen live uses (cond b (refitted_shared changed fresh here) here) ≡ cond b (refitted_node changed fresh (seen live uses here)) (seen live uses here)) [ true ↦ refl | false ↦ refl ]
+      elim (links_to links at i) as
+      (λ b. node_of shared' (cond (b && false) (refitted_slot changed fresh slot) slot) ≡ node_of shared' slot)
+      [ true ↦ refl | false ↦ refl ]
+      ∙ ap (seen live uses)
+      (rows.each k l ∙ ap (λ b. cond b (refitted_shared changed fresh here) here) (same_parent i here.above (kin here.above refl)))
+      ∙ elim (links_to links at i) as (λ b. seen live uses (cond b (refitted_shared changed fresh here) here)
+              ≡ cond b (refitted_node changed fresh (seen live uses here)) (seen live uses here)) [ true ↦ refl | false ↦ refl ]
     where
       seen : ℕ → Uses → Shared → Node
       seen live uses x = record { cgroup = x.cgroup; live = live; uses = uses; kin = Some x.above }
 
-  one_node : (row : Cgroup) (live : ℕ) (uses : Uses) (o : Option ℕ) (i : ℕ) → ((k : ℕ) → o ≡ Some k → k < length shared) → IsKin links i (node_of shared (record { cgroup = row; live = live; uses = uses; shared = o }))
-      → node_of shared' (cond (links_to links at i && is_none o) (refitted_slot changed fresh (record { cgroup = row; live = live; uses = uses; shared = o })) (record { cgroup = row; live = live; uses = uses; shared = o }))
-      ≡ cond (links_to links at i) (refitted_node changed fresh (node_of shared (record { cgroup = row; live = live; uses = uses; shared = o }))) (node_of shared (record { cgroup = row; live = live; uses = uses; shared = o }))
+  one_node : (row : Cgroup) (live : ℕ) (uses : Uses) (o : Option ℕ) (i : ℕ) → ((k : ℕ) → o ≡ Some k → k < length shared)
+      → IsKin links i (node_of shared (record { cgroup = row; live = live; uses = uses; shared = o }))
+      → node_of shared' (cond (links_to links at i && is_none o)
+        (refitted_slot changed fresh (record { cgroup = row; live = live; uses = uses; shared = o }))
+        (record { cgroup = row; live = live; uses = uses; shared = o }))
+      ≡ cond (links_to links at i)
+      (refitted_node changed fresh (node_of shared (record { cgroup = row; live = live; uses = uses; shared = o })))
+      (node_of shared (record { cgroup = row; live = live; uses = uses; shared = o }))
   one_node row live uses None i within kin = own_node row live uses (links_to links at i)
   one_node row live uses (Some k) i within kin = shared_node row live uses k i (within k refl) kin
 
@@ -157,6 +196,7 @@ module _ (links : List Link) (at : ℕ) (changed : ControllerSet) (fresh : Cgrou
     each = λ i l kin.
         let l' : i < length slots = omega (arith, l, length_seen shared slots) in
         node_seen shared' slots' i ∙ ap (node_of shared') (own.each i l')
-        ∙ one_node (slot_at slots i).cgroup (slot_at slots i).live (slot_at slots i).uses (slot_at slots i).shared i (λ k. are.within i k l') (subst (IsKin links i) (node_seen shared slots i) kin)
+        ∙ one_node (slot_at slots i).cgroup (slot_at slots i).live (slot_at slots i).uses (slot_at slots i).shared i
+        (λ k. are.within i k l') (subst (IsKin links i) (node_seen shared slots i) kin)
         ∙ ap (λ n. cond (links_to links at i) (refitted_node changed fresh n) n) (sym (node_seen shared slots i));
   }

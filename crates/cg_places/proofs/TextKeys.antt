@@ -29,32 +29,41 @@ same_key : (q : Names) (t : List ℕ) → IsPath q → IsText t → eq_by_cmp pa
 same_key q t h is =
     sym (same_path-ties q (names_at t))
     ∙ same_from_decides (same_path q (names_at t)) (bytes_eq (path_text q) t) (same_path_decides q (names_at t))
-    ((λ e. path_text-injective q (names_at t) h is.path ((bytes_eq-Decides (path_text q) t).0 e ∙ sym is.same)), (λ e. (bytes_eq-Decides (path_text q) t).1 (ap path_text e ∙ is.same)))
+    ((λ e. path_text-injective q (names_at t) h is.path ((bytes_eq-Decides (path_text q) t).0 e ∙ sym is.same)),
+      (λ e. (bytes_eq-Decides (path_text q) t).1 (ap path_text e ∙ is.same)))
 
 -- a list that is no path is none of those that texts are of
 other_key : (q : Names) (t : List ℕ) → is_path q ≡ false → IsText t → eq_by_cmp path_cmp q (names_at t) ≡ false
 other_key q t h is =
     elim (eq_by_cmp path_cmp q (names_at t)) as (λ b. eq_by_cmp path_cmp q (names_at t) ≡ b → b ≡ false) [
-      | true ↦ λ e. absurd (true≢false (sym (subst IsPath (sym ((same_path_decides q (names_at t)).0 (same_path-ties q (names_at t) ∙ e))) is.path) ∙ h))
+      | true ↦
+          λ e. absurd
+          (true≢false (sym (subst IsPath (sym ((same_path_decides q (names_at t)).0 (same_path-ties q (names_at t) ∙ e))) is.path) ∙ h))
       | false ↦ λ e. refl
     ] refl
 
-pub find-texts : (q : Names) (es : List (String Global × ℕ)) → IsPath q → AllByRecursion HasText es → find path_cmp q (map_list number_of es) ≡ number_at es (path_text q)
+pub find-texts : (q : Names) (es : List (String Global × ℕ)) → IsPath q → AllByRecursion HasText es
+    → find path_cmp q (map_list number_of es) ≡ number_at es (path_text q)
 find-texts q [] h are = refl
 find-texts q (e ∷ es) h are =
-    ap (λ b. cond b (Some e.1) (find path_cmp q (map_list number_of es))) (same_key q (string_bytes e.0) h are.0 ∙ sym (is_eq-slice_cmp (path_text q) (string_bytes e.0)))
+    ap (λ b. cond b (Some e.1) (find path_cmp q (map_list number_of es)))
+    (same_key q (string_bytes e.0) h are.0 ∙ sym (is_eq-slice_cmp (path_text q) (string_bytes e.0)))
     ∙ ap (cond (is_eq (slice_cmp nat_cmp (path_text q) (string_bytes e.0))) (Some e.1)) (find-texts q es h are.1)
 
-find-none : (q : Names) (es : List (String Global × ℕ)) → is_path q ≡ false → AllByRecursion HasText es → find path_cmp q (map_list number_of es) ≡ None
+find-none : (q : Names) (es : List (String Global × ℕ)) → is_path q ≡ false → AllByRecursion HasText es
+    → find path_cmp q (map_list number_of es) ≡ None
 find-none q [] h are = refl
 find-none q (e ∷ es) h are =
     ap (λ b. cond b (Some e.1) (find path_cmp q (map_list number_of es))) (other_key q (string_bytes e.0) h are.0) ∙ find-none q es h are.1
 
-pub get-numbers : (q : Names) (es : List (String Global × ℕ)) → IsPath q → AreTexts es → map.get (numbers_of es) q ≡ number_at es (path_text q)
-get-numbers q es h are = map.get-from_entries path_cmp_total (map_list number_of es) q ∙ find-texts q es h (recursion_from_All HasText es are)
+pub get-numbers : (q : Names) (es : List (String Global × ℕ)) → IsPath q → AreTexts es
+    → map.get (numbers_of es) q ≡ number_at es (path_text q)
+get-numbers q es h are =
+    map.get-from_entries path_cmp_total (map_list number_of es) q ∙ find-texts q es h (recursion_from_All HasText es are)
 
 get-numbers-none : (q : Names) (es : List (String Global × ℕ)) → is_path q ≡ false → AreTexts es → map.get (numbers_of es) q ≡ None
-get-numbers-none q es h are = map.get-from_entries path_cmp_total (map_list number_of es) q ∙ find-none q es h (recursion_from_All HasText es are)
+get-numbers-none q es h are =
+    map.get-from_entries path_cmp_total (map_list number_of es) q ∙ find-none q es h (recursion_from_All HasText es are)
 
 chosen : {A : Type 0} (b : Bool) (x y : A) → cond b (Some x) None ≡ Some y → x ≡ y
 chosen true x y e = same_some x y e
@@ -67,7 +76,8 @@ text_is p h =
     record { path = subst IsPath (sym names) h; same = ap path_text names }
 
 -- what is found under each text changes at one path alone
-pub numbers_changed : (es fs : List (String Global × ℕ)) (p : Names) (w : Option ℕ) (m : FinMap path_cmp ℕ) → AreTexts es → AreTexts fs → IsPath p
+pub numbers_changed : (es fs : List (String Global × ℕ)) (p : Names) (w : Option ℕ) (m : FinMap path_cmp ℕ) → AreTexts es → AreTexts fs
+    → IsPath p
     → ((text : List ℕ) → number_at fs text ≡ cond (bytes_eq (path_text p) text) w (number_at es text))
     → ((q : Names) → map.get m q ≡ cond (eq_by_cmp path_cmp q p) w (map.get (numbers_of es) q))
     → numbers_of fs ≡ m
@@ -86,7 +96,8 @@ numbers_changed es fs p w m are were h found has =
     same_texts : (q : Names) → IsPath q → bytes_eq (path_text p) (path_text q) ≡ eq_by_cmp path_cmp q p
     same_texts q k =
         same_from_decides (bytes_eq (path_text p) (path_text q)) (same_path q p)
-        ((λ e. path_text-injective q p k h (sym ((bytes_eq-Decides (path_text p) (path_text q)).0 e))), (λ e. (bytes_eq-Decides (path_text p) (path_text q)).1 (sym (ap path_text e)))) (same_path_decides q p)
+        ((λ e. path_text-injective q p k h (sym ((bytes_eq-Decides (path_text p) (path_text q)).0 e))),
+                  (λ e. (bytes_eq-Decides (path_text p) (path_text q)).1 (sym (ap path_text e)))) (same_path_decides q p)
         ∙ same_path-ties q p
 
     other : (q : Names) → is_path q ≡ false → eq_by_cmp path_cmp q p ≡ false
@@ -96,12 +107,15 @@ numbers_changed es fs p w m are were h found has =
           | false ↦ λ e. refl
         ] refl
 
-pub texts_added : (es : List (String Global × ℕ)) (k : String Global) (v : ℕ) (p : Names) → AreTexts es → IsPath p → string_bytes k ≡ path_text p → AreTexts (insert_entry string_cmp es k v)
+pub texts_added : (es : List (String Global × ℕ)) (k : String Global) (v : ℕ) (p : Names) → AreTexts es → IsPath p
+    → string_bytes k ≡ path_text p → AreTexts (insert_entry string_cmp es k v)
 texts_added es k v p are h is = All-from_recursion HasText _ (added es (recursion_from_All HasText es are))
   where
     added : (es : List (String Global × ℕ)) → AllByRecursion HasText es → AllByRecursion HasText (insert_entry string_cmp es k v)
     added [] are = (subst IsText (sym is) (text_is p h), tt)
-    added (e ∷ es) are = elim (string_cmp k e.0) as (λ r. AllByRecursion HasText (match_ordering r ((k, v) ∷ e ∷ es) ((e.0, v) ∷ es) (e ∷ insert_entry string_cmp es k v))) [
+    added (e ∷ es) are =
+        elim (string_cmp k e.0) as
+        (λ r. AllByRecursion HasText (match_ordering r ((k, v) ∷ e ∷ es) ((e.0, v) ∷ es) (e ∷ insert_entry string_cmp es k v))) [
       | Less ↦ (subst IsText (sym is) (text_is p h), are)
       | Equal ↦ are
       | Greater ↦ (are.0, added es are.1)
@@ -112,9 +126,12 @@ texts_removed es test are = All-from_recursion HasText _ (removed es (recursion_
   where
     removed : (es : List (String Global × ℕ)) → AllByRecursion HasText es → AllByRecursion HasText (remove_entry test es)
     removed [] are = are
-    removed (e ∷ es) are = elim (test e.0) as (λ b. AllByRecursion HasText (cond b es (e ∷ remove_entry test es))) [ true ↦ are.1 | false ↦ (are.0, removed es are.1) ]
+    removed (e ∷ es) are =
+        elim (test e.0) as (λ b. AllByRecursion HasText (cond b es (e ∷ remove_entry test es)))
+        [ true ↦ are.1 | false ↦ (are.0, removed es are.1) ]
 
-module _ (es fs : List (String Global × ℕ)) (m : FinMap path_cmp ℕ) (shows : numbers_of es ≡ m) (p : Names) (key : List ℕ) (is : key ≡ path_text p) (h : IsPath p) (are : AreTexts es) (were : AreTexts fs) where
+module _ (es fs : List (String Global × ℕ)) (m : FinMap path_cmp ℕ) (shows : numbers_of es ≡ m) (p : Names) (key : List ℕ)
+    (is : key ≡ path_text p) (h : IsPath p) (are : AreTexts es) (were : AreTexts fs) where
   abbrev Changes : Option ℕ → Type 0
   Changes w = (text : List ℕ) → number_at fs text ≡ cond (bytes_eq key text) w (number_at es text)
 
@@ -123,11 +140,13 @@ module _ (es fs : List (String Global × ℕ)) (m : FinMap path_cmp ℕ) (shows 
 
   pub numbers_put : (v : ℕ) → Changes (Some v) → numbers_of fs ≡ map.insert m p v
   numbers_put v changes =
-      numbers_changed es fs p (Some v) (map.insert (numbers_of es) p v) are were h (at_path (Some v) changes) (λ q. map.get-insert path_cmp_total (numbers_of es) p v q) ∙ ap (λ m. map.insert m p v) shows
+      numbers_changed es fs p (Some v) (map.insert (numbers_of es) p v) are were h (at_path (Some v) changes)
+            (λ q. map.get-insert path_cmp_total (numbers_of es) p v q) ∙ ap (λ m. map.insert m p v) shows
 
   pub numbers_without : Changes None → numbers_of fs ≡ map.remove m p
   numbers_without changes =
-      numbers_changed es fs p None (map.remove (numbers_of es) p) are were h (at_path None changes) (λ q. map.get-remove path_cmp_total (numbers_of es) p q) ∙ ap (λ m. map.remove m p) shows
+      numbers_changed es fs p None (map.remove (numbers_of es) p) are were h (at_path None changes)
+            (λ q. map.get-remove path_cmp_total (numbers_of es) p q) ∙ ap (λ m. map.remove m p) shows
 
 -- no more paths than entries
 pub few_numbers : (es : List (String Global × ℕ)) → map.len (numbers_of es) ≤ length es

@@ -12,10 +12,12 @@ pub returns-in-Some : goal.returns-in-Some
 returns-in-Some c =
     let nodes = c.self.inside.nodes in
     let q = take c.args.len c.args.path.now in
-    ap Some c.cgroup.ensures ∙ ap (option_map (λ i. (node_at nodes i).cgroup)) c.in-Some.ensures ∙ sym (row_is c.self.inside.places nodes c.args.self.now c.self.view_is q)
+    ap Some c.cgroup.ensures ∙ ap (option_map (λ i. (node_at nodes i).cgroup)) c.in-Some.ensures
+    ∙ sym (row_is c.self.inside.places nodes c.args.self.now c.self.view_is q)
 
 pub returns-in-None : goal.returns-in-None
 returns-in-None c =
     let nodes = c.self.inside.nodes in
     let q = take c.args.len c.args.path.now in
-    ap (option_map (λ i. (node_at nodes i).cgroup)) c.in-None.ensures ∙ sym (row_is c.self.inside.places nodes c.args.self.now c.self.view_is q)
+    ap (option_map (λ i. (node_at nodes i).cgroup)) c.in-None.ensures
+    ∙ sym (row_is c.self.inside.places nodes c.args.self.now c.self.view_is q)

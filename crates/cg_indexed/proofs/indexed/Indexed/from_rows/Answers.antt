@@ -12,19 +12,28 @@ loop-pid-init c =
 
 pub count_live-requires : goal.count_live-requires
 count_live-requires c =
-    raised_home c.args.rows c.loop-pid.cgroups c.in-Some._pid.now c.in-Some.process.now c.next.new.self (subst (AreRaised c.args.rows c.loop-pid.cgroups) c.in-Some.ensures.steps c.loop-pid.invariant)
+    raised_home c.args.rows c.loop-pid.cgroups c.in-Some._pid.now c.in-Some.process.now c.next.new.self
+    (subst (AreRaised c.args.rows c.loop-pid.cgroups) c.in-Some.ensures.steps c.loop-pid.invariant)
     (subst IsWellFormed c.rows.view_is c.rows.invariant)
 
 pub loop-pid-preserved : goal.loop-pid-preserved
 loop-pid-preserved c =
-    raised_more c.args.rows c.loop-pid.cgroups c.in-Some._pid.now c.in-Some.process.now c.next.new.self (subst (AreRaised c.args.rows c.loop-pid.cgroups) c.in-Some.ensures.steps c.loop-pid.invariant)
-    (let few = ap (λ live. map.len live) (sym c.processes.ensures.live) in omega (arith, few, c.size-size.ensures.bound, c.size-size.ensures.small)) c.count_live.new.self c.count_live.ensures
+    raised_more c.args.rows c.loop-pid.cgroups c.in-Some._pid.now c.in-Some.process.now c.next.new.self
+    (subst (AreRaised c.args.rows c.loop-pid.cgroups) c.in-Some.ensures.steps c.loop-pid.invariant)
+    (let few = ap (λ live. map.len live) (sym c.processes.ensures.live) in
+          omega (arith, few, c.size-size.ensures.bound, c.size-size.ensures.small)) c.count_live.new.self c.count_live.ensures
 
 pub returns : goal.returns
-returns c = λ t. record { rows = c.loop-pid.invariant.cgroups t; live = c.into_processes.ensures.live t; used = c.into_processes.ensures.used t; controllers = c.controllers.ensures.controllers t }
+returns c =
+    λ t. record {rows = c.loop-pid.invariant.cgroups t;
+      live = c.into_processes.ensures.live t;
+      used = c.into_processes.ensures.used t;
+      controllers = c.controllers.ensures.controllers t}
 
 pub invariant_of-result : goal.invariant_of-result
 invariant_of-result c = record {
   formed = subst IsWellFormed (sym (returns c)) c.controllers.ensures.formed;
-  live = subst (AreCounted c.loop-pid.cgroups) (sym c.into_processes.ensures.live) (raised_all c.args.rows c.loop-pid.cgroups c.loop-pid._pid-iterator c.loop-pid.invariant c.in-None.ensures.steps.0);
+  live =
+      subst (AreCounted c.loop-pid.cgroups) (sym c.into_processes.ensures.live)
+      (raised_all c.args.rows c.loop-pid.cgroups c.loop-pid._pid-iterator c.loop-pid.invariant c.in-None.ensures.steps.0);
 }

@@ -10,4 +10,5 @@ count_below-requires-clause-there c = ap (λ s. has_row s (take c.args.len c.arg
 pub returns : goal.returns
 returns c =
     let q = take c.args.len c.args.path.now in
-    ap (nat_lt 0) (c.count_below.ensures ∙ ap (λ s. count_below s q) c.self.view_is) ∙ sym (has_child-counted c.args.self.now (subst IsWellFormed c.self.view_is c.self.invariant.formed) q)
+    ap (nat_lt 0) (c.count_below.ensures ∙ ap (λ s. count_below s q) c.self.view_is)
+    ∙ sym (has_child-counted c.args.self.now (subst IsWellFormed c.self.view_is c.self.invariant.formed) q)

@@ -8,15 +8,24 @@ use Rattle.cg_indexed.proofs.States.{enabled_there, there_by_part, put_shows, pu
 use Rattle.cg_indexed.proofs.indexed.IndexedHierarchy.set_mode.Goals as goal
 
 pub cgroup-requires : goal.cgroup-requires
-cgroup-requires c = ap (λ (s : State). is_some (row_at s c.args.path.now)) c.self.view_is ∙ there_by_part c.args.self.now c.args.path.now _ c.requires
+cgroup-requires c =
+    ap (λ (s : State). is_some (row_at s c.args.path.now)) c.self.view_is ∙ there_by_part c.args.self.now c.args.path.now _ c.requires
 
 pub set-requires : goal.set-requires
-set-requires c = enabled_there c.self.inside.cgroups c.args.path.now c.cgroup.result.now c.set_mode.new.self c.cgroup.ensures (ap (λ r. r.enabled) c.set_mode.ensures ∙ enabled-with_mode_in c.args.name c.args.mode c.cgroup.result.now)
+set-requires c =
+    enabled_there c.self.inside.cgroups c.args.path.now c.cgroup.result.now c.set_mode.new.self c.cgroup.ensures
+    (ap (λ r. r.enabled) c.set_mode.ensures ∙ enabled-with_mode_in c.args.name c.args.mode c.cgroup.result.now)
 
 pub invariant_of-self : goal.invariant_of-self
 invariant_of-self c =
-    put_indexed c.self.inside.cgroups c.self.inside.processes c.self.inside.controllers c.args.self.now c.self.view_is c.args.path.now (with_mode_in c.args.name c.args.mode) c.cgroup.result.now c.set_mode.new.self c.cgroup.ensures c.set_mode.ensures c.set.new.self c.set.ensures c.self.invariant
-    (formed-with_mode c.args.self.now c.args.path.now c.args.name c.args.mode (subst (λ n. n ≤ 511) c.get-bits.ensures.value c.get-bits.ensures.range) (subst IsWellFormed c.self.view_is c.self.invariant.formed))
+    put_indexed c.self.inside.cgroups c.self.inside.processes c.self.inside.controllers c.args.self.now c.self.view_is c.args.path.now
+    (with_mode_in c.args.name c.args.mode) c.cgroup.result.now c.set_mode.new.self c.cgroup.ensures c.set_mode.ensures c.set.new.self
+    c.set.ensures c.self.invariant
+    (formed-with_mode c.args.self.now c.args.path.now c.args.name c.args.mode
+      (subst (λ n. n ≤ 511) c.get-bits.ensures.value c.get-bits.ensures.range) (subst IsWellFormed c.self.view_is c.self.invariant.formed))
 
 pub returns : goal.returns
-returns c = put_shows c.self.inside.cgroups c.self.inside.processes c.self.inside.controllers c.args.self.now c.self.view_is c.args.path.now (with_mode_in c.args.name c.args.mode) c.cgroup.result.now c.set_mode.new.self c.cgroup.ensures c.set_mode.ensures c.set.new.self c.set.ensures
+returns c =
+    put_shows c.self.inside.cgroups c.self.inside.processes c.self.inside.controllers c.args.self.now c.self.view_is c.args.path.now
+    (with_mode_in c.args.name c.args.mode) c.cgroup.result.now c.set_mode.new.self c.cgroup.ensures c.set_mode.ensures c.set.new.self
+    c.set.ensures

@@ -11,7 +11,8 @@ within c = omega (arith, c.requires, ap length c.self.view_is, length_seen c.sel
 
 shares : (c : goal.In-Some) → (slot_at c.self.inside.slots.items c.args.at).shared ≡ Some c.in-Some.index
 shares c =
-    let slot = get_or_read c.self.inside.slots.items c.args.at c.index-slot.result.now (within c) c.index-slot.ensures (new_slot no_cgroup None) in
+    let slot =
+        get_or_read c.self.inside.slots.items c.args.at c.index-slot.result.now (within c) c.index-slot.ensures (new_slot no_cgroup None) in
     ap (λ (s : Slot). s.shared) (sym slot) ∙ c.in-Some.is
 
 pub index-requires : goal.index-requires
@@ -24,6 +25,8 @@ returns-in-Some c =
     let shared = c.self.inside.shared.items in
     let slot = slot_at c.self.inside.slots.items c.args.at in
     let l = c.self.invariant.within c.args.at c.in-Some.index (within c.before) (shares c.before) in
-    ap (λ (x : Shared). x.cgroup) (get_or_read shared c.in-Some.index c.index.result.now l c.index.ensures (record { above = 0; cgroup = no_cgroup }))
+    ap (λ (x : Shared). x.cgroup)
+    (get_or_read shared c.in-Some.index c.index.result.now l c.index.ensures (record { above = 0; cgroup = no_cgroup }))
     ∙ ap (λ o. elim o [ None ↦ slot.cgroup | Some k ↦ (shared_at shared k).cgroup ]) (sym (shares c.before))
-    ∙ ap (λ n. n.cgroup) (sym (node_seen shared c.self.inside.slots.items c.args.at)) ∙ ap (λ ns. (node_at ns c.args.at).cgroup) c.self.view_is
+    ∙ ap (λ n. n.cgroup) (sym (node_seen shared c.self.inside.slots.items c.args.at))
+    ∙ ap (λ ns. (node_at ns c.args.at).cgroup) c.self.view_is

@@ -12,6 +12,7 @@ invariant_of-self c = subst AreTexts (sym c.remove.ensures.entries) (texts_remov
 pub returns : goal.returns
 returns c =
     let key = c.prefix.ensures.text ∙ ap path_text (take_all c.depth.result c.args.path.now (omega arith)) in
-    numbers_without c.self.inside.numbers.entries c.remove.new.self.entries c.args.self.now c.self.view_is c.args.path.now c.prefix.result.now key c.prefix.ensures.path c.self.invariant
+    numbers_without c.self.inside.numbers.entries c.remove.new.self.entries c.args.self.now c.self.view_is c.args.path.now
+    c.prefix.result.now key c.prefix.ensures.path c.self.invariant
     (invariant_of-self c)
     (btree_map_updates_text c.prefix.result.now c.self.inside.numbers c.remove.new.self None c.remove.ensures.updates)
