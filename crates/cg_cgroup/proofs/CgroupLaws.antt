@@ -187,7 +187,7 @@ same-with_files_of enabled user row file h =
 pub same_cgroup : (old new : Cgroup) → SameRest old new → ((file : LimitFile) → file_of new file ≡ file_of old file) → new ≡ old
 same_cgroup old new rest files =
     let max_descendants : new.max_descendants ≡ old.max_descendants =
-        same_Some new.max_descendants old.max_descendants (files MaxDescendants) in
+    same_Some new.max_descendants old.max_descendants (files MaxDescendants) in
     let max_depth : new.max_depth ≡ old.max_depth = same_Some new.max_depth old.max_depth (files MaxDepth) in
     λ i. record {
       dir = rest.dir i;

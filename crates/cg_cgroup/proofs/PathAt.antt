@@ -20,21 +20,21 @@ split-text [] = refl
 split-text (b ∷ text) =
     ⊎_elim
     (λ is. ap names_text (slice_split-cons_yes (λ b. b == 47) b text is) ∙ ap (λ (x : List ℕ). 47 ∷ x) (split-text text)
-      ∙ ap (λ (x : ℕ). 47 ∷ x ∷ text) (sym (eqb-true b 47 is)))
+    ∙ ap (λ (x : ℕ). 47 ∷ x ∷ text) (sym (eqb-true b 47 is)))
     (λ not_is. ap names_text (slice_split-cons_no (λ b. b == 47) b text not_is)
-      ∙ onto_first-text b (slice_split (λ b. b == 47) text) text (split-text text))
+    ∙ onto_first-text b (slice_split (λ b. b == 47) text) text (split-text text))
     (cases_Bool (b == 47))
 
 pub path_at-is : (text : List ℕ) (path : Names) → path_at text ≡ Some path → IsPath path × (path_text path ≡ text)
 path_at-is text path h =
     elim (is_path (names_at text) && same_name (path_text (names_at text)) text) as
     (λ t. (is_path (names_at text) && same_name (path_text (names_at text)) text) ≡ t → cond t (Some (names_at text)) None ≡ Some path
-          → IsPath path × (path_text path ≡ text)) [
+    → IsPath path × (path_text path ≡ text)) [
       | true ↦ λ e k. let n : names_at text ≡ path = cc in
           let both = and_parts (is_path (names_at text)) (same_name (path_text (names_at text)) text) e in
           (subst IsPath n both.0, ap path_text (sym n) ∙ (bytes_decides (path_text (names_at text)) text).0 both.1)
       | false ↦ λ e k. absurd (cc)
-        ] refl h
+    ] refl h
 
 names_at-text : (path : Names) → IsPath path → names_at (path_text path) ≡ path
 names_at-text [] h = refl
@@ -45,9 +45,9 @@ pub path_at-text : (path : Names) → IsPath path → path_at (path_text path) �
 path_at-text path h =
     let e = names_at-text path h in
     let t : (is_path (names_at (path_text path)) && same_name (path_text (names_at (path_text path))) (path_text path)) ≡ true =
-        rw e
-        (and_from (is_path path) (same_name (path_text path) (path_text path)) h ((bytes_decides (path_text path) (path_text path)).1 refl))
-        in
+    rw e
+    (and_from (is_path path) (same_name (path_text path) (path_text path)) h ((bytes_decides (path_text path) (path_text path)).1 refl))
+    in
     ap (λ (x : Bool). cond x (Some (names_at (path_text path))) None) t ∙ ap Some e
 
 pub path_at-none : (text : List ℕ) (path : Names) → path_at text ≡ None → IsPath path → path_text path ≢ text

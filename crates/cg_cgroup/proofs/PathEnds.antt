@@ -74,7 +74,7 @@ name_text path text i start end spelled h s e =
     let front = names_text (take i path) in
     let n : end - (start + 1) ≡ length name = omega (arith, ap length more, length-append front (47 ∷ name)) in
     let whole : text ≡ (front ++ 47 ∷ name) ++ names_text (drop (i + 1) path) =
-        sym spelled ∙ names_text-cut path (i + 1) ∙ ap (λ (x : List ℕ). x ++ names_text (drop (i + 1) path)) more in
+    sym spelled ∙ names_text-cut path (i + 1) ∙ ap (λ (x : List ℕ). x ++ names_text (drop (i + 1) path)) more in
     rw (n, s, whole) (behind_slash front name (names_text (drop (i + 1) path)))
 
 pub path_text-names : (path : Names) → 0 < length path → path_text path ≡ names_text path
@@ -108,7 +108,7 @@ IsAscii-name (b ∷ name) h =
 pub is_name-bytes : (name : Name) → is_name name ≡ true → list_all is_name_byte name ≡ true
 is_name-bytes name h =
     (and_parts (nat_lt 0 (length name) && nat_le (length name) 255) (list_all is_name_byte name)
-      (and_parts (is_word name) (not (is_reserved name)) h).0).1
+    (and_parts (is_word name) (not (is_reserved name)) h).0).1
 
 pub IsAscii-names_text : (path : Names) → list_all is_name path ≡ true → IsAscii (names_text path)
 IsAscii-names_text [] h = IsAscii-nil

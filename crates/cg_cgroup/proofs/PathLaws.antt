@@ -73,7 +73,7 @@ common-longest (c ∷ r) (a ∷ p) (b ∷ q) h k =
     let first = and_parts (same_name c a) (inside r p) h in
     let second = and_parts (same_name c b) (inside r q) k in
     let same : same_name a b ≡ true =
-        nat_list_eq_equiv.symm a b ∙ sym (ap (same_name b) (same_name-is c a first.0)) ∙ nat_list_eq_equiv.symm b c ∙ second.0 in
+    nat_list_eq_equiv.symm a b ∙ sym (ap (same_name b) (same_name-is c a first.0)) ∙ nat_list_eq_equiv.symm b c ∙ second.0 in
     ap (λ (t : Bool). inside (c ∷ r) (cond t (a ∷ common p q) [])) same
     ∙ and_from (same_name c a) (inside r (common p q)) first.0 (common-longest r p q first.1 second.1)
 
@@ -139,7 +139,7 @@ inside_between (a ∷ p) (b ∷ q) (c ∷ r) h k l =
     let same : same_name a b ≡ true = texts_ties a b ∙ ap is_eq tie in
     let pq : is_gt (path_cmp p q) ≡ false = ap (λ (x : Ordering). is_gt (ordering_then x (path_cmp p q))) (sym tie) ∙ h in
     let qr : is_gt (path_cmp q r) ≡ false =
-        ap (λ (x : Ordering). is_gt (ordering_then x (path_cmp q r))) (sym back ∙ ap (slice_cmp nat_cmp b) names) ∙ k in
+    ap (λ (x : Ordering). is_gt (ordering_then x (path_cmp q r))) (sym back ∙ ap (slice_cmp nat_cmp b) names) ∙ k in
     and_from (same_name a b) (inside p q) same (inside_between p q r pq qr both.1)
 
 -- ---- texts

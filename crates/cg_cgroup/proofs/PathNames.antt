@@ -45,8 +45,8 @@ IsPath-from (name ∷ path) h l =
 pub IsPath-take : (path : Names) (len : ℕ) → IsPath path → IsPath (take len path)
 IsPath-take path len h =
     let both : (list_all is_name (take len path) && list_all is_name (drop len path)) ≡ true =
-        sym (list_all-append is_name (take len path) (drop len path)) ∙ ap (list_all is_name) (take-append-drop len path)
-        ∙ path_names path h in
+    sym (list_all-append is_name (take len path) (drop len path)) ∙ ap (list_all is_name) (take-append-drop len path)
+    ∙ path_names path h in
     let b = path_bytes path h in
     let l = end_le path len in
     IsPath-from (take len path) (and_parts (list_all is_name (take len path)) (list_all is_name (drop len path)) both).0 (omega arith)
@@ -74,8 +74,8 @@ pub ends_from-push : (start : ℕ) (path : Names) (name : Name)
 ends_from-push start [] name = ap (λ (x : ℕ). x ∷ []) (omega (arith, length-append name []))
 ends_from-push start (first ∷ path) name =
     let e : start + (length first + 1) + length (names_text (path ++ name ∷ []))
-        ≡ start + length (names_text (first ∷ (path ++ name ∷ []))) =
-        omega (arith, length-append first (names_text (path ++ name ∷ []))) in
+    ≡ start + length (names_text (first ∷ (path ++ name ∷ []))) =
+    omega (arith, length-append first (names_text (path ++ name ∷ []))) in
     ap (λ (x : List ℕ). (start + (length first + 1)) ∷ x)
     (ends_from-push (start + (length first + 1)) path name ∙ ap (λ (x : ℕ). ends_from (start + (length first + 1)) path ++ x ∷ []) e)
 
@@ -92,8 +92,8 @@ pub IsPath-push : (path : Names) (name : Name) → IsPath path → is_name name 
     → IsPath (path ++ name ∷ [])
 IsPath-push path name h k l =
     let names : list_all is_name (path ++ name ∷ []) ≡ true =
-        list_all-append is_name path (name ∷ [])
-        ∙ and_from (list_all is_name path) (is_name name && true) (path_names path h) (and_from (is_name name) true k refl) in
+    list_all-append is_name path (name ∷ [])
+    ∙ and_from (list_all is_name path) (is_name name && true) (path_names path h) (and_from (is_name name) true k refl) in
     IsPath-from (path ++ name ∷ []) names (omega (arith, length_push_text path name))
 
 -- too long a text, or no name
@@ -107,7 +107,7 @@ not_path-push path name bad =
     (λ long. omega (arith, path_bytes (path ++ name ∷ []) is, length_push_text path name))
     (λ no.
     let names : (list_all is_name path && (is_name name && true)) ≡ true =
-        sym (list_all-append is_name path (name ∷ [])) ∙ path_names (path ++ name ∷ []) is in
+    sym (list_all-append is_name path (name ∷ [])) ∙ path_names (path ++ name ∷ []) is in
     both_ways (is_name name) no (and_parts (is_name name) true (and_parts (list_all is_name path) (is_name name && true) names).1).0)
     bad)
 

@@ -58,9 +58,11 @@ shared_low p q len m h k l t d e =
     let front = take-take m len q k in
     let within = inside_shared p (take len q) m h (omega (arith, length-take-le len q l)) in
     let same : same_path (take m p) (take m (take len q)) ≡ true = ap (same_path (take m p)) front ∙ sym d ∙ e in
-    omega (arith,
+    omega (
+      arith,
       inside-length (take m p) (common p (take len q)) (common-longest (take m p) p (take len q) (inside-take m p) (sym within ∙ same)),
-      length-take-le m p h)
+      length-take-le m p h,
+    )
 
 -- and fewer than the length of first names that aren't
 pub shared_high : (p q : Names) (len m : ℕ) → m ≤ len → (t : Bool) → t ≡ same_path (take m p) (take m q) → t ≡ false
@@ -72,7 +74,7 @@ shared_high p q len m k t d e =
     (λ more.
     let ends : take n p ≡ take n (take len q) = sym (common-take_first p (take len q)) ∙ common-take p (take len q) in
     let same : take m p ≡ take m q =
-        sym (take-take m n p more) ∙ ap (take m) ends ∙ take-take m n (take len q) more ∙ take-take m len q k in
+    sym (take-take m n p more) ∙ ap (take m) ends ∙ take-take m n (take len q) more ∙ take-take m len q k in
     absurd (true≢false (sym ((same_path_decides (take m p) (take m q)).1 same) ∙ sym d ∙ e)))
     (cases_lt n m)
 
@@ -106,14 +108,14 @@ cmp_parted [] q h k = absurd (omega arith)
 cmp_parted (a ∷ p) [] h k = absurd (omega arith)
 cmp_parted (a ∷ p) (b ∷ q) h k =
     elim (same_name a b) as (λ t. same_name a b ≡ t → length (cond t (a ∷ common p q) []) < length (a ∷ p)
-      → length (cond t (a ∷ common p q) []) < length (b ∷ q) → path_cmp (a ∷ p) (b ∷ q)
-      ≡ slice_cmp nat_cmp (get_or (a ∷ p) (length (cond t (a ∷ common p q) [])) [])
-          (get_or (b ∷ q) (length (cond t (a ∷ common p q) [])) [])) [
+    → length (cond t (a ∷ common p q) []) < length (b ∷ q) → path_cmp (a ∷ p) (b ∷ q)
+    ≡ slice_cmp nat_cmp (get_or (a ∷ p) (length (cond t (a ∷ common p q) [])) [])
+    (get_or (b ∷ q) (length (cond t (a ∷ common p q) [])) [])) [
       | true ↦
           λ e l m. then_second (slice_cmp nat_cmp a b) (path_cmp p q) (sym (texts_ties a b) ∙ e)
           ∙ cmp_parted p q (omega arith) (omega arith)
       | false ↦ λ e l m. then_first (slice_cmp nat_cmp a b) (path_cmp p q) (sym (texts_ties a b) ∙ e)
-        ] refl h k
+    ] refl h k
 
 -- where one of the two ends there, the lengths do
 pub cmp_ended : (p q : Names) → (length (common p q) ≡ length p) ⊎ (length (common p q) ≡ length q)
@@ -123,14 +125,13 @@ cmp_ended [] (b ∷ q) h = grind (arith, nat_tests)
 cmp_ended (a ∷ p) [] h = grind (arith, nat_tests)
 cmp_ended (a ∷ p) (b ∷ q) h =
     elim (same_name a b) as (λ t. same_name a b ≡ t
-      → (length (cond t (a ∷ common p q) []) ≡ length (a ∷ p)) ⊎ (length (cond t (a ∷ common p q) []) ≡ length (b ∷ q))
-      → path_cmp (a ∷ p) (b ∷ q) ≡ nat_cmp (length (a ∷ p)) (length (b ∷ q)))
-    [
+    → (length (cond t (a ∷ common p q) []) ≡ length (a ∷ p)) ⊎ (length (cond t (a ∷ common p q) []) ≡ length (b ∷ q))
+    → path_cmp (a ∷ p) (b ∷ q) ≡ nat_cmp (length (a ∷ p)) (length (b ∷ q))) [
       | true ↦
           λ e l. then_second (slice_cmp nat_cmp a b) (path_cmp p q) (sym (texts_ties a b) ∙ e)
           ∙ cmp_ended p q (⊎_elim (λ m. inl (omega arith)) (λ m. inr (omega arith)) l) ∙ grind (arith, nat_tests)
       | false ↦ λ e l. ⊎_elim (λ m. absurd (omega arith)) (λ m. absurd (omega arith)) l
-        ] refl h
+    ] refl h
 
 -- ---- the same with p compared to the first `len` names of q, and n how many they have in common
 
@@ -147,5 +148,5 @@ order_parted p q len n a b o d h k l e f t =
     let m : n < length (take len q) = omega (arith, length-take-le len q l) in
     let parted = cmp_parted p (take len q) (omega arith) (omega arith) in
     let names : slice_cmp nat_cmp (get_or p n []) (get_or (take len q) n []) ≡ path_cmp p (take len q) =
-        ap (λ (x : ℕ). slice_cmp nat_cmp (get_or p x []) (get_or (take len q) x [])) d ∙ sym parted in
+    ap (λ (x : ℕ). slice_cmp nat_cmp (get_or p x []) (get_or (take len q) x [])) d ∙ sym parted in
     t ∙ (λ i. slice_cmp nat_cmp (e i) ((f ∙ sym (get_or-take len q n [] k)) i)) ∙ names

@@ -46,8 +46,8 @@ slashes_more start (suc i) (x ∷ text) inside =
     let at : (start + 1) + (i + 1) ≡ start + (suc i + 1) = omega arith in
     let last : List ℕ = cond (get_or text i 0 == 47) ((start + (suc i + 1)) ∷ []) [] in
     let more =
-        slashes_more (start + 1) i text (omega arith)
-        ∙ ap (λ (n : ℕ). slashes (start + 1) (take i text) ++ cond (get_or text i 0 == 47) (n ∷ []) []) at in
+    slashes_more (start + 1) i text (omega arith)
+    ∙ ap (λ (n : ℕ). slashes (start + 1) (take i text) ++ cond (get_or text i 0 == 47) (n ∷ []) []) at in
     ⊎_elim
     (λ yes.
     ap (λ c. cond c ((start + 1) ∷ slashes (start + 1) (take (suc i) text)) (slashes (start + 1) (take (suc i) text))) yes

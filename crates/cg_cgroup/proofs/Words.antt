@@ -99,7 +99,7 @@ unlisted name (listed ∷ names) dots none =
     (same_name name listed)
     (list_any (same_name name) names)
     (false_from_ne_true (same_name name listed)
-      (λ same. both_ways (dotted name) none (ap dotted ((bytes_decides name listed).0 same) ∙ parts.0)))
+    (λ same. both_ways (dotted name) none (ap dotted ((bytes_decides name listed).0 same) ∙ parts.0)))
     (unlisted name names parts.1 none)
 
 undotted : (names : Names) → list_any dotted names ≡ false → list_any is_reserved names ≡ false
@@ -120,7 +120,7 @@ dots_between (b ∷ text) none =
     ⊎_elim
     (λ is. ap (list_any dotted) (slice_split-cons_yes (λ b. b == 47) b text is) ∙ rest)
     (λ other. ap (list_any dotted) (slice_split-cons_no (λ b. b == 47) b text other)
-      ∙ dot_onto b (slice_split (λ b. b == 47) text) (omega (arith, length-slice_split (λ b. b == 47) text)) parts.0 ∙ rest)
+    ∙ dot_onto b (slice_split (λ b. b == 47) text) (omega (arith, length-slice_split (λ b. b == 47) text)) parts.0 ∙ rest)
     (cases_Bool (b == 47))
 
 pub none_reserved : (text : List ℕ) → list_any (λ b. b == 46) text ≡ false → list_any is_reserved (slice_split (λ b. b == 47) text) ≡ false

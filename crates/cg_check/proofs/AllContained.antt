@@ -42,15 +42,15 @@ of_path : (st : State) (subtrees : List Names) (fault : CheckFault) → Some fau
 of_path st [] fault h = cc
 of_path st (subtree ∷ subtrees) fault h =
     elim (is_root subtree) as (λ root. Some fault
-      ≡ first ((unless (not root) RootSubtree ++ unless (has_row st subtree) NoSuchSubtree) ++ flat_map (subtree_faults st) subtrees)
-      → IsOfPath fault) [
+    ≡ first ((unless (not root) RootSubtree ++ unless (has_row st subtree) NoSuchSubtree) ++ flat_map (subtree_faults st) subtrees)
+    → IsOfPath fault) [
       | true ↦ λ is. let same : fault ≡ RootSubtree = cc in subst IsOfPath (sym same) tt
       | false ↦
           elim (has_row st subtree) as
           (λ there. Some fault ≡ first (unless there NoSuchSubtree ++ flat_map (subtree_faults st) subtrees) → IsOfPath fault) [
-        | true ↦ λ is. of_path st subtrees fault is
-        | false ↦ λ is. let same : fault ≡ NoSuchSubtree = cc in subst IsOfPath (sym same) tt
-      ]
+            | true ↦ λ is. of_path st subtrees fault is
+            | false ↦ λ is. let same : fault ≡ NoSuchSubtree = cc in subst IsOfPath (sym same) tt
+          ]
     ] h
 
 gives_fault : (stated : Result AllAnswer CheckFault) (fault : CheckFault) → IsOfPath fault → stated ≡ Err fault
@@ -99,9 +99,10 @@ none_of_user : (st : State) (place : ℕ) (user : Identity) (from : ℕ) (subtre
     → AllByRecursion (GuardsHold st user) subtrees
 none_of_user st place user from [] none = tt
 none_of_user st place user from (subtree ∷ subtrees) none =
-    let parts = no_parts (pair_unless_contained place from (answer st user subtree)) _ none in
-    (answer-guarded st user subtree (no_pair place from (answer st user subtree) parts.0),
-      none_of_user st place user (suc from) subtrees parts.1)
+    let parts = no_parts (pair_unless_contained place from (answer st user subtree)) _ none in (
+      answer-guarded st user subtree (no_pair place from (answer st user subtree) parts.0),
+      none_of_user st place user (suc from) subtrees parts.1,
+    )
 
 none_of_users : (st : State) (from : ℕ) (users : List Identity) (subtrees : List Names) → pairs_from st from users subtrees ≡ []
     → AllByRecursion (λ user. AllByRecursion (GuardsHold st user) subtrees) users
@@ -136,7 +137,7 @@ module _ (st : State) (users : List Identity) (subtrees : List Names) (none : fi
   hold_at k d within user among =
       All-from_recursion (GuardsHold st user) subtrees
       (All-contains (λ u. AllByRecursion (GuardsHold st u) subtrees) users user
-              (All-from_recursion _ users (none_of_users st 0 users subtrees (none_of_first _ clear))) among) k d within
+      (All-from_recursion _ users (none_of_users st 0 users subtrees (none_of_first _ clear))) among) k d within
 
   formed_at : (k : ℕ) → k < length subtrees → IsWellFormed st
   formed_at k within = formed (not-none subtrees k within)
@@ -149,8 +150,8 @@ module _ (st : State) (users : List Identity) (subtrees : List Names) (none : fi
     still = λ deeds by.
         let again : All (λ subtree. IsSubtree (after_all st deeds) subtree × GuardsHoldForAll (after_all st deeds) users subtree) subtrees
         =
-            λ k d within.
-            guarded-again st users (get_or subtrees k d) deeds (formed_at k within) (sub_at k d within) (hold_at k d within) by in
+        λ k d within.
+        guarded-again st users (get_or subtrees k d) deeds (formed_at k within) (sub_at k d within) (hold_at k d within) by in
         ap (λ found. unless_fault (first found) (all_answers (after_all st deeds) users subtrees))
         (faults_none (after_all st deeds) subtrees (λ k d within. (again k d within).0))
         ∙ ap (λ found. Ok (unwrap_or (first found) all.Contained))

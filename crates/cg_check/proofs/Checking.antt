@@ -24,9 +24,10 @@ not_true false h = refl
 
 pub no_fault : (st : State) (subtree : Names) → None ≡ first (subtree_faults st subtree) → IsSubtree st subtree
 no_fault st subtree none =
-    let parts = no_parts _ _ (none_of_first (subtree_faults st subtree) (sym none)) in
-    (no_unless (has_row st subtree) NoSuchSubtree parts.1,
-      not_true (is_root subtree) (no_unless (not (is_root subtree)) RootSubtree parts.0))
+    let parts = no_parts _ _ (none_of_first (subtree_faults st subtree) (sym none)) in (
+      no_unless (has_row st subtree) NoSuchSubtree parts.1,
+      not_true (is_root subtree) (no_unless (not (is_root subtree)) RootSubtree parts.0),
+    )
 
 module _ (st : State) (user : Identity) (subtree : Names) where
   pub no_failure : None ≡ first (failures st user subtree) → GuardsHold st user subtree
@@ -42,9 +43,9 @@ module _ (st : State) (user : Identity) (subtree : Names) where
         | [] ↦ λ _. refl
         | failed ∷ others ↦
             elim (first_escape st user subtree) as (λ found. answer_from (failed ∷ others) found ≡ Contained → failed ∷ others ≡ []) [
-          | None ↦ λ h. cc
-          | Some ops ↦ λ h. cc
-        ]
+              | None ↦ λ h. cc
+              | Some ops ↦ λ h. cc
+            ]
       ] is
 
   pub checked-answer : None ≡ first (subtree_faults st subtree) → checked st user subtree ≡ Ok (answer st user subtree)
@@ -85,7 +86,7 @@ module _ (st : State) (user : Identity) (subtree : Names) (failed : Failed) (som
   by_escape found is =
       ap (answer_from (failed ∷ [])) is
       ∙ elim (failures st user subtree) as (λ all. first all ≡ Some failed
-        → answer_from (failed ∷ []) (first_escape st user subtree) ≡ answer_from all (first_escape st user subtree)) [
+      → answer_from (failed ∷ []) (first_escape st user subtree) ≡ answer_from all (first_escape st user subtree)) [
         | [] ↦ λ h. cc
         | other ∷ others ↦ λ h. let same : other ≡ failed = cc in
             elim (first_escape st user subtree) as (λ o. answer_from (failed ∷ []) o ≡ answer_from (other ∷ others) o)

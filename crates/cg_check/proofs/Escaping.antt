@@ -48,7 +48,7 @@ module _ (st : State) (user : Identity) (subtree : Names) where
     where
       by_entry : (there : Option Entry)
           → present there (λ entry.
-            cond (owns user entry && not (writes user entry)) (Chmod (take guarded.len subtree) guarded.name (opened entry.mode) ∷ []) [])
+          cond (owns user entry && not (writes user entry)) (Chmod (take guarded.len subtree) guarded.name (opened entry.mode) ∷ []) [])
           ≡ present (option_map (found guarded) there) (opening_chmod user subtree)
       by_entry None = refl
       by_entry (Some entry) = refl

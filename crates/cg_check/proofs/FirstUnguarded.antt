@@ -185,7 +185,7 @@ module _ (st : State) (users : List Identity) (subtrees : List Names) (n : ℕ) 
   one_more k d inside =
       below_more (HoldsAt st (get_or users k d) subtrees) n (below.hold k d (omega (arith, inside, fewer)))
       (λ e. at_place k d e (omega (arith, inside, fewer))
-        ∙ prefix_len_passes (is_guarded st subtree) left k d (omega (arith, inside, many)))
+      ∙ prefix_len_passes (is_guarded st subtree) left k d (omega (arith, inside, many)))
 
   front_of_next : next ≡ take (length next) users
   front_of_next = is ∙ ap (λ n. take n left) (sym many) ∙ ap (take (length next)) below.front
@@ -195,10 +195,14 @@ module _ (st : State) (users : List Identity) (subtrees : List Names) (n : ℕ) 
   below_found other = record {
     front = front_of_next;
     hold = one_more;
-    first =
-        (refl, inside, omega arith, λ d. below.hold (length next) d less,
-          λ d e. at_place (length next) d e less ∙ ap (λ k. is_guarded st subtree (get_or left k d)) many
-          ∙ prefix_len_stops (is_guarded st subtree) left d (omega (arith, less, many)));
+    first = (
+      refl,
+      inside,
+      omega arith,
+      λ d. below.hold (length next) d less,
+      λ d e. at_place (length next) d e less ∙ ap (λ k. is_guarded st subtree (get_or left k d)) many
+          ∙ prefix_len_stops (is_guarded st subtree) left d (omega (arith, less, many)),
+    );
   }
     where
       less : length next < length left

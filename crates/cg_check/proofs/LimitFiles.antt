@@ -102,17 +102,17 @@ module _ (st : State) (user : Identity) (at : Names) (name : EntryName) (entry :
       row_there =
           elim (row_at st at) as
           (λ found. option_and_then (λ row. entry_in row name) found ≡ Some entry → absent found (NoSuchCgroup (length at)) ≡ []) [
-        | None ↦ λ none. absurd (none-some entry none)
-        | Some row ↦ λ _. refl
-      ] is
+            | None ↦ λ none. absurd (none-some entry none)
+            | Some row ↦ λ _. refl
+          ] is
 
       row_named : present (row_at st at) (λ row. missing_bars row name) ≡ []
       row_named =
           elim (row_at st at) as
           (λ found. option_and_then (λ row. entry_in row name) found ≡ Some entry → present found (λ row. missing_bars row name) ≡ []) [
-        | None ↦ λ none. absurd (none-some entry none)
-        | Some row ↦ λ here. missing-none row name entry here
-      ] is
+            | None ↦ λ none. absurd (none-some entry none)
+            | Some row ↦ λ here. missing-none row name entry here
+          ] is
 
   chmod-opens : (mode : ℕ) → entry_at (after st user (Chmod at name mode)) at name ≡ Some (with_mode_of mode entry)
   chmod-opens mode =
@@ -141,7 +141,7 @@ module _ (st : State) (user : Identity) (subtree : Names) where
   one-opens new wider guarded entry is owned shut =
       let this : opening_of st user subtree guarded ≡ Chmod (take guarded.len subtree) guarded.name (opened entry.mode) ∷ [] =
       ap (λ found. present found
-              (λ e. cond (owns user e && not (writes user e)) (Chmod (take guarded.len subtree) guarded.name (opened e.mode) ∷ []) [])) is
+      (λ e. cond (owns user e && not (writes user e)) (Chmod (take guarded.len subtree) guarded.name (opened e.mode) ∷ []) [])) is
       ∙ (λ i. cond (owned i && not (shut i)) (Chmod (take guarded.len subtree) guarded.name (opened entry.mode) ∷ []) []) in
       let kept = wider.stays (take guarded.len subtree) guarded.name entry is in
       let now = kept.owned ∙ owned in (
@@ -165,12 +165,12 @@ module _ (st : State) (user : Identity) (subtree : Names) where
       let rest = flat_map (opening_of st user subtree) entries in
       let step = after_all new (by_user user first) in
       let joined : after_all step (by_user user rest) ≡ after_all new (by_user user (first ++ rest)) =
-          sym (after-append user new first rest) in (
+      sym (after-append user new first rest) in (
         (λ entry is owned shut. subst (λ s. IsOpen s guarded) joined
-          (still-open step rest (all-flat_map IsOpening (opening_of st user subtree) entries (λ g. opening-of_one st user subtree g))
+            (still-open step rest (all-flat_map IsOpening (opening_of st user subtree) entries (λ g. opening-of_one st user subtree g))
             guarded (one-opens new wider guarded entry is owned shut))),
         subst (λ s. AllByRecursion (Opens s) entries) joined
-        (all-opens entries step (wider-all user st new first wider (opening-of_one st user subtree guarded))),
+            (all-opens entries step (wider-all user st new first wider (opening-of_one st user subtree guarded))),
       )
 
   -- a limit file that he reaches is written in the opened tree
@@ -178,7 +178,7 @@ module _ (st : State) (user : Identity) (subtree : Names) where
       → (now : Entry) × (entry_at (opened_state st user subtree) subtree (File file) ≡ Some now) × (writes user now ≡ true)
   file-open file entry is reached =
       elim (writes user entry) as (λ b. writes user entry ≡ b → (b || owns user entry) ≡ true
-        → (now : Entry) × (entry_at (opened_state st user subtree) subtree (File file) ≡ Some now) × (writes user now ≡ true)) [
+      → (now : Entry) × (entry_at (opened_state st user subtree) subtree (File file) ≡ Some now) × (writes user now ≡ true)) [
         | true ↦ λ can _. let kept = (wider-opened st user subtree).stays subtree (File file) entry is in
             (kept.now, kept.is, kept.written can)
         | false ↦ λ shut owned.
@@ -210,25 +210,25 @@ module _ (st : State) (user : Identity) (subtree : Names) (file : LimitFile) (he
   set-free =
       both_none _ _ (both_none _ _ (both_none _ _ row_there file_there)
       (ap (λ found. present found (λ f. unless (writes user f.entry) (NoAccess (length subtree) (File file)))) is
-        ∙ ap (λ b. unless b (NoAccess (length subtree) (File file))) can))
+      ∙ ap (λ b. unless b (NoAccess (length subtree) (File file))) can))
       (ap (λ found. present found (λ f. unless (accepts file (other_value file held.value)) (BadValue file))) is
-        ∙ ap (λ b. unless b (BadValue file)) (other-taken file held.value))
+      ∙ ap (λ b. unless b (BadValue file)) (other-taken file held.value))
     where
       row_there : absent (row_at st subtree) (NoSuchCgroup (length subtree)) ≡ []
       row_there =
           elim (row_at st subtree) as
           (λ found. option_and_then (λ row. file_of row file) found ≡ Some held → absent found (NoSuchCgroup (length subtree)) ≡ []) [
-        | None ↦ λ none. absurd (none-some held none)
-        | Some row ↦ λ _. refl
-      ] is
+            | None ↦ λ none. absurd (none-some held none)
+            | Some row ↦ λ _. refl
+          ] is
 
       file_there : present (row_at st subtree) (λ row. absent (file_of row file) (NoSuchFile file)) ≡ []
       file_there =
           elim (row_at st subtree) as (λ found. option_and_then (λ row. file_of row file) found ≡ Some held
-            → present found (λ row. absent (file_of row file) (NoSuchFile file)) ≡ []) [
-        | None ↦ λ none. absurd (none-some held none)
-        | Some row ↦ λ here. ap (λ found. absent found (NoSuchFile file)) here
-      ] is
+          → present found (λ row. absent (file_of row file) (NoSuchFile file)) ≡ []) [
+            | None ↦ λ none. absurd (none-some held none)
+            | Some row ↦ λ here. ap (λ found. absent found (NoSuchFile file)) here
+          ] is
 
   set-breaks : breaks st user subtree (Set subtree file (other_value file held.value) ∷ []) ≡ true
   set-breaks =
@@ -256,10 +256,10 @@ module _ (st : State) (user : Identity) (subtree : Names) (file : LimitFile) (en
       let new = opened_state st user subtree in
       let now = file-open st user subtree file entry is reached in
       let held =
-          mapped_from (λ (f : LimitEntry). f.entry) (file_at new subtree file) now.0 (sym (entry_at-file new subtree file) ∙ now.1) in
+      mapped_from (λ (f : LimitEntry). f.entry) (file_at new subtree file) now.0 (sym (entry_at-file new subtree file) ∙ now.1) in
       let same : Some held.0.value ≡ Some value =
-          sym (value_at-file new subtree file ∙ ap (option_map (λ f. f.value)) held.1) ∙ (wider-opened st user subtree).values subtree file
-          ∙ has in
+      sym (value_at-file new subtree file ∙ ap (option_map (λ f. f.value)) held.1) ∙ (wider-opened st user subtree).values subtree file
+      ∙ has in
       opened-breaks st user subtree (Set subtree file (other_value file value) ∷ [])
       ∙ ap (λ v. breaks new user subtree (Set subtree file (other_value file v) ∷ [])) (sym (same_some held.0.value value same))
       ∙ set-breaks new user subtree file held.0 held.1 (ap (writes user) held.2 ∙ now.2)
@@ -268,22 +268,22 @@ module _ (st : State) (user : Identity) (subtree : Names) (file : LimitFile) (en
   file-escape none =
       let fails : List Op → Type 0 = λ ops. breaks st user subtree ops ≡ false in
       let plain =
-          all-each (λ ops. AllByRecursion fails (with_opening (opening st user subtree) ops))
-          (λ ops. fails (opening st user subtree ++ ops)) (with-opening fails (opening st user subtree)) (plain_tries st subtree)
+      all-each (λ ops. AllByRecursion fails (with_opening (opening st user subtree) ops))
+      (λ ops. fails (opening st user subtree ++ ops)) (with-opening fails (opening st user subtree)) (plain_tries st subtree)
       (all-unflat fails (with_opening (opening st user subtree)) (plain_tries st subtree)
-              (none-passes (breaks st user subtree) (tries st user subtree) none)) in
+      (none-passes (breaks st user subtree) (tries st user subtree) none)) in
       let after : List Op → Type 0 = λ ops. fails (opening st user subtree ++ ops) in
       let sets =
-          all-left after (set_tries st subtree) (control_tries subtree)
-          (all-left after (set_tries st subtree ++ control_tries subtree) _ plain.1) in
+      all-left after (set_tries st subtree) (control_tries subtree)
+      (all-left after (set_tries st subtree ++ control_tries subtree) _ plain.1) in
       let one =
-          each_file (λ f. AllByRecursion after (present (limits st subtree f) (λ value. (Set subtree f (other_value f value) ∷ []) ∷ [])))
-          (all-unflat after (λ f. present (limits st subtree f) (λ value. (Set subtree f (other_value f value) ∷ []) ∷ [])) all_files sets)
-          file in
+      each_file (λ f. AllByRecursion after (present (limits st subtree f) (λ value. (Set subtree f (other_value f value) ∷ []) ∷ [])))
+      (all-unflat after (λ f. present (limits st subtree f) (λ value. (Set subtree f (other_value f value) ∷ []) ∷ [])) all_files sets)
+      file in
       let held = mapped_from (λ (f : LimitEntry). f.entry) (file_at st subtree file) entry (sym (entry_at-file st subtree file) ∙ is) in
       let has : limits st subtree file ≡ Some held.0.value = value_at-file st subtree file ∙ ap (option_map (λ f. f.value)) held.1 in
       let this : AllByRecursion after ((Set subtree file (other_value file held.0.value) ∷ []) ∷ []) =
-          subst (λ found. AllByRecursion after (present found (λ value. (Set subtree file (other_value file value) ∷ []) ∷ []))) has one in
+      subst (λ found. AllByRecursion after (present found (λ value. (Set subtree file (other_value file value) ∷ []) ∷ []))) has one in
       true≢false (sym (opened-set held.0.value has) ∙ this.0)
 
 -- ---- what that says of an answer
@@ -303,8 +303,8 @@ file-fails st user subtree file entry is reached none =
     let empty : Guarded → Type 0 = λ guarded. entry_failures st user subtree guarded ≡ [] in
     let all = each-none (entry_failures st user subtree) (guarded_entries subtree) (no_parts _ _ none).0 in
     let files =
-        all-right empty (ancestors (length subtree)) (limit_files (length subtree))
-        (all-left empty (ancestors (length subtree) ++ limit_files (length subtree)) _ all) in
+    all-right empty (ancestors (length subtree)) (limit_files (length subtree))
+    (all-left empty (ancestors (length subtree) ++ limit_files (length subtree)) _ all) in
     let one = each_file (λ f. empty (limit_file (length subtree) f)) (all-unmap empty (limit_file (length subtree)) all_files files) file in
     true≢false
     (sym (no_unless _ _ (no_present _ _ one entry (ap (λ path. entry_at st path (File file)) (take-length subtree) ∙ is))) ∙ ap not reached)
@@ -316,8 +316,11 @@ file-escapes st user subtree file entry is reached =
     (λ found. first_escape st user subtree ≡ found → (ops : List Op) × (answer st user subtree ≡ Escapes ops)) [
       | None ↦ λ none. absurd (file-escape st user subtree file entry is reached none)
       | Some ops ↦
-          λ found. (ops, escape-answer (failures st user subtree) (first_escape st user subtree) ops
-            (file-fails st user subtree file entry is reached) found)
+          λ found. (
+            ops,
+            escape-answer (failures st user subtree) (first_escape st user subtree) ops
+                (file-fails st user subtree file entry is reached) found,
+          )
     ] refl
 
 unsettled-by : (all : List Failed) (found : Option (List Op)) (failed : Failed) → answer_from all found ≡ Unsettled failed
@@ -347,10 +350,10 @@ module _ (st : State) (user : Identity) (subtree : Names) (none : first_escape s
   may-file file =
       all-present MayFail (guarded_entry st subtree (limit_file (length subtree) file)) _ (λ entry is.
       elim (reaches user entry) as (λ b. reaches user entry ≡ b
-        → AllByRecursion MayFail (unless (not b) (record { guard = LimitFileGuard file; len = length subtree }))) [
+      → AllByRecursion MayFail (unless (not b) (record { guard = LimitFileGuard file; len = length subtree }))) [
         | true ↦
             λ reached. absurd (file-escape st user subtree file entry
-              (sym (ap (λ path. entry_at st path (File file)) (take-length subtree)) ∙ is) reached none)
+            (sym (ap (λ path. entry_at st path (File file)) (take-length subtree)) ∙ is) reached none)
         | false ↦ λ _. tt
       ] refl)
 
@@ -362,7 +365,7 @@ module _ (st : State) (user : Identity) (subtree : Names) (none : first_escape s
   may-over =
       elim (fits_descendants st subtree && fits_depth st subtree) as
       (λ b. (fits_descendants st subtree && fits_depth st subtree) ≡ b
-        → AllByRecursion MayFail (unless b (record { guard = AlreadyOver; len = length subtree }))) [
+      → AllByRecursion MayFail (unless b (record { guard = AlreadyOver; len = length subtree }))) [
         | true ↦ λ _. tt
         | false ↦ λ over. absurd (none-some [] (sym none ∙ escape-over st user subtree (ap not over)))
       ] refl

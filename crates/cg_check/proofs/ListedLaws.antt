@@ -45,7 +45,7 @@ module _ (st : State) (subtrees : List Names) where
       → take_while (is_guarded_of_all st (drop (i + 1) subtrees)) next ≡ take_while (is_guarded_of_all st (drop i subtrees)) left
   guarded_turn i subtree left next within at is =
       let here : drop i subtrees ≡ subtree ∷ drop (i + 1) subtrees =
-          drop-cons subtrees i subtree within ∙ (λ j. sym at j ∷ drop (sym (add-one i) j) subtrees) in
+      drop-cons subtrees i subtree within ∙ (λ j. sym at j ∷ drop (sym (add-one i) j) subtrees) in
       ap (take_while (is_guarded_of_all st (drop (i + 1) subtrees))) is
       ∙ while_both (is_guarded st subtree) (is_guarded_of_all st (drop (i + 1) subtrees)) left
       ∙ sym (ap (λ rest. take_while (is_guarded_of_all st rest) left) here)
@@ -54,7 +54,7 @@ module _ (st : State) (subtrees : List Names) where
       → users ≡ take_while (is_guarded_of_all st (drop i subtrees)) users
   guarded_end i users all =
       sym (ap (λ rest. take_while (is_guarded_of_all st rest) users) (drop_all subtrees i all)
-        ∙ while_all (is_guarded_of_all st []) users (λ user. refl))
+      ∙ while_all (is_guarded_of_all st []) users (λ user. refl))
 
   pub guarded_count : (users left : List Identity) → left ≡ take_while holds users → length left ≡ prefix_len holds users
   guarded_count users left is = ap length is ∙ length-prefix_len holds users
@@ -85,7 +85,7 @@ module _ (st : State) where
   none_before subtrees (user ∷ users) =
       ap (λ left. listed st left subtrees) (take_while-cons (is_guarded_of_all st subtrees) user users)
       ∙ elim (is_guarded_of_all st subtrees user) as (λ b. is_guarded_of_all st subtrees user ≡ b
-        → listed st (cond b (user ∷ take_while (is_guarded_of_all st subtrees) users) []) subtrees ≡ []) [
+      → listed st (cond b (user ∷ take_while (is_guarded_of_all st subtrees) users) []) subtrees ≡ []) [
         | true ↦
             λ holds.
             ap (λ pairs. pairs ++ listed st (take_while (is_guarded_of_all st subtrees) users) subtrees) (none_of_user user subtrees holds)
@@ -110,8 +110,8 @@ module _ (st : State) (subtree : Names) where
   no_pair from [] = refl
   no_pair from (user ∷ users) =
       elim (answer st user subtree) as (λ found. answer st user subtree ≡ found
-        → pairs_from st from (cond (is_contained found) (user ∷ unlisted st users subtree) (unlisted st users subtree)) (subtree ∷ [])
-        ≡ []) [
+      → pairs_from st from (cond (is_contained found) (user ∷ unlisted st users subtree) (unlisted st users subtree)) (subtree ∷ [])
+      ≡ []) [
         | Contained ↦
             λ is. ap
             (λ found. (pair_unless_contained from 0 found ++ []) ++ pairs_from st (suc from) (unlisted st users subtree) (subtree ∷ [])) is

@@ -66,9 +66,9 @@ level_same : (found was : Option Cgroup) → is_some found ≡ is_some was
     → option_and_then (λ row. value_in row MaxDescendants) found ≡ option_and_then (λ row. value_in row MaxDescendants) was
     → option_and_then (λ row. value_in row MaxDepth) found ≡ option_and_then (λ row. value_in row MaxDepth) was
     → (count depth len : ℕ) → present found (λ row. unless (is_under count row.max_descendants.value) (DescendantLimit len)
-      ++ unless (is_under depth row.max_depth.value) (DepthLimit len))
+    ++ unless (is_under depth row.max_depth.value) (DepthLimit len))
     ≡ present was (λ row. unless (is_under count row.max_descendants.value) (DescendantLimit len)
-      ++ unless (is_under depth row.max_depth.value) (DepthLimit len))
+    ++ unless (is_under depth row.max_depth.value) (DepthLimit len))
 level_same None None here many deep count depth len = refl
 level_same None (Some was) here many deep count depth len = absurd (true≢false (sym here))
 level_same (Some row) None here many deep count depth len = absurd (true≢false here)
@@ -83,7 +83,7 @@ child_still st new here enabled path controller h =
     let child = child_enables-row st path controller h in
     let row = some_value (row_at new child.0) (here child.0 ∙ ap is_some child.2) in
     let same : row.0.enabled ≡ child.1.enabled =
-        sym (enabled_at-row new child.0 row.0 row.1) ∙ enabled child.0 ∙ enabled_at-row st child.0 child.1 child.2 in
+    sym (enabled_at-row new child.0 row.0 row.1) ∙ enabled child.0 ∙ enabled_at-row st child.0 child.1 child.2 in
     row-child_enables new path child.0 row.0 controller row.1 child.3 (ap (λ set. enables set controller) same ∙ child.4)
 
 -- an entry of a cgroup is written, where the cgroup is there
@@ -109,7 +109,7 @@ module _ (user : Identity) (st new : State) (wider : IsWider user st new) where
   writes-stays path name entry named was row before now can =
       let kept = wider.stays path name (entry was) (ap (option_and_then (λ r. entry_in r name)) before ∙ named was) in
       let same : kept.now ≡ entry row =
-          same_some kept.now (entry row) (sym kept.is ∙ ap (option_and_then (λ r. entry_in r name)) now ∙ named row) in
+      same_some kept.now (entry row) (sym kept.is ∙ ap (option_and_then (λ r. entry_in r name)) now ∙ named row) in
       ap (writes user) (sym same) ∙ kept.written can
 
   access-stays : (path : Names) (name : EntryName) (entry : Cgroup → Entry) → ((row : Cgroup) → entry_in row name ≡ Some (entry row))
@@ -204,7 +204,7 @@ module _ (user : Identity) (st new : State) (wider : IsWider user st new) where
       (wider.values (take len path) MaxDescendants) (wider.values (take len path) MaxDepth) (count_below new (take len path))
       (length path - 1 - len) len
       ∙ ap (λ count. present (row_at st (take len path)) (λ row. unless (is_under count row.max_descendants.value) (DescendantLimit len)
-          ++ unless (is_under (length path - 1 - len) row.max_depth.value) (DepthLimit len)))
+      ++ unless (is_under (length path - 1 - len) row.max_depth.value) (DepthLimit len)))
       (count_below-same_paths st new wider.paths (take len path))
 
   limit-wider : (path : Names) (len : ℕ) → limit_bars new path len ≡ limit_bars st path len
@@ -218,9 +218,9 @@ module _ (user : Identity) (st new : State) (wider : IsWider user st new) where
       let f1 = no_parts _ _ f2.0 in
       both_none _ _ (both_none _ _ (both_none _ _
       (present_const (row_at new path) (Exists ∷ []) ∙ ap (λ b. cond b (Exists ∷ []) []) (wider.here path)
-        ∙ sym (present_const (row_at st path) (Exists ∷ [])) ∙ f1.0)
+      ∙ sym (present_const (row_at st path) (Exists ∷ [])) ∙ f1.0)
       (absent_by (row_above new path) _ ∙ ap (λ b. unless b (NoSuchCgroup (length path - 1))) (same_above path)
-        ∙ sym (absent_by (row_above st path) _) ∙ f1.1))
+      ∙ sym (absent_by (row_above st path) _) ∙ f1.1))
       (unless_none _ _ (writes_above-stays path (no_unless _ _ f2.1))))
       (present_const (row_above new path) (limit_bars new path (length path))
       ∙ (λ i. cond (same_above path i) (limit-wider path (length path) i) [])
@@ -237,9 +237,9 @@ module _ (user : Identity) (st new : State) (wider : IsWider user st new) where
       (absent-wider path (NoSuchCgroup (length path)) ∙ f1.1))
       (unless_none _ _ (writes_above-stays path (no_unless _ _ f2.1))))
       (enabled-stays path (λ s _. unless (not (has_child s path)) HasChildren)
-        (λ _. ap (λ b. unless (not b) HasChildren) (has_child-same_paths st new wider.paths path)) f3.1))
+      (λ _. ap (λ b. unless (not b) HasChildren) (has_child-same_paths st new wider.paths path)) f3.1))
       (enabled-stays path (λ s _. unless (not (has_live s path)) HasProcesses)
-        (λ _. ap (λ b. unless (not b) HasProcesses) (has_live-wider path)) f4.1)
+      (λ _. ap (λ b. unless (not b) HasProcesses) (has_live-wider path)) f4.1)
 
   -- ---- setting
 
@@ -255,13 +255,13 @@ module _ (user : Identity) (st new : State) (wider : IsWider user st new) where
       let was = row-was at row now in
       absent_by (file_of row file) (NoSuchFile file)
       ∙ unless_none _ _ (ap (λ o. is_some (option_and_then (λ r. file_of r file) o)) (sym now) ∙ same_file_there
-        ∙ ap (λ o. is_some (option_and_then (λ r. file_of r file) o)) was.1
-        ∙ no_absent _ _ (no_present (row_at st at) _ f1.1 was.0 was.1)))))
+      ∙ ap (λ o. is_some (option_and_then (λ r. file_of r file) o)) was.1
+      ∙ no_absent _ _ (no_present (row_at st at) _ f1.1 was.0 was.1)))))
       (present_none (file_at new at file) _ (λ held now.
       let was = some_value (file_at st at file) (sym same_file_there ∙ ap is_some now) in
       let kept = wider.stays at (File file) was.0.entry (entry_at-file st at file ∙ ap (option_map (λ f. f.entry)) was.1) in
       let same : kept.now ≡ held.entry =
-          same_some kept.now held.entry (sym kept.is ∙ entry_at-file new at file ∙ ap (option_map (λ f. f.entry)) now) in
+      same_some kept.now held.entry (sym kept.is ∙ entry_at-file new at file ∙ ap (option_map (λ f. f.entry)) now) in
       unless_none _ _ (ap (writes user) (sym same) ∙ kept.written (no_unless _ _ (no_present (file_at st at file) _ f2.1 was.0 was.1))))))
       (present_const (file_at new at file) (unless (accepts file value) (BadValue file))
       ∙ ap (λ b. cond b (unless (accepts file value) (BadValue file)) []) same_file_there

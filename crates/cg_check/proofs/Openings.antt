@@ -49,7 +49,7 @@ unless_free false opening ops = opening ++ ops
 -- what holds of the chmods of entries that the user owns
 pub all-opening : (st : State) (user : Identity) (subtree : Names) (P : Op → Type 0)
     → ((guarded : Guarded) (entry : Entry) → guarded_entry st subtree guarded ≡ Some entry
-      → P (Chmod (take guarded.len subtree) guarded.name (opened entry.mode)))
+    → P (Chmod (take guarded.len subtree) guarded.name (opened entry.mode)))
     → AllByRecursion P (opening st user subtree)
 all-opening st user subtree P each =
     all-flat_map P (opening_of st user subtree) (guarded_entries subtree) (λ guarded.
@@ -120,8 +120,8 @@ module _ (user : Identity) (st new : State) (wider : IsWider user st new) (subtr
       cond (nat_le (length (path_text (probe ancestor number))) 4095)
       (map (λ pid. Mkdir (probe ancestor number) ∷ Move pid (probe ancestor number) ∷ [])
       (filter (λ pid.
-          elim (option_map (λ process. process.place) (finite.get (wider.live i) pid)) [ None ↦ false | Some place ↦ inside subtree place ])
-              (finite.keys (wider.live i)))) [])
+      elim (option_map (λ process. process.place) (finite.get (wider.live i) pid)) [ None ↦ false | Some place ↦ inside subtree place ])
+      (finite.keys (wider.live i)))) [])
 
   same_probes : (len : ℕ) → probe_tries new subtree len ≡ probe_tries st subtree len
   same_probes zero = refl
@@ -185,7 +185,7 @@ find-doubled : (p : List Op → Bool) (before : List Op) (xs : List (List Op))
 find-doubled p before [] all = refl
 find-doubled p [] (ops ∷ others) all =
     elim (p ops) as (λ b. p ops ≡ b → cond b (Some ops) (find p (flat_map (with_opening []) others))
-      ≡ option_map (λ t. unless_free (p t) [] t) (cond b (Some ops) (find (λ t. p t) others))) [
+    ≡ option_map (λ t. unless_free (p t) [] t) (cond b (Some ops) (find (λ t. p t) others))) [
       | true ↦ λ _. ap Some (same (p ops))
       | false ↦ λ _. find-doubled p [] others all.1
     ] refl
@@ -200,8 +200,8 @@ find-doubled p (op ∷ before) (ops ∷ others) all =
     (cond (p (op ∷ (before ++ ops))) (Some ops) (find (λ t. p (op ∷ (before ++ t))) others))) [
       | true ↦
           λ e. sym (ap
-            (λ b. option_map (λ t. unless_free (p t) (op ∷ before) t) (cond b (Some ops) (find (λ t. p (op ∷ (before ++ t))) others)))
-                        (all.0 e) ∙ ap (λ b. Some (unless_free b (op ∷ before) ops)) e)
+          (λ b. option_map (λ t. unless_free (p t) (op ∷ before) t) (cond b (Some ops) (find (λ t. p (op ∷ (before ++ t))) others)))
+          (all.0 e) ∙ ap (λ b. Some (unless_free b (op ∷ before) ops)) e)
       | false ↦
           λ e. elim (p (op ∷ (before ++ ops))) as (λ b. cond b (Some (op ∷ (before ++ ops)))
           (find p (flat_map (with_opening (op ∷ before)) others))
@@ -238,7 +238,7 @@ module _ (st : State) (user : Identity) (subtree : Names) (whole : IsUnbroken st
       (subst (AllByRecursion (IsExact (opened_state st user subtree) user subtree))
       (same_tries user st (opened_state st user subtree) (wider-opened st user subtree) subtree)
       (exact-plain_tries (opened_state st user subtree) user subtree (unbroken-opened st user subtree whole)
-        (formed-opened st user subtree formed) (subtree-opened st user subtree sub)))
+      (formed-opened st user subtree formed) (subtree-opened st user subtree sub)))
 
   abbrev found : Option (List Op)
   found = find (breaks (opened_state st user subtree) user subtree) (plain_tries st subtree)
@@ -247,12 +247,12 @@ module _ (st : State) (user : Identity) (subtree : Names) (whole : IsUnbroken st
       ≡ option_map (λ ops. unless_free (is_free st user ops) (opening st user subtree) ops) found
   by_free =
       elim found as (λ o. found ≡ o → option_map (λ ops. unless_free (breaks st user subtree ops) (opening st user subtree) ops) o
-        ≡ option_map (λ ops. unless_free (is_free st user ops) (opening st user subtree) ops) o) [
+      ≡ option_map (λ ops. unless_free (is_free st user ops) (opening st user subtree) ops) o) [
         | None ↦ λ _. refl
         | Some ops ↦ λ e.
             let plain =
-                find-all (IsPlain st (opened_state st user subtree) user subtree) (breaks (opened_state st user subtree) user subtree)
-                (plain_tries st subtree) all_plain ops e in
+            find-all (IsPlain st (opened_state st user subtree) user subtree) (breaks (opened_state st user subtree) user subtree)
+            (plain_tries st subtree) all_plain ops e in
             ap (λ b. Some (unless_free b (opening st user subtree) ops))
             (plain.by_free (find-passes (breaks (opened_state st user subtree) user subtree) (plain_tries st subtree) ops e))
       ] refl
@@ -263,11 +263,11 @@ module _ (st : State) (user : Identity) (subtree : Names) (whole : IsUnbroken st
   first_escape-is =
       find-doubled (breaks st user subtree) (opening st user subtree) (plain_tries st subtree)
       (all-each (IsPlain st (opened_state st user subtree) user subtree) _
-        (λ ops plain h. opened-breaks st user subtree ops ∙ plain.still h) (plain_tries st subtree) all_plain)
+      (λ ops plain h. opened-breaks st user subtree ops ∙ plain.still h) (plain_tries st subtree) all_plain)
       ∙ ap (option_map (λ ops. unless_free (breaks st user subtree ops) (opening st user subtree) ops))
       (find-same (λ ops. breaks st user subtree (opening st user subtree ++ ops)) (breaks (opened_state st user subtree) user subtree)
-        (plain_tries st subtree) (opened-breaks st user subtree))
+      (plain_tries st subtree) (opened-breaks st user subtree))
       ∙ by_free
       ∙ ap (λ xs. option_map (λ ops. unless_free (is_free st user ops) (opening st user subtree) ops)
-        (find (breaks (opened_state st user subtree) user subtree) xs))
+      (find (breaks (opened_state st user subtree) user subtree) xs))
       (sym (same_tries user st (opened_state st user subtree) (wider-opened st user subtree) subtree))

@@ -71,9 +71,13 @@ module _ (st : State) (user : Identity) (subtree : Names) (whole : IsUnbroken st
   exact-control on controller = record { exact = control_try st user subtree on controller whole formed sub; tried = tt }
 
   exact-controls : AllByRecursion Exact (control_tries subtree)
-  exact-controls =
-      (exact-control false Cpu, (exact-control true Cpu,
-          (exact-control false Memory, (exact-control true Memory, (exact-control false Pids, (exact-control true Pids, tt))))))
+  exact-controls = (
+    exact-control false Cpu,
+    (
+      exact-control true Cpu,
+      (exact-control false Memory, (exact-control true Memory, (exact-control false Pids, (exact-control true Pids, tt)))),
+    ),
+  )
 
   exact-moves : AllByRecursion Exact (move_tries st subtree)
   exact-moves =
@@ -87,7 +91,7 @@ module _ (st : State) (user : Identity) (subtree : Names) (whole : IsUnbroken st
       → (place : Names) × (place_at st pid ≡ Some place) × (inside subtree place ≡ true)
   is_inside-place pid is =
       elim (place_at st pid) as (λ found. elim found as (λ _. Bool) [ None ↦ false | Some place ↦ inside subtree place ] ≡ true
-        → (place : Names) × (found ≡ Some place) × (inside subtree place ≡ true)) [
+      → (place : Names) × (found ≡ Some place) × (inside subtree place ≡ true)) [
         | None ↦ λ h. absurd (true≢false (sym h))
         | Some place ↦ λ h. (place, refl, h)
       ] is
@@ -101,8 +105,8 @@ module _ (st : State) (user : Identity) (subtree : Names) (whole : IsUnbroken st
       → Exact (Mkdir (probe (take len subtree) number) ∷ Move pid (probe (take len subtree) number) ∷ [])
   exact-probe len within number first pid is =
       let free =
-          not-false _
-          (find-passes (λ n. not (has_row st (probe (take len subtree) n))) (numbers_from 0 (length (paths_of st) + 1)) number first) in
+      not-false _
+      (find-passes (λ n. not (has_row st (probe (take len subtree) n))) (numbers_from 0 (length (paths_of st) + 1)) number first) in
       let place = is_inside-place pid is in
       record {
         exact =
@@ -118,8 +122,8 @@ module _ (st : State) (user : Identity) (subtree : Names) (whole : IsUnbroken st
       all-present Exact (free_probe st (take len subtree)) _ (λ number first.
       elim (nat_le (length (path_text (probe (take len subtree) number))) 4095) as
       (λ short. AllByRecursion Exact (cond short (map
-            (λ pid. Mkdir (probe (take len subtree) number) ∷ Move pid (probe (take len subtree) number) ∷ [])
-                      (filter (is_inside st subtree) (pids_of st))) [])) [
+      (λ pid. Mkdir (probe (take len subtree) number) ∷ Move pid (probe (take len subtree) number) ∷ [])
+      (filter (is_inside st subtree) (pids_of st))) [])) [
         | true ↦
             all-map_filter Exact (λ pid. Mkdir (probe (take len subtree) number) ∷ Move pid (probe (take len subtree) number) ∷ [])
             (is_inside st subtree) (pids_of st) (exact-probe len within number first)
@@ -136,10 +140,10 @@ module _ (st : State) (user : Identity) (subtree : Names) (whole : IsUnbroken st
   exact-plain_tries = (
     exact-empty,
     all-append Exact (set_tries st subtree ++ control_tries subtree)
-    ((Rmdir subtree ∷ []) ∷ (move_tries st subtree ++ probe_tries st subtree (length subtree)))
+        ((Rmdir subtree ∷ []) ∷ (move_tries st subtree ++ probe_tries st subtree (length subtree)))
         (all-append Exact (set_tries st subtree) (control_tries subtree) exact-sets exact-controls) (
           record { exact = with_true _ _ (rmdir_try st user subtree whole); tried = tt },
           all-append Exact (move_tries st subtree) (probe_tries st subtree (length subtree)) exact-moves
-          (exact-probes (length subtree) (omega arith)),
+              (exact-probes (length subtree) (omega arith)),
         ),
   )

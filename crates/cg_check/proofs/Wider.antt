@@ -78,7 +78,7 @@ module _ (user : Identity) (st new : State) (wider : IsWider user st new) (at : 
   stays-free free path other entry kept true is =
       let same = and_parts (same_path at path) (same_entry name other) is in
       let found : entry_at new at name ≡ Some kept.now =
-          (λ i. entry_at new (same_path-is at path same.0 i) (same_entry-true name other same.1 i)) ∙ kept.is in
+      (λ i. entry_at new (same_path-is at path same.0 i) (same_entry-true name other same.1 i)) ∙ kept.is in
       let owned = no_unless _ _ (no_present (entry_at new at name) _ (no_parts _ _ free).1 kept.now found) in
       record {
         now = with_mode_of mode kept.now;
@@ -101,7 +101,7 @@ module _ (user : Identity) (st new : State) (wider : IsWider user st new) (at : 
     stays = λ path other entry is.
         after-by new user (Chmod at name mode) (λ s. Stays user entry (entry_at s path other))
         (λ free. subst (Stays user entry) (sym (entry_at-with_mode new at name mode path other))
-          (stays-free free path other entry (wider.stays path other entry is) (same_path at path && same_entry name other) refl))
+        (stays-free free path other entry (wider.stays path other entry is) (same_path at path && same_entry name other) refl))
         (wider.stays path other entry is);
   }
 

@@ -52,12 +52,12 @@ module _ (places : FinMap path_cmp ℕ) (links : List Link) (placed : ArePlaced 
   pub none_below : (p : Names) → map.get places p ≡ None → count_by (below p) (map.keys places) ≡ 0
   none_below p none =
       count-none (below p) (map.keys places) (⊎_elim (λ (some : list_any (below p) (map.keys places) ≡ true). absurd (no_one some))
-        (λ (h : list_any (below p) (map.keys places) ≡ false). h) (cases_Bool (list_any (below p) (map.keys places))))
+      (λ (h : list_any (below p) (map.keys places) ≡ false). h) (cases_Bool (list_any (below p) (map.keys places))))
     where
       no_one : list_any (below p) (map.keys places) ≡ true → ⊥
       no_one some =
           let found =
-              any_entry path_cmp_total (λ e. below p e.0) places (sym (list_any-map (below p) (λ e. e.0) (map.entries places)) ∙ some) in
+          any_entry path_cmp_total (λ e. below p e.0) places (sym (list_any-map (below p) (λ e. e.0) (map.entries places)) ∙ some) in
           let q = found.0 in
           let is_part = (inside_decides p q).0 (first_so (inside p q) _ found.3) in
           let size = inside-length p q (first_so (inside p q) _ found.3) in
@@ -99,9 +99,9 @@ module _ (places : FinMap path_cmp ℕ) (links : List Link) (nodes : List Node) 
       (λ q j has. ap (λ l. l.above) (same_link q j has))
       (λ q j has. ap (λ l. l.below) (same_link q j has))
       (λ q j has. ap (λ l. l.max_descendants) (same_link q j has) ∙ kept.descendants q j has
-        ∙ ap (λ n. n.cgroup.max_descendants.value) (sym (same_node q j has)))
+      ∙ ap (λ n. n.cgroup.max_descendants.value) (sym (same_node q j has)))
       (λ q j has. ap (λ l. l.max_depth) (same_link q j has) ∙ kept.depths q j has
-        ∙ ap (λ n. n.cgroup.max_depth.value) (sym (same_node q j has)))
+      ∙ ap (λ n. n.cgroup.max_depth.value) (sym (same_node q j has)))
       (λ q j has. ap enabled_of (same_node q j has))
       (λ q j has. ap (λ n. n.uses) (same_node q j has))
       (λ q j has a of. sym (ap (λ n. n.kin) (same_node q j has)) ∙ of)
@@ -175,7 +175,7 @@ module _ (places : FinMap path_cmp ℕ) (links : List Link) (nodes : List Node) 
     above = λ q j is.
         ⊎_elim
         (λ h. ap (λ x. map.get next (parent x)) h.0 ∙ parent_next
-          ∙ ap (λ n. Some n.above) (sym (ap (link_at pushed_links) h.1 ∙ new_link_there)))
+        ∙ ap (λ n. Some n.above) (sym (ap (link_at pushed_links) h.1 ∙ new_link_there)))
         (λ h.
         let up = kept.placed.above q j h.1 in
         next_other (parent q) (old_other (parent q) _ up) ∙ up ∙ ap (λ n. Some n.above) (sym (old_link q j h.1))) (which q j is);
@@ -245,7 +245,7 @@ module _ (places : FinMap path_cmp ℕ) (links : List Link) (nodes : List Node) 
       ∙ count_below-with_row (tree_of old) p row
       (ap is_some (row_is places nodes old refl p ∙ ap (option_map (λ j. (node_at nodes j).cgroup)) none)) q
       ∙ (λ t. cond (below_parent q p root t) (1 + count_by (below q) (paths_are places nodes old refl t))
-        (count_by (below q) (paths_are places nodes old refl t)))
+      (count_by (below q) (paths_are places nodes old refl t)))
     where
       keys_next : map.keys (with_row (tree_of (values_of held_of places nodes)) p row).rows ≡ map.keys next
       keys_next =
@@ -267,12 +267,12 @@ module _ (places : FinMap path_cmp ℕ) (links : List Link) (nodes : List Node) 
       ap (λ b. (cond b ((tallied_link More) (link_at pushed_links j)) (link_at pushed_links j)).below) out
       ∙ ap (λ n. n.below) (ap (link_at pushed_links) h.1 ∙ new_link_there)
       ∙ sym (ap (λ b. cond b (1 + count_by (below q) (map.keys places)) (count_by (below q) (map.keys places))) out
-        ∙ ap (λ x. count_by (below x) (map.keys places)) h.0 ∙ none_below places links kept.placed p none))
+      ∙ ap (λ x. count_by (below x) (map.keys places)) h.0 ∙ none_below places links kept.placed p none))
       (λ h.
       let old = ap (λ n. n.below) (old_link q j h.1) ∙ kept.below q j h.1 in
       let small = few_below q in
       elim (inside q (parent p)) as (λ b. (cond b ((tallied_link More) (link_at pushed_links j)) (link_at pushed_links j)).below
-        ≡ cond b (1 + count_by (below q) (map.keys places)) (count_by (below q) (map.keys places))) [
+      ≡ cond b (1 + count_by (below q) (map.keys places)) (count_by (below q) (map.keys places))) [
         | true ↦ omega (arith, old, small)
         | false ↦ old
       ]) (which q j is)
@@ -286,8 +286,14 @@ module _ (places : FinMap path_cmp ℕ) (links : List Link) (nodes : List Node) 
       let most = few_uses sets q q controller in
       let same : map.len sets ≡ map.len places =
       let long = ap length (keys-values enabled_of places nodes) in
-      omega (arith, long, length-map (map.entries sets) (λ e. e.0), length-map (map.entries places) (λ e. e.0), map.len-entries sets,
-              map.len-entries places) in
+      omega (
+        arith,
+        long,
+        length-map (map.entries sets) (λ e. e.0),
+        length-map (map.entries places) (λ e. e.0),
+        map.len-entries sets,
+        map.len-entries places,
+      ) in
       omega arith
 
   uses_next : (q : Names) (j : ℕ) → map.get next q ≡ Some j → (controller : Controller)
@@ -295,13 +301,13 @@ module _ (places : FinMap path_cmp ℕ) (links : List Link) (nodes : List Node) 
   uses_next q j is controller =
       let u = child_uses sets q controller in
       let afresh =
-          ap (λ m. child_uses m q controller) sets_next
-          ∙ uses-insert sets p row.enabled (value_none enabled_of places nodes p none) q controller
+      ap (λ m. child_uses m q controller) sets_next
+      ∙ uses-insert sets p row.enabled (value_none enabled_of places nodes p none) q controller
       ∙ ap (λ b. cond (b && enables row.enabled controller) (1 + u) u) (is_child-parents q p root) in
       ap (λ n. uses_of n.uses controller) (node_after q j is)
       ∙ elim (same_path q (parent p)) as (λ b. same_path q (parent p) ≡ b
-        → uses_of (cond b (recounted no_controllers row.enabled (node_at pushed_nodes i)) (node_at pushed_nodes j)).uses controller
-        ≡ cond (b && enables row.enabled controller) (1 + u) u) [
+      → uses_of (cond b (recounted no_controllers row.enabled (node_at pushed_nodes i)) (node_at pushed_nodes j)).uses controller
+      ≡ cond (b && enables row.enabled controller) (1 + u) u) [
         | true ↦ λ e.
             let at_parent : map.get places q ≡ Some i = ap (map.get places) (same_path-is q (parent p) e) ∙ parent_is in
             let was = ap (λ n. uses_of n.uses controller) (old_node q i at_parent) ∙ kept.uses q i at_parent controller in
@@ -312,7 +318,7 @@ module _ (places : FinMap path_cmp ℕ) (links : List Link) (nodes : List Node) 
             (λ h.
             ap (λ n. uses_of n.uses controller) (ap (node_at pushed_nodes) h.1 ∙ new_node_there) ∙ nothing controller
             ∙ sym (ap (λ x. child_uses sets x controller) h.0 ∙ no_uses-childless sets p p controller
-              (λ r child. value_none enabled_of places nodes r (no_child_there places links kept.placed p none r child))))
+            (λ r child. value_none enabled_of places nodes r (no_child_there places links kept.placed p none r child))))
             (λ h. ap (λ n. uses_of n.uses controller) (old_node q j h.1) ∙ kept.uses q j h.1 controller) (which q j is)
       ] refl
       ∙ sym afresh
@@ -335,7 +341,7 @@ module _ (places : FinMap path_cmp ℕ) (links : List Link) (nodes : List Node) 
       kept_link g same q j is
       ∙ ⊎_elim
       (λ w. ap g (ap (link_at pushed_links) w.1 ∙ new_link_there) ∙ new
-        ∙ ap (λ n. h n.cgroup) (sym (ap (node_at pushed_nodes) w.1 ∙ new_node_there)))
+      ∙ ap (λ n. h n.cgroup) (sym (ap (node_at pushed_nodes) w.1 ∙ new_node_there)))
       (λ w. ap g (old_link q j w.1) ∙ old q j w.1 ∙ ap (λ n. h n.cgroup) (sym (old_node q j w.1))) (which q j is)
       ∙ ap h (sym (cgroup_after q j is))
 
@@ -345,21 +351,21 @@ module _ (places : FinMap path_cmp ℕ) (links : List Link) (nodes : List Node) 
   new_kin : (q : Names) (j : ℕ) → map.get next q ≡ Some j → j ≡ k → IsKin after_links j (node_at after_nodes j)
   new_kin q j is last a has =
       let share_is : share ≡ Some a =
-          sym (kept_of (λ n. n.kin) refl q j is ∙ ap (λ n. n.kin) (ap (node_at pushed_nodes) last ∙ new_node_there)) ∙ has in
+      sym (kept_of (λ n. n.kin) refl q j is ∙ ap (λ n. n.kin) (ap (node_at pushed_nodes) last ∙ new_node_there)) ∙ has in
       let up : (link_at after_links j).above ≡ a =
-          above_after q j is ∙ ap (λ l. l.above) (ap (link_at pushed_links) last ∙ new_link_there) ∙ sym (parents a share_is) in
+      above_after q j is ∙ ap (λ l. l.above) (ap (link_at pushed_links) last ∙ new_link_there) ∙ sym (parents a share_is) in
       both_true (eq-eqb (link_at after_links j).above a up)
       (elim (nat_eq j a) as (λ b. nat_eq j a ≡ b → not b ≡ true) [
-          | true ↦ λ e. let same = eqb-true j a e in absurd (free (parent p) i parent_is (sym (parents a share_is) ∙ sym same ∙ last))
-          | false ↦ λ e. refl
-                ] refl)
+        | true ↦ λ e. let same = eqb-true j a e in absurd (free (parent p) i parent_is (sym (parents a share_is) ∙ sym same ∙ last))
+        | false ↦ λ e. refl
+      ] refl)
 
   kin_next : (q : Names) (j : ℕ) → map.get next q ≡ Some j → IsKin after_links j (node_at after_nodes j)
   kin_next q j is =
       ⊎_elim (λ h. new_kin q j is h.1)
       (λ h. kin_reread links after_links j (node_at nodes j) (node_at after_nodes j)
-        (kept_of (λ n. n.kin) refl q j is ∙ ap (λ n. n.kin) (old_node q j h.1)) (above_after q j is ∙ ap (λ l. l.above) (old_link q j h.1))
-              (kept.kin q j h.1)) (which q j is)
+      (kept_of (λ n. n.kin) refl q j is ∙ ap (λ n. n.kin) (old_node q j h.1)) (above_after q j is ∙ ap (λ l. l.above) (old_link q j h.1))
+      (kept.kin q j h.1)) (which q j is)
 
   pub kept_next : AreKept next after_links after_nodes
   kept_next = record {

@@ -73,18 +73,18 @@ module _ (row : Cgroup) where
         ∙ sym (ap (λ x. count_by (below x) (map.keys one)) o.0 ∙ count-none (below []) (map.keys one) (none_other (below []) refl));
     descendants =
         λ q j is. let o =
-            only q j is in ap (λ k. (link_at first_links k).max_descendants) o.1
-            ∙ ap (λ k. (node_at first_nodes k).cgroup.max_descendants.value) (sym o.1);
+        only q j is in ap (λ k. (link_at first_links k).max_descendants) o.1
+        ∙ ap (λ k. (node_at first_nodes k).cgroup.max_descendants.value) (sym o.1);
     depths =
         λ q j is. let o =
-            only q j is in ap (λ k. (link_at first_links k).max_depth) o.1
-            ∙ ap (λ k. (node_at first_nodes k).cgroup.max_depth.value) (sym o.1);
+        only q j is in ap (λ k. (link_at first_links k).max_depth) o.1
+        ∙ ap (λ k. (node_at first_nodes k).cgroup.max_depth.value) (sym o.1);
     uses = λ q j is controller.
         let o = only q j is in
         ap (λ k. uses_of (node_at first_nodes k).uses controller) o.1 ∙ nothing controller
         ∙ sym (ap (λ x. child_uses (values_of enabled_of one first_nodes) x controller) o.0
-          ∙ no_uses-childless (values_of enabled_of one first_nodes) [] [] controller
-          (λ r child. value_none enabled_of one first_nodes r (no_other r child)));
+        ∙ no_uses-childless (values_of enabled_of one first_nodes) [] [] controller
+        (λ r child. value_none enabled_of one first_nodes r (no_other r child)));
     kin = λ q j is a has. absurd (true≢false (ap is_none (sym (ap (λ k. (node_at first_nodes k).kin) (only q j is).1) ∙ has)));
   }
     where

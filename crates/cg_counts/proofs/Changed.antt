@@ -78,28 +78,28 @@ module _ (places : FinMap path_cmp ℕ) (links links' : List Link) (nodes nodes'
     (above : (q : Names) (j : ℕ) → map.get places q ≡ Some j → (link_at links' j).above ≡ (link_at links j).above)
     (below : (q : Names) (j : ℕ) → map.get places q ≡ Some j → (link_at links' j).below ≡ (link_at links j).below)
     (descendants : (q : Names) (j : ℕ) → map.get places q ≡ Some j
-      → (link_at links' j).max_descendants ≡ (node_at nodes' j).cgroup.max_descendants.value)
+    → (link_at links' j).max_descendants ≡ (node_at nodes' j).cgroup.max_descendants.value)
     (depths : (q : Names) (j : ℕ) → map.get places q ≡ Some j → (link_at links' j).max_depth ≡ (node_at nodes' j).cgroup.max_depth.value)
     (enabled : (q : Names) (j : ℕ) → map.get places q ≡ Some j → enabled_of (node_at nodes' j) ≡ enabled_of (node_at nodes j))
     (uses : (q : Names) (j : ℕ) → map.get places q ≡ Some j → (node_at nodes' j).uses ≡ (node_at nodes j).uses)
     (kin : (q : Names) (j : ℕ) → map.get places q ≡ Some j → (a : ℕ) → (node_at nodes' j).kin ≡ Some a → (node_at nodes j).kin ≡ Some a)
-    where
-  pub kept_reread : AreKept places links' nodes'
-  kept_reread = record {
-    placed = record {
-      within = λ p i is. let l = kept.placed.within p i is in omega (arith, l, long);
-      apart = kept.placed.apart;
-      above = λ p i is. kept.placed.above p i is ∙ ap Some (sym (above p i is));
-    };
-    paired = paired;
-    below = λ p i is. below p i is ∙ kept.below p i is;
-    descendants = descendants;
-    depths = depths;
-    uses = λ p i is controller.
-        ap (λ u. uses_of u controller) (uses p i is) ∙ kept.uses p i is controller
-        ∙ ap (λ sets. child_uses sets p controller) (values_same enabled_of places nodes nodes' (λ q j has. sym (enabled q j has)));
-    kin = λ p i is a has. ap (λ x. nat_eq x a && not (nat_eq i a)) (above p i is) ∙ kept.kin p i is a (kin p i is a has);
-  }
+  where
+    pub kept_reread : AreKept places links' nodes'
+    kept_reread = record {
+      placed = record {
+        within = λ p i is. let l = kept.placed.within p i is in omega (arith, l, long);
+        apart = kept.placed.apart;
+        above = λ p i is. kept.placed.above p i is ∙ ap Some (sym (above p i is));
+      };
+      paired = paired;
+      below = λ p i is. below p i is ∙ kept.below p i is;
+      descendants = descendants;
+      depths = depths;
+      uses = λ p i is controller.
+          ap (λ u. uses_of u controller) (uses p i is) ∙ kept.uses p i is controller
+          ∙ ap (λ sets. child_uses sets p controller) (values_same enabled_of places nodes nodes' (λ q j has. sym (enabled q j has)));
+      kin = λ p i is a has. ap (λ x. nat_eq x a && not (nat_eq i a)) (above p i is) ∙ kept.kin p i is a (kin p i is a has);
+    }
 
 -- ---- a node changed in what is kept by nothing else
 
@@ -158,7 +158,7 @@ module _ (places : FinMap path_cmp ℕ) (links : List Link) (nodes : List Node) 
   limit_of g h new old q j has =
       ap g (link_set places links kept.placed p i is (with_limits row (link_at links i)) q j has)
       ∙ elim (same_path q p) as (λ b. g (cond b (with_limits row (link_at links i)) (link_at links j))
-              ≡ h (cond b (with_cgroup row (node_at nodes i)) (node_at nodes j)).cgroup) [ true ↦ new | false ↦ old q j has ]
+      ≡ h (cond b (with_cgroup row (node_at nodes i)) (node_at nodes j)).cgroup) [ true ↦ new | false ↦ old q j has ]
       ∙ ap (λ n. h n.cgroup) (sym (node_set places links kept.placed p i is nodes (with_cgroup row (node_at nodes i)) kept.paired q j has))
 
   pub kept_put : AreKept places put_links put_nodes
@@ -172,12 +172,12 @@ module _ (places : FinMap path_cmp ℕ) (links : List Link) (nodes : List Node) 
       (kept_of_node places links kept.placed p i is enabled_of nodes (with_cgroup row (node_at nodes i)) kept.paired same)
       (kept_of_node places links kept.placed p i is (λ n. n.uses) nodes (with_cgroup row (node_at nodes i)) kept.paired refl)
       (λ q j has a of. kin_of_either (same_path q p) (with_cgroup row (node_at nodes i)) (node_at nodes j) a refl
-        (sym (ap (λ n. n.kin) (node_set places links kept.placed p i is nodes (with_cgroup row (node_at nodes i)) kept.paired q j has))
-          ∙ of))
+      (sym (ap (λ n. n.kin) (node_set places links kept.placed p i is nodes (with_cgroup row (node_at nodes i)) kept.paired q j has))
+      ∙ of))
 
   pub held_put : values_of held_of places put_nodes ≡ change_held (values_of held_of places nodes) p (with_row_of row)
   held_put =
       values_change held_of places nodes put_nodes p i (with_row_of row) is
       (ap held_of (node_here places links kept.placed p i is nodes (with_cgroup row (node_at nodes i)) kept.paired))
       (λ q j apart has.
-        ap held_of (node_past places links kept.placed p i is nodes (with_cgroup row (node_at nodes i)) kept.paired q j apart has))
+      ap held_of (node_past places links kept.placed p i is nodes (with_cgroup row (node_at nodes i)) kept.paired q j apart has))

@@ -137,11 +137,11 @@ module _ (f : Link → Link) (keeps : (n : Link) → (f n).above ≡ n.above) wh
     changed_at (suc n) p i links placed is size q j has =
         let l = placed.within p i is in
         let deeper =
-            λ (root : is_root p ≡ false). changed_at n (parent p) (link_at links i).above (bumped links i) (placed_bumped links i l placed)
-            (placed.above p i is) (omega (arith, length-parent p root)) q j has in
+        λ (root : is_root p ≡ false). changed_at n (parent p) (link_at links i).above (bumped links i) (placed_bumped links i l placed)
+        (placed.above p i is) (omega (arith, length-parent p root)) q j has in
         ap (λ ns. link_at ns j) (changed_turn n i links l)
         ∙ elim (same_path q p) as (λ b. same_path q p ≡ b → link_at (changed_up f (bumped links i) (link_at links i).above n) j
-          ≡ cond (inside q p) (f (link_at links j)) (link_at links j)) [
+        ≡ cond (inside q p) (f (link_at links j)) (link_at links j)) [
           | true ↦ λ e.
               let is_p = same_path-is q p e in
               let same : j ≡ i = same_some j i (sym has ∙ ap (map.get places) is_p ∙ is) in
@@ -161,7 +161,7 @@ module _ (f : Link → Link) (keeps : (n : Link) → (f n).above ≡ n.above) wh
 
         -- the rest of the climb leaves the path's own place
         here : (is_root p ≡ false → link_at (changed_up f (bumped links i) (link_at links i).above n) j
-              ≡ cond (inside q (parent p)) (f (link_at (bumped links i) j)) (link_at (bumped links i) j))
+            ≡ cond (inside q (parent p)) (f (link_at (bumped links i) j)) (link_at (bumped links i) j))
             → q ≡ p → link_at (changed_up f (bumped links i) (link_at links i).above n) j ≡ link_at (bumped links i) j
         here deeper is_p =
             elim (is_root p) as
@@ -173,13 +173,13 @@ module _ (f : Link → Link) (keeps : (n : Link) → (f n).above ≡ n.above) wh
             ] refl
 
         there : (is_root p ≡ false → link_at (changed_up f (bumped links i) (link_at links i).above n) j
-              ≡ cond (inside q (parent p)) (f (link_at (bumped links i) j)) (link_at (bumped links i) j))
+            ≡ cond (inside q (parent p)) (f (link_at (bumped links i) j)) (link_at (bumped links i) j))
             → q ≢ p → j ≢ i → link_at (changed_up f (bumped links i) (link_at links i).above n) j
             ≡ cond (inside q p) (f (link_at links j)) (link_at links j)
         there deeper apart other =
             let past = past_bumped links i (placed.within p i is) j other in
             elim (is_root p) as (λ b. is_root p ≡ b → link_at (changed_up f (bumped links i) (link_at links i).above n) j
-              ≡ cond (inside q p) (f (link_at links j)) (link_at links j)) [
+            ≡ cond (inside q p) (f (link_at links j)) (link_at links j)) [
               | true ↦ λ root.
                   ap (λ m. link_at (changed_up f (bumped links i) (link_at links i).above m) j) (root_size root) ∙ past
                   ∙ ap (λ b. cond b (f (link_at links j)) (link_at links j))

@@ -123,7 +123,7 @@ module _ (places : FinMap path_cmp ℕ) (links : List Link) (nodes : List Node) 
   cgroup_of_set q j has =
       ap (λ n. n.cgroup) (node_of_set q j has)
       ∙ elim (same_path q p) as (λ b. same_path q p ≡ b → (cond b (enabling_node enabled (node_at nodes i)) (node_at nodes j)).cgroup
-        ≡ cond b (enabling_these enabled (node_at nodes j).cgroup) (node_at nodes j).cgroup) [
+      ≡ cond b (enabling_these enabled (node_at nodes j).cgroup) (node_at nodes j).cgroup) [
         | true ↦ λ e. ap (enabling_these enabled) (here (λ n. n.cgroup) q j has e)
         | false ↦ λ e. refl
       ] refl
@@ -147,7 +147,7 @@ module _ (places : FinMap path_cmp ℕ) (links : List Link) (nodes : List Node) 
         | true ↦ refl
         | false ↦
             ap g (node_set places links kept.placed (parent p) above parent_is set (recounted had enabled (node_at set above)) paired_set q
-              j has)
+            j has)
             ∙ elim (same_path q (parent p)) as
             (λ b. same_path q (parent p) ≡ b → g (cond b (recounted had enabled (node_at set above)) (node_at set j)) ≡ g (node_at set j)) [
               | true ↦
@@ -167,9 +167,9 @@ module _ (places : FinMap path_cmp ℕ) (links : List Link) (nodes : List Node) 
   length_after : length after ≡ length links
   length_after =
       elim (nat_eq above i) as (λ b. length (cond b set (slice_set set above (recounted had enabled (node_at set above)))) ≡ length links) [
-    | true ↦ paired_set
-    | false ↦ length-set set above (recounted had enabled (node_at set above)) ∙ paired_set
-  ]
+        | true ↦ paired_set
+        | false ↦ length-set set above (recounted had enabled (node_at set above)) ∙ paired_set
+      ]
 
   kin_before : (q : Names) (j : ℕ) → map.get places q ≡ Some j → (a : ℕ) → (node_at after j).kin ≡ Some a → (node_at nodes j).kin ≡ Some a
   kin_before q j has a is =
@@ -193,8 +193,14 @@ module _ (places : FinMap path_cmp ℕ) (links : List Link) (nodes : List Node) 
       let most = few_uses sets q q controller in
       let long = ap length (keys-values enabled_of places nodes) in
       let same : map.len sets ≡ map.len places =
-      omega (arith, long, length-map (map.entries sets) (λ e. e.0), length-map (map.entries places) (λ e. e.0), map.len-entries sets,
-              map.len-entries places) in
+      omega (
+        arith,
+        long,
+        length-map (map.entries sets) (λ e. e.0),
+        length-map (map.entries places) (λ e. e.0),
+        map.len-entries sets,
+        map.len-entries places,
+      ) in
       fewer (is_child q p && enables had controller) (without q controller) (child_uses sets q controller) (before q controller)
       (omega arith)
     where
@@ -211,23 +217,23 @@ module _ (places : FinMap path_cmp ℕ) (links : List Link) (nodes : List Node) 
       ap (λ b. uses_of (node_at (cond b set (slice_set set above (recounted had enabled (node_at set above)))) j).uses controller)
       own_parent
       ∙ elim (is_root p) as (λ b. is_root p ≡ b → uses_of
-        (node_at (cond b set (slice_set set above (recounted had enabled (node_at set above)))) j).uses controller
-        ≡ cond (is_child q p && enables enabled controller) (1 + r) r) [
+      (node_at (cond b set (slice_set set above (recounted had enabled (node_at set above)))) j).uses controller
+      ≡ cond (is_child q p && enables enabled controller) (1 + r) r) [
         | true ↦ λ root.
             let no_parent : is_child q p ≡ false =
-                elim (is_child q p) as (λ b. is_child q p ≡ b → b ≡ false)
-                [ true ↦ λ c. absurd (true≢false (sym root ∙ is_root-is_child q p c)) | false ↦ λ c. refl ] refl in
+            elim (is_child q p) as (λ b. is_child q p ≡ b → b ≡ false)
+            [ true ↦ λ c. absurd (true≢false (sym root ∙ is_root-is_child q p c)) | false ↦ λ c. refl ] refl in
             was ∙ ap (λ b. cond (b && enables had controller) (1 + r) r) no_parent
             ∙ sym (ap (λ b. cond (b && enables enabled controller) (1 + r) r) no_parent)
         | false ↦ λ root.
             ap (λ n. uses_of n.uses controller) (node_set places links kept.placed (parent p) above parent_is set
-              (recounted had enabled (node_at set above)) paired_set q j has)
+            (recounted had enabled (node_at set above)) paired_set q j has)
             ∙ elim (same_path q (parent p)) as (λ b. same_path q (parent p) ≡ b → is_child q p ≡ b
-              → uses_of (cond b (recounted had enabled (node_at set above)) (node_at set j)).uses controller
-              ≡ cond (is_child q p && enables enabled controller) (1 + r) r) [
+            → uses_of (cond b (recounted had enabled (node_at set above)) (node_at set j)).uses controller
+            ≡ cond (is_child q p && enables enabled controller) (1 + r) r) [
               | true ↦ λ e c.
                   let same : above ≡ j =
-                      same_some above j (sym parent_is ∙ ap (map.get places) (sym (same_path-is q (parent p) e)) ∙ has) in
+                  same_some above j (sym parent_is ∙ ap (map.get places) (sym (same_path-is q (parent p) e)) ∙ has) in
                   recount_exact had enabled (node_at set above).uses controller r
                   (ap (λ k. uses_of (node_at set k).uses controller) same ∙ was ∙ ap (λ b. cond (b && enables had controller) (1 + r) r) c)
                   (few_without q controller)
@@ -246,13 +252,13 @@ module _ (places : FinMap path_cmp ℕ) (links : List Link) (nodes : List Node) 
       elim (is_child p q) as (λ b. is_child p q ≡ b → links_to links i j ≡ b) [
         | true ↦ λ child.
             let up : (link_at links j).above ≡ i =
-                same_some (link_at links j).above i (sym (kept.placed.above q j has) ∙ ap (map.get places) (parent-is_child p q child) ∙ is)
-                in
+            same_some (link_at links j).above i (sym (kept.placed.above q j has) ∙ ap (map.get places) (parent-is_child p q child) ∙ is)
+            in
             let other : nat_eq j i ≡ false =
             elim (nat_eq j i) as (λ b. nat_eq j i ≡ b → b ≡ false) [
               | true ↦
                   λ e. absurd (true≢false
-                    (sym child ∙ ap (is_child p) (kept.placed.apart q p i (has ∙ ap Some (eqb-true j i e)) is) ∙ is_child-itself p))
+                  (sym child ∙ ap (is_child p) (kept.placed.apart q p i (has ∙ ap Some (eqb-true j i e)) is) ∙ is_child-itself p))
               | false ↦ λ e. refl
             ] refl in
             (λ t. eq-eqb (link_at links j).above i up t && not (other t))
@@ -282,15 +288,15 @@ module _ (places : FinMap path_cmp ℕ) (links : List Link) (nodes : List Node) 
       elim (is_child p q) as (λ b. is_child p q ≡ b → b ≡ false) [
         | true ↦ λ child.
             let one =
-                list_any-map (below p) (λ e. e.0) (map.entries places)
-                ∙ entry_any path_cmp-IsAntisymmetric (λ e. below p e.0) places q j has (below-is_child p q child) in
+            list_any-map (below p) (λ e. e.0) (map.entries places)
+            ∙ entry_any path_cmp-IsAntisymmetric (λ e. below p e.0) places q j has (below-is_child p q child) in
             let none = any-count (below p) (map.keys places) ∙ ap (nat_lt 0) (sym (kept.below p i is) ∙ nothing) in
             absurd (true≢false (sym one ∙ none))
         | false ↦ λ e. refl
       ] refl
 
   module _ (last : List Node) (long : length last ≡ length links) (refits : (q : Names) (j : ℕ) → map.get places q ≡ Some j
-              → node_at last j ≡ cond (is_child p q) (fitted_node enabled user (node_at after j)) (node_at after j)) where
+      → node_at last j ≡ cond (is_child p q) (fitted_node enabled user (node_at after j)) (node_at after j)) where
     rest_last : {A : Type 0} (g : Node → A) → ((n : Node) → g (fitted_node enabled user n) ≡ g n) → (q : Names) (j : ℕ)
         → map.get places q ≡ Some j → g (node_at last j) ≡ g (node_at after j)
     rest_last g same q j has =
@@ -312,15 +318,15 @@ module _ (places : FinMap path_cmp ℕ) (links : List Link) (nodes : List Node) 
               ∙ cgroup_after q j has ∙ ap (λ b. cond b (enabling_these enabled (node_at nodes j).cgroup) (node_at nodes j).cgroup) e
           | false ↦ λ e.
               let old =
-                  cgroup_after q j has ∙ ap (λ b. cond b (enabling_these enabled (node_at nodes j).cgroup) (node_at nodes j).cgroup) e in
+              cgroup_after q j has ∙ ap (λ b. cond b (enabling_these enabled (node_at nodes j).cgroup) (node_at nodes j).cgroup) e in
               elim (is_child p q) as (λ b. (cond b (fitted_node enabled user (node_at after j)) (node_at after j)).cgroup
-                ≡ cond b (with_files_of enabled user (node_at nodes j).cgroup) (node_at nodes j).cgroup) [
+              ≡ cond b (with_files_of enabled user (node_at nodes j).cgroup) (node_at nodes j).cgroup) [
                 | true ↦ ap (with_files_of enabled user) old
                 | false ↦ old
               ]
         ] refl
         ∙ ap (λ b. cond b (enabling_these enabled (node_at nodes j).cgroup)
-                  (cond (is_child p q) (with_files_of enabled user (node_at nodes j).cgroup) (node_at nodes j).cgroup)) (same_path_comm q p)
+        (cond (is_child p q) (with_files_of enabled user (node_at nodes j).cgroup) (node_at nodes j).cgroup)) (same_path_comm q p)
 
     pub held_enabled : values_of held_of places last ≡ change_each_held (enabling_held p enabled user) (values_of held_of places nodes)
     held_enabled =
@@ -334,7 +340,7 @@ module _ (places : FinMap path_cmp ℕ) (links : List Link) (nodes : List Node) 
     set_last q j has =
         rest_last enabled_of (λ n. refl) q j has ∙ ap (λ (r : Cgroup). r.enabled) (cgroup_after q j has)
         ∙ elim (same_path q p) as (λ b. (cond b (enabling_these enabled (node_at nodes j).cgroup) (node_at nodes j).cgroup).enabled
-                  ≡ cond b enabled (node_at nodes j).cgroup.enabled) [ true ↦ refl | false ↦ refl ]
+        ≡ cond b enabled (node_at nodes j).cgroup.enabled) [ true ↦ refl | false ↦ refl ]
 
     sets_last : values_of enabled_of places last ≡ map.insert sets p enabled
     sets_last =
@@ -393,8 +399,8 @@ module _ (places : FinMap path_cmp ℕ) (links : List Link) (nodes : List Node) 
     fitted_after q j has child file =
         ap (λ r. is_some (file_of r file)) (cgroup_after q j has)
         ∙ elim (same_path q p) as (λ b.
-          is_some (file_of (cond b (enabling_these enabled (node_at nodes j).cgroup) (node_at nodes j).cgroup) file)
-          ≡ is_some (file_of (node_at nodes j).cgroup file)) [
+        is_some (file_of (cond b (enabling_these enabled (node_at nodes j).cgroup) (node_at nodes j).cgroup) file)
+        ≡ is_some (file_of (node_at nodes j).cgroup file)) [
           | true ↦ files_stay (node_at nodes j).cgroup file
           | false ↦ refl
         ]
@@ -411,7 +417,7 @@ module _ (places : FinMap path_cmp ℕ) (links : List Link) (nodes : List Node) 
         r.each j (omega (arith, l, length_after)) (λ a is. kept.kin q j has a (kin_before q j has a is))
         ∙ ap (λ b. cond b (refitted_node changed fresh (node_at after j)) (node_at after j)) (links_to_is q j has)
         ∙ elim (is_child p q) as (λ b. is_child p q ≡ b → cond b (refitted_node changed fresh (node_at after j)) (node_at after j)
-          ≡ cond b (fitted_node enabled user (node_at after j)) (node_at after j)) [
+        ≡ cond b (fitted_node enabled user (node_at after j)) (node_at after j)) [
           | true ↦
               λ child. ap (λ (r : Cgroup). record (node_at after j) { cgroup = r })
               (files_from had enabled user (node_at after j).cgroup (fitted_after q j has child))

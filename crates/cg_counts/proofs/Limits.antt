@@ -35,9 +35,12 @@ module _ (places : FinMap path_cmp ℕ) (links : List Link) (placed : ArePlaced 
   further k None free none =
       λ j l.
       ⊎_elim (λ (same : j ≡ suc k). ap (is_full st path len) same ∙ free) (λ (other : j ≢ suc k). none j (omega arith)) (cases_eq j (suc k))
-  further k (Some n) free some =
-      (let l = some.0 in omega arith, some.1, λ j h l. ⊎_elim (λ (same : j ≡ suc k). ap (is_full st path len) same ∙ free)
-        (λ (other : j ≢ suc k). some.2 j h (omega arith)) (cases_eq j (suc k)))
+  further k (Some n) free some = (
+    let l = some.0 in omega arith,
+    some.1,
+    λ j h l. ⊎_elim (λ (same : j ≡ suc k). ap (is_full st path len) same ∙ free)
+        (λ (other : j ≢ suc k). some.2 j h (omega arith)) (cases_eq j (suc k)),
+  )
 
   climb_is : (k at : ℕ) → k ≤ length path → map.get places (take k path) ≡ Some at → Answers k (climbed links len at k)
   climb_is zero at short is =
@@ -52,11 +55,11 @@ module _ (places : FinMap path_cmp ℕ) (links : List Link) (placed : ArePlaced 
       let up = ap (map.get places) (sym (parent_take path k (omega arith))) ∙ placed.above (take (suc k) path) at is in
       subst (Answers (suc k))
       (sym (ap (λ b.
-              cond b (cond (is_full_link (link_at links at) (len - suc k)) (Some (suc k)) (climbed links len (link_at links at).above k))
-              None) l
+      cond b (cond (is_full_link (link_at links at) (len - suc k)) (Some (suc k)) (climbed links len (link_at links at).above k))
+      None) l
       ∙ ap (λ b. cond b (Some (suc k)) (climbed links len (link_at links at).above k)) (full (suc k) at is)))
       (here (suc k) (climbed links len (link_at links at).above k)
-        (λ e. further k (climbed links len (link_at links at).above k) e (climb_is k (link_at links at).above (omega arith) up)))
+      (λ e. further k (climbed links len (link_at links at).above k) e (climb_is k (link_at links at).above (omega arith) up)))
 
   pub climb_finds : (at : ℕ) → len ≤ length path → map.get places (take len path) ≡ Some at
       → MatchOption (climbed links len at len) (NoneIsFull st path len) (IsNearestFull st path len)

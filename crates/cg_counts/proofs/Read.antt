@@ -78,11 +78,11 @@ module _ (places : FinMap path_cmp ℕ) (nodes : List Node) (m : FinMap path_cmp
         let p = take k path in
         let row = row_is p ∙ ap (option_map (λ i. (node_at nodes i).cgroup)) is in
         (λ t. is_full_link (record
-            { above = 0; below = count_is p at is t; max_descendants = kept.descendants p at is t; max_depth = kept.depths p at is t })
-          (len - k))
+        { above = 0; below = count_is p at is t; max_descendants = kept.descendants p at is t; max_depth = kept.depths p at is t })
+        (len - k))
         ∙ ap (λ o. elim o as (λ _. Bool)
-                  [ None ↦ false | Some r ↦ bars_child (count_below (tree_of m) p) r.max_descendants.value (len - k) r.max_depth.value ])
-                  (sym row)
+        [ None ↦ false | Some r ↦ bars_child (count_below (tree_of m) p) r.max_descendants.value (len - k) r.max_depth.value ])
+        (sym row)
 
 -- the place of a path is that of a node
 pub place_within : (places : FinMap path_cmp ℕ) (links : List Link) (nodes : List Node) → AreKept places links nodes → (p : Names) (i : ℕ)

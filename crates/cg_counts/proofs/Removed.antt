@@ -68,8 +68,8 @@ module _ (places : FinMap path_cmp ℕ) (links : List Link) (nodes : List Node) 
         | true ↦ λ e. apart (sym (parent-root q e) ∙ same)
         | false ↦ λ no_root.
             true≢false (sym (list_any-map (is_child p) (λ e. e.0) (map.entries places)
-                ∙ entry_any path_cmp-IsAntisymmetric (λ e. is_child p e.0) places q j has
-                              (ap (λ x. is_child x q) (sym same) ∙ is_child-parent q no_root)) ∙ childless)
+            ∙ entry_any path_cmp-IsAntisymmetric (λ e. is_child p e.0) places q j has
+            (ap (λ x. is_child x q) (sym same) ∙ is_child-parent q no_root)) ∙ childless)
       ] refl
 
   placed_next : ArePlaced next links
@@ -141,8 +141,8 @@ module _ (places : FinMap path_cmp ℕ) (links : List Link) (nodes : List Node) 
   counts q j has =
       let old = kept.below q j has in
       elim (inside q (parent p)) as (λ b. count_by (below q) (map.keys places)
-        ≡ cond b (1 + count_by (below q) (map.keys next)) (count_by (below q) (map.keys next))
-        → (cond b ((tallied_link Fewer) (link_at links j)) (link_at links j)).below ≡ count_by (below q) (map.keys next)) [
+      ≡ cond b (1 + count_by (below q) (map.keys next)) (count_by (below q) (map.keys next))
+      → (cond b ((tallied_link Fewer) (link_at links j)) (link_at links j)).below ≡ count_by (below q) (map.keys next)) [
         | true ↦ λ h. omega (arith, old, h)
         | false ↦ λ h. old ∙ h
       ] (count_before q)
@@ -155,12 +155,12 @@ module _ (places : FinMap path_cmp ℕ) (links : List Link) (nodes : List Node) 
   uses_left q j has controller =
       let r = child_uses (map.remove sets p) q controller in
       let before =
-          uses-remove sets p enabled (value_there enabled_of places nodes p here is) q controller
-          ∙ ap (λ b. cond (b && enables enabled controller) (1 + r) r) (is_child-parents q p root) in
+      uses-remove sets p enabled (value_there enabled_of places nodes p here is) q controller
+      ∙ ap (λ b. cond (b && enables enabled controller) (1 + r) r) (is_child-parents q p root) in
       ap (λ n. uses_of n.uses controller) (node_after q j has)
       ∙ elim (same_path q (parent p)) as (λ b. same_path q (parent p) ≡ b
-        → child_uses sets q controller ≡ cond (b && enables enabled controller) (1 + r) r
-        → uses_of (cond b (recounted enabled no_controllers (node_at nodes i)) (node_at nodes j)).uses controller ≡ r) [
+      → child_uses sets q controller ≡ cond (b && enables enabled controller) (1 + r) r
+      → uses_of (cond b (recounted enabled no_controllers (node_at nodes i)) (node_at nodes j)).uses controller ≡ r) [
         | true ↦ λ e h.
             let at_parent : map.get places q ≡ Some i = ap (map.get places) (same_path-is q (parent p) e) ∙ parent_is in
             recount_fewer enabled (node_at nodes i).uses controller r (kept.uses q i at_parent controller ∙ h)

@@ -52,9 +52,10 @@ use Rattle.cg_escapes.specs.EscapeLines.{IsNamed, HasLine, HaveLines}
 all-in : {K : Type 0} (eq : K → K → Bool) (P : K → Type 0) (xs : List K) → ((x : K) → eq x x ≡ true)
     → ((x : K) → list_any (eq x) xs ≡ true → P x) → AllByRecursion P xs
 all-in eq P [] same each = tt
-all-in eq P (x ∷ xs) same each =
-    (each x (ap (λ b. b || list_any (eq x) xs) (same x)),
-      all-in eq P xs same (λ y is. each y (ap (λ b. eq y x || b) is ∙ or-true (eq y x))))
+all-in eq P (x ∷ xs) same each = (
+  each x (ap (λ b. b || list_any (eq x) xs) (same x)),
+  all-in eq P xs same (λ y is. each y (ap (λ b. eq y x || b) is ∙ or-true (eq y x))),
+)
 
 -- what holds of each key of a map that is there
 all-keys : {K X : Type 0} {R : K → K → Ordering} → IsTotalOrder R → (m : finite.FinMap R X) (P : K → Type 0)
@@ -121,9 +122,13 @@ module _ (st : State) (user : Identity) (subtree : Names) (formed : IsWellFormed
   written-control on controller = (((IsPath-take subtree (length subtree - 1) path, omega arith), tt), omega arith)
 
   written-controls : AllByRecursion AreWritten (control_tries subtree)
-  written-controls =
-      (written-control false Cpu, (written-control true Cpu,
-          (written-control false Memory, (written-control true Memory, (written-control false Pids, (written-control true Pids, tt))))))
+  written-controls = (
+    written-control false Cpu,
+    (
+      written-control true Cpu,
+      (written-control false Memory, (written-control true Memory, (written-control false Pids, (written-control true Pids, tt)))),
+    ),
+  )
 
   written-moves : AllByRecursion AreWritten (move_tries st subtree)
   written-moves =
@@ -147,9 +152,9 @@ module _ (st : State) (user : Identity) (subtree : Names) (formed : IsWellFormed
       all-present AreWritten (free_probe st (take len subtree)) _ (λ number first.
       elim (nat_le (length (path_text (probe (take len subtree) number))) 4095) as
       (λ short. nat_le (length (path_text (probe (take len subtree) number))) 4095 ≡ short
-        → AllByRecursion AreWritten (cond short (map
-            (λ pid. Mkdir (probe (take len subtree) number) ∷ Move pid (probe (take len subtree) number) ∷ [])
-                      (filter (is_inside st subtree) (pids_of st))) [])) [
+      → AllByRecursion AreWritten (cond short (map
+      (λ pid. Mkdir (probe (take len subtree) number) ∷ Move pid (probe (take len subtree) number) ∷ [])
+      (filter (is_inside st subtree) (pids_of st))) [])) [
         | true ↦ λ short.
             let is = probe_path len number short in
             all-map_filter_by AreWritten (λ (pid : ℕ). is_pid pid ≡ true)
@@ -169,11 +174,11 @@ module _ (st : State) (user : Identity) (subtree : Names) (formed : IsWellFormed
   written-plain = (
     (tt, omega arith),
     all-append AreWritten (set_tries st subtree ++ control_tries subtree)
-    ((Rmdir subtree ∷ []) ∷ (move_tries st subtree ++ probe_tries st subtree (length subtree)))
+        ((Rmdir subtree ∷ []) ∷ (move_tries st subtree ++ probe_tries st subtree (length subtree)))
         (all-append AreWritten (set_tries st subtree) (control_tries subtree) written-sets written-controls) (
           (((path, tt), tt), omega arith),
           all-append AreWritten (move_tries st subtree) (probe_tries st subtree (length subtree)) written-moves
-          (written-probes (length subtree)),
+              (written-probes (length subtree)),
         ),
   )
 
@@ -188,7 +193,7 @@ module _ (st : State) (user : Identity) (subtree : Names) (formed : IsWellFormed
   written-opening_of guarded =
       all-present IsWritten (guarded_entry st subtree guarded) _ (λ entry is.
       let fits =
-          opened-le entry.mode (entry_mode (take guarded.len subtree) guarded.name entry (row_at st (take guarded.len subtree)) refl is) in
+      opened-le entry.mode (entry_mode (take guarded.len subtree) guarded.name entry (row_at st (take guarded.len subtree)) refl is) in
       elim (owns user entry && not (writes user entry)) as
       (λ b. AllByRecursion IsWritten (cond b (Chmod (take guarded.len subtree) guarded.name (opened entry.mode) ∷ []) [])) [
         | true ↦ (((IsPath-take subtree guarded.len path, le-leb (opened entry.mode) 511 fits), tt), tt)
@@ -201,9 +206,9 @@ module _ (st : State) (user : Identity) (subtree : Names) (formed : IsWellFormed
   short-opening_of : (guarded : Guarded) → length (opening_of st user subtree guarded) ≤ 1
   short-opening_of guarded =
       elim (guarded_entry st subtree guarded) as (λ (found : Option Entry).
-        length (present found (λ entry.
-            cond (owns user entry && not (writes user entry)) (Chmod (take guarded.len subtree) guarded.name (opened entry.mode) ∷ []) []))
-        ≤ 1) [
+      length (present found (λ entry.
+      cond (owns user entry && not (writes user entry)) (Chmod (take guarded.len subtree) guarded.name (opened entry.mode) ∷ []) []))
+      ≤ 1) [
         | None ↦ omega arith
         | Some entry ↦
             elim (owns user entry && not (writes user entry)) as
@@ -227,8 +232,8 @@ module _ (st : State) (user : Identity) (subtree : Names) (formed : IsWellFormed
       let names = short-names subtree in
       let bytes = path_bytes subtree path in
       let files : length (ancestors (length subtree) ++ limit_files (length subtree))
-          ≡ length (ancestors (length subtree)) + length (limit_files (length subtree)) =
-          length-append (ancestors (length subtree)) (limit_files (length subtree)) in
+      ≡ length (ancestors (length subtree)) + length (limit_files (length subtree)) =
+      length-append (ancestors (length subtree)) (limit_files (length subtree)) in
       let all : length (guarded_entries subtree) ≡ length (ancestors (length subtree) ++ limit_files (length subtree)) + 2 =
       length-append (ancestors (length subtree) ++ limit_files (length subtree)) (parent_control subtree ∷ parent_dir subtree ∷ []) in
       let front = length-ancestors (length subtree) in
@@ -244,9 +249,10 @@ module _ (st : State) (user : Identity) (subtree : Names) (formed : IsWellFormed
       → AllByRecursion HaveLines (with_opening before ops)
   lines-opened [] ops all short written = ((lines_of ops written.0, omega (arith, written.1)), tt)
   lines-opened (op ∷ others) ops all short written =
-      let l = length-append (op ∷ others) ops in
-      ((lines_of ops written.0, omega (arith, written.1)),
-        ((lines_of (op ∷ others ++ ops) (all-append IsWritten (op ∷ others) ops all written.0), omega (arith, written.1, short, l)), tt))
+      let l = length-append (op ∷ others) ops in (
+        (lines_of ops written.0, omega (arith, written.1)),
+        ((lines_of (op ∷ others ++ ops) (all-append IsWritten (op ∷ others) ops all written.0), omega (arith, written.1, short, l)), tt),
+      )
 
   all-lines : AllByRecursion HaveLines (tries st user subtree)
   all-lines =

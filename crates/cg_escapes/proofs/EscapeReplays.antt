@@ -92,8 +92,8 @@ all_said user (op ∷ ops) course done all few =
       ap (lines_said course user done) (append_assoc (spelling op) (10 ∷ []) (op_lines ops))
           ∙ report_of_line course user done (spelling op) (op_lines ops) (one_line op all.0.0)
           ∙ ap (λ read. report_on read (λ op. with_front (outcome_text op (outcome_of (state_of course) user op))
-                        (lines_said (on_course course user op) user (done + 1) (op_lines ops))))
-                        (line_is_read done op all.0 (omega (arith, few)))
+          (lines_said (on_course course user op) user (done + 1) (op_lines ops))))
+          (line_is_read done op all.0 (omega (arith, few)))
           ∙ ap (with_front said) rest.2,
     )
 
@@ -260,8 +260,8 @@ pub escapes_replayed : (text : List ℕ) (tree : Reading) (uid : ℕ) (gids : Li
     → (check_report tree uid gids subtree).ending ≡ Ok 1 → (ops : List Op) × IsReplayed tree uid gids subtree ops
 escapes_replayed text tree uid gids subtree is_read is =
     let user =
-        report_ok (user_read uid gids)
-        (λ user. report_on (path_read subtree) (λ path. report_on (tree_read tree) (λ st. subtree_report st user path))) 1 is in
+    report_ok (user_read uid gids)
+    (λ user. report_on (path_read subtree) (λ path. report_on (tree_read tree) (λ st. subtree_report st user path))) 1 is in
     let path = report_ok (path_read subtree) (λ path. report_on (tree_read tree) (λ st. subtree_report st user.0 path)) 1 user.2 in
     let state = report_ok (tree_read tree) (λ st. subtree_report st user.0 path.0) 1 path.2 in
     let one = report_ok (in_call (checked state.0 user.0 path.0)) (answer_report path.0) 1 state.2 in

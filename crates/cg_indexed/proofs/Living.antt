@@ -38,13 +38,13 @@ has_child-counted st formed q = same ∙ any-count (below q) (paths_of st)
       | true ↦ λ e.
           let found = has_child-row st q e in
           sym (list_any-map (below q) (λ e. e.0) (map.entries st.rows)
-            ∙ entry_any path_cmp-IsAntisymmetric (λ e. below q e.0) st.rows found.0 found.1 found.2 (below-is_child q found.0 found.3))
+          ∙ entry_any path_cmp-IsAntisymmetric (λ e. below q e.0) st.rows found.0 found.1 found.2 (below-is_child q found.0 found.3))
       | false ↦ λ e.
           elim (list_any (below q) (paths_of st)) as (λ b. list_any (below q) (paths_of st) ≡ b → false ≡ b) [
             | true ↦ λ one.
                 let found =
-                    any_entry path_cmp_total (λ e. below q e.0) st.rows
-                    (sym (list_any-map (below q) (λ e. e.0) (map.entries st.rows)) ∙ one) in
+                any_entry path_cmp_total (λ e. below q e.0) st.rows
+                (sym (list_any-map (below q) (λ e. e.0) (map.entries st.rows)) ∙ one) in
                 absurd (true≢false (sym (below-has_child st formed q found.0 found.3 (ap is_some found.2)) ∙ e))
             | false ↦ λ no_one. refl
           ] refl
@@ -125,7 +125,7 @@ module _ (held : FinMap path_cmp Held) (p : Names) (f : Held → Held) (live : F
       → AreCounted (change_held held p f) live
   counted_change each q h is =
       elim (same_path p q) as (λ b. ((k : Held) → map.get held q ≡ Some k → (cond b (f k) k).live ≡ count_live live q)
-        → cond b (option_map f (map.get held q)) (map.get held q) ≡ Some h → h.live ≡ count_live live q) [
+      → cond b (option_map f (map.get held q)) (map.get held q) ≡ Some h → h.live ≡ count_live live q) [
         | true ↦ λ rule e. let found = mapped_from f (map.get held q) h e in ap (λ (k : Held). k.live) (sym found.2) ∙ rule found.0 found.1
         | false ↦ λ rule e. rule h e
       ] (each q) (sym (get-change_held held p f q) ∙ is)

@@ -33,7 +33,7 @@ pub cgroups_same : (held : FinMap path_cmp Held) (p : Names) (f : Held → Held)
 cgroups_same held p f same = same_maps _ _ (λ q.
     get-mapped (λ h. h.cgroup) (change_held held p f) q ∙ ap (option_map (λ (h : Held). h.cgroup)) (get-change_held held p f q)
     ∙ elim (same_path p q) as (λ b. option_map (λ (h : Held). h.cgroup) (cond b (option_map f (map.get held q)) (map.get held q))
-      ≡ option_map (λ (h : Held). h.cgroup) (map.get held q)) [
+    ≡ option_map (λ (h : Held). h.cgroup) (map.get held q)) [
       | true ↦
           elim (map.get held q) as (λ o. option_map (λ (h : Held). h.cgroup) (option_map f o) ≡ option_map (λ (h : Held). h.cgroup) o)
           [ None ↦ refl | Some h ↦ ap Some (same h) ]
@@ -48,8 +48,8 @@ pub cgroups_put : (held : FinMap path_cmp Held) (p : Names) (g : Cgroup → Cgro
     [ None ↦ cgroups_of held | Some r ↦ map.insert (cgroups_of held) p (g r) ]
 cgroups_put held p g row new is by =
     let there : is_some (map.get held p) ≡ true =
-        sym (is_some-mapped (λ (h : Held). h.cgroup) (map.get held p))
-        ∙ ap is_some (sym (get-mapped (λ (h : Held). h.cgroup) held p) ∙ sym is) in
+    sym (is_some-mapped (λ (h : Held). h.cgroup) (map.get held p))
+    ∙ ap is_some (sym (get-mapped (λ (h : Held). h.cgroup) held p) ∙ sym is) in
     let h = some_value (map.get held p) there in
     ap cgroups_of (change_value-there held p (with_row_of new) h.0 h.1)
     ∙ values-insert (λ (h : Held). h.cgroup) held p (with_row_of new h.0) ∙ ap (map.insert (cgroups_of held) p) by
@@ -61,7 +61,7 @@ cgroups_each held p enabled user = same_maps _ _ (λ q.
     get-mapped (λ h. h.cgroup) (change_each_held (enabling_held p enabled user) held) q
     ∙ ap (option_map (λ (h : Held). h.cgroup)) (get-changed path_cmp-IsAntisymmetric (enabling_held p enabled user) held q)
     ∙ elim (map.get held q) as (λ o. option_map (λ (h : Held). h.cgroup) (option_map (enabling_held p enabled user q) o)
-          ≡ option_map (enabling p enabled user q) (option_map (λ (h : Held). h.cgroup) o)) [ None ↦ refl | Some h ↦ refl ]
+    ≡ option_map (enabling p enabled user q) (option_map (λ (h : Held). h.cgroup) o)) [ None ↦ refl | Some h ↦ refl ]
     ∙ ap (option_map (enabling p enabled user q)) (sym (get-mapped (λ h. h.cgroup) held q))
     ∙ sym (get-changed path_cmp-IsAntisymmetric (enabling p enabled user) (cgroups_of held) q))
 
@@ -80,8 +80,8 @@ enabled_there held p row new is same =
 pub fitted_formed : (st : State) → IsWellFormed st → (p : Names) → AreFittedBelow st p
 fitted_formed st formed p q row child has file =
     let above : enabled_above st q ≡ enabled_at st p =
-        ap (λ b. cond b no_controllers (enabled_at st (parent q))) (is_root-is_child p q child)
-        ∙ ap (enabled_at st) (parent-is_child p q child) in
+    ap (λ b. cond b no_controllers (enabled_at st (parent q))) (is_root-is_child p q child)
+    ∙ ap (enabled_at st) (parent-is_child p q child) in
     (formed.rows q row has).files file ∙ ap (λ set. stands_under set file) above
 
 -- where what a path enables stays, all stays
@@ -101,14 +101,14 @@ nothing_enabled st formed p row enabled user is same =
         (λ b. same_path p q ≡ b → cond b (enabling_these enabled r) (cond (is_child p q) (with_files_of enabled user r) r) ≡ r) [
           | true ↦ λ e.
               let own : r.enabled ≡ enabled =
-                  ap (λ (x : Cgroup). x.enabled) (same_some r row (sym has ∙ ap (map.get st.rows) (sym (same_path-is p q e)) ∙ is))
-                  ∙ same in
+              ap (λ (x : Cgroup). x.enabled) (same_some r row (sym has ∙ ap (map.get st.rows) (sym (same_path-is p q e)) ∙ is))
+              ∙ same in
               ap (λ (set : ControllerSet). record r { enabled = set }) (sym own)
           | false ↦ λ e.
               elim (is_child p q) as (λ b. is_child p q ≡ b → cond b (with_files_of enabled user r) r ≡ r) [
                 | true ↦
                     λ child. with_files_of-same enabled user r (λ file. fitted_formed st formed p q r child has file
-                      ∙ ap (λ set. stands_under set file) (enabled_at-row st p row is ∙ same))
+                    ∙ ap (λ set. stands_under set file) (enabled_at-row st p row is ∙ same))
                 | false ↦ λ not_child. refl
               ] refl
         ] refl
@@ -171,9 +171,11 @@ pub same_sets : (a b : ControllerSet) → not (beq a.cpu b.cpu && (beq a.memory 
 same_sets a b h =
     let all = not_not _ h in
     let rest = second_so (beq a.cpu b.cpu) _ all in
-    λ i. record {cpu = same_flag a.cpu b.cpu (first_so _ _ all) i;
+    λ i. record {
+      cpu = same_flag a.cpu b.cpu (first_so _ _ all) i;
       memory = same_flag a.memory b.memory (first_so _ _ rest) i;
-      pids = same_flag a.pids b.pids (second_so (beq a.memory b.memory) _ rest) i}
+      pids = same_flag a.pids b.pids (second_so (beq a.memory b.memory) _ rest) i;
+    }
 
 -- ---- a root alone
 
@@ -182,4 +184,4 @@ cgroups_alone row =
     values-insert (λ (h : Held). h.cgroup) map.empty [] (new_held row)
     ∙ ap (λ (m : FinMap path_cmp Cgroup). map.insert m [] row)
     (same_maps _ _ (λ q. get-mapped (λ (h : Held). h.cgroup) map.empty q
-        ∙ ap (option_map (λ (h : Held). h.cgroup)) (map.get-empty path_cmp q) ∙ sym (map.get-empty path_cmp q)))
+    ∙ ap (option_map (λ (h : Held). h.cgroup)) (map.get-empty path_cmp q) ∙ sym (map.get-empty path_cmp q)))

@@ -53,7 +53,7 @@ find_behind q k (e ∷ es) first behind =
     elim (eq_by_cmp path_cmp q e.0) as (λ b. eq_by_cmp path_cmp q e.0 ≡ b → cond b (Some e.1) (find path_cmp q es) ≡ None) [
       | true ↦ λ tied.
           let less : is_lt (path_cmp k q) ≡ true =
-              ap (λ x. is_lt (path_cmp k x)) (same_path-is q e.0 (same_path-ties q e.0 ∙ tied)) ∙ both.0 in
+          ap (λ x. is_lt (path_cmp k x)) (same_path-is q e.0 (same_path-ties q e.0 ∙ tied)) ∙ both.0 in
           absurd (true≢false (sym (reversed_less _ less) ∙ ap is_gt (sym (path_cmp_total.antisymm q k)) ∙ first))
       | false ↦ λ other. find_behind q k es first both.1
     ] refl
@@ -138,24 +138,24 @@ module _ (rows : FinMap path_cmp Cgroup) (held : FinMap path_cmp Held) (k : Name
       same [] = refl
       same (name ∷ q) =
           ap (λ x. cond (not (is_some (cond (eq_by_cmp path_cmp (name ∷ q) x) (Some v) (find path_cmp (name ∷ q) next))))
-                      (option_map new_held (map.get rows (name ∷ q))) None) (is_root-is k root)
+          (option_map new_held (map.get rows (name ∷ q))) None) (is_root-is k root)
 
   module _ (not_root : is_root k ≡ false) where
     pub taken_absent : has_row (tree_of held) k ≡ false
     taken_absent = has_held held k ∙ ap is_some (so_far.taken k)
         ∙ (λ i. is_some (cond (not_root i || not (is_some (cond (tied_itself k i) (Some v) (find path_cmp k next))))
-            (option_map new_held (map.get rows k)) None))
+        (option_map new_held (map.get rows k)) None))
 
     pub taken_parent : (st : State) → IsWellFormed st → rows ≡ st.rows → has_row (tree_of held) (parent k) ≡ true
     taken_parent st formed same =
         let other : eq_by_cmp path_cmp (parent k) k ≡ false =
-            sym (same_path-ties (parent k) k) ∙ same_path_comm (parent k) k ∙ parent-other k not_root in
+        sym (same_path-ties (parent k) k) ∙ same_path_comm (parent k) k ∙ parent-other k not_root in
         let before : find path_cmp (parent k) ((k, v) ∷ next) ≡ None =
-            ap (λ b. cond b (Some v) (find path_cmp (parent k) next)) other
-            ∙ find_behind (parent k) k next (inside-first (parent k) k (inside-take _ k)) behind in
+        ap (λ b. cond b (Some v) (find path_cmp (parent k) next)) other
+        ∙ find_behind (parent k) k next (inside-first (parent k) k (inside-take _ k)) behind in
         has_held held (parent k) ∙ ap is_some (so_far.taken (parent k)
-          ∙ ap (λ o. cond (is_root (parent k) || not (is_some o)) (option_map new_held (map.get rows (parent k))) None) before
-          ∙ either (is_root (parent k)) _)
+        ∙ ap (λ o. cond (is_root (parent k) || not (is_some o)) (option_map new_held (map.get rows (parent k))) None) before
+        ∙ either (is_root (parent k)) _)
         ∙ is_some-mapped new_held (map.get rows (parent k)) ∙ ap (λ (m : FinMap path_cmp Cgroup). is_some (map.get m (parent k))) same
         ∙ formed.parents k (ap (λ (m : FinMap path_cmp Cgroup). is_some (map.get m k)) (sym same) ∙ ap is_some own)
       where
@@ -169,13 +169,13 @@ module _ (rows : FinMap path_cmp Cgroup) (held : FinMap path_cmp Held) (k : Name
       there = still_there;
       taken = λ q. ap (λ (m : FinMap path_cmp Held). map.get m q) new ∙ get-put held k (new_held v) q
           ∙ elim (same_path q k) as (λ b. same_path q k ≡ b → cond b (Some (new_held v)) (map.get held q)
-            ≡ cond (is_root q || not (is_some (find path_cmp q next))) (option_map new_held (map.get rows q)) None) [
+          ≡ cond (is_root q || not (is_some (find path_cmp q next))) (option_map new_held (map.get rows q)) None) [
             | true ↦
                 λ same. sym (ap (λ x. cond (is_root x || not (is_some (find path_cmp x next))) (option_map new_held (map.get rows x)) None)
-                                    (same_path-is q k same) ∙ at_own)
+                (same_path-is q k same) ∙ at_own)
             | false ↦ λ other. so_far.taken q
                 ∙ ap (λ b.
-                  cond (is_root q || not (is_some (cond b (Some v) (find path_cmp q next)))) (option_map new_held (map.get rows q)) None)
+                cond (is_root q || not (is_some (cond b (Some v) (find path_cmp q next)))) (option_map new_held (map.get rows q)) None)
                 (sym (same_path-ties q k) ∙ other)
           ] refl;
     }
@@ -206,12 +206,12 @@ pub raised_none : (st : State) (held : FinMap path_cmp Held) (rest : List (ℕ �
 raised_none st held rest new all = record {
   cgroups =
       ap cgroups_of new ∙ same_maps _ _ (λ q. get-mapped (λ (h : Held). h.cgroup) (map_values new_held st.rows) q
-        ∙ ap (option_map (λ (h : Held). h.cgroup)) (get-mapped new_held st.rows q) ∙ back (map.get st.rows q));
+      ∙ ap (option_map (λ (h : Held). h.cgroup)) (get-mapped new_held st.rows q) ∙ back (map.get st.rows q));
   few = λ q. let whole = each q in omega (arith, whole);
   counted = λ q h is.
       let found =
-          mapped_from new_held (map.get st.rows q) h
-          (sym (ap (λ (m : FinMap path_cmp Held). map.get m q) new ∙ get-mapped new_held st.rows q) ∙ is) in
+      mapped_from new_held (map.get st.rows q) h
+      (sym (ap (λ (m : FinMap path_cmp Held). map.get m q) new ∙ get-mapped new_held st.rows q) ∙ is) in
       let new_live : h.live ≡ 0 = ap (λ (k : Held). k.live) (sym found.2) in
       let whole = each q in
       omega (arith, new_live, whole);
@@ -253,7 +253,7 @@ module _ (st : State) (held : FinMap path_cmp Held) (pid : ℕ) (process : Proce
       fewer false n all h = h
 
       raised : (q : Names) (h : Held) (b : Bool) → ((k : Held) → map.get held q ≡ Some k
-            → k.live + cond b (1 + gathered (one_more (at q)) 0 next) (gathered (one_more (at q)) 0 next) ≡ count_live st.live q)
+          → k.live + cond b (1 + gathered (one_more (at q)) 0 next) (gathered (one_more (at q)) 0 next) ≡ count_live st.live q)
           → cond b (option_map (tallied_held More) (map.get held q)) (map.get held q) ≡ Some h
           → h.live + gathered (one_more (at q)) 0 next ≡ count_live st.live q
       raised q h true counted e =

@@ -45,8 +45,8 @@ module _ (st : State) (user : Identity) (subtree : Names) (sound : IsSound st) (
       let row = row_above in
       let asked = (no_parts _ _ (no_parts _ _ free).0).1 in
       let can =
-          no_unless _ _ (no_present (row_at st at) (λ row. unless (writes user row.subtree_control) (NoAccess (length at) SubtreeControl))
-                      asked row.0 (ap (row_at st) (sym (parent-is_child at subtree child)) ∙ row.1)) in
+      no_unless _ _ (no_present (row_at st at) (λ row. unless (writes user row.subtree_control) (NoAccess (length at) SubtreeControl))
+      asked row.0 (ap (row_at st) (sym (parent-is_child at subtree child)) ∙ row.1)) in
       never_written st user subtree (parent_control subtree ∷ []) unreached (parent_control subtree)
       (contains-alone (parent_control subtree)) row.0.subtree_control (ap (option_and_then (λ r. entry_in r SubtreeControl)) row.1) can)
 
@@ -72,12 +72,12 @@ module _ (st : State) (user : Identity) (subtree : Names) (sound : IsSound st) (
       let at_row = ap (row_at st) (same_path-is at subtree same) ∙ row.1 in
       let access = no_parts _ _ (no_parts _ _ free).0 in
       let stands =
-          no_absent (file_of row.0 file) _
-          (no_present (row_at st at) (λ r. absent (file_of r file) (NoSuchFile file)) (no_parts _ _ access.0).1 row.0 at_row) in
+      no_absent (file_of row.0 file) _
+      (no_present (row_at st at) (λ r. absent (file_of r file) (NoSuchFile file)) (no_parts _ _ access.0).1 row.0 at_row) in
       let held = some_value (file_of row.0 file) stands in
       let can =
-          no_unless _ _ (no_present (file_at st at file) (λ f. unless (writes user f.entry) (NoAccess (length at) (File file))) access.1
-                      held.0 (ap (option_and_then (λ r. file_of r file)) at_row ∙ held.1)) in
+      no_unless _ _ (no_present (file_at st at file) (λ f. unless (writes user f.entry) (NoAccess (length at) (File file))) access.1
+      held.0 (ap (option_and_then (λ r. file_of r file)) at_row ∙ held.1)) in
       never_written st user subtree (limit_files (length subtree)) unreached (limit_file (length subtree) file)
       (limit_files-has subtree file) held.0.entry
       (ap (λ p. entry_at st p (File file)) whole ∙ entry_at-file st subtree file
@@ -101,8 +101,8 @@ chmod-owned st user at name free =
     let there = no_parts _ _ parts.0 in
     let row = some_value (row_at st at) (no_absent (row_at st at) (NoSuchCgroup (length at)) there.0) in
     let entry =
-        some_value (entry_in row.0 name) (entry-there row.0 name (no_present (row_at st at) (λ r. missing_bars r name) there.1 row.0 row.1))
-        in
+    some_value (entry_in row.0 name) (entry-there row.0 name (no_present (row_at st at) (λ r. missing_bars r name) there.1 row.0 row.1))
+    in
     let is = ap (option_and_then (λ r. entry_in r name)) row.1 ∙ entry.1 in
     (entry.0, is, no_unless _ _ (no_present (entry_at st at name) (λ e. unless (owns user e) (NotOwner name)) parts.1 entry.0 is))
 
@@ -117,7 +117,7 @@ chmod-other st user subtree at name mode unreached free =
     let parts = and_parts (same_path at (take guarded.len subtree)) (same_entry name guarded.name) both in
     let own = chmod-owned st user at name free in
     let is : guarded_entry st subtree guarded ≡ Some own.0 =
-        (λ i. entry_at st (sym (same_path-is at (take guarded.len subtree) parts.0) i) (sym (same_entry-true name guarded.name parts.1) i))
-        ∙ own.1 in
+    (λ i. entry_at st (sym (same_path-is at (take guarded.len subtree) parts.0) i) (sym (same_entry-true name guarded.name parts.1) i))
+    ∙ own.1 in
     never_owned st user subtree (guarded_entries subtree) unreached guarded (Contains-get_or (guarded_entries subtree) k d within) own.0 is
     own.2))

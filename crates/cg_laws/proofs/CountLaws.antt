@@ -40,23 +40,23 @@ no_count true [] true descendants depth fits = let both = fits refl in λ i. cou
 -- ---- a step
 
 module _ (start st before : State) (user : Identity) (op : Op) (subtree : Names) (whole : IsWhole (limits start subtree) before st subtree)
-    where
-  fits-step : limits (after st user op) subtree ≡ limits st subtree
-      → (fits_descendants (after st user op) subtree ≡ true) × (fits_depth (after st user op) subtree ≡ true)
-  fits-step same =
-      elim (bars st user op) as (λ found. bars st user op ≡ found
+  where
+    fits-step : limits (after st user op) subtree ≡ limits st subtree
+        → (fits_descendants (after st user op) subtree ≡ true) × (fits_depth (after st user op) subtree ≡ true)
+    fits-step same =
+        elim (bars st user op) as (λ found. bars st user op ≡ found
         → (fits_descendants (after st user op) subtree ≡ true) × (fits_depth (after st user op) subtree ≡ true)) [
-        | [] ↦ λ free. fits-after st user subtree op whole.there free same whole.descendants whole.depth
-        | bar ∷ others ↦ λ is. let still = after-barred st user op bar others is in
-            (ap (λ new. fits_descendants new subtree) still ∙ whole.descendants, ap (λ new. fits_depth new subtree) still ∙ whole.depth)
-      ] refl
+          | [] ↦ λ free. fits-after st user subtree op whole.there free same whole.descendants whole.depth
+          | bar ∷ others ↦ λ is. let still = after-barred st user op bar others is in
+              (ap (λ new. fits_descendants new subtree) still ∙ whole.descendants, ap (λ new. fits_depth new subtree) still ∙ whole.depth)
+        ] refl
 
-  no_count-step : counts_first (broken start st (after st user op) subtree) ≡ false
-  no_count-step =
-      let new = after st user op in
-      no_count (has_row new subtree) (crossing st new subtree) (same_limits (limits start subtree) (limits new subtree))
-      (fits_descendants new subtree) (fits_depth new subtree)
-      (λ same. fits-step (sym (same_limits-is (limits start subtree) (limits new subtree) same) ∙ sym whole.limits))
+    no_count-step : counts_first (broken start st (after st user op) subtree) ≡ false
+    no_count-step =
+        let new = after st user op in
+        no_count (has_row new subtree) (crossing st new subtree) (same_limits (limits start subtree) (limits new subtree))
+        (fits_descendants new subtree) (fits_depth new subtree)
+        (λ same. fits-step (sym (same_limits-is (limits start subtree) (limits new subtree) same) ∙ sym whole.limits))
 
 -- ---- runs
 
@@ -72,16 +72,17 @@ module _ (start : State) (subtree : Names) where
   later-break made before st whole (deed ∷ deeds) steps clause h =
       let new = after st deed.0 deed.1 in
       elim (broken start st new subtree) as (λ found. broken start st new subtree ≡ found
-        → or_later found (suc made) (verdict_from start (suc made) new deeds subtree) ≡ Broken steps clause
-        → (is_count clause ≡ false) × (made < steps)) [
+      → or_later found (suc made) (verdict_from start (suc made) new deeds subtree) ≡ Broken steps clause
+      → (is_count clause ≡ false) × (made < steps)) [
         | [] ↦
             λ none more. let later =
-                later-break (suc made) st new (broken-whole (limits start subtree) st new subtree none) deeds steps clause more in
+            later-break (suc made) st new (broken-whole (limits start subtree) st new subtree none) deeds steps clause more in
             (later.0, omega (arith, later.1))
         | found ∷ others ↦ λ is more.
-            let same = same_break (suc made) steps found clause more in
-            (ap is_count (sym same.1) ∙ sym (ap counts_first is) ∙ no_count-step start st before deed.0 deed.1 subtree whole,
-              omega (arith, same.0))
+            let same = same_break (suc made) steps found clause more in (
+              ap is_count (sym same.1) ∙ sym (ap counts_first is) ∙ no_count-step start st before deed.0 deed.1 subtree whole,
+              omega (arith, same.0),
+            )
       ] refl h
 
   -- a count is broken at the start, and there nothing else is
@@ -89,10 +90,10 @@ module _ (start : State) (subtree : Names) where
       → verdict start deeds subtree ≡ Broken steps clause → steps ≡ 0
   count-start deeds steps clause is_one h =
       elim (broken start start start subtree) as (λ found. broken start start start subtree ≡ found
-        → or_later found 0 (verdict_from start 0 start deeds subtree) ≡ Broken steps clause → steps ≡ 0) [
+      → or_later found 0 (verdict_from start 0 start deeds subtree) ≡ Broken steps clause → steps ≡ 0) [
         | [] ↦
             λ none more. absurd (true≢false (sym is_one
-                ∙ (later-break 0 start start (broken-whole (limits start subtree) start start subtree none) deeds steps clause more).0))
+            ∙ (later-break 0 start start (broken-whole (limits start subtree) start start subtree none) deeds steps clause more).0))
         | found ∷ others ↦ λ _ more. sym (same_break 0 steps found clause more).0
       ] refl h
 
@@ -106,15 +107,15 @@ module _ (start : State) (subtree : Names) where
       → (clause ≡ Descendants) ⊎ (clause ≡ Depth)
   start-count deeds clause there h =
       elim (broken start start start subtree) as (λ found. broken start start start subtree ≡ found
-        → or_later found 0 (verdict_from start 0 start deeds subtree) ≡ Broken 0 clause → (clause ≡ Descendants) ⊎ (clause ≡ Depth)) [
+      → or_later found 0 (verdict_from start 0 start deeds subtree) ≡ Broken 0 clause → (clause ≡ Descendants) ⊎ (clause ≡ Depth)) [
         | [] ↦
             λ none more. absurd (omega
-              (arith, (later-break 0 start start (broken-whole (limits start subtree) start start subtree none) deeds 0 clause more).1))
+            (arith, (later-break 0 start start (broken-whole (limits start subtree) start start subtree none) deeds 0 clause more).1))
         | found ∷ others ↦ λ is more.
             let asked : broken start start start subtree
-                ≡ clauses_of true [] true (fits_descendants start subtree) (fits_depth start subtree) =
-                λ i. clauses_of (there i) (none-crosses-same start subtree i) (same_limits-itself (limits start subtree) i)
-                (fits_descendants start subtree) (fits_depth start subtree) in
+            ≡ clauses_of true [] true (fits_descendants start subtree) (fits_depth start subtree) =
+            λ i. clauses_of (there i) (none-crosses-same start subtree i) (same_limits-itself (limits start subtree) i)
+            (fits_descendants start subtree) (fits_depth start subtree) in
             first_count (fits_descendants start subtree) (fits_depth start subtree) clause others
             (sym asked ∙ is ∙ ap (λ c. c ∷ others) (same_break 0 0 found clause more).1)
       ] refl h

@@ -42,14 +42,14 @@ descendants-limit : (st : State) (subtree : Names)
     → fits_descendants st subtree ≡ fits_in (count_below st subtree) (limits st subtree MaxDescendants)
 descendants-limit st subtree =
     elim (row_at st subtree) as (λ found.
-      elim found [ None ↦ true | Some row ↦ is_within_limit (count_below st subtree) row.max_descendants.value ]
-          ≡ fits_in (count_below st subtree) (option_and_then (λ row. value_in row MaxDescendants) found)) [ None ↦ refl | Some row ↦ refl ]
+    elim found [ None ↦ true | Some row ↦ is_within_limit (count_below st subtree) row.max_descendants.value ]
+    ≡ fits_in (count_below st subtree) (option_and_then (λ row. value_in row MaxDescendants) found)) [ None ↦ refl | Some row ↦ refl ]
 
 depth-limit : (st : State) (subtree : Names) → fits_depth st subtree ≡ fits_in (depth_below st subtree) (limits st subtree MaxDepth)
 depth-limit st subtree =
     elim (row_at st subtree) as (λ found.
-      elim found [ None ↦ true | Some row ↦ is_within_limit (depth_below st subtree) row.max_depth.value ]
-          ≡ fits_in (depth_below st subtree) (option_and_then (λ row. value_in row MaxDepth) found)) [ None ↦ refl | Some row ↦ refl ]
+    elim found [ None ↦ true | Some row ↦ is_within_limit (depth_below st subtree) row.max_depth.value ]
+    ≡ fits_in (depth_below st subtree) (option_and_then (λ row. value_in row MaxDepth) found)) [ None ↦ refl | Some row ↦ refl ]
 
 in-most : (count : ℕ) (limit : Option Limit) → fits_in count limit ≡ true → (most : ℕ) → limit ≡ Some (At most) → count ≤ most
 in-most count limit h most is = leb-true count most (sym (ap (fits_in count) is) ∙ h)
@@ -102,60 +102,60 @@ level-asked st path (suc n) h len less =
     (λ here. let same : n ≡ len = omega arith in subst (λ k. level_bars st path k ≡ []) same parts.0) (cases_lt len n)
 
 module _ (st : State) (user : Identity) (subtree path : Names) (there : has_row st subtree ≡ true) (free : mkdir_bars st user path ≡ [])
-    where
-  allowed : (has_row st path ≡ false) × (is_root path ≡ false) × (has_row st (parent path) ≡ true)
-  allowed = allowed_mkdir st user path free
+  where
+    allowed : (has_row st path ≡ false) × (is_root path ≡ false) × (has_row st (parent path) ≡ true)
+    allowed = allowed_mkdir st user path free
 
-  asked : limit_bars st path (length path) ≡ []
-  asked =
-      let above = some_value (row_at st (parent path)) allowed.2 in
-      no_present (row_above st path) (λ row. limit_bars st path (length path)) (no_parts _ _ free).1 above.0
-      (ap (λ root. cond root None (row_at st (parent path))) allowed.1 ∙ above.1)
+    asked : limit_bars st path (length path) ≡ []
+    asked =
+        let above = some_value (row_at st (parent path)) allowed.2 in
+        no_present (row_above st path) (λ row. limit_bars st path (length path)) (no_parts _ _ free).1 above.0
+        (ap (λ root. cond root None (row_at st (parent path))) allowed.1 ∙ above.1)
 
-  -- the subtree's own limits have room, where the new cgroup is below it
-  room : (row : Cgroup) → row_at st subtree ≡ Some row → below subtree path ≡ true
-      → (is_under (count_below st subtree) row.max_descendants.value ≡ true)
-      × (is_under (length path - 1 - length subtree) row.max_depth.value ≡ true)
-  room row is lower =
-      let parts = and_parts (inside subtree path) _ lower in
-      let at = inside-is subtree path parts.0 in
-      let level =
-          no_present (row_at st (take (length subtree) path)) _
-          (level-asked st path (length path) asked (length subtree) (ltb-true (length subtree) (length path) parts.1)) row
-          (ap (row_at st) at ∙ is) in
-      let both =
-          no_parts
-          (unless (is_under (count_below st (take (length subtree) path)) row.max_descendants.value) (DescendantLimit (length subtree)))
-          (unless (is_under (length path - 1 - length subtree) row.max_depth.value) (DepthLimit (length subtree))) level in
-      (ap (λ p. is_under (count_below st p) row.max_descendants.value) (sym at) ∙ no_unless _ _ both.0, no_unless _ _ both.1)
+    -- the subtree's own limits have room, where the new cgroup is below it
+    room : (row : Cgroup) → row_at st subtree ≡ Some row → below subtree path ≡ true
+        → (is_under (count_below st subtree) row.max_descendants.value ≡ true)
+        × (is_under (length path - 1 - length subtree) row.max_depth.value ≡ true)
+    room row is lower =
+        let parts = and_parts (inside subtree path) _ lower in
+        let at = inside-is subtree path parts.0 in
+        let level =
+        no_present (row_at st (take (length subtree) path)) _
+        (level-asked st path (length path) asked (length subtree) (ltb-true (length subtree) (length path) parts.1)) row
+        (ap (row_at st) at ∙ is) in
+        let both =
+        no_parts
+        (unless (is_under (count_below st (take (length subtree) path)) row.max_descendants.value) (DescendantLimit (length subtree)))
+        (unless (is_under (length path - 1 - length subtree) row.max_depth.value) (DepthLimit (length subtree))) level in
+        (ap (λ p. is_under (count_below st p) row.max_descendants.value) (sym at) ∙ no_unless _ _ both.0, no_unless _ _ both.1)
 
-  fits-with_row : (made : Cgroup) → FitIn st subtree (limits st subtree) → FitIn (with_row st path made) subtree (limits st subtree)
-  fits-with_row made fits =
-      let row = some_value (row_at st subtree) there in
-      let most : limits st subtree MaxDescendants ≡ Some row.0.max_descendants.value =
-          ap (option_and_then (λ r. value_in r MaxDescendants)) row.1 in
-      let deepest : limits st subtree MaxDepth ≡ Some row.0.max_depth.value = ap (option_and_then (λ r. value_in r MaxDepth)) row.1 in (
-        ap (λ n. fits_in n (limits st subtree MaxDescendants)) (count_below-with_row st path made allowed.0 subtree)
-            ∙ elim (below subtree path) as (λ b. below subtree path ≡ b
+    fits-with_row : (made : Cgroup) → FitIn st subtree (limits st subtree) → FitIn (with_row st path made) subtree (limits st subtree)
+    fits-with_row made fits =
+        let row = some_value (row_at st subtree) there in
+        let most : limits st subtree MaxDescendants ≡ Some row.0.max_descendants.value =
+        ap (option_and_then (λ r. value_in r MaxDescendants)) row.1 in
+        let deepest : limits st subtree MaxDepth ≡ Some row.0.max_depth.value = ap (option_and_then (λ r. value_in r MaxDepth)) row.1 in (
+          ap (λ n. fits_in n (limits st subtree MaxDescendants)) (count_below-with_row st path made allowed.0 subtree)
+              ∙ elim (below subtree path) as (λ b. below subtree path ≡ b
               → fits_in (cond b (1 + count_below st subtree) (count_below st subtree)) (limits st subtree MaxDescendants) ≡ true) [
-              | true ↦
-                  λ lower. ap (fits_in (1 + count_below st subtree)) most
-                  ∙ one_more (count_below st subtree) row.0.max_descendants.value (room row.0 row.1 lower).0
-              | false ↦ λ _. fits.0
-            ] refl,
-        ap (λ n. fits_in n (limits st subtree MaxDepth)) (depth_below-with_row st path made allowed.0 subtree)
-            ∙ elim (below subtree path) as (λ b. below subtree path ≡ b
+                | true ↦
+                    λ lower. ap (fits_in (1 + count_below st subtree)) most
+                    ∙ one_more (count_below st subtree) row.0.max_descendants.value (room row.0 row.1 lower).0
+                | false ↦ λ _. fits.0
+              ] refl,
+          ap (λ n. fits_in n (limits st subtree MaxDepth)) (depth_below-with_row st path made allowed.0 subtree)
+              ∙ elim (below subtree path) as (λ b. below subtree path ≡ b
               → fits_in (cond b (max (depth_below st subtree) (length path - length subtree)) (depth_below st subtree))
-                            (limits st subtree MaxDepth) ≡ true) [
-              | true ↦ λ lower.
-                  let longer = ltb-true (length subtree) (length path) (and_parts (inside subtree path) _ lower).1 in
-                  let level : 1 + (length path - 1 - length subtree) ≡ length path - length subtree = omega arith in
-                  greater (depth_below st subtree) (length path - length subtree) (limits st subtree MaxDepth) fits.1
-                  (ap (fits_in (length path - length subtree)) deepest ∙ ap (λ n. fits_in n (Some row.0.max_depth.value)) (sym level)
+              (limits st subtree MaxDepth) ≡ true) [
+                | true ↦ λ lower.
+                    let longer = ltb-true (length subtree) (length path) (and_parts (inside subtree path) _ lower).1 in
+                    let level : 1 + (length path - 1 - length subtree) ≡ length path - length subtree = omega arith in
+                    greater (depth_below st subtree) (length path - length subtree) (limits st subtree MaxDepth) fits.1
+                    (ap (fits_in (length path - length subtree)) deepest ∙ ap (λ n. fits_in n (Some row.0.max_depth.value)) (sym level)
                     ∙ one_more (length path - 1 - length subtree) row.0.max_depth.value (room row.0 row.1 lower).1)
-              | false ↦ λ _. fits.1
-            ] refl,
-      )
+                | false ↦ λ _. fits.1
+              ] refl,
+        )
 
 -- ---- an rmdir
 
@@ -164,9 +164,9 @@ fits-without_row : (st : State) (subtree path : Names) (values : Limits) → has
 fits-without_row st subtree path values there fits =
     let row = some_value (row_at st path) there in (
       fewer (count_below (without_row st path) subtree) (count_below st subtree) (values MaxDescendants)
-      (lower_count _ _ (below subtree path) (count_below-without_row st path row.0 row.1 subtree)) fits.0,
+          (lower_count _ _ (below subtree path) (count_below-without_row st path row.0 row.1 subtree)) fits.0,
       fewer (depth_below (without_row st path) subtree) (depth_below st subtree) (values MaxDepth)
-      (lower_depth _ _ _ (below subtree path) (depth_below-without_row st path row.0 row.1 subtree)) fits.1,
+          (lower_depth _ _ _ (below subtree path) (depth_below-without_row st path row.0 row.1 subtree)) fits.1,
     )
   where
     lower_count : (n m : ℕ) (b : Bool) → n ≡ cond b (1 + m) m → m ≤ n
@@ -206,7 +206,7 @@ pub fits-after : (st : State) (user : Identity) (subtree : Names) (op : Op) → 
 fits-after st user subtree op there free same descendants depth =
     let new = after st user op in
     let fits =
-        fits-next st user subtree (sym (descendants-limit st subtree) ∙ descendants, sym (depth-limit st subtree) ∙ depth) op there free in
+    fits-next st user subtree (sym (descendants-limit st subtree) ∙ descendants, sym (depth-limit st subtree) ∙ depth) op there free in
     let moved = after-allowed st user op free in (
       descendants-limit new subtree ∙ (λ i. fits_in (count_below (moved i) subtree) (same i MaxDescendants)) ∙ fits.0,
       depth-limit new subtree ∙ (λ i. fits_in (depth_below (moved i) subtree) (same i MaxDepth)) ∙ fits.1,

@@ -45,10 +45,10 @@ common-above subtree from to within without =
     let at = inside-is subtree from within in
     ⊎_elim
     (λ above.
-      (above, common-take_first from to ∙ sym (take-take (length top) (length subtree) from (omega arith)) ∙ ap (take (length top)) at))
+    (above, common-take_first from to ∙ sym (take-take (length top) (length subtree) from (omega arith)) ∙ ap (take (length top)) at))
     (λ below.
     let cut : take (length subtree) top ≡ subtree =
-        ap (take (length subtree)) (common-take_first from to) ∙ take-take (length subtree) (length top) from below ∙ at in
+    ap (take (length subtree)) (common-take_first from to) ∙ take-take (length subtree) (length top) from below ∙ at in
     let higher : inside subtree top ≡ true = ap (λ p. inside p top) (sym cut) ∙ inside-take (length subtree) top in
     absurd (true≢false (sym (inside_trans subtree top to higher (common-inside_second from to)) ∙ without)))
     (cases_lt (length top) (length subtree))
@@ -120,15 +120,15 @@ module _ (st : State) (user : Identity) (subtree : Names) (sound : IsSound st) (
     move-inside pid from to free is =
         let asked = (no_parts _ _ (no_parts _ _ free).0).1 in
         let can =
-            no_unless _ _ (no_present (place_at st pid)
-                          (λ place. unless (passes st user place to) (NoAccess (length (common place to)) Procs)) asked from is) in
+        no_unless _ _ (no_present (place_at st pid)
+        (λ place. unless (passes st user place to) (NoAccess (length (common place to)) Procs)) asked from is) in
         elim (inside subtree from) as (λ b. inside subtree from ≡ b → b ≡ inside subtree to) [
           | true ↦
               λ within.
               sym (true_from_ne_false (inside subtree to) (λ without. never_passes from to within without (common from to) refl can))
           | false ↦
               λ without. sym (false_from_ne_true (inside subtree to)
-                (λ within. never_passes to from within without (common from to) (common_comm from to) can))
+              (λ within. never_passes to from within without (common from to) (common_comm from to) can))
         ] refl
 
     move-crosses : (pid : ℕ) (to : Names) → move_bars st user pid to ≡ [] → (q : ℕ)
@@ -136,7 +136,7 @@ module _ (st : State) (user : Identity) (subtree : Names) (sound : IsSound st) (
     move-crosses pid to free q =
         ap (λ process. is_crossed subtree (place_at st q) (option_map (λ p. p.place) process)) (process_at-with_place st pid to q)
         ∙ elim (nat_eq pid q) as (λ b. nat_eq pid q ≡ b → is_crossed subtree (place_at st q)
-                    (option_map (λ p. p.place) (cond b (option_map (placed_at to) (process_at st q)) (process_at st q))) ≡ false) [
+        (option_map (λ p. p.place) (cond b (option_map (placed_at to) (process_at st q)) (process_at st q))) ≡ false) [
           | true ↦ λ same. ap (is_crossed subtree (place_at st q)) (placed to (process_at st q))
               ∙ one_side subtree (place_at st q) to (λ from is. move-inside pid from to free (ap (place_at st) (eqb-true pid q same) ∙ is))
           | false ↦ λ _. stays-there subtree (place_at st q)

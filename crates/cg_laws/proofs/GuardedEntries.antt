@@ -58,12 +58,12 @@ module _ (st : State) (user : Identity) (subtree : Names) (entries : List Guarde
   not_reached : reaches user entry ≡ false
   not_reached =
       let holds =
-          All-contains (λ g. entry_failures st user subtree g ≡ []) entries guarded
-          (All-from_recursion (λ g. entry_failures st user subtree g ≡ []) entries
-                      (none_each (entry_failures st user subtree) entries unreached)) listed in
+      All-contains (λ g. entry_failures st user subtree g ≡ []) entries guarded
+      (All-from_recursion (λ g. entry_failures st user subtree g ≡ []) entries
+      (none_each (entry_failures st user subtree) entries unreached)) listed in
       not-true (reaches user entry) (no_unless (not (reaches user entry)) _
-        (no_present (guarded_entry st subtree guarded)
-          (λ e. unless (not (reaches user e)) (record { guard = guarded.guard; len = guarded.len })) holds entry is))
+      (no_present (guarded_entry st subtree guarded)
+      (λ e. unless (not (reaches user e)) (record { guard = guarded.guard; len = guarded.len })) holds entry is))
 
   pub never_written : {P : Type 0} → writes user entry ≡ true → P
   never_written can = absurd (true≢false (sym can ∙ (or_parts (writes user entry) (owns user entry) not_reached).0))
@@ -89,7 +89,7 @@ holding st user subtree hold =
     no_parts (flat_map (entry_failures st user subtree) xs) (flat_map (entry_failures st user subtree) ys)
     (sym (flat_map-append (entry_failures st user subtree) xs ys) ∙ h) in
     let last =
-        split (ancestors (length subtree) ++ limit_files (length subtree)) (parent_control subtree ∷ parent_dir subtree ∷ []) entries.0 in
+    split (ancestors (length subtree) ++ limit_files (length subtree)) (parent_control subtree ∷ parent_dir subtree ∷ []) entries.0 in
     let first = split (ancestors (length subtree)) (limit_files (length subtree)) last.0 in
     let two = split (parent_control subtree ∷ []) (parent_dir subtree ∷ []) last.1 in
     let fits = and_parts (fits_descendants st subtree) (fits_depth st subtree) (no_unless _ _ entries.1) in
@@ -109,13 +109,15 @@ pub hold-untouched : (st new : State) (user : Identity) (subtree : Names) → Gu
 hold-untouched st new user subtree hold untouched fits = λ i.
     each_none (entry_failures new user subtree) (guarded_entries subtree)
     (each (guarded_entries subtree) (recursion_from_All (λ guarded. guarded_entry new subtree guarded ≡ guarded_entry st subtree guarded)
-      (guarded_entries subtree) untouched)
+    (guarded_entries subtree) untouched)
     (none_each (entry_failures st user subtree) (guarded_entries subtree) (holding st user subtree hold).all)) i ++ fits i
   where
     each : (xs : List Guarded) → AllByRecursion (λ guarded. guarded_entry new subtree guarded ≡ guarded_entry st subtree guarded) xs
         → AllByRecursion (λ guarded. entry_failures st user subtree guarded ≡ []) xs
         → AllByRecursion (λ guarded. entry_failures new user subtree guarded ≡ []) xs
     each [] same held = tt
-    each (guarded ∷ xs) same held =
-        (ap (λ found. present found (λ entry. unless (not (reaches user entry)) (record { guard = guarded.guard; len = guarded.len })))
-                              same.0 ∙ held.0, each xs same.1 held.1)
+    each (guarded ∷ xs) same held = (
+      ap (λ found. present found (λ entry. unless (not (reaches user entry)) (record { guard = guarded.guard; len = guarded.len })))
+          same.0 ∙ held.0,
+      each xs same.1 held.1,
+    )

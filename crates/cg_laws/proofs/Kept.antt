@@ -33,62 +33,62 @@ over st subtree descendants depth =
     ap (λ fits. unless fits (record { guard = AlreadyOver; len = length subtree })) (and_from _ _ descendants depth)
 
 module _ (st : State) (user : Identity) (subtree : Names) (sound : IsSound st) (sub : IsSubtree st subtree) (held : Holding st user subtree)
-    where
-  -- what an operation that nothing bars doesn't alter
-  row_stays : (op : Op) → bars st user op ≡ [] → alters_row op subtree ≡ false
-  row_stays (Move pid to) free = refl
-  row_stays (Control at changes) free = refl
-  row_stays (Mkdir path) free = there-other st path subtree (allowed_mkdir st user path free).0 sub.0
-  row_stays (Rmdir path) free = rmdir-other st user subtree sound sub path held.parent_dir free
-  row_stays (Set at file value) free = refl
-  row_stays (Fork parent child) free = refl
-  row_stays (Exit pid) free = refl
-  row_stays (Chmod at name mode) free = refl
+  where
+    -- what an operation that nothing bars doesn't alter
+    row_stays : (op : Op) → bars st user op ≡ [] → alters_row op subtree ≡ false
+    row_stays (Move pid to) free = refl
+    row_stays (Control at changes) free = refl
+    row_stays (Mkdir path) free = there-other st path subtree (allowed_mkdir st user path free).0 sub.0
+    row_stays (Rmdir path) free = rmdir-other st user subtree sound sub path held.parent_dir free
+    row_stays (Set at file value) free = refl
+    row_stays (Fork parent child) free = refl
+    row_stays (Exit pid) free = refl
+    row_stays (Chmod at name mode) free = refl
 
-  value_stays : (op : Op) → bars st user op ≡ [] → (file : LimitFile) → alters_value op subtree file ≡ false
-  value_stays (Move pid to) free file = refl
-  value_stays (Control at changes) free file = and_left _ _ (control-other st user subtree sound sub at changes held.parent_control free)
-  value_stays (Mkdir path) free file = row_stays (Mkdir path) free
-  value_stays (Rmdir path) free file = row_stays (Rmdir path) free
-  value_stays (Set at written value) free file = and_left _ _ (set-other st user subtree sound sub at written value held.limit_files free)
-  value_stays (Fork parent child) free file = refl
-  value_stays (Exit pid) free file = refl
-  value_stays (Chmod at name mode) free file = refl
+    value_stays : (op : Op) → bars st user op ≡ [] → (file : LimitFile) → alters_value op subtree file ≡ false
+    value_stays (Move pid to) free file = refl
+    value_stays (Control at changes) free file = and_left _ _ (control-other st user subtree sound sub at changes held.parent_control free)
+    value_stays (Mkdir path) free file = row_stays (Mkdir path) free
+    value_stays (Rmdir path) free file = row_stays (Rmdir path) free
+    value_stays (Set at written value) free file = and_left _ _ (set-other st user subtree sound sub at written value held.limit_files free)
+    value_stays (Fork parent child) free file = refl
+    value_stays (Exit pid) free file = refl
+    value_stays (Chmod at name mode) free file = refl
 
-  no_chmod : (op : Op) → ((guarded : Guarded) → is_chmod_of subtree op guarded ≡ false) → sets_guarded_mode subtree op ≡ false
-  no_chmod op other = list_any_none (is_chmod_of subtree op) (guarded_entries subtree) (λ k d _. other _)
+    no_chmod : (op : Op) → ((guarded : Guarded) → is_chmod_of subtree op guarded ≡ false) → sets_guarded_mode subtree op ≡ false
+    no_chmod op other = list_any_none (is_chmod_of subtree op) (guarded_entries subtree) (λ k d _. other _)
 
-  modes_stay : (op : Op) → bars st user op ≡ [] → sets_guarded_mode subtree op ≡ false
-  modes_stay (Move pid to) free = no_chmod (Move pid to) (λ guarded. refl)
-  modes_stay (Control at changes) free = no_chmod (Control at changes) (λ guarded. refl)
-  modes_stay (Mkdir path) free = no_chmod (Mkdir path) (λ guarded. refl)
-  modes_stay (Rmdir path) free = no_chmod (Rmdir path) (λ guarded. refl)
-  modes_stay (Set at file value) free = no_chmod (Set at file value) (λ guarded. refl)
-  modes_stay (Fork parent child) free = no_chmod (Fork parent child) (λ guarded. refl)
-  modes_stay (Exit pid) free = no_chmod (Exit pid) (λ guarded. refl)
-  modes_stay (Chmod at name mode) free = chmod-other st user subtree at name mode held.all free
+    modes_stay : (op : Op) → bars st user op ≡ [] → sets_guarded_mode subtree op ≡ false
+    modes_stay (Move pid to) free = no_chmod (Move pid to) (λ guarded. refl)
+    modes_stay (Control at changes) free = no_chmod (Control at changes) (λ guarded. refl)
+    modes_stay (Mkdir path) free = no_chmod (Mkdir path) (λ guarded. refl)
+    modes_stay (Rmdir path) free = no_chmod (Rmdir path) (λ guarded. refl)
+    modes_stay (Set at file value) free = no_chmod (Set at file value) (λ guarded. refl)
+    modes_stay (Fork parent child) free = no_chmod (Fork parent child) (λ guarded. refl)
+    modes_stay (Exit pid) free = no_chmod (Exit pid) (λ guarded. refl)
+    modes_stay (Chmod at name mode) free = chmod-other st user subtree at name mode held.all free
 
-  module _ (op : Op) (free : bars st user op ≡ []) where
-    there_after : has_row (after st user op) subtree ≡ true
-    there_after = has_row-after st user op subtree (row_stays op free) ∙ sub.0
+    module _ (op : Op) (free : bars st user op ≡ []) where
+      there_after : has_row (after st user op) subtree ≡ true
+      there_after = has_row-after st user op subtree (row_stays op free) ∙ sub.0
 
-    limits_after : limits (after st user op) subtree ≡ limits st subtree
-    limits_after i file = value_at-after st user op subtree file (value_stays op free file) i
+      limits_after : limits (after st user op) subtree ≡ limits st subtree
+      limits_after i file = value_at-after st user op subtree file (value_stays op free file) i
 
-    untouched : AreUntouched st (after st user op) subtree
-    untouched = untouched-after st user subtree op sound sub there_after limits_after (modes_stay op free)
+      untouched : AreUntouched st (after st user op) subtree
+      untouched = untouched-after st user subtree op sound sub there_after limits_after (modes_stay op free)
 
-    kept : GuardsHold st user subtree → IsKept st (after st user op) user subtree
-    kept hold =
-        let fits = fits-after st user subtree op sub.0 free limits_after held.descendants held.depth in
-        record {
-          there = there_after;
-          limits = limits_after;
-          edge = none-crosses st (after st user op) subtree (crosses st user subtree sound sub op held.ancestors free);
-          descendants = fits.0;
-          depth = fits.1;
-          guards = hold-untouched st (after st user op) user subtree hold untouched (over (after st user op) subtree fits.0 fits.1);
-        }
+      kept : GuardsHold st user subtree → IsKept st (after st user op) user subtree
+      kept hold =
+          let fits = fits-after st user subtree op sub.0 free limits_after held.descendants held.depth in
+          record {
+            there = there_after;
+            limits = limits_after;
+            edge = none-crosses st (after st user op) subtree (crosses st user subtree sound sub op held.ancestors free);
+            descendants = fits.0;
+            depth = fits.1;
+            guards = hold-untouched st (after st user op) user subtree hold untouched (over (after st user op) subtree fits.0 fits.1);
+          }
 
 pub kept-after : (st : State) (user : Identity) (subtree : Names) (op : Op) → IsSound st → IsSubtree st subtree → GuardsHold st user subtree
     → IsKept st (after st user op) user subtree

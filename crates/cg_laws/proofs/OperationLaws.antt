@@ -51,8 +51,8 @@ fork-crosses-nothing st user subtree parent child whole =
 pub exit-crosses-nothing : (st : State) (user : Identity) (subtree : Names) (pid : ℕ) → crossing st (after st user (Exit pid)) subtree ≡ []
 exit-crosses-nothing st user subtree pid =
     no-crossing st user subtree (Exit pid) (λ free q.
-      ap (λ new. is_crossed subtree (place_at st q) (place_at new q)) (after-allowed st user (Exit pid) free)
-      ∙ exit-crosses st user subtree pid q)
+    ap (λ new. is_crossed subtree (place_at st q) (place_at new q)) (after-allowed st user (Exit pid) free)
+    ∙ exit-crosses st user subtree pid q)
 
 -- ---- the limits
 
@@ -84,7 +84,7 @@ pub rmdir-there : (st : State) (user : Identity) (subtree path : Names) → IsWe
 rmdir-there st user subtree path whole sub unreached =
     after-cases st user (Rmdir path) (λ new. has_row new subtree ≡ true)
     (λ free. has_row-after st user (Rmdir path) subtree (rmdir-other st user subtree (sound-formed st whole) sub path unreached free)
-          ∙ sub.0) sub.0
+    ∙ sub.0) sub.0
 
 pub rmdir-leaves : (st : State) (user : Identity) (subtree path : Names) → IsWellFormed st → IsSubtree st subtree
     → AreUnreached st user subtree (parent_dir subtree ∷ [])
@@ -99,7 +99,7 @@ mkdir-fits st user subtree path there descendants depth =
     after-cases st user (Mkdir path) (λ new. (fits_descendants new subtree ≡ true) × (fits_depth new subtree ≡ true))
     (λ free.
     let kept =
-        limits-kept st user subtree (Mkdir path) (λ free file. there-other st path subtree (allowed_mkdir st user path free).0 there) in
+    limits-kept st user subtree (Mkdir path) (λ free file. there-other st path subtree (allowed_mkdir st user path free).0 there) in
     fits-after st user subtree (Mkdir path) there free kept descendants depth)
     (descendants, depth)
 
@@ -112,5 +112,5 @@ chmod-opens st user subtree at name mode whole sub unreached =
     let op = Chmod at name mode in
     after-cases st user op (λ new. AreUntouched st new subtree)
     (λ free. untouched-after st user subtree op (sound-formed st whole) sub (has_row-after st user op subtree refl ∙ sub.0)
-      (limits-kept st user subtree op (λ _ file. refl)) (chmod-other st user subtree at name mode unreached free))
+    (limits-kept st user subtree op (λ _ file. refl)) (chmod-other st user subtree at name mode unreached free))
     (λ k d _. refl)

@@ -78,7 +78,7 @@ module _ (users : List Identity) (start : State) (subtree : Names) where
       → IsWhole (limits start subtree) st st subtree
   whole-still st at user named =
       let fits =
-          and_parts _ _ (no_unless (fits_descendants st subtree && fits_depth st subtree) _ (no_parts _ _ (at.guards user named)).1) in
+      and_parts _ _ (no_unless (fits_descendants st subtree && fits_depth st subtree) _ (no_parts _ _ (at.guards user named)).1) in
       record { there = at.is.0; edge = none-crosses-same st subtree; limits = at.limits; descendants = fits.0; depth = fits.1 }
 
   kept-from : (steps : ℕ) (st : State) → IsGuarded users start st subtree → (deeds : List Deed) → AreBy users deeds

@@ -40,11 +40,11 @@ module _ (users : List Identity) (start : State) (subtree : Names) where
         | [] ↦
             λ free. elim (sets_guarded_mode subtree op) as
             (λ sets. sets_guarded_mode subtree op ≡ sets → IsGuarded users start (after st user op) subtree) [
-          | true ↦ λ sets. guarded-own users start subtree st at user (opens (free, sets)) op
-          | false ↦
-              λ sets. guarded-on users start subtree st at user op (untouched-unopened st user subtree op at.sound at.is whole.there
-                              (whole.limits ∙ sym at.limits) (λ both. true≢false (sym both.1 ∙ sets))) whole
-        ] refl
+              | true ↦ λ sets. guarded-own users start subtree st at user (opens (free, sets)) op
+              | false ↦
+                  λ sets. guarded-on users start subtree st at user op (untouched-unopened st user subtree op at.sound at.is whole.there
+                  (whole.limits ∙ sym at.limits) (λ both. true≢false (sym both.1 ∙ sets))) whole
+            ] refl
         | bar ∷ others ↦ λ is. guarded-barred users start subtree st at user op bar others is
       ] refl
 
@@ -59,16 +59,21 @@ module _ (users : List Identity) (start : State) (subtree : Names) where
   of_stranger-from made st at (deed ∷ deeds) opens steps clause h =
       let new = after st deed.0 deed.1 in
       elim (broken start st new subtree) as (λ found. broken start st new subtree ≡ found
-        → or_later found (suc made) (verdict_from start (suc made) new deeds subtree) ≡ Broken steps clause
-        → IsOfStrangerAfter users (deed ∷ deeds) made steps) [
+      → or_later found (suc made) (verdict_from start (suc made) new deeds subtree) ≡ Broken steps clause
+      → IsOfStrangerAfter users (deed ∷ deeds) made steps) [
         | [] ↦ λ none more. later deed deeds made steps
             (of_stranger-from (suc made) new
-              (guarded-any st at deed.0 deed.1 opens.0 (broken-whole (limits start subtree) st new subtree none)) deeds opens.1 steps clause
-              more)
-        | found ∷ others ↦ λ is h.
-            (0, deed, omega (arith, same_steps _ _ _ _ h), refl, λ named.
+            (guarded-any st at deed.0 deed.1 opens.0 (broken-whole (limits start subtree) st new subtree none)) deeds opens.1 steps clause
+            more)
+        | found ∷ others ↦ λ is h. (
+          0,
+          deed,
+          omega (arith, same_steps _ _ _ _ h),
+          refl,
+          λ named.
               not_empty found others
-              (sym is ∙ whole-broken (limits start subtree) st new subtree (whole-own users start subtree st at deed.0 named deed.1)))
+              (sym is ∙ whole-broken (limits start subtree) st new subtree (whole-own users start subtree st at deed.0 named deed.1)),
+        )
       ] refl h
 
 pub broken-of_stranger : (st : State) (users : List Identity) (subtree : Names) (deeds : List Deed) (steps : ℕ) (clause : Clause)

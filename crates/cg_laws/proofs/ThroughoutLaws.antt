@@ -40,7 +40,7 @@ module _ (st new : State) (subtree : Names) where
       let live : is_some (process_at st pid) ≡ true = lives (process_at st pid) was in
       same_side (inside subtree before) (inside subtree later)
       (sym (λ i. is_crossed subtree (was i) (is i)) ∙ false_from_ne_true (is_crossed subtree (place_at st pid) (place_at new pid))
-        (λ crossed. crosses-some st new subtree pid live crossed none))
+      (λ crossed. crosses-some st new subtree pid live crossed none))
     where
       lives : {place : Names} (process : Option Process) → option_map (λ p. p.place) process ≡ Some place → is_some process ≡ true
       lives None h = cc
@@ -140,6 +140,7 @@ held-is_throughout st deeds subtree = (held-throughout st subtree deeds, through
 
 pub contained-is_throughout : (st : State) (user : Identity) (subtree : Names)
     → IsContained st user subtree ↔ ((ops : List Op) → IsHeldThroughout st (by_user user ops) subtree)
-contained-is_throughout st user subtree =
-    (λ contained ops. held-throughout st subtree (by_user user ops) (contained ops),
-      λ throughout ops. throughout-held st subtree (by_user user ops) (throughout ops))
+contained-is_throughout st user subtree = (
+  λ contained ops. held-throughout st subtree (by_user user ops) (contained ops),
+  λ throughout ops. throughout-held st subtree (by_user user ops) (throughout ops),
+)

@@ -82,8 +82,8 @@ module _ (st : State) (at : Names) (enabled : ControllerSet) (user : Identity) (
             file_at-with_enabled-child st at enabled user subtree child file
             ∙ ap (option_and_then (λ row. refitted enabled user file (file_of row file))) row.1 in
             let values =
-                ap (option_map (λ f. f.value)) (sym now) ∙ sym (value_at-file (with_enabled st at enabled user) subtree file) ∙ same
-                ∙ value_at-file st subtree file ∙ ap (option_map (λ f. f.value)) was in
+            ap (option_map (λ f. f.value)) (sym now) ∙ sym (value_at-file (with_enabled st at enabled user) subtree file) ∙ same
+            ∙ value_at-file st subtree file ∙ ap (option_map (λ f. f.value)) was in
             now ∙ refitted-same enabled user file (file_of row.0 file) values ∙ sym was
         | false ↦ λ other. file_at-with_enabled-other st at enabled user subtree other file
       ] refl
@@ -96,7 +96,7 @@ module _ (st : State) (at : Names) (enabled : ControllerSet) (user : Identity) (
       (λ file. subst (λ path. entry_at (with_enabled st at enabled user) path (File file) ≡ entry_at st path (File file))
       (sym (take_all (length subtree) subtree (omega arith)))
       (entry_at-file (with_enabled st at enabled user) subtree file
-        ∙ ap (option_map (λ f. f.entry)) (file-with_enabled file (ap (λ values. values file) same)) ∙ sym (entry_at-file st subtree file)))
+      ∙ ap (option_map (λ f. f.entry)) (file-with_enabled file (ap (λ values. values file) same)) ∙ sym (entry_at-file st subtree file)))
       (entry_at-with_enabled-subtree_control st at enabled user (take (length subtree - 1) subtree))
       (entry_at-with_enabled-dir st at enabled user (take (length subtree - 1) subtree))
 
@@ -135,8 +135,8 @@ untouched-after st user subtree (Fork parent child) sound sub there same shut =
 untouched-after st user subtree (Exit pid) sound sub there same shut = by_alters st user subtree (Exit pid) (λ guarded. refl)
 untouched-after st user subtree (Chmod at name mode) sound sub there same shut =
     let others =
-        All-from_recursion (λ guarded. is_chmod_of subtree (Chmod at name mode) guarded ≡ false) (guarded_entries subtree)
-        (any_none (is_chmod_of subtree (Chmod at name mode)) (guarded_entries subtree) shut) in
+    All-from_recursion (λ guarded. is_chmod_of subtree (Chmod at name mode) guarded ≡ false) (guarded_entries subtree)
+    (any_none (is_chmod_of subtree (Chmod at name mode)) (guarded_entries subtree) shut) in
     All-weaker (λ guarded. is_chmod_of subtree (Chmod at name mode) guarded ≡ false)
     (λ guarded. guarded_entry (after st user (Chmod at name mode)) subtree guarded ≡ guarded_entry st subtree guarded)
     (λ guarded other. entry_at-after st user (Chmod at name mode) (take guarded.len subtree) guarded.name other) (guarded_entries subtree)
@@ -150,5 +150,5 @@ pub untouched-unopened : (st : State) (user : Identity) (subtree : Names) (op : 
 untouched-unopened st user subtree op sound sub there same shut =
     after-cases st user op (λ new. AreUntouched st new subtree)
     (λ free. untouched-after st user subtree op sound sub there same
-      (false_from_ne_true (sets_guarded_mode subtree op) (λ sets. shut (free, sets))))
+    (false_from_ne_true (sets_guarded_mode subtree op) (λ sets. shut (free, sets))))
     (stays st subtree)

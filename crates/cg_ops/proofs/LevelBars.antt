@@ -32,9 +32,9 @@ module _ (st : State) (path : Names) where
   level_free : (k : ℕ) → is_full st path top k ≡ false → first (level_bars st path k) ≡ None
   level_free k free =
       elim (row_at st (take k path)) as (λ r. elim r as (λ _. Bool)
-            [ None ↦ false | Some row ↦ bars_child (count k) row.max_descendants.value (top - k) row.max_depth.value ] ≡ false
+      [ None ↦ false | Some row ↦ bars_child (count k) row.max_descendants.value (top - k) row.max_depth.value ] ≡ false
       → first (present r (λ row. unless (is_under (count k) row.max_descendants.value) (DescendantLimit k)
-                ++ unless (is_under (top - k) row.max_depth.value) (DepthLimit k))) ≡ None) [
+      ++ unless (is_under (top - k) row.max_depth.value) (DepthLimit k))) ≡ None) [
         | None ↦ λ h. refl
         | Some row ↦
             λ h. both_pass (is_under (count k) row.max_descendants.value) (is_under (top - k) row.max_depth.value) (DescendantLimit k)
@@ -45,9 +45,9 @@ module _ (st : State) (path : Names) where
   level_full : (k : ℕ) → is_full st path top k ≡ true → (r : Refusal) × (first (level_bars st path k) ≡ Some r)
   level_full k full =
       elim (row_at st (take k path)) as (λ r. elim r as (λ _. Bool)
-            [ None ↦ false | Some row ↦ bars_child (count k) row.max_descendants.value (top - k) row.max_depth.value ] ≡ true
+      [ None ↦ false | Some row ↦ bars_child (count k) row.max_descendants.value (top - k) row.max_depth.value ] ≡ true
       → (refusal : Refusal) × (first (present r (λ row. unless (is_under (count k) row.max_descendants.value) (DescendantLimit k)
-                    ++ unless (is_under (top - k) row.max_depth.value) (DepthLimit k))) ≡ Some refusal)) [
+      ++ unless (is_under (top - k) row.max_depth.value) (DepthLimit k))) ≡ Some refusal)) [
         | None ↦ λ h. absurd (true≢false (sym h))
         | Some row ↦
             λ h. one_fails (is_under (count k) row.max_descendants.value) (is_under (top - k) row.max_depth.value) (DescendantLimit k)
@@ -64,9 +64,9 @@ module _ (st : State) (path : Names) where
   limit_some (suc n) at low full free =
       ⊎_elim
       (λ (same : n ≡ at). let r =
-            level_full at full in ap (λ k. first (limit_bars st path (suc k))) same ∙ first_some _ _ r.0 r.1 ∙ sym r.1)
+      level_full at full in ap (λ k. first (limit_bars st path (suc k))) same ∙ first_some _ _ r.0 r.1 ∙ sym r.1)
       (λ (other : n ≢ at). first_none _ _ (level_free n (free n (omega arith) (omega arith)))
-              ∙ limit_some n at (omega arith) full (λ k h l. free k h (omega arith))) (cases_eq n at)
+      ∙ limit_some n at (omega arith) full (λ k h l. free k h (omega arith))) (cases_eq n at)
 
   -- by what the tree says of the nearest full cgroup, where the path isn't the root
   module _ (len : ℕ) (level : len + 1 ≡ length path) where

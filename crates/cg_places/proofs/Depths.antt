@@ -65,7 +65,7 @@ names_step (c ∷ a) [] p q h k = too_long c (a ++ names_text p) q (plain c (fir
 names_step (c ∷ a) (d ∷ b) p q h k =
     step c d (a ++ names_text p) (b ++ names_text q)
     ∙ elim (nat_eq c d) as (λ t. cond t (levels_below (a ++ names_text p) (b ++ names_text q)) 0
-      ≡ cond (t && same_name a b) (levels_below (names_text p) (names_text q)) 0) [
+    ≡ cond (t && same_name a b) (levels_below (names_text p) (names_text q)) 0) [
       | true ↦ names_step a b p q (second_so (is_name_byte c) _ h) (second_so (is_name_byte d) _ k)
       | false ↦ refl
     ]
@@ -109,7 +109,7 @@ levels_text [] (b ∷ q) h k =
     let long = long_enough b (first_so (is_name b) _ k) in
     let size = length-append b (names_text q) in
     let more : nat_lt 1 (length (47 ∷ (b ++ names_text q))) ≡ true =
-        lt-ltb 1 (length (47 ∷ (b ++ names_text q))) (omega (arith, long, size)) in
+    lt-ltb 1 (length (47 ∷ (b ++ names_text q))) (omega (arith, long, size)) in
     let deep : nat_lt 0 (length (b ∷ q)) ≡ true = lt-ltb 0 (length (b ∷ q)) (omega arith) in
     ap (λ t. cond (t && true) (count_by (λ b. b == 47) (names_text (b ∷ q))) 0) more
     ∙ sym (gathered-count (λ b. b == 47) (names_text (b ∷ q))) ∙ slashes (b ∷ q) k
@@ -118,7 +118,7 @@ levels_text (a ∷ p) [] h k = refl
 levels_text (a ∷ p) (b ∷ q) h k =
     names_step a b p q (is_name-bytes a (first_so (is_name a) _ h)) (is_name-bytes b (first_so (is_name b) _ k))
     ∙ elim (same_name a b) as (λ t. cond t (levels_below (names_text p) (names_text q)) 0
-      ≡ cond ((t && inside p q) && nat_lt (length (a ∷ p)) (length (b ∷ q))) (length (b ∷ q) - length (a ∷ p)) 0) [
+    ≡ cond ((t && inside p q) && nat_lt (length (a ∷ p)) (length (b ∷ q))) (length (b ∷ q) - length (a ∷ p)) 0) [
       | true ↦
           let less : length q - length p ≡ length (b ∷ q) - length (a ∷ p) = omega arith in
           levels_text p q (second_so (is_name a) _ h) (second_so (is_name b) _ k)
@@ -164,7 +164,7 @@ filtered t h xs = greatest h (filter t xs) ∙ each xs
     each [] = refl
     each (y ∷ ys) =
         elim (t y) as (λ b. gathered (λ x n. max n (h x)) 0 (cond b (y ∷ filter t ys) (filter t ys))
-          ≡ max (gathered (λ x n. max n (cond (t x) (h x) 0)) 0 ys) (cond b (h y) 0)) [
+        ≡ max (gathered (λ x n. max n (cond (t x) (h x) 0)) 0 ys) (cond b (h y) 0)) [
           | true ↦ ap (λ n. max n (h y)) (each ys)
           | false ↦ each ys ∙ omega arith
         ]
@@ -197,7 +197,7 @@ module _ (p : Names) where
   unfolding IsStrictlySortedBy
   over_entries [] are ordered =
       ap (gathered by_key 0) (nothing (map.entries (map.empty {X = ℕ} {R = path_cmp}))
-        (omega (arith, map.len-entries (map.empty {X = ℕ} {R = path_cmp}), map.len-empty path_cmp ℕ)))
+      (omega (arith, map.len-entries (map.empty {X = ℕ} {R = path_cmp}), map.len-empty path_cmp ℕ)))
   over_entries (e ∷ es) are ordered =
       let k = names_at (string_bytes e.0) in
       let none : map.get (numbers_of es) k ≡ None =

@@ -112,6 +112,6 @@ keys_listed ks m ordered same =
     let units = map_values (λ _. tt) m in
     let maps : map.from_sorted {R = path_cmp} es ≡ units =
     same_maps _ _ (λ q. same_units _ _ (ap is_some (map.get-from_sorted path_cmp es q sorted) ∙ found_any q ks ∙ same q
-            ∙ sym (ap is_some (get-mapped (λ _. tt) m q) ∙ is_some-mapped (λ _. tt) (map.get m q)))) in
+    ∙ sym (ap is_some (get-mapped (λ _. tt) m q) ∙ is_some-mapped (λ _. tt) (map.get m q)))) in
     sym (keys_again ks) ∙ ap (map_list (λ e. e.0)) (sym (map.entries-from_sorted path_cmp es sorted)) ∙ ap map.keys maps
     ∙ keys-mapped (λ _. tt) m

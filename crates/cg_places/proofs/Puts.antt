@@ -91,7 +91,7 @@ nobodys places links placed (Some i) k place q j has same =
       | true ↦ λ e is.
           let leads : (link_at links i).above < length links = omega (arith, up, ap (λ n. (link_at links n).above) is) in
           true≢false (sym e ∙ ap (λ b. nat_lt i (length links) && not b) (lt-ltb (link_at links i).above (length links) leads)
-            ∙ neither (nat_lt i (length links)))
+          ∙ neither (nat_lt i (length links)))
       | false ↦ λ e is. omega (arith, here, is)
     ] refl (same ∙ place)
   where

@@ -52,8 +52,8 @@ are_set shared slots i slot are new l = record {
         | false ↦ λ e.
             are.within j k (omega (arith, within, length-set slots i slot))
             (sym (ap (λ (s : Slot). s.shared)
-                              (get_or-set_other slots i j slot (new_slot no_cgroup None) (λ same. true≢false (sym (eq-eqb j i same) ∙ e))))
-                              ∙ is)
+            (get_or-set_other slots i j slot (new_slot no_cgroup None) (λ same. true≢false (sym (eq-eqb j i same) ∙ e))))
+            ∙ is)
       ] refl;
 }
 
@@ -77,8 +77,8 @@ are_more shared slots slot are new = record {
             let past = ltb-false i (length slots) e in
             let last : i ≡ length slots = omega (arith, past, l, length-append slots (slot ∷ [])) in
             new k (sym (ap (λ (s : Slot). s.shared)
-                              (ap (slot_at (slots ++ slot ∷ [])) last
-                                                              ∙ get_or_at slots slot [] (new_slot no_cgroup None) (length slots) refl)) ∙ is)
+            (ap (slot_at (slots ++ slot ∷ [])) last
+            ∙ get_or_at slots slot [] (new_slot no_cgroup None) (length slots) refl)) ∙ is)
       ] refl;
 }
 
@@ -109,8 +109,8 @@ seen_grown old new slots are grows =
     one row live uses None within = refl
     one row live uses (Some k) within =
         let there : shared_at new k ≡ shared_at old k =
-            ap (λ xs. shared_at xs k) grows.grown
-            ∙ get_or_append_left old grows.rest (record { above = 0; cgroup = no_cgroup }) k (within k refl) in
+        ap (λ xs. shared_at xs k) grows.grown
+        ∙ get_or_append_left old grows.rest (record { above = 0; cgroup = no_cgroup }) k (within k refl) in
         (λ t. record { cgroup = (there t).cgroup; live = live; uses = uses; kin = Some (there t).above })
 
 pub seen_put : (shared : List Shared) (slots : List Slot) (i : ℕ) (row : Cgroup) (above k : ℕ)
@@ -151,7 +151,7 @@ module _ (links : List Link) (at : ℕ) (changed : ControllerSet) (fresh : Cgrou
 
   own_node : (row : Cgroup) (live : ℕ) (uses : Uses) (b : Bool)
       → node_of shared' (cond (b && true) (refitted_slot changed fresh (record { cgroup = row; live = live; uses = uses; shared = None }))
-        (record { cgroup = row; live = live; uses = uses; shared = None }))
+      (record { cgroup = row; live = live; uses = uses; shared = None }))
       ≡ cond b (refitted_node changed fresh (record { cgroup = row; live = live; uses = uses; kin = None }))
       (record { cgroup = row; live = live; uses = uses; kin = None })
   own_node row live uses true = refl
@@ -160,8 +160,8 @@ module _ (links : List Link) (at : ℕ) (changed : ControllerSet) (fresh : Cgrou
   shared_node : (row : Cgroup) (live : ℕ) (uses : Uses) (k i : ℕ) → k < length shared
       → IsKin links i (node_of shared (record { cgroup = row; live = live; uses = uses; shared = Some k }))
       → node_of shared' (cond (links_to links at i && false)
-        (refitted_slot changed fresh (record { cgroup = row; live = live; uses = uses; shared = Some k }))
-        (record { cgroup = row; live = live; uses = uses; shared = Some k }))
+      (refitted_slot changed fresh (record { cgroup = row; live = live; uses = uses; shared = Some k }))
+      (record { cgroup = row; live = live; uses = uses; shared = Some k }))
       ≡ cond (links_to links at i)
       (refitted_node changed fresh (node_of shared (record { cgroup = row; live = live; uses = uses; shared = Some k })))
       (node_of shared (record { cgroup = row; live = live; uses = uses; shared = Some k }))
@@ -174,7 +174,7 @@ module _ (links : List Link) (at : ℕ) (changed : ControllerSet) (fresh : Cgrou
       ∙ ap (seen live uses)
       (rows.each k l ∙ ap (λ b. cond b (refitted_shared changed fresh here) here) (same_parent i here.above (kin here.above refl)))
       ∙ elim (links_to links at i) as (λ b. seen live uses (cond b (refitted_shared changed fresh here) here)
-              ≡ cond b (refitted_node changed fresh (seen live uses here)) (seen live uses here)) [ true ↦ refl | false ↦ refl ]
+      ≡ cond b (refitted_node changed fresh (seen live uses here)) (seen live uses here)) [ true ↦ refl | false ↦ refl ]
     where
       seen : ℕ → Uses → Shared → Node
       seen live uses x = record { cgroup = x.cgroup; live = live; uses = uses; kin = Some x.above }
@@ -182,8 +182,8 @@ module _ (links : List Link) (at : ℕ) (changed : ControllerSet) (fresh : Cgrou
   one_node : (row : Cgroup) (live : ℕ) (uses : Uses) (o : Option ℕ) (i : ℕ) → ((k : ℕ) → o ≡ Some k → k < length shared)
       → IsKin links i (node_of shared (record { cgroup = row; live = live; uses = uses; shared = o }))
       → node_of shared' (cond (links_to links at i && is_none o)
-        (refitted_slot changed fresh (record { cgroup = row; live = live; uses = uses; shared = o }))
-        (record { cgroup = row; live = live; uses = uses; shared = o }))
+      (refitted_slot changed fresh (record { cgroup = row; live = live; uses = uses; shared = o }))
+      (record { cgroup = row; live = live; uses = uses; shared = o }))
       ≡ cond (links_to links at i)
       (refitted_node changed fresh (node_of shared (record { cgroup = row; live = live; uses = uses; shared = o })))
       (node_of shared (record { cgroup = row; live = live; uses = uses; shared = o }))

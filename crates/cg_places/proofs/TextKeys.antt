@@ -28,9 +28,10 @@ number_at es text = lookup (is_at (λ k. slice_cmp nat_cmp text (string_bytes k)
 same_key : (q : Names) (t : List ℕ) → IsPath q → IsText t → eq_by_cmp path_cmp q (names_at t) ≡ bytes_eq (path_text q) t
 same_key q t h is =
     sym (same_path-ties q (names_at t))
-    ∙ same_from_decides (same_path q (names_at t)) (bytes_eq (path_text q) t) (same_path_decides q (names_at t))
-    ((λ e. path_text-injective q (names_at t) h is.path ((bytes_eq-Decides (path_text q) t).0 e ∙ sym is.same)),
-      (λ e. (bytes_eq-Decides (path_text q) t).1 (ap path_text e ∙ is.same)))
+    ∙ same_from_decides (same_path q (names_at t)) (bytes_eq (path_text q) t) (same_path_decides q (names_at t)) (
+      (λ e. path_text-injective q (names_at t) h is.path ((bytes_eq-Decides (path_text q) t).0 e ∙ sym is.same)),
+      (λ e. (bytes_eq-Decides (path_text q) t).1 (ap path_text e ∙ is.same)),
+    )
 
 -- a list that is no path is none of those that texts are of
 other_key : (q : Names) (t : List ℕ) → is_path q ≡ false → IsText t → eq_by_cmp path_cmp q (names_at t) ≡ false
@@ -95,9 +96,10 @@ numbers_changed es fs p w m are were h found has =
   where
     same_texts : (q : Names) → IsPath q → bytes_eq (path_text p) (path_text q) ≡ eq_by_cmp path_cmp q p
     same_texts q k =
-        same_from_decides (bytes_eq (path_text p) (path_text q)) (same_path q p)
-        ((λ e. path_text-injective q p k h (sym ((bytes_eq-Decides (path_text p) (path_text q)).0 e))),
-                  (λ e. (bytes_eq-Decides (path_text p) (path_text q)).1 (sym (ap path_text e)))) (same_path_decides q p)
+        same_from_decides (bytes_eq (path_text p) (path_text q)) (same_path q p) (
+          (λ e. path_text-injective q p k h (sym ((bytes_eq-Decides (path_text p) (path_text q)).0 e))),
+          (λ e. (bytes_eq-Decides (path_text p) (path_text q)).1 (sym (ap path_text e))),
+        ) (same_path_decides q p)
         ∙ same_path-ties q p
 
     other : (q : Names) → is_path q ≡ false → eq_by_cmp path_cmp q p ≡ false
@@ -116,10 +118,10 @@ texts_added es k v p are h is = All-from_recursion HasText _ (added es (recursio
     added (e ∷ es) are =
         elim (string_cmp k e.0) as
         (λ r. AllByRecursion HasText (match_ordering r ((k, v) ∷ e ∷ es) ((e.0, v) ∷ es) (e ∷ insert_entry string_cmp es k v))) [
-      | Less ↦ (subst IsText (sym is) (text_is p h), are)
-      | Equal ↦ are
-      | Greater ↦ (are.0, added es are.1)
-    ]
+          | Less ↦ (subst IsText (sym is) (text_is p h), are)
+          | Equal ↦ are
+          | Greater ↦ (are.0, added es are.1)
+        ]
 
 pub texts_removed : (es : List (String Global × ℕ)) (test : String Global → Bool) → AreTexts es → AreTexts (remove_entry test es)
 texts_removed es test are = All-from_recursion HasText _ (removed es (recursion_from_All HasText es are))
@@ -141,12 +143,12 @@ module _ (es fs : List (String Global × ℕ)) (m : FinMap path_cmp ℕ) (shows 
   pub numbers_put : (v : ℕ) → Changes (Some v) → numbers_of fs ≡ map.insert m p v
   numbers_put v changes =
       numbers_changed es fs p (Some v) (map.insert (numbers_of es) p v) are were h (at_path (Some v) changes)
-            (λ q. map.get-insert path_cmp_total (numbers_of es) p v q) ∙ ap (λ m. map.insert m p v) shows
+      (λ q. map.get-insert path_cmp_total (numbers_of es) p v q) ∙ ap (λ m. map.insert m p v) shows
 
   pub numbers_without : Changes None → numbers_of fs ≡ map.remove m p
   numbers_without changes =
       numbers_changed es fs p None (map.remove (numbers_of es) p) are were h (at_path None changes)
-            (λ q. map.get-remove path_cmp_total (numbers_of es) p q) ∙ ap (λ m. map.remove m p) shows
+      (λ q. map.get-remove path_cmp_total (numbers_of es) p q) ∙ ap (λ m. map.remove m p) shows
 
 -- no more paths than entries
 pub few_numbers : (es : List (String Global × ℕ)) → map.len (numbers_of es) ≤ length es

@@ -23,6 +23,6 @@ climbed_more links len at up full is more l =
     ap (λ b. cond b (Some (len - up)) (climbed links len (link_at links at).above (len - (up + 1)))) is
     ∙ sym (ap (climbed links len at) turns
     ∙ ap (λ b. cond b (cond (is_full_link (link_at links at) (len - suc (len - (up + 1)))) (Some (suc (len - (up + 1))))
-                  (climbed links len (link_at links at).above (len - (up + 1)))) None) (lt-ltb at (length links) l)
+    (climbed links len (link_at links at).above (len - (up + 1)))) None) (lt-ltb at (length links) l)
     ∙ (λ i.
-      cond (is_full_link (link_at links at) (levels i)) (Some (sym turns i)) (climbed links len (link_at links at).above (len - (up + 1)))))
+    cond (is_full_link (link_at links at) (levels i)) (Some (sym turns i)) (climbed links len (link_at links at).above (len - (up + 1)))))

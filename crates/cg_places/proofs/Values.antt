@@ -124,7 +124,7 @@ module _ {A : Type 0} (g : Node → A) where
   values_put places next ns ms p i v nexts new same = same_maps _ _ (λ q.
       get-values next ms q ∙ ap (option_map (λ j. g (node_at ms j))) (nexts q)
       ∙ elim (same_path q p) as (λ b. same_path q p ≡ b
-        → option_map (λ j. g (node_at ms j)) (cond b (Some i) (map.get places q)) ≡ cond b (Some v) (map.get (values_of g places ns) q)) [
+      → option_map (λ j. g (node_at ms j)) (cond b (Some i) (map.get places q)) ≡ cond b (Some v) (map.get (values_of g places ns) q)) [
         | true ↦ λ e. ap Some new
         | false ↦ λ e.
             elim (map.get places q) as
@@ -141,7 +141,7 @@ module _ {A : Type 0} (g : Node → A) where
   values_gone places next ns ms p nexts same = same_maps _ _ (λ q.
       get-values next ms q ∙ ap (option_map (λ j. g (node_at ms j))) (nexts q)
       ∙ elim (same_path q p) as (λ b. same_path q p ≡ b
-        → option_map (λ j. g (node_at ms j)) (cond b None (map.get places q)) ≡ cond b None (map.get (values_of g places ns) q)) [
+      → option_map (λ j. g (node_at ms j)) (cond b None (map.get places q)) ≡ cond b None (map.get (values_of g places ns) q)) [
         | true ↦ λ e. refl
         | false ↦ λ e.
             elim (map.get places q) as

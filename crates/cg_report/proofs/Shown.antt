@@ -40,9 +40,11 @@ ancestors_within len zero le = tt
 ancestors_within len (suc many) le = (omega (arith, le), ancestors_within len many (omega (arith, le)))
 
 files_within : (len : ℕ) (files : List File) → AllByRecursion (Within len)
-    (map (λ file. record {guard = Rattle.cg_model.specs.declared.guard.Guard.TheVariants.LimitFile file;
-          len = len;
-                name = Rattle.cg_cgroup.specs.declared.files.EntryName.TheVariants.File file}) files)
+    (map (λ file. record {
+      guard = Rattle.cg_model.specs.declared.guard.Guard.TheVariants.LimitFile file;
+      len = len;
+      name = Rattle.cg_cgroup.specs.declared.files.EntryName.TheVariants.File file;
+    }) files)
 files_within len [] = tt
 files_within len (file ∷ files) = (omega arith, files_within len files)
 
@@ -50,15 +52,15 @@ guarded_within : (subtree : Names) → AllByRecursion (Within (length subtree)) 
 guarded_within subtree =
     all-append (Within (length subtree)) (ancestors (length subtree) ++ limit_files (length subtree)) _
     (all-append (Within (length subtree)) (ancestors (length subtree)) (limit_files (length subtree))
-      (ancestors_within (length subtree) (length subtree) (omega arith)) (files_within (length subtree) all_files))
+    (ancestors_within (length subtree) (length subtree) (omega arith)) (files_within (length subtree) all_files))
     (omega arith, (omega arith, tt))
 
 entry_fails_within : (st : State) (user : Identity) (subtree : Names) (guarded : Guarded) → Within (length subtree) guarded
     → AllByRecursion (FailsWithin (length subtree)) (entry_failures st user subtree guarded)
 entry_fails_within st user subtree guarded within =
     elim (guarded_entry st subtree guarded) as (λ (o : Option Entry).
-      AllByRecursion (FailsWithin (length subtree))
-      (present o (λ entry. unless (not (reaches user entry)) (record { guard = guarded.guard; len = guarded.len })))) [
+    AllByRecursion (FailsWithin (length subtree))
+    (present o (λ entry. unless (not (reaches user entry)) (record { guard = guarded.guard; len = guarded.len })))) [
       | None ↦ tt
       | Some entry ↦ all_unless (FailsWithin (length subtree)) (not (reaches user entry)) _ within
     ]
@@ -69,7 +71,7 @@ failures_within st user subtree =
     all-append (FailsWithin (length subtree)) (flat_map (entry_failures st user subtree) (guarded_entries subtree))
     (over_failures st subtree)
     (all_flat (FailsWithin (length subtree)) (Within (length subtree)) (entry_failures st user subtree) (entry_fails_within st user subtree)
-      (guarded_entries subtree) (guarded_within subtree))
+    (guarded_entries subtree) (guarded_within subtree))
     (all_unless (FailsWithin (length subtree)) _ _ (omega arith))
 
 shown_from : (subtree : Names) (failed : List Failed) (escape : Option (List Op)) → AllByRecursion (FailsWithin (length subtree)) failed

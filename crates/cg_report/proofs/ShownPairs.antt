@@ -37,8 +37,8 @@ module _ (st : State) (users : List Identity) (place : ℕ) (listed : place < le
   of_user_shown front [] all from whole count = tt
   of_user_shown front (subtree ∷ subtrees) all from whole count =
       let at : subtree_at all from ≡ subtree =
-          ap (λ l. get_or l from []) (sym whole) ∙ ap (λ (n : ℕ). get_or (front ++ subtree ∷ subtrees) n []) (sym count)
-          ∙ at_front front subtree subtrees in
+      ap (λ l. get_or l from []) (sym whole) ∙ ap (λ (n : ℕ). get_or (front ++ subtree ∷ subtrees) n []) (sym count)
+      ∙ at_front front subtree subtrees in
       let within : from < length all = omega (arith, ap length whole, length-append front (subtree ∷ subtrees), count) in
       let shown = subst (λ s. IsShown s (answer st user subtree)) (sym at) (answer_is_shown st user subtree) in
       let more : length (front ++ subtree ∷ []) ≡ suc from = omega (arith, length-append front (subtree ∷ []), count) in

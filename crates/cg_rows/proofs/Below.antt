@@ -126,7 +126,7 @@ module _ {X : Type 0} (test : X → Bool) where
   filter_early (x ∷ xs) (suc n) parted =
       keep x xs _ (parted.0 0 x (omega arith) (omega arith))
       (filter_early xs n
-        (λ k d _ m. parted.0 (suc k) d (omega arith) (omega arith), λ k d l m. parted.1 (suc k) d (omega arith) (omega arith)))
+      (λ k d _ m. parted.0 (suc k) d (omega arith) (omega arith), λ k d l m. parted.1 (suc k) d (omega arith) (omega arith)))
 
   -- a narrower test finds as much in what passes the test
   pub any_filtered : (narrow : X → Bool) → ((x : X) → narrow x ≡ true → test x ≡ true) → (xs : List X)
@@ -208,7 +208,7 @@ module _ {X : Type 0} where
       → is_sorted path_cmp es ≡ true → fs ≡ es → IsStart path_cmp_total p es i
       → n ≤ length (take (length fs - i) (drop i fs))
       → (IsPartitionedBy (λ e. inside p e.0) (take (length fs - i) (drop i fs))
-        → IsPartitionPoint (λ e. inside p e.0 ≡ true) (λ e. inside p e.0 ≡ false) (take (length fs - i) (drop i fs)) n)
+      → IsPartitionPoint (λ e. inside p e.0 ≡ true) (λ e. inside p e.0 ≡ false) (take (length fs - i) (drop i fs)) n)
       → take n (take (length fs - i) (drop i fs)) ≡ filter (λ e. below p e.0) (map.entries m)
   found_below p es fs i n shows s same start bound parts =
       let rest : take (length fs - i) (drop i fs) ≡ drop i es = take_rest fs i ∙ ap (drop i) same in
@@ -261,7 +261,7 @@ module _ {X : Type 0} (m : map.FinMap path_cmp X) where
   filter_keys test [] = refl
   filter_keys test (e ∷ es) =
       elim (test e.0) as (λ b. cond b (e.0 ∷ filter test (map_list (λ e. e.0) es)) (filter test (map_list (λ e. e.0) es))
-        ≡ map_list (λ e. e.0) (cond b (e ∷ filter (λ e. test e.0) es) (filter (λ e. test e.0) es))) [
+      ≡ map_list (λ e. e.0) (cond b (e ∷ filter (λ e. test e.0) es) (filter (λ e. test e.0) es))) [
         | true ↦ ap (λ ks. e.0 ∷ ks) (filter_keys test es)
         | false ↦ filter_keys test es
       ]
@@ -277,7 +277,7 @@ module _ {X : Type 0} (m : map.FinMap path_cmp X) where
   depth_found p n es found same =
       (λ i. fold max 0 (map_list (λ e. length e.0 - same i) (found i)))
       ∙ ap (fold max 0) (sym (map-map_keys (λ q. length q - length p) (filter (λ e. below p e.0) (map.entries m)))
-        ∙ ap (map_list (λ q. length q - length p)) (sym (filter_keys (below p) (map.entries m))))
+      ∙ ap (map_list (λ q. length q - length p)) (sym (filter_keys (below p) (map.entries m))))
     where
       map-map_keys : (f : Names → ℕ) (es : List (Names × X)) → map_list f (map_list (λ e. e.0) es) ≡ map_list (λ e. f e.0) es
       map-map_keys f [] = refl

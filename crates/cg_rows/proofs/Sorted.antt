@@ -109,7 +109,7 @@ module _ {K X : Type 0} {R : K → K → Ordering} (o : IsTotalOrder R) where
       ap (λ r. by_order r ((q, v) ∷ e ∷ es) ((e.0, v) ∷ es) (e ∷ put R q v es))
       (turned o e.0 q Less (gap.0 0 e (omega arith) (omega arith)))
       ∙ ap (λ fs. e ∷ fs) (put_gap q v es i (omega arith)
-        (λ k d _ m. gap.0 (suc k) d (omega arith) (omega arith), λ k d m n. gap.1 (suc k) d (omega arith) (omega arith)))
+      (λ k d _ m. gap.0 (suc k) d (omega arith) (omega arith), λ k d m n. gap.1 (suc k) d (omega arith) (omega arith)))
 
   put_at : (q : K) (v : X) (es : List (K × X)) (i : ℕ) (d : K × X) → is_sorted R es ≡ true → i < length es → R (get_or es i d).0 q ≡ Equal
       → put R q v es ≡ set es i ((get_or es i d).0, v)
@@ -135,7 +135,7 @@ module _ {K X : Type 0} {R : K → K → Ordering} (o : IsTotalOrder R) where
   remove_at q (e ∷ es) zero s l t =
       let back = tied_back o e.0 q (t e) in
       keep_all e.0 q es back (and_parts _ _ s).0 ∙ sym (ap
-        (λ b. cond (not b) (e ∷ where_key R (λ y. not (eq_by_cmp R q y)) es) (where_key R (λ y. not (eq_by_cmp R q y)) es)) (ap is_eq back))
+      (λ b. cond (not b) (e ∷ where_key R (λ y. not (eq_by_cmp R q y)) es) (where_key R (λ y. not (eq_by_cmp R q y)) es)) (ap is_eq back))
   remove_at q (e ∷ es) (suc i) s l t =
       keep _ e _ es (ap not (below_tests o e.0 q (before_tie q e es i e s (omega arith) (t e))))
       (remove_at q es i (and_parts _ _ s).1 (omega arith) t)

@@ -27,7 +27,7 @@ module _ {K X : Type 0} {R : K → K → Ordering} (o : IsTotalOrder R) where
   entries-shown same es ordered =
       let sorted = passes _ (sorted_keys R es ordered) in
       ap map.entries (map.same_map o same (map.from_entries {R = R} es) (map.from_sorted {R = R} es)
-              (λ q. map.get-from_entries o es q ∙ sym (map.get-from_sorted R es q sorted))) ∙ map.entries-from_sorted R es sorted
+      (λ q. map.get-from_entries o es q ∙ sym (map.get-from_sorted R es q sorted))) ∙ map.entries-from_sorted R es sorted
 
   pub shown-insert : IsAntisymmetric R → (es fs : List (K × X)) (k : K) (v : X)
       → ((q : K) → lookup (is_at (R q)) fs ≡ cond (is_at (R k) q) (Some v) (lookup (is_at (R q)) es))
@@ -90,11 +90,11 @@ module _ {K : Type 0} {R : K → K → Ordering} (o : IsTotalOrder R) where
       undone : (q : K) → cond (is_at (R k) q) false (list_any (is_at (R q)) ls) ≡ list_any (is_at (R q)) ks
       undone q =
           elim (R k q) as (λ r. R k q ≡ r → list_any (is_at (R q)) ls ≡ cond (is_eq r) true (list_any (is_at (R q)) ks)
-            → cond (is_eq r) false (list_any (is_at (R q)) ls) ≡ list_any (is_at (R q)) ks) [
-        | Less ↦ λ _ e. e
-        | Equal ↦ λ tied _. sym (sym (set.contains-from_list o ks q) ∙ set.contains_tied o (set.from_list {R = R} ks) k q tied ∙ absent)
-        | Greater ↦ λ _ e. e
-      ] refl (inserted q)
+          → cond (is_eq r) false (list_any (is_at (R q)) ls) ≡ list_any (is_at (R q)) ks) [
+            | Less ↦ λ _ e. e
+            | Equal ↦ λ tied _. sym (sym (set.contains-from_list o ks q) ∙ set.contains_tied o (set.from_list {R = R} ks) k q tied ∙ absent)
+            | Greater ↦ λ _ e. e
+          ] refl (inserted q)
 
 -- no more keys than entries
 pub few_entries : {X : Type 0} (es : List (ℕ × X)) → map.len (map.from_entries {R = nat_cmp} es) ≤ length es

@@ -39,7 +39,7 @@ formed_mkdir st user path len row made h whole at is is_made =
     let allowed = allowed_mkdir st user path h in
     let above : row_at st (parent path) ≡ Some row = ap (row_at st) (sym (take_parent path len at)) ∙ is in
     let same : cgroup_made_by user (enabled_at st (parent path)) ≡ made =
-        ap (cgroup_made_by user) (enabled_at-row st (parent path) row above) ∙ sym is_made in
+    ap (cgroup_made_by user) (enabled_at-row st (parent path) row above) ∙ sym is_made in
     subst (λ r. IsWellFormed (with_row st path r)) same (formed-with_made_row st path user allowed.0 allowed.2 whole)
 
 -- ---- the others

@@ -33,7 +33,7 @@ child_enables-parent st path row controller whole is h =
     let found = child_enables-row st path controller h in
     let below : available_at st found.0 ≡ enabled_at st (parent found.0) = simp (is_root-is_child path found.0 found.3) in
     let within : available_at st found.0 ≡ row.enabled =
-        below ∙ ap (enabled_at st) (parent-is_child path found.0 found.3) ∙ enabled_at-row st path row is in
+    below ∙ ap (enabled_at st) (parent-is_child path found.0 found.3) ∙ enabled_at-row st path row is in
     is_within-enables found.1.enabled row.enabled
     (subst (λ set. is_within found.1.enabled set ≡ true) within (whole.top_down found.0 found.1 found.2)) controller found.4
 
@@ -70,7 +70,7 @@ live-enables_nothing st path row whole is live =
 within-nothing : (set other : ControllerSet) → is_within set other ≡ true → enables_nothing other ≡ true → enables_nothing set ≡ true
 within-nothing set other within nothing =
     enables_nothing-none set (λ controller. false_from_ne_true _
-      (λ on. true≢false (sym (is_within-enables set other within controller on) ∙ enables_nothing-enables other nothing controller)))
+    (λ on. true≢false (sym (is_within-enables set other within controller on) ∙ enables_nothing-enables other nothing controller)))
 
 no_internal_cases : (root within nothing live before : Bool) → (root || (within || not live)) ≡ true
     → (live ≡ true → (root || before) ≡ true) → (within ≡ true → before ≡ true → nothing ≡ true) → (root || (nothing || not live)) ≡ true

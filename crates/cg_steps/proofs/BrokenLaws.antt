@@ -35,7 +35,7 @@ pub start-broken : (st : State) (subtree : Names) (descendants depth : Bool) →
     → first (clauses_of true [] true descendants depth) ≡ first (broken st st st subtree)
 start-broken st subtree descendants depth there fits fits_too =
     sym (λ i. first
-      (clauses_of (there i) (none-crosses-same st subtree i) (same_limits-itself (limits st subtree) i) (sym fits i) (sym fits_too i)))
+    (clauses_of (there i) (none-crosses-same st subtree i) (same_limits-itself (limits st subtree) i) (sym fits i) (sym fits_too i)))
 
 -- ---- nothing is broken
 

@@ -24,7 +24,7 @@ pub is_child-itself : (path : Names) → is_child path path ≡ false
 is_child-itself path =
     false_from_ne_true (is_child path path) (λ child.
     true≢false (sym (ap (same_path path) (parent-is_child path path child) ∙ same_path_refl path)
-      ∙ parent-other path (is_root-is_child path path child)))
+    ∙ parent-other path (is_root-is_child path path child)))
 
 module _ (path : Names) (enabled : ControllerSet) (user : Identity) where
   -- the row of the path, of a child and of any other
@@ -68,7 +68,7 @@ module _ (st : State) (path : Names) (enabled : ControllerSet) (user : Identity)
   enabled_at-with_enabled-other q apart =
       ap (λ r. elim r [ None ↦ no_controllers | Some row ↦ row.enabled ]) (row_at-with_enabled st path enabled user q)
       ∙ elim (row_at st q) as (λ r. elim (option_map (enabling path enabled user q) r) [ None ↦ no_controllers | Some row ↦ row.enabled ]
-        ≡ elim r [ None ↦ no_controllers | Some row ↦ row.enabled ]) [
+      ≡ elim r [ None ↦ no_controllers | Some row ↦ row.enabled ]) [
         | None ↦ refl
         | Some row ↦ enabled-enabling path enabled user q row apart
       ]
@@ -85,7 +85,7 @@ module _ (st : State) (path : Names) (enabled : ControllerSet) (user : Identity)
       ≡ cond (is_root q) default (enabled_at st (parent q))
   above_other default q other =
       elim (is_root q) as (λ b. is_root q ≡ b
-        → cond b default (enabled_at (with_enabled st path enabled user) (parent q)) ≡ cond b default (enabled_at st (parent q))) [
+      → cond b default (enabled_at (with_enabled st path enabled user) (parent q)) ≡ cond b default (enabled_at st (parent q))) [
         | true ↦ λ _. refl
         | false ↦ λ below_root. enabled_at-with_enabled-other (parent q) (false_from_ne_true (same_path path (parent q)) (λ same.
             true≢false
@@ -111,10 +111,10 @@ module _ (st : State) (path : Names) (enabled : ControllerSet) (user : Identity)
     stays_top_down q row is =
         enabling-by path enabled user (λ r. is_within r.enabled (available_at (with_enabled st path enabled user) q) ≡ true) q row
         (λ same. ap (is_within enabled) (above_same st.controllers q same ∙ ap (available_at st) (sym (same_path-is path q same)))
-          ∙ may.available)
+        ∙ may.available)
         (λ child. ap (is_within row.enabled) (above_child there st.controllers q child)
-          ∙ is_within-each row.enabled enabled
-          (λ controller on. may.children controller (row-child_enables st path q row controller is child on)))
+        ∙ is_within-each row.enabled enabled
+        (λ controller on. may.children controller (row-child_enables st path q row controller is child on)))
         (λ _ other. ap (is_within row.enabled) (above_other st.controllers q other) ∙ whole.top_down q row is)
 
     -- what a row enables is no part of its files
@@ -127,9 +127,9 @@ module _ (st : State) (path : Names) (enabled : ControllerSet) (user : Identity)
         let formed = whole.rows q row is in
         enabling-by path enabled user (IsFormedRow (enabled_above (with_enabled st path enabled user) q)) q row
         (λ same. subst (λ set. IsFormedRow set (enabling_these enabled row)) (sym (above_same no_controllers q same))
-          (enabling_row (enabled_above st q) row formed))
+        (enabling_row (enabled_above st q) row formed))
         (λ child. subst (λ set. IsFormedRow set (with_files_of enabled user row)) (sym (above_child there no_controllers q child))
-          (formed_row-with_files_of (enabled_above st q) enabled user row formed))
+        (formed_row-with_files_of (enabled_above st q) enabled user row formed))
         (λ _ other. subst (λ set. IsFormedRow set row) (sym (above_other no_controllers q other)) formed)
 
     -- where a process is, nothing is enabled, or it is the root

@@ -101,7 +101,7 @@ formed-with_place st pid path hold formed =
     one_process (nat_eq pid q) (option_map (placed_at path) (process_at st q)) (process_at st q)
     (λ process. may_hold st process.place ≡ true)
     (λ process _ moved. let old =
-          mapped_from (placed_at path) (process_at st q) process moved in subst (λ (p : Process). may_hold st p.place ≡ true) old.2 hold)
+    mapped_from (placed_at path) (process_at st q) process moved in subst (λ (p : Process). may_hold st p.place ≡ true) old.2 hold)
     (λ process is. formed.places q process is)
     process (sym (process_at-with_place st pid path q) ∙ is))
     (λ q process is.

@@ -11,8 +11,8 @@ pub may_hold-row : (st : State) (path : Names) → may_hold st path ≡ true
     → (row : Cgroup) × (row_at st path ≡ Some row) × ((is_root path || enables_nothing row.enabled) ≡ true)
 may_hold-row st path h =
     elim (row_at st path) as (λ r. row_at st path ≡ r
-      → elim r [ None ↦ false | Some row ↦ is_root path || enables_nothing row.enabled ] ≡ true
-      → (row : Cgroup) × (row_at st path ≡ Some row) × ((is_root path || enables_nothing row.enabled) ≡ true)) [
+    → elim r [ None ↦ false | Some row ↦ is_root path || enables_nothing row.enabled ] ≡ true
+    → (row : Cgroup) × (row_at st path ≡ Some row) × ((is_root path || enables_nothing row.enabled) ≡ true)) [
       | None ↦ λ is h. absurd (true≢false (sym h))
       | Some row ↦ λ is h. (row, is, h)
     ] refl h

@@ -23,7 +23,7 @@ module _ (st : State) (m : finite.FinMap path_cmp Cgroup) (f : Names → Cgroup 
   same_enabled q =
       ap (λ r. elim r [ None ↦ no_controllers | Some row ↦ row.enabled ]) (rows q)
       ∙ elim (row_at st q) as (λ r. elim (option_map (f q) r) [ None ↦ no_controllers | Some row ↦ row.enabled ]
-              ≡ elim r [ None ↦ no_controllers | Some row ↦ row.enabled ]) [ None ↦ refl | Some row ↦ enables_same q row ]
+      ≡ elim r [ None ↦ no_controllers | Some row ↦ row.enabled ]) [ None ↦ refl | Some row ↦ enables_same q row ]
 
   same_above : (default : ControllerSet) (q : Names)
       → cond (is_root q) default (enabled_at (with_rows st m) (parent q)) ≡ cond (is_root q) default (enabled_at st (parent q))

@@ -85,7 +85,7 @@ modes-with_files_of : (above enabled : ControllerSet) (user : Identity) (row : C
 modes-with_files_of above enabled user row formed (File file) entry is =
     modes_file (file_of (with_files_of enabled user row) file)
     (λ held is. of_refitted HasMode (stands_under enabled file) (file_of row file) (file_made_by user file) (omega arith)
-          (file_modes formed file) held (sym (file_of-with_files_of enabled user row file) ∙ is)) entry is
+    (file_modes formed file) held (sym (file_of-with_files_of enabled user row file) ∙ is)) entry is
 modes-with_files_of above enabled user row formed Dir entry is = formed.modes Dir entry is
 modes-with_files_of above enabled user row formed Procs entry is = formed.modes Procs entry is
 modes-with_files_of above enabled user row formed SubtreeControl entry is = formed.modes SubtreeControl entry is

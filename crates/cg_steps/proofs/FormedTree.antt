@@ -151,12 +151,12 @@ module _ (st : State) (path : Names) (not_root : is_root path ≡ false) (no_chi
         ∙ whole.top_down q r left.1;
     rows =
         λ q r is. let left =
-            left_row q r is in subst (λ set. IsFormedRow set r) (sym (above_left no_controllers q r left.1)) (whole.rows q r left.1);
+        left_row q r is in subst (λ set. IsFormedRow set r) (sym (above_left no_controllers q r left.1)) (whole.rows q r left.1);
     places = λ pid process is.
         let held = may_hold-row st process.place (whole.places pid process is) in
         let other =
-            false_from_ne_true (same_path path process.place)
-            (λ same. true≢false (sym (process-has_live st path pid process is (same_path_comm process.place path ∙ same)) ∙ no_process)) in
+        false_from_ne_true (same_path path process.place)
+        (λ same. true≢false (sym (process-has_live st path pid process is (same_path_comm process.place path ∙ same)) ∙ no_process)) in
         row-may_hold (without_row st path) process.place held.0 (row_at-without_row-other path st process.place other ∙ held.1) held.2;
     used = whole.used;
   }

@@ -42,7 +42,7 @@ module _ {K X : Type 0} (R : K → K → Ordering) where
   find-change_entries same f q [] = refl
   find-change_entries same f q (e ∷ es) =
       elim (eq_by_cmp R q e.0) as (λ b. eq_by_cmp R q e.0 ≡ b
-        → cond b (Some (f e.0 e.1)) (find R q (change_entries f es)) ≡ option_map (f q) (cond b (Some e.1) (find R q es))) [
+      → cond b (Some (f e.0 e.1)) (find R q (change_entries f es)) ≡ option_map (f q) (cond b (Some e.1) (find R q es))) [
         | true ↦ λ t. ap (λ k. Some (f k e.1)) (sym (same q e.0 ((Equal-is (R q e.0)).0 t)))
         | false ↦ λ t. find-change_entries same f q es
       ] refl
@@ -99,7 +99,7 @@ module _ {K X : Type 0} (R : K → K → Ordering) where
   keys-put o k v x [] sorted is = absurd (true≢false (sym (ap is_some is)))
   keys-put o k v x (e ∷ es) sorted is =
       elim (R k e.0) as (λ r. R k e.0 ≡ r → cond (is_eq r) (Some e.1) (find R k es) ≡ Some x
-        → map (λ e. e.0) (by_order r ((k, v) ∷ e ∷ es) ((e.0, v) ∷ es) (e ∷ put R k v es)) ≡ e.0 ∷ map (λ e. e.0) es) [
+      → map (λ e. e.0) (by_order r ((k, v) ∷ e ∷ es) ((e.0, v) ∷ es) (e ∷ put R k v es)) ≡ e.0 ∷ map (λ e. e.0) es) [
         | Less ↦
             λ before is. absurd (true≢false (sym (ap is_some is) ∙ ap is_some (find_above o k e.0 es before (first_of_both _ _ sorted))))
         | Equal ↦ λ _ _. refl
@@ -149,7 +149,7 @@ module _ {K X : Type 0} {R : K → K → Ordering} (o : IsTotalOrder R) where
   get-change_value m k f q =
       let tied : eq_by_cmp R k q ≡ true → get m q ≡ get m k = λ t. finite.get_tied o m k q ((Equal-is (R k q)).0 t) in
       elim (get m k) as (λ r. get m k ≡ r
-        → get (elim r [ None ↦ m | Some x ↦ insert m k (f x) ]) q ≡ cond (eq_by_cmp R k q) (option_map f (get m q)) (get m q)) [
+      → get (elim r [ None ↦ m | Some x ↦ insert m k (f x) ]) q ≡ cond (eq_by_cmp R k q) (option_map f (get m q)) (get m q)) [
         | None ↦ λ is. elim (eq_by_cmp R k q) as (λ b. eq_by_cmp R k q ≡ b → get m q ≡ cond b (option_map f (get m q)) (get m q)) [
           | true ↦ λ t. let none = tied t ∙ is in none ∙ sym (ap (option_map f) none)
           | false ↦ λ t. refl

@@ -81,7 +81,7 @@ gathered-greater p f [] = refl
 gathered-greater p f (x ∷ xs) =
     ap (λ n. cond (p x) (max n (f x)) n) (gathered-greater p f xs)
     ∙ elim (p x) as (λ b. cond b (max (fold max 0 (map f (filter p xs))) (f x)) (fold max 0 (map f (filter p xs)))
-      ≡ fold max 0 (map f (cond b (x ∷ filter p xs) (filter p xs)))) [
+    ≡ fold max 0 (map f (cond b (x ∷ filter p xs) (filter p xs)))) [
       | true ↦ omega (arith, fold_max (max 0 (f x)) (map f (filter p xs)))
       | false ↦ refl
     ]

@@ -70,7 +70,7 @@ module _ (st : State) (p : Names) (file : LimitFile) (value : Limit) (q : Names)
       ap (option_and_then (λ row. value_in row other)) (row_at-with_value st p file value q)
       ∙ read_changed (λ row. value_in row other) (with_value_in file value) (same_file file other) (λ _. value)
       (λ row. value_in-with_value_in file value row other
-              ∙ ap (λ o. cond (same_file file other) o (value_in row other)) (set_twice (file_of row other))) (same_path p q) (row_at st q)
+      ∙ ap (λ o. cond (same_file file other) o (value_in row other)) (set_twice (file_of row other))) (same_path p q) (row_at st q)
     where
       set_twice : (o : Option LimitEntry) → option_map (λ x. value) o ≡ option_map (λ (_ : Limit). value) (option_map (λ x. x.value) o)
       set_twice None = refl
@@ -152,7 +152,7 @@ module _ (st : State) (p : Names) (enabled : ControllerSet) (user : Identity) (q
   read_kept read same =
       ap (option_and_then read) (row_at-with_enabled st p enabled user q)
       ∙ elim (row_at st q) as (λ r. ((row : Cgroup) → r ≡ Some row → read (enabling p enabled user q row) ≡ read row)
-        → option_and_then read (option_map (enabling p enabled user q) r) ≡ option_and_then read r) [
+      → option_and_then read (option_map (enabling p enabled user q) r) ≡ option_and_then read r) [
         | None ↦ λ same. refl
         | Some row ↦ λ same. same row refl
       ] same
@@ -170,7 +170,7 @@ module _ (st : State) (p : Names) (enabled : ControllerSet) (user : Identity) (q
   pub entry_at-with_enabled-subtree_control : entry_at (with_enabled st p enabled user) q SubtreeControl ≡ entry_at st q SubtreeControl
   entry_at-with_enabled-subtree_control =
       read_kept (λ row. entry_in row SubtreeControl) (λ row _. enabling-by p enabled user
-        (λ r. entry_in r SubtreeControl ≡ entry_in row SubtreeControl) q row (λ _. refl) (λ _. refl) (λ _ _. refl))
+      (λ r. entry_in r SubtreeControl ≡ entry_in row SubtreeControl) q row (λ _. refl) (λ _. refl) (λ _ _. refl))
 
   -- the path is no child of itself
   not_both : {P : Type 0} → same_path p q ≡ true → is_child p q ≡ true → P
@@ -181,7 +181,7 @@ module _ (st : State) (p : Names) (enabled : ControllerSet) (user : Identity) (q
       → file_at (with_enabled st p enabled user) q file ≡ file_at st q file
   file_at-with_enabled-other other file =
       read_kept (λ row. file_of row file) (λ row _. enabling-by p enabled user (λ r. file_of r file ≡ file_of row file) q row (λ _. refl)
-        (λ child. absurd (true≢false (sym child ∙ other))) (λ _ _. refl))
+      (λ child. absurd (true≢false (sym child ∙ other))) (λ _ _. refl))
 
   -- the files of a cgroup where they stand before and after, or neither
   pub file_at-with_enabled-same : (file : LimitFile)
@@ -191,7 +191,7 @@ module _ (st : State) (p : Names) (enabled : ControllerSet) (user : Identity) (q
       read_kept (λ row. file_of row file) (λ row is.
       enabling-by p enabled user (λ r. file_of r file ≡ file_of row file) q row (λ _. refl)
       (λ _. same-with_files_of enabled user row file
-              (ap (λ r. is_some (option_and_then (λ row. file_of row file) r)) (sym is) ∙ stands (ap is_some is))) (λ _ _. refl))
+      (ap (λ r. is_some (option_and_then (λ row. file_of row file) r)) (sym is) ∙ stands (ap is_some is))) (λ _ _. refl))
 
   -- the files of a child: one that stays is kept as it is, and a new one is the user's
   pub file_at-with_enabled-child : is_child p q ≡ true → (file : LimitFile)
@@ -200,7 +200,7 @@ module _ (st : State) (p : Names) (enabled : ControllerSet) (user : Identity) (q
   file_at-with_enabled-child child file =
       ap (option_and_then (λ row. file_of row file)) (row_at-with_enabled st p enabled user q)
       ∙ elim (row_at st q) as (λ r. option_and_then (λ row. file_of row file) (option_map (enabling p enabled user q) r)
-        ≡ option_and_then (λ row. refitted enabled user file (file_of row file)) r) [
+      ≡ option_and_then (λ row. refitted enabled user file (file_of row file)) r) [
         | None ↦ refl
         | Some row ↦ enabling-by p enabled user (λ r. file_of r file ≡ refitted enabled user file (file_of row file)) q row
             (λ same. not_both same child) (λ _. file_of-with_files_of enabled user row file)

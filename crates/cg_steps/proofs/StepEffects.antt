@@ -66,7 +66,7 @@ file_at-with_enabled-kept : (st : State) (at : Names) (enabled : ControllerSet) 
     → (is_child at q && is_some (controller_of file)) ≡ false → file_at (with_enabled st at enabled user) q file ≡ file_at st q file
 file_at-with_enabled-kept st at enabled user q file h =
     elim (is_child at q) as (λ b. is_child at q ≡ b → (b && is_some (controller_of file)) ≡ false
-      → file_at (with_enabled st at enabled user) q file ≡ file_at st q file) [
+    → file_at (with_enabled st at enabled user) q file ≡ file_at st q file) [
       | true ↦
           λ child free.
           file_at-with_enabled-same st at enabled user q file (λ there. stands_everywhere enabled file (row_at st q) free there)

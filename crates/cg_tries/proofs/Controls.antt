@@ -110,11 +110,11 @@ module _ (st : State) (user : Identity) (subtree : Names) (on : Bool) (controlle
       let later = formed-next st user op formed tt free in
       let here = has_row-with_enabled st (parent subtree) (enabled_by on controller above) user subtree ∙ there.0 in
       let enabled =
-          enabled_at-with_enabled-same st (parent subtree) (enabled_by on controller above) user (formed.parents subtree there.0) in
+      enabled_at-with_enabled-same st (parent subtree) (enabled_by on controller above) user (formed.parents subtree there.0) in
       let before = value_stands st subtree file ∙ stands st subtree file formed there.0 there.1 ∙ stands-file_by above controller in
       let after =
-          value_stands new subtree file ∙ stands new subtree file later here there.1
-          ∙ stands-file_by (enabled_at new (parent subtree)) controller
+      value_stands new subtree file ∙ stands new subtree file later here there.1
+      ∙ stands-file_by (enabled_at new (parent subtree)) controller
       ∙ ap (λ (e : ControllerSet). enables e controller) enabled ∙ now_enabled on controller above in
       toggled on (enables above controller) changes (sym before ∙ ap is_some (limits_stay st st new subtree none file) ∙ after)
 
@@ -140,12 +140,12 @@ module _ (st : State) (user : Identity) (subtree : Names) (on : Bool) (controlle
   breaks_where : bars st user op ≡ [] → step_breaks st new subtree ≡ changes_enabled on controller above
   breaks_where free =
       elim (changes_enabled on controller above) as (λ b. changes_enabled on controller above ≡ b → step_breaks st new subtree ≡ b) [
-    | true ↦ λ changes. elim (broken st st new subtree) as (λ l. broken st st new subtree ≡ l → not (is_empty l) ≡ true) [
-      | [] ↦ λ none. absurd (changed free changes none)
-      | clause ∷ clauses ↦ λ _. refl
-    ] refl
-    | false ↦ λ same. ap (λ (l : List Clause). not (is_empty l)) (step-alike st new subtree (kept same) ∙ whole)
-  ] refl
+        | true ↦ λ changes. elim (broken st st new subtree) as (λ l. broken st st new subtree ≡ l → not (is_empty l) ≡ true) [
+          | [] ↦ λ none. absurd (changed free changes none)
+          | clause ∷ clauses ↦ λ _. refl
+        ] refl
+        | false ↦ λ same. ap (λ (l : List Clause). not (is_empty l)) (step-alike st new subtree (kept same) ∙ whole)
+      ] refl
 
   pub control_try : breaks st user subtree (op ∷ []) ≡ (allowed st user op && changes_enabled on controller above)
   control_try = one_operation st user subtree op whole

@@ -52,7 +52,7 @@ module _ (st : State) (ancestor : Names) where
   least-found from zero number h = absurd (none-some number h)
   least-found from (suc count) number h =
       elim (has_row st (probe ancestor from)) as (λ there. has_row st (probe ancestor from) ≡ there
-        → cond (not there) (Some from) (find is_free (numbers_from (suc from) count)) ≡ Some number → IsLeast from number) [
+      → cond (not there) (Some from) (find is_free (numbers_from (suc from) count)) ≡ Some number → IsLeast from number) [
         | true ↦ λ there later.
             let rest = least-found (suc from) count number later in (
               rest.0,
@@ -63,9 +63,11 @@ module _ (st : State) (ancestor : Names) where
               ],
             )
         | false ↦ λ gone found.
-            let same = same_some from number found in
-            (ap (λ n. has_row st (probe ancestor n)) (sym same) ∙ gone, omega (arith, same),
-              λ lesser low less. absurd (omega (arith, same, low, less)))
+            let same = same_some from number found in (
+              ap (λ n. has_row st (probe ancestor n)) (sym same) ∙ gone,
+              omega (arith, same),
+              λ lesser low less. absurd (omega (arith, same, low, less)),
+            )
       ] refl h
     where
       is_first : (from lesser : ℕ) → from ≤ lesser → (from ≡ lesser) ⊎ (suc from ≤ lesser)
@@ -86,8 +88,8 @@ module _ (st : State) (ancestor : Names) where
   none-free from zero h = tt
   none-free from (suc count) h =
       elim (has_row st (probe ancestor from)) as (λ there. cond (not there) (Some from) (find is_free (numbers_from (suc from) count))
-                ≡ None
-                → (there ≡ true) × AllByRecursion (λ number. has_row st (probe ancestor number) ≡ true) (numbers_from (suc from) count)) [
+      ≡ None
+      → (there ≡ true) × AllByRecursion (λ number. has_row st (probe ancestor number) ≡ true) (numbers_from (suc from) count)) [
         | true ↦ λ later. (refl, none-free (suc from) count later)
         | false ↦ λ found. absurd (none-some from (sym found))
       ] h
@@ -98,8 +100,8 @@ module _ (st : State) (ancestor : Names) where
   all_others number from (suc count) less small = (
     false_from_ne_true (eq_by_cmp path_cmp (probe ancestor number) (probe ancestor from)) (λ ties.
         let same =
-            same_probe ancestor number from (omega (arith, less, small)) (omega (arith, small))
-            (tied (probe ancestor number) (probe ancestor from) ties) in
+        same_probe ancestor number from (omega (arith, less, small)) (omega (arith, small))
+        (tied (probe ancestor number) (probe ancestor from) ties) in
         absurd (omega (arith, same, less))),
     all_others number (suc from) count (omega (arith, less)) (omega (arith, small)),
   )
@@ -115,7 +117,7 @@ module _ (st : State) (ancestor : Names) where
   listed path [] there h = absurd (true≢false (sym h))
   listed path (number ∷ numbers) there h =
       elim (eq_by_cmp path_cmp path (probe ancestor number)) as (λ same. eq_by_cmp path_cmp path (probe ancestor number) ≡ same
-        → (same || is_member (eq_by_cmp path_cmp) (map (probe ancestor) numbers) path) ≡ true → has_row st path ≡ true) [
+      → (same || is_member (eq_by_cmp path_cmp) (map (probe ancestor) numbers) path) ≡ true → has_row st path ≡ true) [
         | true ↦ λ ties _. ap (has_row st) (tied path (probe ancestor number) ties) ∙ there.0
         | false ↦ λ _ later. listed path numbers there.1 later
       ] refl h
@@ -129,8 +131,8 @@ module _ (st : State) (ancestor : Names) where
         | None ↦ λ none.
             let there = none-free 0 count none in
             let few =
-                length-le_from_is_member (eq_by_cmp_equiv path_cmp_total) (map (probe ancestor) numbers) (paths_of st)
-                (distinct 0 count (omega (arith, small)))
+            length-le_from_is_member (eq_by_cmp_equiv path_cmp_total) (map (probe ancestor) numbers) (paths_of st)
+            (distinct 0 count (omega (arith, small)))
             (λ path h. sym (contains_key-keys st.rows path) ∙ listed path numbers there h) in
             let many : length (map (probe ancestor) numbers) ≡ count = length-map numbers (probe ancestor) ∙ length-numbers 0 count in
             absurd (omega (arith, few, many))

@@ -62,13 +62,13 @@ module _ (st : State) (subtree : Names) where
       → (len : ℕ) → len < length subtree → lets_in st subtree len ≡ nat_lt len at
   open_full at level row h now is full len within = ⊎_elim
       (λ below. sym (ap (levels_pass st subtree len) (sooner len at below)) ∙ now len within ∙ lt-ltb len level (omega (arith, h, below))
-        ∙ sym (lt-ltb len at below))
+      ∙ sym (lt-ltb len at below))
       (λ above.
       let none : level_passes st subtree len at ≡ false =
       ap (λ r. elim r [
-          | None ↦ true
-          | Some row ↦ is_under (count_below st (take at subtree)) row.max_descendants.value && is_under (len - at) row.max_depth.value
-              ]) is
+        | None ↦ true
+        | Some row ↦ is_under (count_below st (take at subtree)) row.max_descendants.value && is_under (len - at) row.max_depth.value
+      ]) is
       ∙ ap (λ b. b && is_under (len - at) row.max_depth.value) full in
       barred_at len (suc at) (omega (arith, above)) (ap (λ b. b && levels_pass st subtree len at) none)
       ∙ sym (le-ltb len at (omega (arith, above))))
@@ -84,9 +84,9 @@ module _ (st : State) (subtree : Names) where
       (λ above.
       let here : level_passes st subtree len at ≡ is_under (len - at) row.max_depth.value =
       ap (λ r. elim r [
-          | None ↦ true
-          | Some row ↦ is_under (count_below st (take at subtree)) row.max_descendants.value && is_under (len - at) row.max_depth.value
-              ]) is
+        | None ↦ true
+        | Some row ↦ is_under (count_below st (take at subtree)) row.max_descendants.value && is_under (len - at) row.max_depth.value
+      ]) is
       ∙ ap (λ b. b && is_under (len - at) row.max_depth.value) under in
       ap (levels_pass st subtree len) (let e : min (at + 1) (suc len) ≡ suc at = omega arith in e)
       ∙ (λ i. here i && levels_pass st subtree len at)
@@ -100,9 +100,9 @@ module _ (st : State) (subtree : Names) where
       (λ above.
       let here : level_passes st subtree len at ≡ true =
       ap (λ r. elim r [
-          | None ↦ true
-          | Some row ↦ is_under (count_below st (take at subtree)) row.max_descendants.value && is_under (len - at) row.max_depth.value
-              ]) gone in
+        | None ↦ true
+        | Some row ↦ is_under (count_below st (take at subtree)) row.max_descendants.value && is_under (len - at) row.max_depth.value
+      ]) gone in
       ap (levels_pass st subtree len) (let e : min (at + 1) (suc len) ≡ suc at = omega arith in e)
       ∙ (λ i. here i && levels_pass st subtree len at) ∙ sym (ap (levels_pass st subtree len) (later len at above)) ∙ now len within)
       (cases_lt len at)

@@ -30,7 +30,7 @@ use Rattle.cg_tries.proofs.Single.{move_try, where_so}
 
 move_clauses : (found : Option Cgroup) (may holds : Cgroup → Bool) (pass : Bool) (r s t u : Refusal)
     → not (is_some (first (absent found r ++ present found (λ row. unless (may row) s) ++ [] ++ unless pass t
-          ++ present found (λ row. unless (holds row) u))))
+    ++ present found (λ row. unless (holds row) u))))
     ≡ (elim found [ None ↦ false | Some row ↦ may row && holds row ] && pass)
 move_clauses None may holds pass r s t u = refl
 move_clauses (Some row) may holds pass r s t u =
@@ -84,13 +84,13 @@ pub find-map_filter : {A B : Type 0} (p : B → Bool) (f : A → B) (t : A → B
 find-map_filter p f t [] = refl
 find-map_filter p f t (x ∷ xs) =
     elim (t x) as (λ b. find p (map f (cond b (x ∷ filter t xs) (filter t xs)))
-      ≡ option_map f (cond (b && p (f x)) (Some x) (find (λ y. t y && p (f y)) xs))) [
-  | true ↦
-      elim (p (f x)) as
-      (λ c. cond c (Some (f x)) (find p (map f (filter t xs))) ≡ option_map f (cond c (Some x) (find (λ y. t y && p (f y)) xs)))
-      [ true ↦ refl | false ↦ find-map_filter p f t xs ]
-  | false ↦ find-map_filter p f t xs
-]
+    ≡ option_map f (cond (b && p (f x)) (Some x) (find (λ y. t y && p (f y)) xs))) [
+      | true ↦
+          elim (p (f x)) as
+          (λ c. cond c (Some (f x)) (find p (map f (filter t xs))) ≡ option_map f (cond c (Some x) (find (λ y. t y && p (f y)) xs)))
+          [ true ↦ refl | false ↦ find-map_filter p f t xs ]
+      | false ↦ find-map_filter p f t xs
+    ]
 
 pub find-same : {A : Type 0} (p q : A → Bool) (xs : List A) → ((x : A) → p x ≡ q x) → find p xs ≡ find q xs
 find-same p q [] same = refl
@@ -115,7 +115,7 @@ module _ (st : State) (user : Identity) (subtree : Names) (whole : IsUnbroken st
 
   tried-is : (pid : ℕ) (place path : Names) → place_at st pid ≡ Some place
       → tried pid place path ≡ (cond (inside subtree place) (not (inside subtree path)) (inside subtree path)
-        && (receives st user path && passes st user place path))
+      && (receives st user path && passes st user place path))
   tried-is pid place path at =
       where_so _ _ _ (λ over. move_try st user subtree pid place path whole at over ∙ move_allowed st user pid place path at)
 
@@ -125,8 +125,8 @@ module _ (st : State) (user : Identity) (subtree : Names) (whole : IsUnbroken st
       tried-is pid place path at
       ∙ ap (λ b. cond b (not (inside subtree path)) (inside subtree path) && (receives st user path && passes st user place path)) within
       ∙ elim (inside subtree path) as (λ b. inside subtree path ≡ b
-        → (not b && (receives st user path && passes st user place path))
-        ≡ (not b && (receives st user path && passes st user subtree path))) [
+      → (not b && (receives st user path && passes st user place path))
+      ≡ (not b && (receives st user path && passes st user subtree path))) [
         | true ↦ λ _. refl
         | false ↦ λ out. ap (λ (p : Names). receives st user path && passes_at st user p) (common_inside subtree place path within out)
       ] refl
@@ -137,7 +137,7 @@ module _ (st : State) (user : Identity) (subtree : Names) (whole : IsUnbroken st
       tried-is pid place path at
       ∙ ap (λ b. cond b (not (inside subtree path)) (inside subtree path) && (receives st user path && passes st user place path)) out
       ∙ elim (inside subtree path) as (λ b. inside subtree path ≡ b
-        → (b && (receives st user path && passes st user place path)) ≡ ((b && receives st user path) && passes st user place subtree)) [
+      → (b && (receives st user path && passes st user place path)) ≡ ((b && receives st user path) && passes st user place subtree)) [
         | true ↦
             λ within. ap (λ (p : Names). receives st user path && passes_at st user p)
             (common_comm place path ∙ common_inside subtree path place within out ∙ common_comm subtree place)
@@ -147,8 +147,8 @@ module _ (st : State) (user : Identity) (subtree : Names) (whole : IsUnbroken st
   one_process : (pid : ℕ) (found : Option Names) → place_at st pid ≡ found
       → find (breaks st user subtree) (present found (λ place. map (λ path. Move pid path ∷ []) (across st subtree place)))
       ≡ option_and_then (λ place. option_map (λ path. Move pid path ∷ [])
-        (goes_from st user subtree (find (can_leave_to st user subtree) (paths_of st)) (find (can_enter_at st user subtree) (paths_of st))
-                place)) found
+      (goes_from st user subtree (find (can_leave_to st user subtree) (paths_of st)) (find (can_enter_at st user subtree) (paths_of st))
+      place)) found
   one_process pid None at = refl
   one_process pid (Some place) at =
       find-map_filter (breaks st user subtree) (λ path. Move pid path ∷ [])
@@ -156,7 +156,7 @@ module _ (st : State) (user : Identity) (subtree : Names) (whole : IsUnbroken st
       ∙ elim (inside subtree place) as (λ b. inside subtree place ≡ b
       → option_map (λ path. Move pid path ∷ []) (find (tried pid place) (paths_of st))
       ≡ option_map (λ path. Move pid path ∷ []) (cond b (find (can_leave_to st user subtree) (paths_of st))
-        (cond (passes st user place subtree) (find (can_enter_at st user subtree) (paths_of st)) None))) [
+      (cond (passes st user place subtree) (find (can_enter_at st user subtree) (paths_of st)) None))) [
         | true ↦
             λ within. ap (option_map (λ path. Move pid path ∷ []))
             (find-same (tried pid place) (can_leave_to st user subtree) (paths_of st) (from_inside pid place at within))

@@ -75,12 +75,12 @@ module _ (st : State) (user : Identity) (subtree : Names) (whole : IsUnbroken st
         ≡ control_of st user subtree controller
     one_control controller =
         (λ i. cond (control_try st user subtree false controller whole formed there i) (Some (change false controller ∷ []))
-          (cond (control_try st user subtree true controller whole formed there i) (Some (change true controller ∷ [])) None))
+        (cond (control_try st user subtree true controller whole formed there i) (Some (change true controller ∷ [])) None))
         ∙ with_effect (allowed st user (change false controller)) (allowed st user (change true controller))
         (enables (enabled_at st (parent subtree)) controller) controller
         ∙ elim (enables (enabled_at st (parent subtree)) controller) as
         (λ e. cond (cond e (allowed st user (change false controller)) (allowed st user (change true controller)))
-                    (Some (change (not e) controller ∷ [])) None ≡ if_allowed st user (change (not e) controller)) [
+        (Some (change (not e) controller ∷ [])) None ≡ if_allowed st user (change (not e) controller)) [
           | true ↦ refl
           | false ↦ refl
         ]
@@ -101,10 +101,10 @@ module _ (st : State) (user : Identity) (subtree : Names) (whole : IsUnbroken st
         ∙ find-append p writes ((Rmdir subtree ∷ []) ∷ others)
         ∙ (λ i. option_or (find-append p (set_tries st subtree) (control_tries subtree) i)
         (cond (rmdir_try st user subtree whole i) (Some (Rmdir subtree ∷ []))
-          (find-append p (move_tries st subtree) (probe_tries st subtree (length subtree)) i)))
+        (find-append p (move_tries st subtree) (probe_tries st subtree (length subtree)) i)))
         ∙ (λ i. option_or (option_or (first_set-is i) (first_control-is i))
         (cond (allowed st user (Rmdir subtree)) (Some (Rmdir subtree ∷ []))
-          (option_or (first_move-is st user subtree whole i) (first_probe-is st user subtree whole formed there.0 i))))
+        (option_or (first_move-is st user subtree whole i) (first_probe-is st user subtree whole formed there.0 i))))
         ∙ joined (first_set st user subtree) (first_control st user subtree) (allowed st user (Rmdir subtree)) (Rmdir subtree ∷ [])
         (option_or (first_move st user subtree) (first_probe st user subtree))
 
@@ -145,16 +145,16 @@ module _ (st : State) (user : Identity) (subtree : Names)
       ap (λ b. cond b None (cond (passes st user place subtree) (find (can_enter_at st user subtree) (paths_of st)) None)) h
   stays place false h =
       (λ i.
-        cond (h i) None (cond (passes_at st user (common_comm place subtree i)) (find (can_enter_at st user subtree) (paths_of st)) None))
+      cond (h i) None (cond (passes_at st user (common_comm place subtree i)) (find (can_enter_at st user subtree) (paths_of st)) None))
       ∙ ap (λ b. cond b (find (can_enter_at st user subtree) (paths_of st)) None) (apart place h)
 
   unwritten_at : (len : ℕ) → len < length subtree → writes_both st user (take len subtree) ≡ false
   unwritten_at len within =
       elim (row_at st (take len subtree)) as (λ r. elim r [ None ↦ true | Some row ↦ writes user row.procs ] ≡ false
-        → elim r [ None ↦ false | Some row ↦ writes user row.dir && writes user row.procs ] ≡ false) [
-    | None ↦ λ h. absurd (true≢false h)
-    | Some row ↦ λ h. ap (λ b. writes user row.dir && b) h ∙ and-false (writes user row.dir)
-  ] (none len within)
+      → elim r [ None ↦ false | Some row ↦ writes user row.dir && writes user row.procs ] ≡ false) [
+        | None ↦ λ h. absurd (true≢false h)
+        | Some row ↦ λ h. ap (λ b. writes user row.dir && b) h ∙ and-false (writes user row.dir)
+      ] (none len within)
 
   no_path : (len : ℕ) → len ≤ length subtree → first_probe_path st user subtree len ≡ None
   no_path zero h = refl
@@ -169,23 +169,23 @@ module _ (st : State) (user : Identity) (subtree : Names)
       (move_of st user subtree (find (can_leave_to st user subtree) (paths_of st)) (find (can_enter_at st user subtree) (paths_of st)))
       (pids_of st)
       (λ pid. elim (place_at st pid) as (λ o. option_and_then (λ place.
-          option_map (λ path. Move pid path ∷ []) (goes_from st user subtree (find (can_leave_to st user subtree) (paths_of st))
-                            (find (can_enter_at st user subtree) (paths_of st)) place)) o ≡ None) [
+      option_map (λ path. Move pid path ∷ []) (goes_from st user subtree (find (can_leave_to st user subtree) (paths_of st))
+      (find (can_enter_at st user subtree) (paths_of st)) place)) o ≡ None) [
         | None ↦ refl
         | Some place ↦
             ap (option_map (λ path. Move pid path ∷ [])) (ap
-              (λ o. goes_from st user subtree o (find (can_enter_at st user subtree) (paths_of st)) place) out
-              ∙ stays place (inside subtree place) refl)
+            (λ o. goes_from st user subtree o (find (can_enter_at st user subtree) (paths_of st)) place) out
+            ∙ stays place (inside subtree place) refl)
       ])
 
   pub no_probe : first_probe st user subtree ≡ None
   no_probe =
       elim (first_inside st subtree) as (λ o.
-        option_and_then (λ pid. option_map (λ path. Mkdir path ∷ Move pid path ∷ []) (first_probe_path st user subtree (length subtree))) o
-        ≡ None) [
-    | None ↦ refl
-    | Some pid ↦ ap (option_map (λ path. Mkdir path ∷ Move pid path ∷ [])) (no_path (length subtree) (omega arith))
-  ]
+      option_and_then (λ pid. option_map (λ path. Mkdir path ∷ Move pid path ∷ []) (first_probe_path st user subtree (length subtree))) o
+      ≡ None) [
+        | None ↦ refl
+        | Some pid ↦ ap (option_map (λ path. Mkdir path ∷ Move pid path ∷ [])) (no_path (length subtree) (omega arith))
+      ]
 
   pub no_passage : first_passage st user subtree ≡ None
   no_passage = λ i. option_or (no_move i) (no_probe i)

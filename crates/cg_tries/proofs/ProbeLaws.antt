@@ -60,7 +60,7 @@ made : (above : Option Cgroup) (row : Cgroup) (user : Identity) (limits : List R
     ≡ (writes user row.dir && passed limits)
 made above row user limits r s is =
     (λ i.
-      passed (absent (is i) r ++ unless (elim (is i) [ None ↦ true | Some row ↦ writes user row.dir ]) s ++ present (is i) (λ row. limits)))
+    passed (absent (is i) r ++ unless (elim (is i) [ None ↦ true | Some row ↦ writes user row.dir ]) s ++ present (is i) (λ row. limits)))
     ∙ passed-append (unless (writes user row.dir) s) limits ∙ ap (λ b. b && passed limits) (passed-unless (writes user row.dir) s)
 
 shuffled : (dir lets procs : Bool) → ((dir && lets) && procs) ≡ (lets && (dir && procs))
@@ -87,7 +87,7 @@ module _ (st : State) (user : Identity) (subtree : Names) (len : ℕ) (name : Na
   limits-passed (suc at) h =
       passed-append (level_bars st path at) (limit_bars st path at)
       ∙ (λ i. level-passed (row_at st (take at path)) (count_below st (take at path)) (length path - 1 - at) (DescendantLimit at)
-                (DepthLimit at) i && limits-passed at (omega (arith, h)) i)
+      (DepthLimit at) i && limits-passed at (omega (arith, h)) i)
       ∙ (λ i. elim (row_at st (front at (omega (arith, h)) i)) [
         | None ↦ true
         | Some row ↦
@@ -117,14 +117,14 @@ module _ (st : State) (user : Identity) (subtree : Names) (len : ℕ) (name : Na
       let none = none_value (row_at st path) free in
       let limits = ap (λ (n : ℕ). passed (limit_bars st path n)) length_path ∙ limits-passed (suc len) (omega arith) in
       let passes : passes_at st user (take len subtree) ≡ writes user row.procs =
-          ap (λ r. elim r [ None ↦ true | Some row ↦ writes user row.procs ]) ancestor-row.1 in
+      ap (λ r. elim r [ None ↦ true | Some row ↦ writes user row.procs ]) ancestor-row.1 in
       let both : writes_both st user (take len subtree) ≡ (writes user row.dir && writes user row.procs) =
-          ap (λ r. elim r [ None ↦ false | Some row ↦ writes user row.dir && writes user row.procs ]) ancestor-row.1 in
+      ap (λ r. elim r [ None ↦ false | Some row ↦ writes user row.dir && writes user row.procs ]) ancestor-row.1 in
       ap (λ r. passed (present r (λ row. Exists ∷ []) ++ absent (row_above st path) (NoSuchCgroup (length path - 1))
       ++ unless (writes_above st user path) (NoAccess (length path - 1) Dir)
       ++ present (row_above st path) (λ row. limit_bars st path (length path))) && passes_at st user (take len subtree)) none
       ∙ ap (λ b. b && passes_at st user (take len subtree)) (made (row_above st path) row user (limit_bars st path (length path))
-        (NoSuchCgroup (length path - 1)) (NoAccess (length path - 1) Dir) above-row)
+      (NoSuchCgroup (length path - 1)) (NoAccess (length path - 1) Dir) above-row)
       ∙ (λ i. (writes user row.dir && limits i) && passes i)
       ∙ shuffled (writes user row.dir) (lets_in st subtree len) (writes user row.procs)
       ∙ ap (λ b. lets_in st subtree len && b) (sym both)
@@ -142,10 +142,10 @@ is_inside-place : (st : State) (subtree : Names) (pid : ℕ) → is_inside st su
     → (place : Names) × (place_at st pid ≡ Some place) × (inside subtree place ≡ true)
 is_inside-place st subtree pid h =
     elim (place_at st pid) as (λ o. place_at st pid ≡ o → elim o [ None ↦ false | Some place ↦ inside subtree place ] ≡ true
-      → (place : Names) × (place_at st pid ≡ Some place) × (inside subtree place ≡ true)) [
-  | None ↦ λ _ h. absurd (true≢false (sym h))
-  | Some place ↦ λ at h. (place, at, h)
-] refl h
+    → (place : Names) × (place_at st pid ≡ Some place) × (inside subtree place ≡ true)) [
+      | None ↦ λ _ h. absurd (true≢false (sym h))
+      | Some place ↦ λ at h. (place, at, h)
+    ] refl h
 
 -- the two operations of a probe
 abbrev probing : Names → ℕ → List Op
@@ -176,7 +176,7 @@ module _ (st : State) (user : Identity) (subtree : Names) (whole : IsUnbroken st
       let path = probe (take len subtree) number in
       let may = lets_in st subtree len && writes_both st user (take len subtree) in
       let each : (pid : ℕ) → (is_inside st subtree pid && breaks st user subtree (probing path pid)) ≡ (is_inside st subtree pid && may) =
-          λ pid.
+      λ pid.
       where_so _ _ _ (λ h. let place = is_inside-place st subtree pid h in
       probe_try st user subtree len _ pid place.0 whole formed there within free place.1 place.2
       ∙ probe_allowed st user subtree len _ formed there within free) in
@@ -190,7 +190,7 @@ module _ (st : State) (user : Identity) (subtree : Names) (whole : IsUnbroken st
   unfolding by_path
   at_ancestor len within = elim (free_probe st (take len subtree)) as (λ o. free_probe st (take len subtree) ≡ o
       → find (breaks st user subtree) (present o (λ number. cond (nat_le (length (path_text (probe (take len subtree) number))) 4095)
-          (map (probing (probe (take len subtree) number)) (filter (is_inside st subtree) (pids_of st))) []))
+      (map (probing (probe (take len subtree) number)) (filter (is_inside st subtree) (pids_of st))) []))
       ≡ by_path
       (cond (lets_in st subtree len && writes_both st user (take len subtree)) (option_and_then (short_probe (take len subtree)) o) None)) [
         | None ↦
@@ -200,10 +200,10 @@ module _ (st : State) (user : Identity) (subtree : Names) (whole : IsUnbroken st
             find (breaks st user subtree)
             (cond b (map (probing (probe (take len subtree) number)) (filter (is_inside st subtree) (pids_of st))) [])
             ≡ by_path (cond (lets_in st subtree len && writes_both st user (take len subtree))
-              (cond b (Some (probe (take len subtree) number)) None) None)) [
+            (cond b (Some (probe (take len subtree) number)) None) None)) [
               | true ↦
                   at_number len number within (not-true _ (found-so (λ number. not (has_row st (probe (take len subtree) number)))
-                      (numbers_from 0 (length (paths_of st) + 1)) number e))
+                  (numbers_from 0 (length (paths_of st) + 1)) number e))
               | false ↦
                   no_probe (first_inside st subtree)
                   ∙ ap by_path (no_path (lets_in st subtree len && writes_both st user (take len subtree)))
@@ -225,7 +225,7 @@ module _ (st : State) (user : Identity) (subtree : Names) (whole : IsUnbroken st
         | None ↦ refl
         | Some pid ↦
             elim first as (λ o. option_or (option_map (λ path. probing path pid) o) (option_map (λ path. probing path pid) later)
-                          ≡ option_map (λ path. probing path pid) (option_or o later)) [ None ↦ refl | Some path ↦ refl ]
+            ≡ option_map (λ path. probing path pid) (option_or o later)) [ None ↦ refl | Some path ↦ refl ]
       ]
 
   at_all : (len : ℕ) → len ≤ length subtree

@@ -29,10 +29,10 @@ digits-longer : (k n : ℕ) (rest : List ℕ) → length rest ≤ length (digits
 digits-longer zero n rest = omega arith
 digits-longer (suc k) n rest =
     elim (nat_eq (n / 10) 0) as (λ b. length rest ≤ length
-      (cond b (digit_glyph false (n % 10) ∷ rest) (digits_onto k 10 false (n / 10) (digit_glyph false (n % 10) ∷ rest)))) [
-  | true ↦ omega arith
-  | false ↦ let h = digits-longer k (n / 10) (digit_glyph false (n % 10) ∷ rest) in omega (arith, h)
-]
+    (cond b (digit_glyph false (n % 10) ∷ rest) (digits_onto k 10 false (n / 10) (digit_glyph false (n % 10) ∷ rest)))) [
+      | true ↦ omega arith
+      | false ↦ let h = digits-longer k (n / 10) (digit_glyph false (n % 10) ∷ rest) in omega (arith, h)
+    ]
 
 digits-rising : (k m n : ℕ) (rest more : List ℕ) → m ≤ n → length rest ≤ length more
     → length (digits_onto k 10 false m rest) ≤ length (digits_onto k 10 false n more)
@@ -40,34 +40,34 @@ digits-rising zero m n rest more h l = l
 digits-rising (suc k) m n rest more h l =
     let less : m / 10 ≤ n / 10 = omega (arith, h) in
     elim (nat_eq (m / 10) 0) as (λ b. nat_eq (m / 10) 0 ≡ b → length
-      (cond b (digit_glyph false (m % 10) ∷ rest) (digits_onto k 10 false (m / 10) (digit_glyph false (m % 10) ∷ rest))) ≤ length
-      (digits_onto (suc k) 10 false n more)) [
+    (cond b (digit_glyph false (m % 10) ∷ rest) (digits_onto k 10 false (m / 10) (digit_glyph false (m % 10) ∷ rest))) ≤ length
+    (digits_onto (suc k) 10 false n more)) [
       | true ↦
           λ e. elim (nat_eq (n / 10) 0) as (λ b. length (digit_glyph false (m % 10) ∷ rest) ≤ length
-            (cond b (digit_glyph false (n % 10) ∷ more) (digits_onto k 10 false (n / 10) (digit_glyph false (n % 10) ∷ more)))) [
-        | true ↦ omega (arith, l)
-        | false ↦ let longer = digits-longer k (n / 10) (digit_glyph false (n % 10) ∷ more) in omega (arith, l, longer)
-      ]
+          (cond b (digit_glyph false (n % 10) ∷ more) (digits_onto k 10 false (n / 10) (digit_glyph false (n % 10) ∷ more)))) [
+            | true ↦ omega (arith, l)
+            | false ↦ let longer = digits-longer k (n / 10) (digit_glyph false (n % 10) ∷ more) in omega (arith, l, longer)
+          ]
       | false ↦
           λ e. elim (nat_eq (n / 10) 0) as (λ b. nat_eq (n / 10) 0 ≡ b
-            → length (digits_onto k 10 false (m / 10) (digit_glyph false (m % 10) ∷ rest)) ≤ length
-            (cond b (digit_glyph false (n % 10) ∷ more) (digits_onto k 10 false (n / 10) (digit_glyph false (n % 10) ∷ more)))) [
-        | true ↦ λ f. absurd (eqb-false (m / 10) 0 e (let z = eqb-true (n / 10) 0 f in omega (arith, z, less)))
-        | false ↦
-            λ f. digits-rising k (m / 10) (n / 10) (digit_glyph false (m % 10) ∷ rest) (digit_glyph false (n % 10) ∷ more) less
-            (omega (arith, l))
-      ] refl
+          → length (digits_onto k 10 false (m / 10) (digit_glyph false (m % 10) ∷ rest)) ≤ length
+          (cond b (digit_glyph false (n % 10) ∷ more) (digits_onto k 10 false (n / 10) (digit_glyph false (n % 10) ∷ more)))) [
+            | true ↦ λ f. absurd (eqb-false (m / 10) 0 e (let z = eqb-true (n / 10) 0 f in omega (arith, z, less)))
+            | false ↦
+                λ f. digits-rising k (m / 10) (n / 10) (digit_glyph false (m % 10) ∷ rest) (digit_glyph false (n % 10) ∷ more) less
+                (omega (arith, l))
+          ] refl
     ] refl
 
 digits-short : (k n : ℕ) (rest : List ℕ) → length (digits_onto k 10 false n rest) ≤ k + length rest
 digits-short zero n rest = omega arith
 digits-short (suc k) n rest =
     elim (nat_eq (n / 10) 0) as (λ b. length
-      (cond b (digit_glyph false (n % 10) ∷ rest) (digits_onto k 10 false (n / 10) (digit_glyph false (n % 10) ∷ rest))) ≤ suc k + length
-      rest) [
-  | true ↦ omega arith
-  | false ↦ let h = digits-short k (n / 10) (digit_glyph false (n % 10) ∷ rest) in omega (arith, h)
-]
+    (cond b (digit_glyph false (n % 10) ∷ rest) (digits_onto k 10 false (n / 10) (digit_glyph false (n % 10) ∷ rest))) ≤ suc k + length
+    rest) [
+      | true ↦ omega arith
+      | false ↦ let h = digits-short k (n / 10) (digit_glyph false (n % 10) ∷ rest) in omega (arith, h)
+    ]
 
 pub decimal-rising : (m n : ℕ) → m ≤ n → length (decimal m) ≤ length (decimal n)
 unfolding digits
@@ -88,10 +88,10 @@ name_digits : (k n : ℕ) (rest : List ℕ) → list_all is_name_byte rest ≡ t
 name_digits zero n rest h = h
 name_digits (suc k) n rest h =
     elim (nat_eq (n / 10) 0) as (λ b. list_all is_name_byte
-            (cond b (digit_glyph false (n % 10) ∷ rest) (digits_onto k 10 false (n / 10) (digit_glyph false (n % 10) ∷ rest))) ≡ true) [
-  | true ↦ and_from _ _ (name_glyph n) h
-  | false ↦ name_digits k (n / 10) (digit_glyph false (n % 10) ∷ rest) (and_from _ _ (name_glyph n) h)
-]
+    (cond b (digit_glyph false (n % 10) ∷ rest) (digits_onto k 10 false (n / 10) (digit_glyph false (n % 10) ∷ rest))) ≡ true) [
+      | true ↦ and_from _ _ (name_glyph n) h
+      | false ↦ name_digits k (n / 10) (digit_glyph false (n % 10) ∷ rest) (and_from _ _ (name_glyph n) h)
+    ]
 
 pub is_name-probe : (number : ℕ) → is_name (codes "probe" ++ decimal number) ≡ true
 unfolding digits
@@ -100,9 +100,9 @@ is_name-probe number =
     let long = length-append (codes "probe") (decimal number) in
     let name = codes "probe" ++ decimal number in
     let bytes : list_all is_name_byte name ≡ true =
-        list_all-append is_name_byte (codes "probe") (decimal number) ∙ name_digits 64 number [] refl in
+    list_all-append is_name_byte (codes "probe") (decimal number) ∙ name_digits 64 number [] refl in
     and_from (is_word name) (not (is_reserved name)) (and_from _ _
-          (and_from _ _ (lt-ltb 0 (length name) (omega (arith, long))) (le-leb (length name) 255 (omega (arith, short, long)))) bytes) refl
+    (and_from _ _ (lt-ltb 0 (length name) (omega (arith, long))) (le-leb (length name) 255 (omega (arith, short, long)))) bytes) refl
 
 text_more : (ancestor : Names) (name : Name) → path_text (ancestor ++ name ∷ []) ≡ names_text ancestor ++ 47 ∷ name
 text_more [] name = names_text-push [] name
@@ -135,15 +135,15 @@ pub short_is : (ancestor : Names) (number : ℕ) (path : Names) → short_probe 
 short_is ancestor number path h =
     elim (nat_le (length (path_text (probe ancestor number))) 4095) as
     (λ b. cond b (Some (probe ancestor number)) None ≡ Some path → probe ancestor number ≡ path) [
-  | true ↦ λ e. same_some _ _ e
-  | false ↦ λ e. absurd (none-some _ e)
-] h
+      | true ↦ λ e. same_some _ _ e
+      | false ↦ λ e. absurd (none-some _ e)
+    ] h
 
 longer_later : (ancestor : Names) (number : ℕ) → short_probe ancestor number ≡ None → short_probe ancestor (suc number) ≡ None
 longer_later ancestor number h =
     let long : nat_le (length (path_text (probe ancestor number))) 4095 ≡ false =
-        elim (nat_le (length (path_text (probe ancestor number))) 4095) as
-        (λ b. ◌≡◌ {A = Option Names} (cond b (Some (probe ancestor number)) None) None → b ≡ false) [
+    elim (nat_le (length (path_text (probe ancestor number))) 4095) as
+    (λ b. ◌≡◌ {A = Option Names} (cond b (Some (probe ancestor number)) None) None → b ≡ false) [
       | true ↦ λ e. absurd (none-some _ (sym e))
       | false ↦ λ _. refl
     ] h in
@@ -163,6 +163,6 @@ none_short ancestor p number zero h = refl
 none_short ancestor p number (suc count) h =
     elim (p number) as
     (λ b. option_and_then (short_probe ancestor) (cond b (Some number) (find p (numbers_from (suc number) count))) ≡ None) [
-  | true ↦ h
-  | false ↦ none_short ancestor p (suc number) count (longer_later ancestor number h)
-]
+      | true ↦ h
+      | false ↦ none_short ancestor p (suc number) count (longer_later ancestor number h)
+    ]

@@ -64,7 +64,7 @@ module _ (st : State) (user : Identity) (subtree : Names) (len : ℕ) (name : Na
       let short = inside-length subtree path h in
       let same : length subtree ≡ length path = omega (arith, short, length_path, within) in
       let is : path ≡ subtree =
-          sym (take_all (length path) path (omega arith)) ∙ ap (λ (n : ℕ). take n path) (sym same) ∙ inside-is subtree path h in
+      sym (take_all (length path) path (omega arith)) ∙ ap (λ (n : ℕ). take n path) (sym same) ∙ inside-is subtree path h in
       true≢false (sym there ∙ ap (has_row st) (sym is) ∙ free))
 
   shared : common subtree path ≡ ancestor
@@ -94,11 +94,11 @@ module _ (st : State) (user : Identity) (subtree : Names) (len : ℕ) (name : Na
       let files : (file : LimitFile) → limits made subtree file ≡ limits st subtree file = λ file.
       value_at-with_row st path row subtree file ∙ ap (λ b. cond b (value_in row file) (limits st subtree file)) not_subtree in
       let count =
-          count_below-with_row st path row free subtree
-          ∙ ap (λ b. cond b (1 + count_below st subtree) (count_below st subtree)) no_child_of in
+      count_below-with_row st path row free subtree
+      ∙ ap (λ b. cond b (1 + count_below st subtree) (count_below st subtree)) no_child_of in
       let depth =
-          depth_below-with_row st path row free subtree
-          ∙ ap (λ b. cond b (max (depth_below st subtree) (length path - length subtree)) (depth_below st subtree)) no_child_of in
+      depth_below-with_row st path row free subtree
+      ∙ ap (λ b. cond b (max (depth_below st subtree) (length path - length subtree)) (depth_below st subtree)) no_child_of in
       λ i. record {
         limits = λ file. files file i;
         count = count i;
@@ -121,31 +121,31 @@ module _ (st : State) (user : Identity) (subtree : Names) (len : ℕ) (name : Na
       (row_at-with_row st path row ancestor ∙ ap (λ b. cond b (Some row) (row_at st ancestor)) not_ancestor)
 
   module _ (pid : ℕ) (place : Names) (whole : IsUnbroken st subtree) (at : place_at st pid ≡ Some place) (is : inside subtree place ≡ true)
-      where
-    over : cond (inside subtree place) (not (inside subtree path)) (inside subtree path) ≡ true
-    over = λ i. cond (is i) (not (outside i)) (inside subtree path)
+    where
+      over : cond (inside subtree place) (not (inside subtree path)) (inside subtree path) ≡ true
+      over = λ i. cond (is i) (not (outside i)) (inside subtree path)
 
-    probe_try_by : breaks st user subtree (Mkdir path ∷ Move pid path ∷ []) ≡ (allowed st user (Mkdir path) && passes_at st user ancestor)
-    probe_try_by =
-        elim (bars st user (Mkdir path)) as (λ l. bars st user (Mkdir path) ≡ l
+      probe_try_by : breaks st user subtree (Mkdir path ∷ Move pid path ∷ []) ≡ (allowed st user (Mkdir path) && passes_at st user ancestor)
+      probe_try_by =
+          elim (bars st user (Mkdir path)) as (λ l. bars st user (Mkdir path) ≡ l
           → breaks st user subtree (Mkdir path ∷ Move pid path ∷ []) ≡ (not (is_some (first l)) && passes_at st user ancestor)) [
-      | [] ↦ λ e.
-          let to : after st user (Mkdir path) ≡ made = ap (λ l. elim l [ [] ↦ made | bar ∷ others ↦ st ]) e in
-          breaks-alike_first st user subtree (Mkdir path) (ap (λ (s : State). seen s subtree) to ∙ alike) (Move pid path ∷ [])
-          ∙ ap (λ (s : State). breaks s user subtree (Move pid path ∷ [])) to
-          ∙ move_try made user subtree pid place path (unbroken-alike st made subtree alike whole) at over
-          ∙ move_allowed made user pid place path at
-          ∙ (λ i. made_receives i && passes_at made user ((common_inside subtree place path is outside ∙ shared) i))
-          ∙ passes_same
-      | bar ∷ others ↦ λ e.
-          let to : after st user (Mkdir path) ≡ st = ap (λ l. elim l [ [] ↦ made | bar ∷ others ↦ st ]) e in
-          breaks-alike_first st user subtree (Mkdir path) (ap (λ (s : State). seen s subtree) to) (Move pid path ∷ [])
-          ∙ ap (λ (s : State). breaks s user subtree (Move pid path ∷ [])) to
-          ∙ move_try st user subtree pid place path whole at over
-          ∙ move_allowed st user pid place path at
-          ∙ ap (λ r. elim r [ None ↦ false | Some row ↦ writes user row.procs && (is_root path || enables_nothing row.enabled) ]
-                      && passes_at st user (common place path)) (none_value (row_at st path) free)
-    ] refl
+            | [] ↦ λ e.
+                let to : after st user (Mkdir path) ≡ made = ap (λ l. elim l [ [] ↦ made | bar ∷ others ↦ st ]) e in
+                breaks-alike_first st user subtree (Mkdir path) (ap (λ (s : State). seen s subtree) to ∙ alike) (Move pid path ∷ [])
+                ∙ ap (λ (s : State). breaks s user subtree (Move pid path ∷ [])) to
+                ∙ move_try made user subtree pid place path (unbroken-alike st made subtree alike whole) at over
+                ∙ move_allowed made user pid place path at
+                ∙ (λ i. made_receives i && passes_at made user ((common_inside subtree place path is outside ∙ shared) i))
+                ∙ passes_same
+            | bar ∷ others ↦ λ e.
+                let to : after st user (Mkdir path) ≡ st = ap (λ l. elim l [ [] ↦ made | bar ∷ others ↦ st ]) e in
+                breaks-alike_first st user subtree (Mkdir path) (ap (λ (s : State). seen s subtree) to) (Move pid path ∷ [])
+                ∙ ap (λ (s : State). breaks s user subtree (Move pid path ∷ [])) to
+                ∙ move_try st user subtree pid place path whole at over
+                ∙ move_allowed st user pid place path at
+                ∙ ap (λ r. elim r [ None ↦ false | Some row ↦ writes user row.procs && (is_root path || enables_nothing row.enabled) ]
+                && passes_at st user (common place path)) (none_value (row_at st path) free)
+          ] refl
 
 pub probe_try : (st : State) (user : Identity) (subtree : Names) (len : ℕ) (name : Name) (pid : ℕ) (place : Names) → IsUnbroken st subtree
     → IsWellFormed st → has_row st subtree ≡ true → len < length subtree

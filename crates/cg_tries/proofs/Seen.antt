@@ -112,7 +112,7 @@ pub breaks-run : (st : State) (user : Identity) (subtree : Names) (ops : List Op
     → breaks st user subtree ops ≡ not (is_empty (broken st st st subtree) && keeps st st (by_user user ops) subtree)
 breaks-run st user subtree ops =
     ap not (keeps-later (broken st st st subtree) 0 _
-      ∙ ap (λ b. is_empty (broken st st st subtree) && b) (keeps-from st 0 st (by_user user ops) subtree))
+    ∙ ap (λ b. is_empty (broken st st st subtree) && b) (keeps-from st 0 st (by_user user ops) subtree))
 
 -- ---- alike states
 
@@ -155,7 +155,7 @@ breaks-alike_first st user subtree op alike ops =
     let same : limits st subtree ≡ limits new subtree = sym (ap (λ (s : Seen). s.limits) alike) in
     breaks-run st user subtree (op ∷ ops)
     ∙ (λ i. not (is_empty (broken st st st subtree)
-        && (is_empty (step-alike st new subtree alike i) && keeps-start st new new (by_user user ops) subtree same i)))
+    && (is_empty (step-alike st new subtree alike i) && keeps-start st new new (by_user user ops) subtree same i)))
     ∙ twice (is_empty (broken st st st subtree)) (keeps new new (by_user user ops) subtree)
     ∙ sym (breaks-run new user subtree ops
-      ∙ ap (λ (l : List Clause). not (is_empty l && keeps new new (by_user user ops) subtree)) (broken-alike st new subtree alike))
+    ∙ ap (λ (l : List Clause). not (is_empty l && keeps new new (by_user user ops) subtree)) (broken-alike st new subtree alike))

@@ -46,7 +46,7 @@ one_operation st user subtree op whole =
     ∙ ap (λ (l : List Clause). not (is_empty l && (is_empty (broken st st (after st user op) subtree) && true))) whole
     ∙ ap not (and-true (is_empty (broken st st (after st user op) subtree)))
     ∙ elim (bars st user op) as (λ l. not (is_empty (broken st st (elim l [ [] ↦ next st user op | bar ∷ others ↦ st ]) subtree))
-      ≡ (not (is_some (first l)) && step_breaks st (next st user op) subtree)) [
+    ≡ (not (is_some (first l)) && step_breaks st (next st user op) subtree)) [
       | [] ↦ refl
       | bar ∷ others ↦ ap (λ (l : List Clause). not (is_empty l)) whole
     ]
@@ -61,9 +61,9 @@ where_allowed st user subtree op whole step =
       | [] ↦
           λ free.
           elim (broken st st (next st user op) subtree) as (λ l. broken st st (next st user op) subtree ≡ l → not (is_empty l) ≡ true) [
-        | [] ↦ λ none. absurd (step free none)
-        | clause ∷ clauses ↦ λ _. refl
-      ] refl
+            | [] ↦ λ none. absurd (step free none)
+            | clause ∷ clauses ↦ λ _. refl
+          ] refl
       | bar ∷ others ↦ λ _. refl
     ] refl
 
@@ -87,7 +87,7 @@ pub rmdir_try : (st : State) (user : Identity) (subtree : Names) → IsUnbroken 
     → breaks st user subtree (Rmdir subtree ∷ []) ≡ allowed st user (Rmdir subtree)
 rmdir_try st user subtree whole = where_allowed st user subtree (Rmdir subtree) whole (λ free none.
     let gone : has_row (without_row st subtree) subtree ≡ false =
-        ap is_some (row_at-without_row st subtree subtree ∙ ap (λ b. cond b None (row_at st subtree)) (same_path_refl subtree)) in
+    ap is_some (row_at-without_row st subtree subtree ∙ ap (λ b. cond b None (row_at st subtree)) (same_path_refl subtree)) in
     true≢false (sym (still_there st st (without_row st subtree) subtree none) ∙ gone))
 
 -- ---- set
@@ -97,8 +97,8 @@ pub limits_stay : (start st new : State) (subtree : Names) → broken start st n
     → limits start subtree file ≡ limits new subtree file
 limits_stay start st new subtree none file =
     let same =
-        no_unless (same_limits (limits start subtree) (limits new subtree)) Limits (no_parts _ _ (no_parts _ _ (no_parts _ _ none).0).0).1
-        in
+    no_unless (same_limits (limits start subtree) (limits new subtree)) Limits (no_parts _ _ (no_parts _ _ (no_parts _ _ none).0).0).1
+    in
     λ i. same_limits-is (limits start subtree) (limits new subtree) same i file
 
 pub other_differs : (file : LimitFile) (value : Limit) → other_value file value ≢ value
@@ -139,5 +139,5 @@ pub move_try : (st : State) (user : Identity) (subtree : Names) (pid : ℕ) (pla
 move_try st user subtree pid place path whole at over = where_allowed st user subtree (Move pid path) whole (λ free.
     let from = mapped_from (λ process. process.place) (process_at st pid) place at in
     let to : place_at (with_place st pid path) pid ≡ Some path =
-        ap (option_map (λ process. process.place)) (process_at-with_place-same st pid path ∙ ap (option_map (placed_at path)) from.1) in
+    ap (option_map (λ process. process.place)) (process_at-with_place-same st pid path ∙ ap (option_map (placed_at path)) from.1) in
     crossing_breaks st (with_place st pid path) subtree pid (ap is_some from.1) ((λ i. is_crossed subtree (at i) (to i)) ∙ over))

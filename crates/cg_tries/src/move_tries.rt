@@ -67,12 +67,9 @@ fn first_to_leave_to<'a, H: Hierarchy>(
 ) -> Option<&'a Path>
     ensures { option_copied result ≡ find (can_leave_to (H.state tree.now) user.now subtree.now) paths.entry.now }
 {
-    for path in paths {
-        if can_leave_to(tree, user, subtree, path) {
-            return Some(path);
-        }
-    }
-    None
+    paths
+        .iter()
+        .find(|path| can_leave_to(tree, user, subtree, *path))
 }
 
 /// The first cgroup inside to which a process from outside may come, once it may pass.
@@ -84,12 +81,9 @@ fn first_to_enter_at<'a, H: Hierarchy>(
 ) -> Option<&'a Path>
     ensures { option_copied result ≡ find (can_enter_at (H.state tree.now) user.now subtree.now) paths.entry.now }
 {
-    for path in paths {
-        if can_enter_at(tree, user, subtree, path) {
-            return Some(path);
-        }
-    }
-    None
+    paths
+        .iter()
+        .find(|path| can_enter_at(tree, user, subtree, *path))
 }
 
 /// Where a process at a place goes over the edge, if these are the first cgroups outside and inside for it.

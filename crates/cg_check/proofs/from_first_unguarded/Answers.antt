@@ -32,7 +32,7 @@ pub split_at-requires : goal.split_at-requires
 split_at-requires g c =
     guarded_within (g.H.Hierarchy.state c.args.tree.now) c.args.subtrees.now c.args.users.now c.loop-subtree.left.now
     (guarded_end (g.H.Hierarchy.state c.args.tree.now) c.args.subtrees.now c.loop-subtree.subtree-index c.loop-subtree.left.now
-            c.loop-subtree-test.false ∙ c.loop-subtree.invariant.left)
+    c.loop-subtree-test.false ∙ c.loop-subtree.invariant.left)
 
 pub returns : goal.returns
 returns g c =
@@ -40,4 +40,4 @@ returns g c =
     ∙ ap (λ n. drop n c.args.users.now)
     (guarded_count (g.H.Hierarchy.state c.args.tree.now) c.args.subtrees.now c.args.users.now c.loop-subtree.left.now
     (guarded_end (g.H.Hierarchy.state c.args.tree.now) c.args.subtrees.now c.loop-subtree.subtree-index c.loop-subtree.left.now
-            c.loop-subtree-test.false ∙ c.loop-subtree.invariant.left))
+    c.loop-subtree-test.false ∙ c.loop-subtree.invariant.left))

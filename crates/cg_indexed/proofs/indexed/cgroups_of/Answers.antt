@@ -30,9 +30,9 @@ add-requires-clause-parent c =
 pub loop-path-preserved : goal.loop-path-preserved
 loop-path-preserved c =
     let before =
-        subst (AreTaken c.args.rows.now.rows c.loop-path.cgroups)
-        (rest_of c.entries-path-items.result.now c.loop-path.path-index c.loop-path-item.result c.loop-path-test.true c.loop-path-item.is)
-        c.loop-path.invariant in
+    subst (AreTaken c.args.rows.now.rows c.loop-path.cgroups)
+    (rest_of c.entries-path-items.result.now c.loop-path.path-index c.loop-path-item.result c.loop-path-test.true c.loop-path-item.is)
+    c.loop-path.invariant in
     elim c.if-depth-gt0.branch [
       | then-depth-gt0+in_ok-add w ↦
           taken_more _ _ _ _ _ before (long_no_root c.loop-path-item.result.0 c.depth.result c.depth.ensures.depth w.if-depth-gt0.true)

@@ -10,4 +10,4 @@ returns-in_err-nearest g c =
 pub returns : goal.returns
 returns g c =
     c.level_refusal.ensures ∙ sym (limits_nearest (g.H.Hierarchy.state c.args.tree.now) c.args.path.now c.parent_len.result
-      c.parent_len.ensures c.in_ok-nearest.nearest c.in_ok-nearest.ensures)
+    c.parent_len.ensures c.in_ok-nearest.nearest c.in_ok-nearest.ensures)

@@ -15,4 +15,4 @@ unreachable-requires g c =
     let st = g.H.Hierarchy.state c.args.tree.now in
     let above = (allowed_mkdir st c.args.user.now c.args.path.now c.requires).2 in
     true≢false (sym above ∙ ap (λ p. is_some (row_at st p)) (sym (take_parent c.args.path.now c.parent_len.result c.parent_len.ensures))
-      ∙ ap is_some (sym c.in_default.ensures.row))
+    ∙ ap is_some (sym c.in_default.ensures.row))

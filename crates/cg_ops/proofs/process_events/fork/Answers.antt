@@ -8,10 +8,10 @@ pub unreachable-requires : goal.unreachable-requires
 unreachable-requires g c =
     let st = g.H.Hierarchy.state c.args.tree.now in
     true≢false (sym (live_fork st c.args.user.now c.args.parent c.args.child c.requires)
-      ∙ sym (is_some-mapped (λ process. process.uid) (process_at st c.args.parent)) ∙ ap is_some (sym c.in_default.ensures))
+    ∙ sym (is_some-mapped (λ process. process.uid) (process_at st c.args.parent)) ∙ ap is_some (sym c.in_default.ensures))
 
 pub unreachable-requires-in_default-place : goal.unreachable-requires-in_default-place
 unreachable-requires-in_default-place g c =
     let st = g.H.Hierarchy.state c.args.tree.now in
     true≢false (sym (live_fork st c.args.user.now c.args.parent c.args.child c.requires)
-      ∙ sym (is_some-mapped (λ process. process.place) (process_at st c.args.parent)) ∙ ap is_some (sym c.in_default-place.ensures.place))
+    ∙ sym (is_some-mapped (λ process. process.place) (process_at st c.args.parent)) ∙ ap is_some (sym c.in_default-place.ensures.place))

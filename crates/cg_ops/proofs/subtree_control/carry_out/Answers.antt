@@ -19,5 +19,5 @@ unreachable-requires g c =
     let st = g.H.Hierarchy.state c.args.tree.now in
     let at = c.args.at.now in
     true≢false (sym (there_control st c.args.user.now at c.args.changes.now c.requires)
-      ∙ ap (λ p. is_some (row_at st p)) (sym (take_whole at c.depth.result c.depth.ensures.depth))
-      ∙ ap is_some (sym c.in_default.ensures.row))
+    ∙ ap (λ p. is_some (row_at st p)) (sym (take_whole at c.depth.result c.depth.ensures.depth))
+    ∙ ap is_some (sym c.in_default.ensures.row))

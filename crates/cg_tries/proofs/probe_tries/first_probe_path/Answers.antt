@@ -21,8 +21,8 @@ returns-in-Some g c =
     let within = c.open_levels-len.ensures.within in
     let low = c.loop-len.auto.len in
     let at =
-        opened st user subtree c.open_levels-len.result c.open_levels-len.ensures.open (c.loop-len.len - 1) (omega (arith, within, low))
-        (omega (arith, low)) (sym c.writes_both.ensures ∙ c.if-writes_both.true) in
+    opened st user subtree c.open_levels-len.result c.open_levels-len.ensures.open (c.loop-len.len - 1) (omega (arith, within, low))
+    (omega (arith, low)) (sym c.writes_both.ensures ∙ c.if-writes_both.true) in
     sym (probe_here st user subtree c.loop-len.len c.in-Some.path c.loop-len-test.true (at ∙ sym c.in_ok-path.ensures ∙ c.in-Some.is))
     ∙ c.loop-len.invariant
 
@@ -34,8 +34,8 @@ loop-len-preserved-in_default g c =
     let within = c.open_levels-len.ensures.within in
     let low = c.loop-len.auto.len in
     let at =
-        opened st user subtree c.open_levels-len.result c.open_levels-len.ensures.open (c.loop-len.len - 1) (omega (arith, within, low))
-        (omega (arith, low)) (sym c.writes_both.ensures ∙ c.if-writes_both.true) in
+    opened st user subtree c.open_levels-len.result c.open_levels-len.ensures.open (c.loop-len.len - 1) (omega (arith, within, low))
+    (omega (arith, low)) (sym c.writes_both.ensures ∙ c.if-writes_both.true) in
     probe_past st user subtree c.loop-len.len c.loop-len-test.true (at ∙ sym c.in_ok-path.ensures ∙ c.in_default.is) ∙ c.loop-len.invariant
 
 pub loop-len-preserved : goal.loop-len-preserved

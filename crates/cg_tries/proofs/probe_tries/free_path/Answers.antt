@@ -23,7 +23,7 @@ returns-then-not-is_there g c =
     let gone : free c.loop-number.number ≡ not (has_row st c.in-Some.path) = ap (λ p. not (has_row st p)) is in
     let first = numbers_next free c.loop-number.number c.args.count c.loop-number-test.true
     ∙ ap (λ b.
-      cond b (Some c.loop-number.number) (find free (numbers_from (c.loop-number.number + 1) (c.args.count - (c.loop-number.number + 1)))))
+    cond b (Some c.loop-number.number) (find free (numbers_from (c.loop-number.number + 1) (c.args.count - (c.loop-number.number + 1)))))
     (gone ∙ ap not (sym c.is_there.ensures ∙ c.if-not-is_there.true)) in
     sym some
     ∙ ap (option_and_then (short_probe ancestor))
@@ -39,6 +39,6 @@ loop-number-preserved g c =
     let there : free c.loop-number.number ≡ not (has_row st c.in-Some.path) = ap (λ p. not (has_row st p)) is in
     sym (numbers_next free c.loop-number.number c.args.count c.loop-number-test.true
     ∙ ap (λ b.
-      cond b (Some c.loop-number.number) (find free (numbers_from (c.loop-number.number + 1) (c.args.count - (c.loop-number.number + 1)))))
+    cond b (Some c.loop-number.number) (find free (numbers_from (c.loop-number.number + 1) (c.args.count - (c.loop-number.number + 1)))))
     (there ∙ ap not (sym c.is_there.ensures ∙ c.if-not-is_there.false)))
     ∙ c.loop-number.invariant

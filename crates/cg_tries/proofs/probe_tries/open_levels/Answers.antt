@@ -21,8 +21,8 @@ loop-at-preserved g c =
     let st = g.H.Hierarchy.state c.args.tree.now in
     let limit = c.in-Some.cgroup.now.max_descendants.value in
     let next =
-        open_row st c.args.subtree.now c.loop-at.at c.loop-at.level c.in-Some.cgroup.now (omega arith) c.loop-at.invariant.open_above
-        (sym c.in-Some.ensures.row)
+    open_row st c.args.subtree.now c.loop-at.at c.loop-at.level c.in-Some.cgroup.now (omega arith) c.loop-at.invariant.open_above
+    (sym c.in-Some.ensures.row)
     (ap (λ n. is_under n limit) (sym c.count_below.ensures) ∙ sym c.is_under.ensures ∙ c.if-not-is_under.false) in
     record {
       within =

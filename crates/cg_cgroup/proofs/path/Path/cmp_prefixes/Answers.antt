@@ -11,8 +11,11 @@ returns-then-shared-own c =
 
 pub name-requires : goal.name-requires
 name-requires c =
-    omega (arith, shared_within (take c.args.own c.args.self.now) c.args.other.now c.args.len c.requires.others,
-      length-take-le c.args.own c.args.self.now c.requires.own)
+    omega (
+      arith,
+      shared_within (take c.args.own c.args.self.now) c.args.other.now c.args.len c.requires.others,
+      length-take-le c.args.own c.args.self.now c.requires.own,
+    )
 
 pub name-requires-2 : goal.name-requires-2
 name-requires-2 c =

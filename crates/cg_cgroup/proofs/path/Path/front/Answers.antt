@@ -6,7 +6,7 @@ pub range-requires-clause-end_boundary : goal.range-requires-clause-end_boundary
 range-requires-clause-end_boundary c =
     let path = c.args.self.now in
     rw c.as_str.ensures.value (cut_anywhere path _ _ (kept_path _ _ path c.self.invariant c.self.view_is)
-      (kept_text _ _ path c.self.invariant c.self.view_is) (omega (arith, end_le path c.args.len)))
+    (kept_text _ _ path c.self.invariant c.self.view_is) (omega (arith, end_le path c.args.len)))
 
 pub returns-clause-text : goal.returns-clause-text
 returns-clause-text c =

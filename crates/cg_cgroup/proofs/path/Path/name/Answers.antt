@@ -23,14 +23,14 @@ pub range-requires-clause-start_boundary : goal.range-requires-clause-start_boun
 range-requires-clause-start_boundary c =
     let path = c.args.self.now in
     λ h. rw c.as_str.ensures.value (cut_anywhere path _ _ (kept_path _ _ path c.self.invariant c.self.view_is)
-      (kept_text _ _ path c.self.invariant c.self.view_is)
-      (omega (arith, length_more path c.args.i c.requires, end_le path (c.args.i + 1))))
+    (kept_text _ _ path c.self.invariant c.self.view_is)
+    (omega (arith, length_more path c.args.i c.requires, end_le path (c.args.i + 1))))
 
 pub range-requires-clause-end_boundary : goal.range-requires-clause-end_boundary
 range-requires-clause-end_boundary c =
     let path = c.args.self.now in
     rw c.as_str.ensures.value (cut_anywhere path _ _ (kept_path _ _ path c.self.invariant c.self.view_is)
-      (kept_text _ _ path c.self.invariant c.self.view_is) (omega (arith, end_le path (c.args.i + 1))))
+    (kept_text _ _ path c.self.invariant c.self.view_is) (omega (arith, end_le path (c.args.i + 1))))
 
 pub returns : goal.returns
 returns c =

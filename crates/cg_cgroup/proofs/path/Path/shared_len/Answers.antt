@@ -14,8 +14,11 @@ returns-then-shares c =
 
 pub loop-low-init : goal.loop-low-init
 loop-low-init c =
-    omega (arith, shared_within (take c.args.own c.args.self.now) c.args.other.now c.args.len c.requires.others,
-      length-take-le c.args.own c.args.self.now c.requires.own)
+    omega (
+      arith,
+      shared_within (take c.args.own c.args.self.now) c.args.other.now c.args.len c.requires.others,
+      length-take-le c.args.own c.args.self.now c.requires.own,
+    )
 
 pub loop-low-preserved-then-shares-2 : goal.loop-low-preserved-then-shares-2
 loop-low-preserved-then-shares-2 c =
@@ -23,8 +26,8 @@ loop-low-preserved-then-shares-2 c =
     let n = length-take-le c.args.own c.args.self.now c.requires.own in
     let same = shared_front c.args.self.now c.args.other.now c.args.own _ (omega arith) _ c.shares-in-loop-low.ensures in
     let low =
-        shared_low (take c.args.own c.args.self.now) c.args.other.now c.args.len _ (omega arith) (omega arith) c.requires.others _ same
-        c.if-shares-2.true in
+    shared_low (take c.args.own c.args.self.now) c.args.other.now c.args.len _ (omega arith) (omega arith) c.requires.others _ same
+    c.if-shares-2.true in
     (kept.0, (low, kept.1.1))
 
 pub loop-low-preserved : goal.loop-low-preserved

@@ -14,8 +14,8 @@ pub invariant_of-result : goal.invariant_of-result
 invariant_of-result c =
     let path = c.args.self.now in
     let ends =
-        c.in_ok-ends.ensures.items ∙ ap (take c.args.len) (c.as_slice.ensures.value ∙ kept_ends _ _ path c.self.invariant c.self.view_is)
-        ∙ take-ends_from path 0 c.args.len in
+    c.in_ok-ends.ensures.items ∙ ap (take c.args.len) (c.as_slice.ensures.value ∙ kept_ends _ _ path c.self.invariant c.self.view_is)
+    ∙ take-ends_from path 0 c.args.len in
     IsKept-at _ _ (take c.args.len path) (IsPath-take path c.args.len c.front.ensures.path) (c.in_ok-text.ensures.ok ∙ c.front.ensures.text)
     ends
 

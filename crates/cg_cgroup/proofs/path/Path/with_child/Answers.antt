@@ -14,10 +14,10 @@ returns-then-end-gt-LONGEST_TEXT-clause-bad c =
     λ e.
     not_path-push (take c.args.len c.args.self.now) c.args.name.now
     (elim c.then-end-gt-LONGEST_TEXT.branch [
-        | then-end-gt-LONGEST_TEXT-via-then-end-gt-LONGEST_TEXT w ↦ inl (omega (arith, n, w.if-end-gt-LONGEST_TEXT.true))
-        | then-end-gt-LONGEST_TEXT-via-else-end-gt-LONGEST_TEXT+then-not-is_name w ↦
-            inr (ap is_name (sym w.as_bytes.ensures.value) ∙ sym w.is_name.ensures ∙ w.if-not-is_name.true)
-      ])
+      | then-end-gt-LONGEST_TEXT-via-then-end-gt-LONGEST_TEXT w ↦ inl (omega (arith, n, w.if-end-gt-LONGEST_TEXT.true))
+      | then-end-gt-LONGEST_TEXT-via-else-end-gt-LONGEST_TEXT+then-not-is_name w ↦
+          inr (ap is_name (sym w.as_bytes.ensures.value) ∙ sym w.is_name.ensures ∙ w.if-not-is_name.true)
+    ])
 
 pub slice_bounds-from_slice-end : goal.slice_bounds-from_slice-end
 slice_bounds-from_slice-end c =
@@ -41,11 +41,11 @@ pub invariant_of-result : goal.invariant_of-result
 invariant_of-result c =
     let path = c.args.self.now in
     let ends =
-        c.in_ok-ends.ensures.items ∙ ap (take c.args.len) (c.as_slice.ensures.value ∙ kept_ends _ _ path c.self.invariant c.self.view_is)
-        ∙ take-ends_from path 0 c.args.len in
+    c.in_ok-ends.ensures.items ∙ ap (take c.args.len) (c.as_slice.ensures.value ∙ kept_ends _ _ path c.self.invariant c.self.view_is)
+    ∙ take-ends_from path 0 c.args.len in
     IsKept-at _ _ (take c.args.len path ++ c.args.name.now ∷ []) (good c) (text c)
     (c.in_ok-push.ensures.items ∙ ends_push (take c.args.len path) c.args.name.now _ _ ends
-      (ap (λ (x : List ℕ). length x + 1 + length c.args.name.now) c.front-parent.ensures.text))
+    (ap (λ (x : List ℕ). length x + 1 + length c.args.name.now) c.front-parent.ensures.text))
 
 pub returns-clause-ok : goal.returns-clause-ok
 returns-clause-ok c = names_of-at _ (take c.args.len c.args.self.now ++ c.args.name.now ∷ []) (good c) (text c)

@@ -23,4 +23,4 @@ pub returns : goal.returns
 returns c =
     c.is_word_length-2.ensures
     ∙ sym (words_of c.args.text.now ∙ c.loop-byte.invariant.1
-      ∙ at_drop_all (words_from c.loop-byte.len) c.args.text.now c.loop-byte.byte-index c.loop-byte-test.false)
+    ∙ at_drop_all (words_from c.loop-byte.len) c.args.text.now c.loop-byte.byte-index c.loop-byte-test.false)

@@ -8,7 +8,7 @@ use Rattle.cg_cgroup.proofs.path.names.has_reserved.Goals as goal
 pub returns-then-contains : goal.returns-then-contains
 returns-then-contains c =
     any_from_yields_List is_reserved _ _ _ c.any.ensures.ran (YieldsList-from_slice_split _ (λ b. b == 47) c.args.text.now (cc)
-          c.split.ensures.done c.split.ensures.closure (λ x b q k. search (rules, tests))) (λ x b q k. search (rules, tests))
+    c.split.ensures.done c.split.ensures.closure (λ x b q k. search (rules, tests))) (λ x b q k. search (rules, tests))
 
 pub returns-else-contains : goal.returns-else-contains
 returns-else-contains c =

@@ -34,26 +34,26 @@ invariant_of-self-in_err-insert c =
     let links = c.self.inside.links.items in
     let put = is_put_new _ c.in_ok-put_new.ensures.ok in
     let free =
-        nobodys c.self.inside.places c.self.inside.links.items c.self.invariant.placed c.pop.result c.place_for-place.result
-        (c.place_for-place.ensures ∙ ap (λ (ls : List Link). place_for ls c.pop.result) c.deref.ensures.value) in
+    nobodys c.self.inside.places c.self.inside.links.items c.self.invariant.placed c.pop.result c.place_for-place.result
+    (c.place_for-place.ensures ∙ ap (λ (ls : List Link). place_for ls c.pop.result) c.deref.ensures.value) in
     subst (λ m. AreKept m c.put_link.new.links.items c.put_new.new.self) (sym c.in_err-insert.ensures.err)
     (subst (λ ls. AreKept c.self.inside.places ls c.put_new.new.self)
     (sym (c.put_link.ensures ∙ ap (λ ls. put_at ls c.place_for-place.result c.new.result) c.in_ok-reserve.ensures.items))
     (subst (AreKept c.self.inside.places (put_at links c.place_for-place.result c.new.result)) (sym put.put)
     (kept_more c.self.inside.places links c.self.inside.nodes c.self.invariant c.place_for-place.result free c.new.result
-      (new_node c.args.cgroup put.kin))))
+    (new_node c.args.cgroup put.kin))))
 
 pub returns-in_err-insert-clause-err : goal.returns-in_err-insert-clause-err
 returns-in_err-insert-clause-err c =
     let p = err_from_is_err_and c.from_residual-in_err-insert.result c.from_residual-in_err-insert.ensures.1 in
     let put = is_put_new _ c.in_ok-put_new.ensures.ok in
     let free =
-        nobodys c.self.inside.places c.self.inside.links.items c.self.invariant.placed c.pop.result c.place_for-place.result
-        (c.place_for-place.ensures ∙ ap (λ (ls : List Link). place_for ls c.pop.result) c.deref.ensures.value) in
+    nobodys c.self.inside.places c.self.inside.links.items c.self.invariant.placed c.pop.result c.place_for-place.result
+    (c.place_for-place.ensures ∙ ap (λ (ls : List Link). place_for ls c.pop.result) c.deref.ensures.value) in
     rw p.1
     ((λ t. values_of held_of (c.in_err-insert.ensures.err t) (put.put t))
     ∙ held_more c.self.inside.places c.self.inside.links.items c.self.inside.nodes c.self.invariant c.place_for-place.result free
-        c.new.result (new_node c.args.cgroup put.kin) ∙ c.self.view_is)
+    c.new.result (new_node c.args.cgroup put.kin) ∙ c.self.view_is)
 
 -- the tables after the calls
 put_is : (c : goal.After-recount)
@@ -64,8 +64,13 @@ pub recount-requires : goal.recount-requires
 recount-requires c =
     let l = c.self.invariant.placed.within _ c.number-above.result c.number-above.ensures in
     let put = is_put_new _ c.in_ok-put_new.ensures.ok in
-    omega (arith, l, c.self.invariant.paired, ap length put.put,
-      put_longer c.self.inside.nodes c.place_for-place.result (new_node c.args.cgroup put.kin))
+    omega (
+      arith,
+      l,
+      c.self.invariant.paired,
+      ap length put.put,
+      put_longer c.self.inside.nodes c.place_for-place.result (new_node c.args.cgroup put.kin),
+    )
 
 abbrev pushed_links : (c : goal.After-recount) → List Link
 pushed_links c = put_at c.self.inside.links.items c.place_for-place.result (new_link c.number-above.result c.args.cgroup)
@@ -88,7 +93,7 @@ nodes_are : (c : goal.After-recount) → c.recount.new.nodes ≡ slice_set (push
     (recounted no_controllers c.args.cgroup.enabled (node_at (pushed_nodes c) c.number-above.result))
 nodes_are c =
     c.recount.ensures ∙ (λ t. slice_set ((put_is c).put t) c.number-above.result
-      (recounted (c.none.ensures t) c.args.cgroup.enabled (node_at ((put_is c).put t) c.number-above.result)))
+    (recounted (c.none.ensures t) c.args.cgroup.enabled (node_at ((put_is c).put t) c.number-above.result)))
 
 table_is : (c : goal.After-recount) → c.insert.new.self ≡ map.insert c.self.inside.places c.args.path.now c.place_for-place.result
 table_is c = c.in_ok-insert.ensures.ok
@@ -123,8 +128,8 @@ invariant_of-self-2 c =
     (sym (links_are c))
     (subst (AreKept (map.insert c.self.inside.places c.args.path.now c.place_for-place.result) _) (sym (nodes_are c))
     (kept_next c.self.inside.places c.self.inside.links.items c.self.inside.nodes c.self.invariant (few c) c.args.path.now
-      c.requires.not_root (none_there c) c.number-above.result (at_parent c) c.args.cgroup (put_is c).kin (put_is c).parents
-      c.place_for-place.result (fits c) (free c))))
+    c.requires.not_root (none_there c) c.number-above.result (at_parent c) c.args.cgroup (put_is c).kin (put_is c).parents
+    c.place_for-place.result (fits c) (free c))))
 
 pub returns-clause-ok : goal.returns-clause-ok
 returns-clause-ok c =

@@ -9,4 +9,4 @@ returns c =
     let nodes = c.self.inside.nodes in
     ap Some c.cgroup.ensures
     ∙ sym (row_is c.self.inside.places nodes c.args.self.now c.self.view_is c.args.path.now
-      ∙ ap (option_map (λ i. (node_at nodes i).cgroup)) c.whole.ensures)
+    ∙ ap (option_map (λ i. (node_at nodes i).cgroup)) c.whole.ensures)

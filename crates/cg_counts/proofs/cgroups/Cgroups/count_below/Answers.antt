@@ -10,6 +10,6 @@ returns c =
     let links = c.self.inside.links.items in
     let l = c.self.invariant.placed.within q c.number-place.result c.number-place.ensures in
     let link : c.index.result.now ≡ link_at links c.number-place.result =
-        get_or_read links c.number-place.result c.index.result.now l c.index.ensures no_link in
+    get_or_read links c.number-place.result c.index.result.now l c.index.ensures no_link in
     ap (λ n. n.below) link ∙ count_is c.self.inside.places c.self.inside.nodes c.args.self.now c.self.view_is c.self.inside.links.items
     c.self.invariant q c.number-place.result c.number-place.ensures

@@ -19,8 +19,8 @@ enable-requires-clause-parents c =
     let here = c.whole-place.ensures in
     let l = c.self.invariant.placed.within _ _ (c.self.invariant.placed.above _ _ here) in
     let link : c.index-link.result.now ≡ link_at c.self.inside.links.items c.whole-place.result =
-        get_or_read c.self.inside.links.items c.whole-place.result c.index-link.result.now (c.self.invariant.placed.within _ _ here)
-        c.index-link.ensures no_link in
+    get_or_read c.self.inside.links.items c.whole-place.result c.index-link.result.now (c.self.invariant.placed.within _ _ here)
+    c.index-link.ensures no_link in
     omega (arith, l, c.self.invariant.paired, ap (λ (x : Link). x.above) link)
 
 -- ---- with children
@@ -69,8 +69,8 @@ refits c =
     (subst (λ (row : Cgroup). Refits c.deref.result.now c.whole-place.result (changed c) row c.enable.new.nodes c.refit_children.new.self)
     c.made_by-fresh.ensures
     (subst (λ (set : ControllerSet).
-        Refits c.deref.result.now c.whole-place.result set c.made_by-fresh.result c.enable.new.nodes c.refit_children.new.self)
-      (changed_is c) c.refit_children.ensures)))
+    Refits c.deref.result.now c.whole-place.result set c.made_by-fresh.result c.enable.new.nodes c.refit_children.new.self)
+    (changed_is c) c.refit_children.ensures)))
 
 pub invariant_of-self : goal.invariant_of-self
 invariant_of-self c =
@@ -107,7 +107,7 @@ pub invariant_of-self-else-link-gt0 : goal.invariant_of-self-else-link-gt0
 invariant_of-self-else-link-gt0 c =
     subst (AreKept c.self.inside.places c.self.inside.links.items) (sym (nodes_are' c))
     (kept_alone c.self.inside.places c.self.inside.links.items c.self.inside.nodes c.self.invariant (few' c) c.args.path.now
-      c.whole-place.result (place_is' c) c.args.enabled c.args.user.now (nothing c))
+    c.whole-place.result (place_is' c) c.args.enabled c.args.user.now (nothing c))
 
 pub returns-else-link-gt0 : goal.returns-else-link-gt0
 returns-else-link-gt0 c =

@@ -9,4 +9,4 @@ returns c =
     let nodes = c.self.inside.nodes in
     let q = take c.args.len c.args.path.now in
     ap (option_map (λ held. held.live)) (held_is c.self.inside.places nodes c.args.self.now c.self.view_is q
-          ∙ ap (option_map (λ i. held_of (node_at nodes i))) c.number-place.ensures) ∙ ap Some (sym c.live.ensures)
+    ∙ ap (option_map (λ i. held_of (node_at nodes i))) c.number-place.ensures) ∙ ap Some (sym c.live.ensures)

@@ -35,8 +35,8 @@ recount-requires c =
     let here = c.whole-place.ensures in
     let l = c.self.invariant.placed.within _ _ (c.self.invariant.placed.above _ _ here) in
     let link : c.index.result.now ≡ link_at c.self.inside.links.items c.whole-place.result =
-        get_or_read c.self.inside.links.items c.whole-place.result c.index.result.now (c.self.invariant.placed.within _ _ here)
-        c.index.ensures no_link in
+    get_or_read c.self.inside.links.items c.whole-place.result c.index.result.now (c.self.invariant.placed.within _ _ here)
+    c.index.ensures no_link in
     omega (arith, l, c.self.invariant.paired, ap (λ (x : Link). x.above) link)
 
 pub leave-requires : goal.leave-requires
@@ -44,8 +44,8 @@ leave-requires c =
     let here = c.whole-place.ensures in
     let l = c.self.invariant.placed.within _ _ here in
     let after =
-        with_items_is c.self.inside.links c.tally_up.new.links
-        (omega (arith, c.tally_up.auto.links, ap length c.deref_mut.ensures.value, c.self.inside.links.ok.0)) in
+    with_items_is c.self.inside.links c.tally_up.new.links
+    (omega (arith, c.tally_up.auto.links, ap length c.deref_mut.ensures.value, c.self.inside.links.ok.0)) in
     omega (arith, l, c.tally_up.auto.links, ap length c.deref_mut.ensures.value, ap length c.deref_mut-2.ensures.value, ap length after)
 
 childless : (c : goal.After-push) → list_any (is_child c.args.path.now) (map.keys c.self.inside.places) ≡ false
@@ -63,10 +63,10 @@ links_are c =
 nodes_are : (c : goal.After-push) → c.recount.new.nodes
     ≡ slice_set c.self.inside.nodes (link_at c.self.inside.links.items c.whole-place.result).above
     (recounted (node_at c.self.inside.nodes c.whole-place.result).cgroup.enabled no_controllers
-      (node_at c.self.inside.nodes (link_at c.self.inside.links.items c.whole-place.result).above))
+    (node_at c.self.inside.nodes (link_at c.self.inside.links.items c.whole-place.result).above))
 nodes_are c =
     c.recount.ensures ∙ (λ t. slice_set c.self.inside.nodes (link_is c t).above
-      (recounted (c.cgroup.ensures t).enabled (c.none.ensures t) (node_at c.self.inside.nodes (link_is c t).above)))
+    (recounted (c.cgroup.ensures t).enabled (c.none.ensures t) (node_at c.self.inside.nodes (link_is c t).above)))
 
 abbrev lowered_links : (c : goal.After-push) → List Link
 lowered_links c =
@@ -87,7 +87,7 @@ invariant_of-self c =
     (subst (λ ls. AreKept (map.remove c.self.inside.places c.args.path.now) ls c.recount.new.nodes) (sym (left_are c))
     (subst (AreKept (map.remove c.self.inside.places c.args.path.now) _) (sym (nodes_are c))
     (kept_left c.self.inside.places c.self.inside.links.items c.self.inside.nodes c.self.invariant c.args.path.now c.requires.not_root
-      c.whole-place.result (place_is c) (childless c))))
+    c.whole-place.result (place_is c) (childless c))))
 
 pub returns : goal.returns
 returns c =

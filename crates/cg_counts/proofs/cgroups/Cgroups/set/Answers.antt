@@ -16,8 +16,8 @@ pub whole-place-requires : goal.whole-place-requires
 whole-place-requires c =
     let q = c.args.path.now in
     sym (ap is_some (held_is c.self.inside.places c.self.inside.nodes c.args.self.now c.self.view_is q)
-          ∙ is_some-mapped _ (map.get c.self.inside.places q))
-          ∙ sym (is_some-mapped (λ held. held.cgroup.enabled) (map.get c.args.self.now q))
+    ∙ is_some-mapped _ (map.get c.self.inside.places q))
+    ∙ sym (is_some-mapped (λ held. held.cgroup.enabled) (map.get c.args.self.now q))
     ∙ ap is_some c.requires
 
 -- the cgroup that was there enables the same
@@ -25,8 +25,8 @@ same : (c : goal.After-self-1) → c.args.cgroup.enabled ≡ (node_at c.self.ins
 same c =
     let nodes = c.self.inside.nodes in
     same_some _ _ (sym c.requires ∙ ap (option_map (λ held. held.cgroup.enabled))
-      (held_is c.self.inside.places nodes c.args.self.now c.self.view_is c.args.path.now
-        ∙ ap (option_map (λ i. held_of (node_at nodes i))) c.whole-place.ensures))
+    (held_is c.self.inside.places nodes c.args.self.now c.self.view_is c.args.path.now
+    ∙ ap (option_map (λ i. held_of (node_at nodes i))) c.whole-place.ensures))
 
 links_are : (c : goal.After-self-1) → (with_items c.self.inside.links c.put_limits.new.links).items
     ≡ slice_set c.self.inside.links.items c.whole-place.result
@@ -40,7 +40,7 @@ invariant_of-self c =
     subst (λ ls. AreKept c.self.inside.places ls c.put.new.self) (sym (links_are c))
     (subst (AreKept c.self.inside.places _) (sym c.put.ensures)
     (kept_put c.self.inside.places c.self.inside.links.items c.self.inside.nodes c.self.invariant c.args.path.now c.whole-place.result
-      c.whole-place.ensures c.args.cgroup (same c)))
+    c.whole-place.ensures c.args.cgroup (same c)))
 
 pub returns : goal.returns
 returns c =

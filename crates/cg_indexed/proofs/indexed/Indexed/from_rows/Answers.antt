@@ -21,14 +21,16 @@ loop-pid-preserved c =
     raised_more c.args.rows c.loop-pid.cgroups c.in-Some._pid.now c.in-Some.process.now c.next.new.self
     (subst (AreRaised c.args.rows c.loop-pid.cgroups) c.in-Some.ensures.steps c.loop-pid.invariant)
     (let few = ap (λ live. map.len live) (sym c.processes.ensures.live) in
-          omega (arith, few, c.size-size.ensures.bound, c.size-size.ensures.small)) c.count_live.new.self c.count_live.ensures
+    omega (arith, few, c.size-size.ensures.bound, c.size-size.ensures.small)) c.count_live.new.self c.count_live.ensures
 
 pub returns : goal.returns
 returns c =
-    λ t. record {rows = c.loop-pid.invariant.cgroups t;
+    λ t. record {
+      rows = c.loop-pid.invariant.cgroups t;
       live = c.into_processes.ensures.live t;
       used = c.into_processes.ensures.used t;
-      controllers = c.controllers.ensures.controllers t}
+      controllers = c.controllers.ensures.controllers t;
+    }
 
 pub invariant_of-result : goal.invariant_of-result
 invariant_of-result c = record {

@@ -33,7 +33,7 @@ next : (c : goal.After-count_live) → state_of (change_held c.self.inside.cgrou
     ≡ with_process c.args.self.now c.args.pid c.args.uid c.args.path.now
 next c =
     ap (λ rows. state_of_tables rows (with_new c.self.inside.processes c.args.pid (record { uid = c.args.uid; place = c.args.path.now }))
-          c.self.inside.controllers) (cgroups_same c.self.inside.cgroups c.args.path.now (tallied_held More) (λ h. refl))
+    c.self.inside.controllers) (cgroups_same c.self.inside.cgroups c.args.path.now (tallied_held More) (λ h. refl))
     ∙ ap (λ s. with_process s c.args.pid c.args.uid c.args.path.now) c.self.view_is
 
 pub returns-clause-ok : goal.returns-clause-ok
@@ -48,15 +48,15 @@ pub invariant_of-self-2 : goal.invariant_of-self-2
 invariant_of-self-2 c =
     subst (λ held. IsIndexed held c.insert.new.self c.self.inside.controllers) (sym c.count_live.ensures)
     (subst (λ (processes : LiveAndUsed).
-      IsIndexed (change_held c.self.inside.cgroups c.args.path.now (tallied_held More)) processes c.self.inside.controllers)
+    IsIndexed (change_held c.self.inside.cgroups c.args.path.now (tallied_held More)) processes c.self.inside.controllers)
     (sym (processes_are c)) (record {
       formed =
           subst IsWellFormed (sym (next c)) (formed-with_process c.args.self.now c.args.pid c.args.uid c.args.path.now c.requires.may_hold
-            (subst IsWellFormed c.self.view_is c.self.invariant.formed));
+          (subst IsWellFormed c.self.view_is c.self.invariant.formed));
       live =
           counted_more c.self.inside.cgroups c.self.inside.processes.live
           (map.insert c.self.inside.processes.live c.args.pid (record { uid = c.args.uid; place = c.args.path.now })) c.args.path.now
           c.self.invariant.live
           (count_live-insert c.self.inside.processes.live c.args.pid (record { uid = c.args.uid; place = c.args.path.now })
-                      (none_live_yet c)) (omega (arith, c.size-size.ensures.bound, c.size-size.ensures.small));
+          (none_live_yet c)) (omega (arith, c.size-size.ensures.bound, c.size-size.ensures.small));
     }))

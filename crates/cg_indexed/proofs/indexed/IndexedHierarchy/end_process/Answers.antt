@@ -22,7 +22,7 @@ count_live-requires c =
     c.in-Some.process.now (sym c.in-Some.ensures)
 
 next : (c : goal.After-end) → state_of (change_held c.self.inside.cgroups c.in-Some.process.now.place (tallied_held Fewer))
-        (without c.self.inside.processes c.args.pid) c.self.inside.controllers ≡ without_process c.args.self.now c.args.pid
+    (without c.self.inside.processes c.args.pid) c.self.inside.controllers ≡ without_process c.args.self.now c.args.pid
 next c =
     ap (λ rows. state_of_tables rows (without c.self.inside.processes c.args.pid) c.self.inside.controllers)
     (cgroups_same c.self.inside.cgroups c.in-Some.process.now.place (tallied_held Fewer) (λ h. refl))
@@ -32,7 +32,7 @@ pub invariant_of-self : goal.invariant_of-self
 invariant_of-self c =
     subst (λ held. IsIndexed held c.end.new.self c.self.inside.controllers) (sym c.count_live.ensures)
     (subst (λ processes.
-      IsIndexed (change_held c.self.inside.cgroups c.in-Some.process.now.place (tallied_held Fewer)) processes c.self.inside.controllers)
+    IsIndexed (change_held c.self.inside.cgroups c.in-Some.process.now.place (tallied_held Fewer)) processes c.self.inside.controllers)
     (sym c.end.ensures) (record {
       formed =
           subst IsWellFormed (sym (next c))

@@ -16,7 +16,7 @@ pub remove-requires-clause-no_child : goal.remove-requires-clause-no_child
 remove-requires-clause-no_child c = ap (λ (s : State). has_child s c.args.path.now) c.self.view_is ∙ c.requires.no_child
 
 next : (c : goal.After-remove) → state_of (map.remove c.self.inside.cgroups c.args.path.now) c.self.inside.processes
-        c.self.inside.controllers ≡ without_row c.args.self.now c.args.path.now
+    c.self.inside.controllers ≡ without_row c.args.self.now c.args.path.now
 next c =
     ap (λ rows. state_of_tables rows c.self.inside.processes c.self.inside.controllers)
     (values-remove (λ h. h.cgroup) c.self.inside.cgroups c.args.path.now)
@@ -28,7 +28,7 @@ invariant_of-self c =
     (record {
       formed =
           subst IsWellFormed (sym (next c)) (formed-without_row c.args.self.now c.args.path.now c.requires.not_root c.requires.no_child
-            c.requires.no_process (subst IsWellFormed c.self.view_is c.self.invariant.formed));
+          c.requires.no_process (subst IsWellFormed c.self.view_is c.self.invariant.formed));
       live = counted_less_path c.self.inside.cgroups c.args.path.now c.self.inside.processes.live c.self.invariant.live;
     })
 

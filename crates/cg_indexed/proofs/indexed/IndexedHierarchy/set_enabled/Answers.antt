@@ -22,7 +22,7 @@ enable-requires-clause-there c = ap (λ (s : State). has_row s c.args.path.now) 
 
 next : (c : goal.After-enable) → state_of
     (change_each_held (enabling_held c.args.path.now c.args.enabled c.args.user.now) c.self.inside.cgroups) c.self.inside.processes
-        c.self.inside.controllers ≡ with_enabled c.args.self.now c.args.path.now c.args.enabled c.args.user.now
+    c.self.inside.controllers ≡ with_enabled c.args.self.now c.args.path.now c.args.enabled c.args.user.now
 next c =
     ap (λ rows. state_of_tables rows c.self.inside.processes c.self.inside.controllers)
     (cgroups_each c.self.inside.cgroups c.args.path.now c.args.enabled c.args.user.now)
@@ -33,7 +33,7 @@ invariant_of-self c =
     subst (λ held. IsIndexed held c.self.inside.processes c.self.inside.controllers) (sym c.enable.ensures) (record {
       formed =
           subst IsWellFormed (sym (next c)) (formed-with_enabled c.args.self.now c.args.path.now c.args.enabled c.args.user.now
-            c.requires.there c.requires.keeps (subst IsWellFormed c.self.view_is c.self.invariant.formed));
+          c.requires.there c.requires.keeps (subst IsWellFormed c.self.view_is c.self.invariant.formed));
       live =
           counted_each c.self.inside.cgroups (enabling_held c.args.path.now c.args.enabled c.args.user.now) c.self.inside.processes.live
           (λ q h. refl) c.self.invariant.live;
@@ -45,6 +45,6 @@ returns-then-ne c = ap (λ held. state_of held c.self.inside.processes c.self.in
 pub returns-else-ne : goal.returns-else-ne
 returns-else-ne c =
     let same : c.cgroup.result.now.enabled ≡ c.args.enabled =
-        same_sets c.cgroup.result.now.enabled c.args.enabled (sym c.ne.ensures ∙ c.if-ne.false) in
+    same_sets c.cgroup.result.now.enabled c.args.enabled (sym c.ne.ensures ∙ c.if-ne.false) in
     sym (nothing_enabled c.args.self.now (subst IsWellFormed c.self.view_is c.self.invariant.formed) c.args.path.now c.cgroup.result.now
-      c.args.enabled c.args.user.now (ap (λ (s : State). map.get s.rows c.args.path.now) (sym c.self.view_is) ∙ sym c.cgroup.ensures) same)
+    c.args.enabled c.args.user.now (ap (λ (s : State). map.get s.rows c.args.path.now) (sym c.self.view_is) ∙ sym c.cgroup.ensures) same)

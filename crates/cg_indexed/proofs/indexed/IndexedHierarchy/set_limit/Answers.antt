@@ -22,7 +22,7 @@ invariant_of-self c =
     (with_value_in c.args.file c.args.value) c.cgroup.result.now c.set_value.new.self c.cgroup.ensures c.set_value.ensures c.set.new.self
     c.set.ensures c.self.invariant
     (formed-with_value c.args.self.now c.args.path.now c.args.file c.args.value c.requires.accepted
-      (subst IsWellFormed c.self.view_is c.self.invariant.formed))
+    (subst IsWellFormed c.self.view_is c.self.invariant.formed))
 
 pub returns : goal.returns
 returns c =

@@ -22,7 +22,7 @@ invariant_of-self c =
     (with_mode_in c.args.name c.args.mode) c.cgroup.result.now c.set_mode.new.self c.cgroup.ensures c.set_mode.ensures c.set.new.self
     c.set.ensures c.self.invariant
     (formed-with_mode c.args.self.now c.args.path.now c.args.name c.args.mode
-      (subst (λ n. n ≤ 511) c.get-bits.ensures.value c.get-bits.ensures.range) (subst IsWellFormed c.self.view_is c.self.invariant.formed))
+    (subst (λ n. n ≤ 511) c.get-bits.ensures.value c.get-bits.ensures.range) (subst IsWellFormed c.self.view_is c.self.invariant.formed))
 
 pub returns : goal.returns
 returns c =

@@ -16,7 +16,7 @@ use Rattle.cg_indexed.proofs.indexed.IndexedHierarchy.set_place.Goals as goal
 pub unreachable-requires : goal.unreachable-requires
 unreachable-requires c =
     true≢false (sym c.requires.live ∙ ap (λ (s : State). is_some (process_at s c.args.pid)) (sym c.self.view_is)
-      ∙ ap is_some (sym c.in_default.ensures))
+    ∙ ap is_some (sym c.in_default.ensures))
 
 pub count_live-requires : goal.count_live-requires
 count_live-requires c =
@@ -45,7 +45,7 @@ next : (c : goal.After-set_place) → state_of
 next c =
     ap (λ rows. state_of_tables rows (with_place_of c.self.inside.processes c.args.pid c.args.path.now) c.self.inside.controllers)
     (cgroups_same (change_held c.self.inside.cgroups c.in-Some.process.now.place (tallied_held Fewer)) c.args.path.now (tallied_held More)
-            (λ h. refl) ∙ cgroups_same c.self.inside.cgroups c.in-Some.process.now.place (tallied_held Fewer) (λ h. refl))
+    (λ h. refl) ∙ cgroups_same c.self.inside.cgroups c.in-Some.process.now.place (tallied_held Fewer) (λ h. refl))
     ∙ ap (λ s. with_place s c.args.pid c.args.path.now) c.self.view_is
 
 pub returns-clause-ok : goal.returns-clause-ok
@@ -71,10 +71,10 @@ pub invariant_of-self : goal.invariant_of-self
 invariant_of-self c =
     subst (λ held. IsIndexed held c.set_place.new.self c.self.inside.controllers) (sym (held_are c))
     (subst (λ (processes : LiveAndUsed). IsIndexed
-      (change_held (change_held c.self.inside.cgroups c.in-Some.process.now.place (tallied_held Fewer)) c.args.path.now (tallied_held More))
-          processes c.self.inside.controllers) (sym (processes_are c)) (record {
+    (change_held (change_held c.self.inside.cgroups c.in-Some.process.now.place (tallied_held Fewer)) c.args.path.now (tallied_held More))
+    processes c.self.inside.controllers) (sym (processes_are c)) (record {
       formed =
           subst IsWellFormed (sym (next c)) (formed-with_place c.args.self.now c.args.pid c.args.path.now c.requires.may_hold
-            (subst IsWellFormed c.self.view_is c.self.invariant.formed));
+          (subst IsWellFormed c.self.view_is c.self.invariant.formed));
       live = counted c;
     }))

@@ -12,7 +12,7 @@ within c = omega (arith, c.requires, ap length c.self.view_is, length_seen c.sel
 shares : (c : goal.In-Some) → (slot_at c.self.inside.slots.items c.args.at).shared ≡ Some c.in-Some.index
 shares c =
     let slot =
-        get_or_read c.self.inside.slots.items c.args.at c.index-slot.result.now (within c) c.index-slot.ensures (new_slot no_cgroup None) in
+    get_or_read c.self.inside.slots.items c.args.at c.index-slot.result.now (within c) c.index-slot.ensures (new_slot no_cgroup None) in
     ap (λ (s : Slot). s.shared) (sym slot) ∙ c.in-Some.is
 
 pub index-requires : goal.index-requires

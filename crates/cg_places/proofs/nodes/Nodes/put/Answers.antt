@@ -18,7 +18,7 @@ invariant_of-self c =
     let slots = c.self.inside.slots.items in
     subst (AreShared shared) (sym (slots_are c))
     (are_set shared slots c.args.at (with_own c.args.cgroup (slot_at slots c.args.at)) c.self.invariant (λ k is. no_share k is)
-      (omega (arith, c.requires, ap length c.self.view_is, length_seen shared slots)))
+    (omega (arith, c.requires, ap length c.self.view_is, length_seen shared slots)))
 
 pub returns : goal.returns
 returns c =

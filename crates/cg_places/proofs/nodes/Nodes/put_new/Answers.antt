@@ -16,7 +16,7 @@ pub invariant_of-self-then-not-shares : goal.invariant_of-self-then-not-shares
 invariant_of-self-then-not-shares c =
     subst (AreShared c.self.inside.shared.items) (sym (own_are c))
     (are_put c.self.inside.shared.items c.self.inside.slots.items c.args.at (new_slot c.args.cgroup None) c.self.invariant
-      (λ k is. no_share k is))
+    (λ k is. no_share k is))
 
 pub returns-then-not-shares-clause-ok : goal.returns-then-not-shares-clause-ok
 returns-then-not-shares-clause-ok c =
@@ -35,7 +35,7 @@ pub returns-in_err-index-clause-err : goal.returns-in_err-index-clause-err
 returns-in_err-index-clause-err c =
     let p = err_from_is_err_and c.from_residual-in_err-index.result c.from_residual-in_err-index.ensures.1 in
     rw p.1 (seen_grown c.self.inside.shared.items c.share.new.shared.items c.self.inside.slots.items c.self.invariant c.share.ensures.grows
-      ∙ c.self.view_is)
+    ∙ c.self.view_is)
 
 -- ---- nor for the place
 
@@ -75,5 +75,5 @@ returns-clause-ok c =
     c.in_ok-index.ensures.ok.there
     ∙ ap (λ ns. put_at ns c.args.at (new_node c.args.cgroup (Some c.args.above)))
     (seen_grown c.self.inside.shared.items c.share.new.shared.items c.self.inside.slots.items c.self.invariant c.share.ensures.grows
-      ∙ c.self.view_is)
+    ∙ c.self.view_is)
     ∙ ap (λ b. put_at c.args.self.now c.args.at (new_node c.args.cgroup (kin_if b c.args.above))) (sym c.if-not-shares.false)

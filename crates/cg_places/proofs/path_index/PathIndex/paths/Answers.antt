@@ -31,7 +31,7 @@ listed : (c : goal.After-list_of) → c.loop-text.paths.keys ≡ map.keys c.args
 listed c =
     keys_listed c.loop-text.paths.keys (numbers_of c.into_iter-text-iterator.result) c.loop-text.invariant.ordered
     (listed_all c.into_iter-text-iterator.result c.loop-text.text-iterator c.loop-text.paths.keys c.loop-text.invariant
-      c.in-None.ensures.steps.0)
+    c.in-None.ensures.steps.0)
     ∙ ap (λ es. map.keys (numbers_of es)) c.into_iter-text-iterator.ensures.into_iter_gives.0 ∙ ap map.keys c.self.view_is
 
 pub returns : goal.returns

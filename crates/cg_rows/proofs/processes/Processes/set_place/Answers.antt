@@ -25,8 +25,10 @@ returns c =
     let found = c.in-Some.ensures.value in
     let updates = (c.get_mut.follows.holds placed).3 (ap is_some (sym found)) in
     (λ i. record { live = shown-insert nat_cmp_total map.nat_cmp-IsAntisymmetric live _ pid placed updates.0 i; used = used })
-    ∙ ap (λ (o : Option Process). record {live =
-            elim o
-            [ None ↦ map.from_entries live | Some process ↦ map.insert (map.from_entries live) pid (placed_at c.args.place process) ];
-            used = used}) (found ∙ sym (get-shown nat_cmp_total live pid))
+    ∙ ap (λ (o : Option Process). record {
+      live =
+          elim o
+          [ None ↦ map.from_entries live | Some process ↦ map.insert (map.from_entries live) pid (placed_at c.args.place process) ];
+      used = used;
+    }) (found ∙ sym (get-shown nat_cmp_total live pid))
     ∙ ap (λ s. with_place_of s pid c.args.place) c.self.view_is

@@ -29,8 +29,8 @@ loop-pid-preserved c =
 pub returns : goal.returns
 returns c =
     let live =
-        sym (append-nil c.loop-pid.live.entries)
-        ∙ ap (λ rest. c.loop-pid.live.entries ++ rest) (sym (rest_all deref_pair _ _ _ c.in-None.is c.next.ensures.steps))
-        ∙ c.loop-pid.invariant in
+    sym (append-nil c.loop-pid.live.entries)
+    ∙ ap (λ rest. c.loop-pid.live.entries ++ rest) (sym (rest_all deref_pair _ _ _ c.in-None.is c.next.ensures.steps))
+    ∙ c.loop-pid.invariant in
     let used = same_from_all_zip _ _ _ c.in_ok-clone.ensures.cases (λ x y h. h) in
     (λ i. record { live = map.from_entries (live i); used = set.from_list (used i) }) ∙ c.self.view_is

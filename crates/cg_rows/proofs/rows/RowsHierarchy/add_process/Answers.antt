@@ -24,7 +24,7 @@ invariant_of-self c =
     let formed = subst IsWellFormed c.self.view_is c.self.invariant in
     let new = state_of_tables c.self.inside.rows c.insert.new.self c.self.inside.controllers in
     elim c.insert.result as (λ r. OnOk r (new ≡ with_process c.args.self.now c.args.pid c.args.uid c.args.path.now)
-      → OnErr r (c.insert.new.self ≡ c.self.inside.processes) → IsWellFormed new) [
+    → OnErr r (c.insert.new.self ≡ c.self.inside.processes) → IsWellFormed new) [
       | Ok x ↦ λ ok err. subst IsWellFormed (sym ok) (formed-with_process _ _ _ _ c.requires.may_hold formed)
       | Err f ↦
           λ ok err. subst IsWellFormed (λ i. state_of_tables c.self.inside.rows (sym err i) c.self.inside.controllers) c.self.invariant

@@ -8,8 +8,8 @@ use Rattle.cg_rows.proofs.rows.RowsHierarchy.remove.Goals as goal
 pub invariant_of-self : goal.invariant_of-self
 invariant_of-self c =
     let next =
-        ap (λ k. state_of_tables k c.self.inside.processes c.self.inside.controllers) c.remove.ensures
-        ∙ ap (λ s. without_row s c.args.path.now) c.self.view_is in
+    ap (λ k. state_of_tables k c.self.inside.processes c.self.inside.controllers) c.remove.ensures
+    ∙ ap (λ s. without_row s c.args.path.now) c.self.view_is in
     subst IsWellFormed (sym next)
     (formed-without_row _ _ c.requires.not_root c.requires.no_child c.requires.no_process
-      (subst IsWellFormed c.self.view_is c.self.invariant))
+    (subst IsWellFormed c.self.view_is c.self.invariant))

@@ -10,4 +10,4 @@ invariant_of-self c =
     let next = ap (λ k. state_of_tables k c.self.inside.processes c.self.inside.controllers) c.enable.ensures
     ∙ ap (λ s. with_enabled s c.args.path.now c.args.enabled c.args.user.now) c.self.view_is in
     subst IsWellFormed (sym next) (formed-with_enabled c.args.self.now c.args.path.now c.args.enabled c.args.user.now c.requires.there
-      c.requires.keeps (subst IsWellFormed c.self.view_is c.self.invariant))
+    c.requires.keeps (subst IsWellFormed c.self.view_is c.self.invariant))

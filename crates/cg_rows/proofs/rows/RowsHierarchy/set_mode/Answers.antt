@@ -11,4 +11,4 @@ invariant_of-self c =
     let next = tables_changed c.args.self.now _ _ _ _ c.args.path.now _ (with_mode_in c.args.name c.args.mode) _ _
     c.self.view_is c.in-Some.ensures (take_all c.depth.result c.args.path.now (omega arith)) c.set_mode.ensures c.set.ensures in
     subst IsWellFormed (sym next) (formed-with_mode _ _ _ _ (subst (λ n. n ≤ 511) c.get-bits.ensures.value c.get-bits.ensures.range)
-      (subst IsWellFormed c.self.view_is c.self.invariant))
+    (subst IsWellFormed c.self.view_is c.self.invariant))

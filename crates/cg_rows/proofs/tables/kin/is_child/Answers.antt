@@ -6,5 +6,5 @@ use Rattle.cg_rows.proofs.tables.kin.is_child.Goals as goal
 pub overflow_sub-result : goal.overflow_sub-result
 overflow_sub-result c =
     let h : length (take c.args.len c.args.path.now) ≤ length c.args.other.now =
-        inside_within _ _ (sym c.holds.ensures ∙ c.if-not-holds.false) in
+    inside_within _ _ (sym c.holds.ensures ∙ c.if-not-holds.false) in
     omega (arith, length-take-le c.args.len c.args.path.now c.requires)

@@ -9,4 +9,4 @@ pub returns : goal.returns
 returns g c =
     sought path_cmp_total _ _ _ c.requires.sorted c.binary_search_by.ensures.bound
     (c.binary_search_by.ensures.position (λ e. path_cmp e.0 (take c.args.len c.args.path.now))
-      (always_returns_same _ _ _ (λ a r f' k. search rules)))
+    (always_returns_same _ _ _ (λ a r f' k. search rules)))

@@ -13,7 +13,7 @@ new_items c =
     let f : Names × Cgroup → Names × Cgroup = λ e. (e.0, enabling c.args.path.now c.args.enabled c.args.user.now e.0 e.1) in
     let changed = c.enable_all.ensures ∙ ap (map f) c.deref_mut.ensures.value in
     with_items_is c.self.inside.entries c.enable_all.new.entries
-        (ap length changed ∙ length-map c.self.inside.entries.items f ∙ sym c.self.inside.entries.ok.0) ∙ changed
+    (ap length changed ∙ length-map c.self.inside.entries.items f ∙ sym c.self.inside.entries.ok.0) ∙ changed
 
 pub invariant_of-self : goal.invariant_of-self
 invariant_of-self c =
