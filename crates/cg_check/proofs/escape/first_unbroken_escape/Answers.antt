@@ -5,6 +5,7 @@ use Rattle.cg_check.proofs.Openings.{opened_state}
 use Rattle.cg_check.proofs.Escaping.{escape-unopened, opened-is, no_length, opened-subtree, opened-unbroken, escape-none, escape-free, escape-joined}
 use Rattle.cg_check.proofs.escape.first_unbroken_escape.Given as given
 use Rattle.cg_check.proofs.escape.first_unbroken_escape.Goals as goal
+use Rattle.cg_check.proofs.escape.first_unbroken_escape.Goals.{In_ok-carry_out}
 
 pub returns-then-is_empty : goal.returns-then-is_empty
 returns-then-is_empty g c =
@@ -15,43 +16,40 @@ returns-then-is_empty g c =
     subst P (sym (escape-unopened (g.H.Hierarchy.state c.args.tree.now) c.args.user.now c.args.subtree.now none)) c.first_plain_try.ensures
 
 -- the copy is the opened tree
-opened : (g : given.Over) (c : goal.In_ok-carry_out g) → g.H.Hierarchy.state c.carry_out.new.tree
+opened : (g : given.Over) (c : In_ok-carry_out g) → g.H.Hierarchy.state c.carry_out.new.tree
     ≡ opened_state (g.H.Hierarchy.state c.args.tree.now) c.args.user.now c.args.subtree.now
 opened g c =
     opened-is (g.H.Hierarchy.state c.args.tree.now) (g.H.Hierarchy.state c.in_ok-opened.opened) (g.H.Hierarchy.state c.carry_out.new.tree)
     c.args.user.now c.args.subtree.now c.in_ok-opening.opening c.as_slice-2.result.now
     c.in_ok-carry_out.ensures c.in_ok-opened.ensures c.as_slice-2.ensures c.in_ok-opening.ensures
 
--- whether what was found in it is free
-free : (g : given.Over) (c : goal.After-is_free g)
-    → is_free (g.H.Hierarchy.state c.args.tree.now) c.args.user.now c.in-Some.found ≡ c.is_free.result
-free g c = ap (is_free (g.H.Hierarchy.state c.args.tree.now) c.args.user.now) (sym c.as_slice-3.ensures) ∙ sym c.is_free.ensures
-
 pub first_plain_try-requires-2-clause-subtree : goal.first_plain_try-requires-2-clause-subtree
 first_plain_try-requires-2-clause-subtree g c =
     opened-subtree (g.H.Hierarchy.state c.args.tree.now) c.args.user.now c.args.subtree.now c.requires.unbroken c.requires.formed
-    c.requires.subtree (g.H.Hierarchy.state c.carry_out.new.tree) (opened g c)
+    c.requires.subtree (g.H.Hierarchy.state c.carry_out.new.tree) (opened g (goal.at.first_plain_try-requires-2-clause-subtree g c).In_ok-carry_out)
 
 pub first_plain_try-requires-2-clause-unbroken : goal.first_plain_try-requires-2-clause-unbroken
 first_plain_try-requires-2-clause-unbroken g c =
     opened-unbroken (g.H.Hierarchy.state c.args.tree.now) c.args.user.now c.args.subtree.now c.requires.unbroken c.requires.formed
-    c.requires.subtree (g.H.Hierarchy.state c.carry_out.new.tree) (opened g c)
+    c.requires.subtree (g.H.Hierarchy.state c.carry_out.new.tree) (opened g (goal.at.first_plain_try-requires-2-clause-unbroken g c).In_ok-carry_out)
 
 pub returns-in_default : goal.returns-in_default
 returns-in_default g c =
     escape-none (g.H.Hierarchy.state c.args.tree.now) c.args.user.now c.args.subtree.now c.requires.unbroken c.requires.formed
-    c.requires.subtree (g.H.Hierarchy.state c.carry_out.new.tree) (opened g c)
+    c.requires.subtree (g.H.Hierarchy.state c.carry_out.new.tree) (opened g (goal.at.returns-in_default g c).In_ok-carry_out)
     c.in_ok-found.field-0 c.in_ok-found.ensures c.in_default.not-Some
 
 pub returns-then-is_free : goal.returns-then-is_free
 returns-then-is_free g c =
     escape-free (g.H.Hierarchy.state c.args.tree.now) c.args.user.now c.args.subtree.now c.requires.unbroken c.requires.formed
-    c.requires.subtree (g.H.Hierarchy.state c.carry_out.new.tree) (opened g c)
-    c.in-Some.found (sym c.in-Some.is ∙ c.in_ok-found.ensures) (free g c ∙ c.if-is_free.true)
+    c.requires.subtree (g.H.Hierarchy.state c.carry_out.new.tree) (opened g (goal.at.returns-then-is_free g c).In_ok-carry_out)
+    c.in-Some.found (sym c.in-Some.is ∙ c.in_ok-found.ensures) (ap (is_free (g.H.Hierarchy.state c.args.tree.now) c.args.user.now)
+    (sym c.as_slice-3.ensures) ∙ sym c.is_free.ensures ∙ c.if-is_free.true)
 
 pub returns : goal.returns
 returns g c =
     ap Some (c.in_ok-append.ensures.ok ∙ ap (λ chmods. chmods ++ c.in-Some.found) c.in_ok-opening.ensures)
     ∙ escape-joined (g.H.Hierarchy.state c.args.tree.now) c.args.user.now c.args.subtree.now c.requires.unbroken c.requires.formed
-    c.requires.subtree (g.H.Hierarchy.state c.carry_out.new.tree) (opened g c)
-    c.in-Some.found (sym c.in-Some.is ∙ c.in_ok-found.ensures) (free g c ∙ c.if-is_free.false)
+    c.requires.subtree (g.H.Hierarchy.state c.carry_out.new.tree) (opened g (goal.at.returns g c).In_ok-carry_out)
+    c.in-Some.found (sym c.in-Some.is ∙ c.in_ok-found.ensures) (ap (is_free (g.H.Hierarchy.state c.args.tree.now) c.args.user.now)
+    (sym c.as_slice-3.ensures) ∙ sym c.is_free.ensures ∙ c.if-is_free.false)
