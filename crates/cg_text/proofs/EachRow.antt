@@ -1,24 +1,28 @@
 -- The first fault of rows in turn, as a loop over them finds it.
-use Rattle.std.proofs.Common.{◌≡◌, ℕ, ◌+◌, ◌<◌, ◌≤◌, suc, zero, true, List, [], ◌∷◌, ◌++◌, length, get_or, take, drop, map, Option, Some, None, is_some, refl, sym, ap, ◌∙◌, true≢false, arith}
+use Rattle.std.proofs.Common.{◌≡◌, ℕ, Bool, false, ◌+◌, ◌<◌, ◌≤◌, suc, zero, true, List, [], ◌∷◌, ◌++◌, length, get_or, take, drop, map, Option, Some, None, is_some, refl, sym, ap, ◌∙◌, true≢false, arith}
 use Rattle.std.specs.Prelude.{filter_map}
+use Rattle.std.specs.Option.{option_or}
 use Rattle.std.specs.List.{list_all, cons_option}
 use Rattle.std.proofs.lemmas.Bool.{and_parts}
 use Rattle.std.proofs.lemmas.List.{drop_more, take_more, drop_all, length-map, take-map, get_or-map}
 use Rattle.std.proofs.lemmas.List.Folds.{list_all-map}
+use Rattle.cg_cgroup.proofs.Options.{some_value}
+use Rattle.cg_text.specs.Form.{Key, is_table}
 use Rattle.cg_text.specs.TextFaults.{each}
-use Rattle.cg_model.specs.Clauses.{first}
+use Rattle.toml.specs.Data.{Data}
+use Rattle.toml.specs.View.{view}
+use Rattle.toml.specs.declared.value.Value.{Value}
+use Rattle.cg_model.specs.Clauses.{first, unless}
+use Rattle.cg_steps.proofs.ClauseLaws.{first_none, first_some}
 use Rattle.cg_text.specs.declared.tree.fault.Place.{Place}
 use Rattle.cg_text.specs.declared.tree.fault.TreeFault.{TreeFault}
+use Rattle.cg_text.specs.declared.tree.fault.TreeFault.TheVariants.{Shape}
 
 -- ---- clauses, one after another
 
-pub first_behind : (one other : List TreeFault) → first one ≡ None → first (one ++ other) ≡ first other
-first_behind [] other none = refl
-first_behind (fault ∷ one) other none = absurd (true≢false (ap is_some none))
-
-pub first_before : (one other : List TreeFault) (fault : TreeFault) → first one ≡ Some fault → first (one ++ other) ≡ Some fault
-first_before [] other fault is = absurd (true≢false (sym (ap is_some is)))
-first_before (found ∷ one) other fault is = is
+pub first_or : {A : Type 0} (one other : List A) → first (one ++ other) ≡ option_or (first one) (first other)
+first_or [] other = refl
+first_or (fault ∷ one) other = refl
 
 -- ---- a loop over rows
 
@@ -45,7 +49,7 @@ module _ {A : Type 0} (clauses : List A → Place → A → List TreeFault) (pla
   more_passed i row passed below is none = record {
     left =
         passed.left ∙ ap first (at_row i row below is)
-        ∙ first_behind (clauses (take i rows) (place (i + 1)) row)
+        ∙ first_none (clauses (take i rows) (place (i + 1)) row)
         (each clauses place (i + 1 + 1) (take (i + 1) rows) (drop (i + 1) rows)) none;
   }
 
@@ -54,44 +58,45 @@ module _ {A : Type 0} (clauses : List A → Place → A → List TreeFault) (pla
       → first (clauses (take i rows) (place (i + 1)) row) ≡ Some fault → first (each clauses place 1 [] rows) ≡ Some fault
   fault_found i row fault passed below is found =
       passed.left ∙ ap first (at_row i row below is)
-      ∙ first_before (clauses (take i rows) (place (i + 1)) row)
+      ∙ first_some (clauses (take i rows) (place (i + 1)) row)
       (each clauses place (i + 1 + 1) (take (i + 1) rows) (drop (i + 1) rows)) fault found
 
   pub all_passed : (i : ℕ) → HavePassed clauses place rows i → length rows ≤ i → first (each clauses place 1 [] rows) ≡ None
   all_passed i passed past = passed.left ∙ ap (λ left. first (each clauses place (i + 1) (take i rows) left)) (drop_all i rows past)
 
--- ---- rows that are seen of elements
+-- ---- elements that are tables with these keys
 
-module _ {Y A : Type 0} (clauses : List A → Place → A → List TreeFault) (place : ℕ → Place) (see : Y → A) (elements : List Y) where
-  seen_at : (i : ℕ) (element : Y) → i < length elements → element ≡ get_or elements i element → see element
-      ≡ get_or (map see elements) i (see element)
-  seen_at i element below is = ap see is ∙ sym (get_or-map see elements i element (see element) below)
+module _ (keys : List Key) (place : ℕ → Place) (elements : List Value) where
+  abbrev shape : List Data → Place → Data → List TreeFault
+  shape _ here held = unless (is_table keys held) (Shape here)
 
-  pub more_seen : (i : ℕ) (element : Y) → HavePassed clauses place (map see elements) i → i < length elements → element
-      ≡ get_or elements i element
-      → first (clauses (take i (map see elements)) (place (i + 1)) (see element)) ≡ None
-      → HavePassed clauses place (map see elements) (i + 1)
-  more_seen i element passed below is none =
-      more_passed clauses place (map see elements) i (see element) passed (omega (arith, length-map elements see))
-      (seen_at i element below is) none
+  abbrev pub AreShaped : ℕ → Type 0
+  AreShaped i = HavePassed shape place (map view elements) i
 
-  pub fault_seen : (i : ℕ) (element : Y) (fault : TreeFault) → HavePassed clauses place (map see elements) i → i < length elements
-      → element ≡ get_or elements i element
-      → first (clauses (take i (map see elements)) (place (i + 1)) (see element)) ≡ Some fault
-      → first (each clauses place 1 [] (map see elements)) ≡ Some fault
-  fault_seen i element fault passed below is found =
-      fault_found clauses place (map see elements) i (see element) fault passed (omega (arith, length-map elements see))
-      (seen_at i element below is) found
+  module _ (i : ℕ) (element : Value) (passed : AreShaped i) (below : i < length elements) (is : element ≡ get_or elements i element)
+      (fits : Bool) (told : fits ≡ is_table keys (view element)) where
+    there : view element ≡ get_or (map view elements) i (view element)
+    there = ap view is ∙ sym (get_or-map view elements i element (view element) below)
 
-  pub all_seen : (i : ℕ) → HavePassed clauses place (map see elements) i → length elements ≤ i
-      → first (each clauses place 1 [] (map see elements)) ≡ None
-  all_seen i passed past = all_passed clauses place (map see elements) i passed (omega (arith, length-map elements see))
+    inside : i < length (map view elements)
+    inside = omega (arith, length-map elements view)
+
+    pub more_shaped : fits ≡ true → AreShaped (i + 1)
+    more_shaped fit =
+        more_passed shape place (map view elements) i (view element) passed inside there
+        (ap (λ b. first (unless b (Shape (place (i + 1))))) (sym told ∙ fit))
+
+    pub misshapen : (number : ℕ) → number ≡ i + 1 → fits ≡ false
+        → first (each shape place 1 [] (map view elements)) ≡ Some (Shape (place number))
+    misshapen number counted unfit =
+        fault_found shape place (map view elements) i (view element) (Shape (place (i + 1))) passed inside there
+        (ap (λ b. first (unless b (Shape (place (i + 1))))) (sym told ∙ unfit))
+        ∙ ap (λ number. Some (Shape (place number))) (sym counted)
+
+  pub all_shaped : (i : ℕ) → AreShaped i → length elements ≤ i → first (each shape place 1 [] (map view elements)) ≡ None
+  all_shaped i passed past = all_passed shape place (map view elements) i passed (omega (arith, length-map elements view))
 
 -- ---- rows that are read from elements, each of which gives one
-
-some_of : {A : Type 0} (o : Option A) → is_some o ≡ true → (x : A) × (o ≡ Some x)
-some_of None is = absurd (true≢false (sym is))
-some_of (Some x) is = (x, refl)
 
 at_next : {A : Type 0} (row : A) (o : Option A) (xs : List A) (i : ℕ) → is_some o ≡ true → row ≡ get_or xs i row → row
     ≡ get_or (cons_option o xs) (suc i) row
@@ -103,7 +108,7 @@ module _ {X A : Type 0} (read : X → Option A) where
   length_read [] are = refl
   length_read (x ∷ xs) are =
       let parts = and_parts (is_some (read x)) (list_all (λ x. is_some (read x)) xs) are in
-      let here = some_of (read x) parts.0 in
+      let here = some_value (read x) parts.0 in
       ap (λ o. length (cons_option o (filter_map read xs))) here.1 ∙ ap suc (length_read xs parts.1)
 
   read_at : (xs : List X) (i : ℕ) (x : X) (row : A) → list_all (λ x. is_some (read x)) xs ≡ true → i < length xs → x ≡ get_or xs i x
@@ -121,7 +126,7 @@ module _ {X A : Type 0} (read : X → Option A) where
   take_read (x ∷ xs) zero are = refl
   take_read (x ∷ xs) (suc i) are =
       let parts = and_parts (is_some (read x)) (list_all (λ x. is_some (read x)) xs) are in
-      let here = some_of (read x) parts.0 in
+      let here = some_value (read x) parts.0 in
       ap (λ o. take (suc i) (cons_option o (filter_map read xs))) here.1 ∙ ap (λ rows. here.0 ∷ rows) (take_read xs i parts.1)
       ∙ ap (λ o. cons_option o (filter_map read (take i xs))) (sym here.1)
 

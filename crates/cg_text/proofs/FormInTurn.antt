@@ -13,7 +13,7 @@ use Rattle.cg_text.specs.declared.tree.fault.TreeFault.TheVariants.{Shape, Forma
 use Rattle.cg_text.specs.declared.tree.fault.Place.TheVariants.{Top}
 use Rattle.cg_text.specs.declared.tree.format.Format.{Format}
 use Rattle.cg_text.proofs.FormClauses.{in_form}
-use Rattle.cg_text.proofs.EachRow.{first_before, first_behind}
+use Rattle.cg_steps.proofs.ClauseLaws.{first_none, first_some, none_of_first}
 
 abbrev pub cgroup_shapes : Format → List Data → List TreeFault
 cgroup_shapes format rows = each_cgroup (λ _ place held. unless (is_table (row_keys format) held) (Shape place)) rows
@@ -38,15 +38,15 @@ module _ (document : Members) (format : Format) (cgroups processes : List Data) 
       (λ format. cgroup_shapes format (sym are_cgroups i)) ++ process_shapes (sym are_processes i))
 
   pub at_cgroup : (fault : TreeFault) → first (cgroup_shapes format cgroups) ≡ Some fault → first (form_faults document) ≡ Some fault
-  at_cgroup fault found = ap first rows_left ∙ first_before (cgroup_shapes format cgroups) (process_shapes processes) fault found
+  at_cgroup fault found = ap first rows_left ∙ first_some (cgroup_shapes format cgroups) (process_shapes processes) fault found
 
   pub at_process : (fault : TreeFault) → first (cgroup_shapes format cgroups) ≡ None → first (process_shapes processes) ≡ Some fault
       → first (form_faults document) ≡ Some fault
-  at_process fault none found = ap first rows_left ∙ first_behind (cgroup_shapes format cgroups) (process_shapes processes) none ∙ found
+  at_process fault none found = ap first rows_left ∙ first_none (cgroup_shapes format cgroups) (process_shapes processes) none ∙ found
 
   pub no_shape : first (cgroup_shapes format cgroups) ≡ None → first (process_shapes processes) ≡ None
       → (first (form_faults document) ≡ None) × IsInForm format document
   no_shape none also =
-      let passed = ap first rows_left ∙ first_behind (cgroup_shapes format cgroups) (process_shapes processes) none ∙ also in
-      let form = in_form document passed in
+      let passed = ap first rows_left ∙ first_none (cgroup_shapes format cgroups) (process_shapes processes) none ∙ also in
+      let form = in_form document (none_of_first _ passed) in
       (passed, subst (λ kind. IsInForm kind document) (same_Some form.0 format (sym form.1.format ∙ said)) form.1)

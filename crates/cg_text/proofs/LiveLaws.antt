@@ -12,7 +12,8 @@ use Rattle.std.specs.FinSet as set
 use Rattle.std.specs.FinMap.{nat_cmp-IsAntisymmetric}
 use Rattle.std.proofs.lemmas.Bool.{not-true, or_left, or_right}
 use Rattle.std.proofs.lemmas.List.{take_all, take_more}
-use Rattle.std.proofs.lemmas.List.Folds.{list_any-append}
+use Rattle.std.specs.Option.{option_or}
+use Rattle.std.proofs.lemmas.List.Folds.{find-append, list_any-append}
 use Rattle.std.proofs.lemmas.Map.Made.{is_some-lookup}
 use Rattle.std.proofs.Math.Bool.{or-false}
 use Rattle.toml.specs.Data.{Members, as_table}
@@ -27,6 +28,7 @@ use Rattle.cg_cgroup.specs.declared.process.Process.{Process}
 use Rattle.cg_rows.specs.Processes.{LiveAndUsed}
 use Rattle.cg_rows.proofs.StdMaps.{get-shown}
 use Rattle.cg_model.specs.Clauses.{unless, absent, present, first}
+use Rattle.cg_steps.proofs.ClauseLaws.{none_of_first}
 use Rattle.cg_text.specs.Said.{path_said, has_path, pid_said, uid_said}
 use Rattle.cg_text.specs.TextOf.{has_pid}
 use Rattle.cg_text.specs.TextFaults.{each_process, enabled_there, process_faults}
@@ -36,7 +38,9 @@ use Rattle.cg_text.specs.declared.tree.fault.Place.TheVariants.{Process as AtPro
 use Rattle.cg_text.specs.declared.tree.fault.TreeFault.{TreeFault}
 use Rattle.cg_text.specs.declared.tree.fault.TreeFault.TheVariants.{BadPid, BadEntry, DuplicatePid, NoSuchPlace, InternalProcess}
 use Rattle.cg_text.proofs.EachRow.{HavePassed, none_passed, more_passed, fault_found, all_passed, row_count, row_at}
-use Rattle.cg_text.proofs.KeysOnce.{none_left, none_right, unless_passes, present_passes, is_some-find, find_past}
+use Rattle.cg_text.proofs.Cuts.{is_some-find}
+use Rattle.cg_text.proofs.KeysOnce.{find_past}
+use Rattle.cg_text.proofs.TablesSay.{process_says}
 
 -- ---- the place of a process
 
@@ -153,12 +157,7 @@ find_behind p before row none so = find_past p before (row ∷ []) none ∙ ap (
 
 find_before : (p : Members → Bool) (before rest : List Members) (row : Members) → find p before ≡ Some row
     → find p (before ++ rest) ≡ Some row
-find_before p [] rest row is = absurd (true≢false (sym (ap is_some is)))
-find_before p (x ∷ before) rest row is =
-    elim (p x) as (λ b. cond b (Some x) (find p before) ≡ Some row → cond b (Some x) (find p (before ++ rest)) ≡ Some row) [
-      | true ↦ λ is. is
-      | false ↦ λ is. find_before p before rest row is
-    ] is
+find_before p before rest row is = find-append p before rest ∙ ap (λ found. option_or found (find p rest)) is
 
 -- one process more
 module _ (earlier : List Members) (row : Members) (live after : BTreeMap ℕ Process) (pid : ℕ) (process : Process)
@@ -208,18 +207,8 @@ module _ (earlier : List Members) (row : Members) (live after : BTreeMap ℕ Pro
 pid_is_new : (tables earlier : List Members) (place : Place) (row : Members) (pid : ℕ) → pid_said row ≡ Some pid
     → first (process_faults tables earlier place row) ≡ None → list_any (has_pid pid) earlier ≡ false
 pid_is_new tables earlier place row pid said none =
-    let numbers : List TreeFault = absent (pid_said row) (BadPid place) ++ absent (uid_said row) (BadEntry place) in
-    let twice : List TreeFault = present (pid_said row) (λ pid. unless (not (list_any (has_pid pid) earlier)) (DuplicatePid place)) in
-    let nowhere : List TreeFault = absent (option_and_then (λ path. find (has_path path) tables) (path_said (codes "at") row))
-    (NoSuchPlace place) in
-    let internal : List TreeFault = present (path_said (codes "at") row)
-    (λ path. present (enabled_there tables path) (λ enabled. unless (is_root path || enables_nothing enabled)
-    (InternalProcess place))) in
-    let passes : first twice ≡ None = none_right numbers twice (none_left (numbers ++ twice) nowhere
-    (none_left ((numbers ++ twice) ++ nowhere) internal none)) in
-    not-true (list_any (has_pid pid) earlier)
-    (unless_passes (not (list_any (has_pid pid) earlier)) (DuplicatePid place)
-    (present_passes (pid_said row) (λ pid. unless (not (list_any (has_pid pid) earlier)) (DuplicatePid place)) pid said passes))
+    let says = process_says tables earlier place row (none_of_first _ none) in
+    ap (λ pid. list_any (has_pid pid) earlier) (same_some pid says.pid (sym said ∙ says.numbered)) ∙ says.fresh
 
 module _ (tables : List Members) (elements : List Value) (are : list_all (λ held. is_some (as_table (view held))) elements ≡ true) where
   abbrev rows : List Members

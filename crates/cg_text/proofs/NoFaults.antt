@@ -1,8 +1,10 @@
 -- A text that is of a state has no fault.
-use Rattle.std.proofs.Common.{◌≡◌, ℕ, ◌+◌, Bool, true, false, not, cond, ◌||◌, nat_le, le-leb, List, [], ◌∷◌, ◌++◌, length, codes, Option, Some, None, is_some, option_map, option_and_then, unwrap_or, refl, sym, ap, ◌∙◌, true≢false, append_assoc, arith}
+use Rattle.std.proofs.Common.{◌≡◌, ℕ, suc, filter, ◌+◌, Bool, true, false, not, cond, ◌||◌, nat_le, le-leb, List, [], ◌∷◌, ◌++◌, length, codes, Option, Some, None, is_some, option_map, option_and_then, unwrap_or, refl, sym, ap, ◌∙◌, true≢false, append_assoc, arith}
 use Rattle.std.specs.Prelude.{count_by, nat_eq, find}
 use Rattle.std.specs.List.{AllByRecursion, list_all, list_any}
 use Rattle.std.proofs.lemmas.Bool.{and_parts, and_from}
+use Rattle.std.proofs.lemmas.List.{length-append, nil_from_length}
+use Rattle.std.proofs.lemmas.List.Sums.{length-filter}
 use Rattle.std.proofs.lemmas.Bool.Decides.{nat_tests}
 use Rattle.toml.specs.Data.{Data, Members, no_members, table}
 use Rattle.cg_cgroup.specs.Paths.{Names, same_path, is_root, parent}
@@ -31,7 +33,9 @@ use Rattle.cg_text.specs.declared.tree.fault.TreeFault.{TreeFault}
 use Rattle.cg_text.specs.declared.tree.fault.TreeFault.TheVariants.{TooLong, NotToml, Shape, Format as BadFormat, TooMany, BadController, BadPath, BadEntry, BadValue, Duplicate, NoRoot, NoParent, TopDown, NoSuchFile, BadPid, DuplicatePid, NoSuchPlace, InternalProcess}
 use Rattle.cg_text.specs.declared.tree.format.Format.{Format}
 use Rattle.cg_text.specs.declared.tree.format.Format.TheVariants.{One, Two}
-use Rattle.cg_text.proofs.OnceLaws.{counted, counted_is}
+use Rattle.cg_text.proofs.RowLaws.{all_so}
+use Rattle.cg_text.proofs.CgroupClauses.{twice_clause, orphan_clause, within_clause, files_clause}
+use Rattle.cg_text.proofs.Cuts.{head_of, is_some-find, any_filter, filter_cut}
 use Rattle.cg_text.proofs.OneState.{Passes, one_passes, path_is, enabled_in}
 
 -- ---- clauses that find nothing
@@ -66,55 +70,23 @@ module _ {A : Type 0} (P : A → Type 0) (clauses : List A → Place → A → L
 
 -- ---- lists
 
-all_pass : {A : Type 0} (p : A → Bool) → ((x : A) → p x ≡ true) → (xs : List A) → list_all p xs ≡ true
-all_pass p each [] = refl
-all_pass p each (x ∷ xs) = and_from (p x) (list_all p xs) (each x) (all_pass p each xs)
-
 all_of : {A : Type 0} (p : A → Bool) (xs : List A) → list_all p xs ≡ true → AllByRecursion (λ x. p x ≡ true) xs
 all_of p [] all = tt
 all_of p (x ∷ xs) all =
     let parts = and_parts (p x) (list_all p xs) all in
     (parts.0, all_of p xs parts.1)
 
-found_any : {A : Type 0} (p : A → Bool) (xs : List A) (x : A) → find p xs ≡ Some x → list_any p xs ≡ true
-found_any p [] x is = absurd (true≢false (sym (ap is_some is)))
-found_any p (y ∷ xs) x is =
-    elim (p y) as (λ b. cond b (Some y) (find p xs) ≡ Some x → (b || list_any p xs) ≡ true) [
-      | true ↦ λ _. refl
-      | false ↦ λ later. found_any p xs x later
-    ] is
-
-counted_cut : {A : Type 0} (p : A → Bool) (before rest : List A) → counted p (before ++ rest) ≡ counted p before + counted p rest
-counted_cut p [] rest = omega arith
-counted_cut p (x ∷ before) rest =
-    let later = counted_cut p before rest in
-    let whole : ℕ = counted p (before ++ rest) in
-    let front : ℕ = counted p before in
-    elim (p x) as (λ b. cond b (1 + whole) whole ≡ cond b (1 + front) front + counted p rest) [
-      | true ↦ omega (arith, later)
-      | false ↦ later
-    ]
-
-none_counted : {A : Type 0} (p : A → Bool) (xs : List A) → counted p xs ≡ 0 → list_any p xs ≡ false
-none_counted p [] is = refl
-none_counted p (x ∷ xs) is =
-    elim (p x) as (λ b. cond b (1 + counted p xs) (counted p xs) ≡ 0 → (b || list_any p xs) ≡ false) [
-      | true ↦ λ more. absurd (omega (arith, more))
-      | false ↦ λ none. none_counted p xs none
-    ] is
-
-at_most_one : (before here after n : ℕ) (b : Bool) → before + here ≡ n → n ≡ cond b 1 0 → here ≡ 1 + after → before ≡ 0
-at_most_one before here after n true sum count some = omega (arith, sum, count, some)
-at_most_one before here after n false sum count some = omega (arith, sum, count, some)
-
 -- before the one that passes a test none does
 none_before : {A : Type 0} (p : A → Bool) (all before : List A) (x : A) (after : List A) (b : Bool) → before ++ x ∷ after ≡ all
     → count_by p all ≡ cond b 1 0 → p x ≡ true → list_any p before ≡ false
 none_before p all before x after b is count here =
-    let sum : counted p before + counted p (x ∷ after) ≡ counted p all = sym (counted_cut p before (x ∷ after)) ∙ ap (counted p) is in
-    let some : counted p (x ∷ after) ≡ 1 + counted p after = ap (λ t. cond t (1 + counted p after) (counted p after)) here in
-    none_counted p before
-    (at_most_one (counted p before) (counted p (x ∷ after)) (counted p after) (counted p all) b sum (counted_is p all ∙ count) some)
+    let sum = sym (length-append (filter p before) (x ∷ filter p after)) ∙ ap length (sym (filter_cut p before x after here) ∙ ap (filter p) is)
+    ∙ length-filter p all ∙ count in
+    any_filter p before ∙ ap (λ some. is_some (head_of some)) (nil_from_length (filter p before) (one_at_most _ _ b sum))
+  where
+    one_at_most : (m n : ℕ) (b : Bool) → m + suc n ≡ cond b 1 0 → m ≡ 0
+    one_at_most m n true is = omega arith
+    one_at_most m n false is = omega arith
 
 -- ---- form
 
@@ -182,9 +154,9 @@ module _ (format : Format) (st : State) (row : Members) (is : IsRowOf format st 
       (is_there_so (path_said (codes "path") row) is.path (BadPath place) is.named)
       (is_there_so (controllers_said (codes "enabled") row) is.cgroup.enabled (BadController place) is.enabled))
       (passes (list_all (λ name. is_some (entry_said format row name)) all_entries) (BadEntry place)
-      (all_pass (λ name. is_some (entry_said format row name)) each_entry all_entries)))
+      (all_so (λ name. is_some (entry_said format row name)) each_entry all_entries)))
       (passes (list_all (λ file. is_some (value_said row file)) all_files) (BadValue place)
-      (all_pass (λ file. is_some (value_said row file)) each_value all_files))
+      (all_so (λ file. is_some (value_said row file)) each_value all_files))
 
 -- ---- the cgroups together
 
@@ -211,7 +183,7 @@ module _ (format : Format) (st : State) (tables : List Members) (all : AllByRecu
   there_so : (path : Names) → has_row st path ≡ true → is_there tables path ≡ true
   there_so path there =
       let one = found path there in
-      found_any (has_path path) tables one.0 one.3
+      sym (is_some-find (has_path path) tables) ∙ ap is_some one.3
 
   enabled_so : (path : Names) → has_row st path ≡ true → enabled_there tables path ≡ Some (enabled_at st path)
   enabled_so path there =
@@ -234,24 +206,6 @@ module _ (format : Format) (st : State) (tables : List Members) (all : AllByRecu
       none_of_each (IsRowOf format st) (λ _. row_faults format) AtCgroup tables all
       (λ before row after cut is here. row_has_none format st row is here)
 
-  abbrev Clause : Type 0
-  Clause = List Members → Place → Members → List TreeFault
-
-  abbrev twice_clause : Clause
-  twice_clause = λ earlier place row. present (path_said (codes "path") row) (λ path.
-      unless (not (is_there earlier path)) (Duplicate place))
-
-  abbrev orphan_clause : Clause
-  orphan_clause = on_path (λ path place row. unless (is_root path || is_there tables (parent path)) (NoParent place))
-
-  abbrev within_clause : Clause
-  within_clause = on_path (λ path place row. present (controllers_said (codes "enabled") row) (λ enabled.
-      present (over (Some st.controllers) tables path) (λ available. unless (is_within enabled available) (TopDown place))))
-
-  abbrev files_clause : Clause
-  files_clause = on_path (λ path place row. present (over (Some no_controllers) tables path) (λ above.
-      unless (list_all (λ file. not (is_named (File file) row) || stands_under above file) all_files) (NoSuchFile place)))
-
   none_twice : each_cgroup twice_clause tables ≡ []
   none_twice =
       none_of_each (IsRowOf format st) twice_clause AtCgroup tables all (λ before row after cut is here.
@@ -259,17 +213,17 @@ module _ (format : Format) (st : State) (tables : List Members) (all : AllByRecu
       (passes (not (is_there before is.path)) (Duplicate here)
       (ap not (none_before (has_path is.path) tables before row after (has_row st is.path) cut (paths is.path) (has_own row is)))))
 
-  none_orphan : each_cgroup orphan_clause tables ≡ []
+  none_orphan : each_cgroup (orphan_clause tables) tables ≡ []
   none_orphan =
-      none_of_each (IsRowOf format st) orphan_clause AtCgroup tables all (λ before row after cut is here.
+      none_of_each (IsRowOf format st) (orphan_clause tables) AtCgroup tables all (λ before row after cut is here.
       let above : Names = parent is.path in
       none_present (path_said (codes "path") row) is.path _ is.named
       (passes (is_root is.path || is_there tables above) (NoParent here)
       (or_so (is_root is.path) (is_there tables above) (there_so above (formed.parents is.path (ap is_some is.there))))))
 
-  none_past : each_cgroup within_clause tables ≡ []
+  none_past : each_cgroup (within_clause st.controllers tables) tables ≡ []
   none_past =
-      none_of_each (IsRowOf format st) within_clause AtCgroup tables all (λ before row after cut is here.
+      none_of_each (IsRowOf format st) (within_clause st.controllers tables) AtCgroup tables all (λ before row after cut is here.
       none_present (path_said (codes "path") row) is.path _ is.named
       (none_present (controllers_said (codes "enabled") row) is.cgroup.enabled _ is.enabled
       (none_present (over (Some st.controllers) tables is.path) (available_at st is.path) _
@@ -282,14 +236,14 @@ module _ (format : Format) (st : State) (tables : List Members) (all : AllByRecu
       sym ((formed.rows is.path is.cgroup is.there).files file)
       ∙ sym (is_some-mapped (λ (f : LimitEntry). f.entry) (file_of is.cgroup file)) ∙ is.files (File file) named
 
-  none_misplaced : each_cgroup files_clause tables ≡ []
+  none_misplaced : each_cgroup (files_clause tables) tables ≡ []
   none_misplaced =
-      none_of_each (IsRowOf format st) files_clause AtCgroup tables all (λ before row after cut is here.
+      none_of_each (IsRowOf format st) (files_clause tables) AtCgroup tables all (λ before row after cut is here.
       let above : ControllerSet = enabled_above st is.path in
       none_present (path_said (codes "path") row) is.path _ is.named
       (none_present (over (Some no_controllers) tables is.path) above _ (over_so no_controllers is.path (ap is_some is.there))
       (passes (list_all (λ file. not (is_named (File file) row) || stands_under above file) all_files) (NoSuchFile here)
-      (all_pass (λ file. not (is_named (File file) row) || stands_under above file)
+      (all_so (λ file. not (is_named (File file) row) || stands_under above file)
       (λ file. where_named (is_named (File file) row) (stands_under above file) (stands row is file)) all_files))))
 
   cgroups_have_none : cgroup_faults (Some st.controllers) tables ≡ []

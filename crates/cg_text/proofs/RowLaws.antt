@@ -5,7 +5,10 @@ use Rattle.std.proofs.Common.{Result, Ok, Err, refl, sym, ap, subst, ◌∙◌, 
 use Rattle.std.specs.Option.{ok_or}
 use Rattle.std.specs.Result.{IsErr, IsErrAnd}
 use Rattle.std.specs.List.{list_all}
-use Rattle.std.proofs.lemmas.Bool.{and_from}
+use Rattle.std.proofs.lemmas.Bool.{false_from_ne_true}
+use Rattle.std.proofs.lemmas.List.Sums.{list_all-from_AllPass}
+use Rattle.cg_cgroup.proofs.AllFiles.{each_passes}
+use Rattle.cg_text.proofs.TablesSay.{each_entry}
 use Rattle.std.proofs.lemmas.List.{take_more, take_all, length-take-le}
 use Rattle.std.proofs.lemmas.List.Folds.{list_all_at}
 use Rattle.toml.specs.Data.{Members, no_members, as_table}
@@ -63,33 +66,14 @@ passed_on P fault (Err other) found is expected = λ memory. rw is.1 (expected (
 
 -- ---- all entries and all limit files
 
-all_so : {A : Type 0} (p : A → Bool) → ((x : A) → p x ≡ true) → (xs : List A) → list_all p xs ≡ true
-all_so p each [] = refl
-all_so p each (x ∷ xs) = and_from (p x) (list_all p xs) (each x) (all_so p each xs)
+pub all_so : {A : Type 0} (p : A → Bool) → ((x : A) → p x ≡ true) → (xs : List A) → list_all p xs ≡ true
+all_so p each xs = list_all-from_AllPass p xs (λ k d inside. each (get_or xs k d))
 
 file_failed : (p : LimitFile → Bool) (file : LimitFile) → p file ≡ false → list_all p all_files ≡ false
-file_failed p MaxDescendants is = list_all_at p all_files 0 PidsMax (omega arith) is
-file_failed p MaxDepth is = list_all_at p all_files 1 PidsMax (omega arith) is
-file_failed p CpuWeight is = list_all_at p all_files 2 PidsMax (omega arith) is
-file_failed p MemoryMin is = list_all_at p all_files 3 PidsMax (omega arith) is
-file_failed p MemoryLow is = list_all_at p all_files 4 PidsMax (omega arith) is
-file_failed p MemoryHigh is = list_all_at p all_files 5 PidsMax (omega arith) is
-file_failed p MemoryMax is = list_all_at p all_files 6 PidsMax (omega arith) is
-file_failed p PidsMax is = list_all_at p all_files 7 PidsMax (omega arith) is
-
-three_and_false : (a b c : Bool) → (a && (b && (c && false))) ≡ false
-three_and_false true true true = refl
-three_and_false true true false = refl
-three_and_false true false c = refl
-three_and_false false b c = refl
+file_failed p file is = false_from_ne_true (list_all p all_files) (λ all. true≢false (sym (each_passes p all file) ∙ is))
 
 entry_failed : (p : EntryName → Bool) (name : EntryName) → p name ≡ false → list_all p all_entries ≡ false
-entry_failed p Dir is = list_all_at p all_entries 0 Dir (omega arith) is
-entry_failed p Procs is = list_all_at p all_entries 1 Dir (omega arith) is
-entry_failed p SubtreeControl is = list_all_at p all_entries 2 Dir (omega arith) is
-entry_failed p (File file) is =
-    ap (λ b. p Dir && (p Procs && (p SubtreeControl && b))) (file_failed (λ file. p (File file)) file is)
-    ∙ three_and_false (p Dir) (p Procs) (p SubtreeControl)
+entry_failed p name is = false_from_ne_true (list_all p all_entries) (λ all. true≢false (sym (each_entry p all name) ∙ is))
 
 pub by_entry : (P : EntryName → Type 0) → P Dir → P Procs → P SubtreeControl → ((file : LimitFile) → P (File file))
     → (name : EntryName) → P name

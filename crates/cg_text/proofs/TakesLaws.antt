@@ -150,15 +150,16 @@ takes_all_is keys (e ∷ es) apart rise =
 module _ (keys : List Key) (all : List (String Global × Value)) (apart : are_apart keys ≡ true)
     (rise : IsStrictlySortedBy string_cmp (keys_of all)) where
   -- at a member that isn't taken
-  pub not_taken : (left rest : List (String Global × Value)) (key : String Global) (value : Value) → takes_all keys (members_view left)
-      ≡ takes_all keys (members_view all) → left ≡ (key, value) ∷ rest
-      → takes keys (string_bytes key) (view value) ≡ false → false ≡ allows keys (members_view all)
-  not_taken left rest key value so_far is isnt =
-      sym (ap (λ es. takes_all keys (members_view es)) is ∙ ap (λ b. b && takes_all keys (members_view rest)) isnt) ∙ so_far
+  pub not_taken : (left rest : List (String Global × Value)) (key : String Global) (value : Value) (name : List ℕ) (taken : Bool)
+      → takes_all keys (members_view left) ≡ takes_all keys (members_view all) → left ≡ (key, value) ∷ rest → name ≡ string_bytes key
+      → taken ≡ takes keys name (view value) → taken ≡ false → false ≡ allows keys (members_view all)
+  not_taken left rest key value name taken so_far is named told isnt =
+      let own = ap (λ name. takes keys name (view value)) (sym named) ∙ sym told ∙ isnt in
+      sym (ap (λ es. takes_all keys (members_view es)) is ∙ ap (λ b. b && takes_all keys (members_view rest)) own) ∙ so_far
       ∙ takes_all_is keys all apart rise
 
-  pub all_taken : (left : List (String Global × Value)) → takes_all keys (members_view left) ≡ takes_all keys (members_view all) → left
-      ≡ [] → true ≡ allows keys (members_view all)
+  pub all_taken : (left : List (String Global × Value)) → takes_all keys (members_view left) ≡ takes_all keys (members_view all) → left ≡ []
+      → true ≡ allows keys (members_view all)
   all_taken left so_far is = sym (ap (λ es. takes_all keys (members_view es)) is) ∙ so_far ∙ takes_all_is keys all apart rise
 
 -- ---- the keys of each table

@@ -10,12 +10,10 @@ use Rattle.cg_text.proofs.tree.row.Entries.cgroup.Goals as goal
 use Rattle.cg_text.proofs.tree.row.Entries.cgroup.Goals.{In_ok-pids_max}
 
 pub returns-in_err-dir : goal.returns-in_err-dir
-returns-in_err-dir c =
-    no_owner c.args.self Dir _ _ _ c.from_residual.ensures c.in_err-dir.ensures
+returns-in_err-dir c = no_owner c.args.self Dir _ _ _ c.from_residual.ensures c.in_err-dir.ensures
 
 pub returns-in_err-procs : goal.returns-in_err-procs
-returns-in_err-procs c =
-    no_owner c.args.self Procs _ _ _ c.from_residual-in_err-procs.ensures c.in_err-procs.ensures
+returns-in_err-procs c = no_owner c.args.self Procs _ _ _ c.from_residual-in_err-procs.ensures c.in_err-procs.ensures
 
 pub returns-in_err-subtree_control : goal.returns-in_err-subtree_control
 returns-in_err-subtree_control c =
@@ -26,8 +24,7 @@ returns-in_err-max_descendants c =
     no_owner c.args.self (File MaxDescendants) _ _ _ c.from_residual-in_err-max_descendants.ensures c.in_err-max_descendants.ensures
 
 pub returns-in_err-max_depth : goal.returns-in_err-max_depth
-returns-in_err-max_depth c =
-    no_owner c.args.self (File MaxDepth) _ _ _ c.from_residual-in_err-max_depth.ensures c.in_err-max_depth.ensures
+returns-in_err-max_depth c = no_owner c.args.self (File MaxDepth) _ _ _ c.from_residual-in_err-max_depth.ensures c.in_err-max_depth.ensures
 
 pub returns-in_err-cpu_weight : goal.returns-in_err-cpu_weight
 returns-in_err-cpu_weight c =
@@ -50,8 +47,7 @@ returns-in_err-memory_max c =
     no_owner c.args.self (File MemoryMax) _ _ _ c.from_residual-in_err-memory_max.ensures c.in_err-memory_max.ensures
 
 pub returns-in_err-pids_max : goal.returns-in_err-pids_max
-returns-in_err-pids_max c =
-    no_owner c.args.self (File PidsMax) _ _ _ c.from_residual-in_err-pids_max.ensures c.in_err-pids_max.ensures
+returns-in_err-pids_max c = no_owner c.args.self (File PidsMax) _ _ _ c.from_residual-in_err-pids_max.ensures c.in_err-pids_max.ensures
 
 owned : (c : In_ok-pids_max) (name : EntryName) → is_some (owner_in c.args.self name) ≡ true
 owned c =
