@@ -37,7 +37,7 @@ use Rattle.cg_text.specs.declared.tree.fault.Place.{Place}
 use Rattle.cg_text.specs.declared.tree.fault.Place.TheVariants.{Process as AtProcess}
 use Rattle.cg_text.specs.declared.tree.fault.TreeFault.{TreeFault}
 use Rattle.cg_text.specs.declared.tree.fault.TreeFault.TheVariants.{BadPid, BadEntry, DuplicatePid, NoSuchPlace, InternalProcess}
-use Rattle.cg_text.proofs.EachRow.{HavePassed, none_passed, more_passed, fault_found, all_passed, row_count, row_at}
+use Rattle.cg_text.proofs.EachRow.{HavePassed, none_passed, IsNextTable, table_taken, table_passed, table_found, tables_passed, tables_taken}
 use Rattle.cg_text.proofs.Cuts.{is_some-find}
 use Rattle.cg_text.proofs.KeysOnce.{find_past}
 use Rattle.cg_text.proofs.TablesSay.{process_says}
@@ -87,46 +87,6 @@ module _ (tables : List Members) (cgroups : map.FinMap path_cmp Cgroup) (among :
       ap at_path said
       ∙ by_table at (look at) (enabled_there tables at) (map.get cgroups at) (is_some-find (has_path at) tables ∙ sym (among.there at))
       (sym (among.enabled at))
-
-  -- ---- a process
-
-  module _ (earlier : List Members) where
-    abbrev faults : Option TreeFault
-    faults = first (process_faults tables earlier place row)
-
-    abbrev again : Option ℕ → List TreeFault
-    again said = present said (λ pid. unless (not (list_any (has_pid pid) earlier)) (DuplicatePid place))
-
-    abbrev in_turn : Option ℕ → Option ℕ → Option TreeFault
-    in_turn pid uid = first (absent pid (BadPid place) ++ (absent uid (BadEntry place) ++ (again pid ++ place_faults tables place row)))
-
-    grouped : (a b c d e : List TreeFault) → (((a ++ b) ++ c) ++ d) ++ e ≡ a ++ (b ++ (c ++ (d ++ e)))
-    grouped a b c d e = append_assoc ((a ++ b) ++ c) d e ∙ append_assoc (a ++ b) c (d ++ e) ∙ append_assoc a b (c ++ (d ++ e))
-
-    faults_are : faults ≡ in_turn (pid_said row) (uid_said row)
-    faults_are =
-        ap first (grouped (absent (pid_said row) (BadPid place)) (absent (uid_said row) (BadEntry place)) (again (pid_said row))
-        (absent (option_and_then look (path_said (codes "at") row)) (NoSuchPlace place)) (present (path_said (codes "at") row) held))
-
-    pub without_pid : pid_said row ≡ None → faults ≡ Some (BadPid place)
-    without_pid none = faults_are ∙ ap (λ pid. in_turn pid (uid_said row)) none
-
-    pub without_uid : (pid : ℕ) → pid_said row ≡ Some pid → uid_said row ≡ None → faults ≡ Some (BadEntry place)
-    without_uid pid said none = faults_are ∙ (λ i. in_turn (said i) (none i))
-
-    behind : (pid uid : ℕ) (met : Bool) → pid_said row ≡ Some pid → uid_said row ≡ Some uid → list_any (has_pid pid) earlier ≡ met
-        → faults ≡ first (unless (not met) (DuplicatePid place) ++ place_faults tables place row)
-    behind pid uid met said owner is =
-        faults_are ∙ (λ i. in_turn (said i) (owner i))
-        ∙ ap (λ b. first (unless (not b) (DuplicatePid place) ++ place_faults tables place row)) is
-
-    pub met_twice : (pid uid : ℕ) → pid_said row ≡ Some pid → uid_said row ≡ Some uid → list_any (has_pid pid) earlier ≡ true
-        → faults ≡ Some (DuplicatePid place)
-    met_twice pid uid said owner is = behind pid uid true said owner is
-
-    pub met_once : (pid uid : ℕ) → pid_said row ≡ Some pid → uid_said row ≡ Some uid → list_any (has_pid pid) earlier ≡ false
-        → faults ≡ first (place_faults tables place row)
-    met_once pid uid said owner is = behind pid uid false said owner is
 
 -- what a look-up of all names of a path gives
 pub got_whole : {X : Type 0} (cgroups : map.FinMap path_cmp X) (at : Names) (depth : ℕ) (found : Option X)
@@ -216,38 +176,26 @@ module _ (tables : List Members) (elements : List Value) (are : list_all (λ hel
 
   pub all_read : (i : ℕ) (live : BTreeMap ℕ Process) → length elements ≤ i → HasRead tables rows i live
       → (first (each_process (process_faults tables) rows) ≡ None) × AreLive rows live
-  all_read i live past had =
-      let whole : length rows ≤ i = omega (arith, row_count as_table view elements are) in (
-        all_passed (process_faults tables) AtProcess rows i had.passed whole,
-        subst (λ some. AreLive some live)
-            (take_all i rows whole) had.are,
-      )
+  all_read i live past had = (
+    tables_passed (process_faults tables) AtProcess elements are i past had.passed,
+    subst (λ some. AreLive some live) (tables_taken (process_faults tables) AtProcess elements are i past) had.are,
+  )
 
   -- the next table
-  module _ (i : ℕ) (element : Value) (row : Members) (below : i < length elements) (at : element ≡ get_or elements i element)
-      (seen : as_table (view element) ≡ Some row)
-      (number : ℕ) (next : number ≡ i + 1) (live : BTreeMap ℕ Process) (had : HasRead tables rows i live) where
-    inside : i < length rows
-    inside = omega (arith, row_count as_table view elements are)
-
-    row_is : row ≡ get_or rows i row
-    row_is = row_at as_table view elements are i element row below at seen
-
-    numbered : first (process_faults tables (take i rows) (AtProcess (i + 1)) row) ≡ first
-        (process_faults tables (take i rows) (AtProcess number) row)
-    numbered = ap (λ n. first (process_faults tables (take i rows) (AtProcess n) row)) (sym next)
-
+  module _ (i : ℕ) (row : Members) (number : ℕ) (next : IsNextTable elements i row number) (live : BTreeMap ℕ Process)
+      (had : HasRead tables rows i live) where
     pub read_fails : (fault : TreeFault) → first (process_faults tables (take i rows) (AtProcess number) row) ≡ Some fault
         → first (each_process (process_faults tables) rows) ≡ Some fault
-    read_fails fault is = fault_found (process_faults tables) AtProcess rows i row fault had.passed inside row_is (numbered ∙ is)
+    read_fails = table_found (process_faults tables) AtProcess elements are i row number next had.passed
 
     pub read_more : (after : BTreeMap ℕ Process) (pid : ℕ) (process : Process)
         → first (process_faults tables (take i rows) (AtProcess number) row) ≡ None → IsLive row (pid, process)
         → ((q : ℕ) → get nat_cmp after q ≡ cond (is_at (nat_cmp pid) q) (Some process) (get nat_cmp live q))
         → HasRead tables rows (i + 1) after
     read_more after pid process none is updates = record {
-      passed = more_passed (process_faults tables) AtProcess rows i row had.passed inside row_is (numbered ∙ none);
-      are = subst (λ some. AreLive some after) (sym (take_more rows i row inside ∙ ap (λ x. take i rows ++ x ∷ []) (sym row_is)))
+      passed = table_passed (process_faults tables) AtProcess elements are i row number next had.passed none;
+      are =
+          subst (λ some. AreLive some after) (sym (table_taken (process_faults tables) AtProcess elements are i row number next))
           (live_more (take i rows) row live after pid process is had.are
           (pid_is_new tables (take i rows) (AtProcess number) row pid is.pid none) updates);
     }

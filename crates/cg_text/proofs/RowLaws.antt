@@ -9,7 +9,7 @@ use Rattle.std.proofs.lemmas.Bool.{false_from_ne_true}
 use Rattle.std.proofs.lemmas.List.Sums.{list_all-from_AllPass}
 use Rattle.cg_cgroup.proofs.AllFiles.{each_passes}
 use Rattle.cg_text.proofs.TablesSay.{each_entry}
-use Rattle.std.proofs.lemmas.List.{take_more, take_all, length-take-le}
+use Rattle.std.proofs.lemmas.List.{length-take-le}
 use Rattle.std.proofs.lemmas.List.Folds.{list_all_at}
 use Rattle.toml.specs.Data.{Members, no_members, as_table}
 use Rattle.toml.specs.View.{view, table_view}
@@ -39,7 +39,7 @@ use Rattle.cg_text.specs.declared.tree.fault.TreeFault.TheVariants.{BadPath, Bad
 use Rattle.cg_text.specs.declared.tree.format.Format.{Format}
 use Rattle.cg_text.specs.declared.tree.row.Entries.{Entries}
 use Rattle.cg_text.specs.declared.tree.row.Row.{Row}
-use Rattle.cg_text.proofs.EachRow.{HavePassed, more_passed, fault_found, all_passed, row_count, row_at}
+use Rattle.cg_text.proofs.EachRow.{IsNextTable, tables_counted, table_taken}
 
 -- ---- answers
 
@@ -258,63 +258,25 @@ are_read_more format i (other ∷ tables) [] table row are is = absurd are
 are_read_more format i (other ∷ tables) (before ∷ rows) table row are is =
     (are.0, are_read_more format (i + 1) tables rows table row are.1 (subst (λ number. IsReadAs format number table row) (omega arith) is))
 
--- the table that stands at an index, and the number of its row
-pub record IsNext (tables : List Members) (index : ℕ) (table : Members) (number : ℕ) : Type 0 where
-  pub within : index < length tables
-  pub there : table ≡ get_or tables index table
-  pub counted : number ≡ index + 1
-
-module _ (format : Format) (tables : List Members) (index : ℕ) (table : Members) (number : ℕ)
-    (next : IsNext tables index table number) where
-  by_number : first (row_faults format (AtCgroup (index + 1)) table) ≡ first (row_faults format (AtCgroup number) table)
-  by_number = ap (λ i. first (row_faults format (AtCgroup i) table)) (sym next.counted)
-
-  pub row_passed : HavePassed (λ _. row_faults format) AtCgroup tables index → first (row_faults format (AtCgroup number) table) ≡ None
-      → HavePassed (λ _. row_faults format) AtCgroup tables (index + 1)
-  row_passed passed none = more_passed (λ _. row_faults format) AtCgroup tables index table passed next.within next.there (by_number ∙ none)
-
-  pub row_found : (fault : TreeFault) → HavePassed (λ _. row_faults format) AtCgroup tables index
-      → first (row_faults format (AtCgroup number) table) ≡ Some fault → first (each_cgroup (λ _. row_faults format) tables) ≡ Some fault
-  row_found fault passed found =
-      fault_found (λ _. row_faults format) AtCgroup tables index table fault passed next.within next.there (by_number ∙ found)
-
-  pub row_added : (rows : List Row) (row : Row) → AreReadAs format 1 (take index tables) rows → IsReadAs format number table row
-      → AreReadAs format 1 (take (index + 1) tables) (rows ++ row ∷ [])
-  row_added rows row are read =
-      let before : length (take index tables) ≡ index = length-take-le index tables (omega (arith, next.within)) in
-      let place : number ≡ 1 + length (take index tables) = omega (arith, next.counted, before) in
-      let grown : take index tables ++ table ∷ [] ≡ take (index + 1) tables =
-      ap (λ x. take index tables ++ x ∷ []) next.there ∙ sym (take_more tables index table next.within) in
-      subst (λ tables. AreReadAs format 1 tables (rows ++ row ∷ [])) grown
-      (are_read_more format 1 (take index tables) rows table row are (subst (λ i. IsReadAs format i table row) place read))
-
 -- the elements of which each is a table
-module _ (elements : List Value) (tables_are : list_all (λ held. is_some (as_table (view held))) elements ≡ true) (index : ℕ) where
-  module _ (element : Value) (below : index < length elements) (is : element ≡ get_or elements index element) where
-    pub no_other : None ≡ as_table (view element) → ⊥
-    no_other none =
-        let p : Value → Bool = λ held. is_some (as_table (view held)) in
-        let fails : p (get_or elements index element) ≡ false = ap p (sym is) ∙ ap is_some (sym none) in
-        true≢false (sym tables_are ∙ list_all_at p elements index element below fails)
+module _ (format : Format) (elements : List Value) (are : list_all (λ held. is_some (as_table (view held))) elements ≡ true)
+    (index : ℕ) where
+  pub no_other : (element : Value) → index < length elements → element ≡ get_or elements index element
+      → None ≡ as_table (view element) → ⊥
+  no_other element below is none =
+      let p : Value → Bool = λ held. is_some (as_table (view held)) in
+      let fails : p (get_or elements index element) ≡ false = ap p (sym is) ∙ ap is_some (sym none) in
+      true≢false (sym are ∙ list_all_at p elements index element below fails)
 
-    pub is_next : (table : Members) (number : ℕ) → Some table ≡ as_table (view element) → number ≡ index + 1
-        → IsNext (filter_map as_table (map view elements)) index table number
-    is_next table number held counted = record {
-      within = omega (arith, row_count as_table view elements tables_are);
-      there = row_at as_table view elements tables_are index element table below is (sym held);
-      counted = counted;
-    }
+  abbrev tables : List Members
+  tables = filter_map as_table (map view elements)
 
-  module _ (format : Format) (past : length elements ≤ index) where
-    abbrev tables : List Members
-    tables = filter_map as_table (map view elements)
-
-    pub no_row_found : HavePassed (λ _. row_faults format) AtCgroup tables index
-        → first (each_cgroup (λ _. row_faults format) tables) ≡ None
-    no_row_found passed =
-        all_passed (λ _. row_faults format) AtCgroup tables index passed (omega (arith, row_count as_table view elements tables_are))
-
-    pub all_read : (rows : List Row) → AreReadAs format 1 (take index tables) rows → AreReadAs format 1 tables rows
-    all_read rows are =
-        let past_all : length tables ≤ index = omega (arith, row_count as_table view elements tables_are) in
-        subst (λ tables. AreReadAs format 1 tables rows) (take_all index tables past_all) are
+  pub row_added : (table : Members) (number : ℕ) → IsNextTable elements index table number → (rows : List Row) (row : Row)
+      → AreReadAs format 1 (take index tables) rows → IsReadAs format number table row
+      → AreReadAs format 1 (take (index + 1) tables) (rows ++ row ∷ [])
+  row_added table number next rows row before read =
+      let taken = table_taken (λ _. row_faults format) AtCgroup elements are index table number next in
+      let inside : index ≤ length tables = omega (arith, next.within, tables_counted elements are) in
+      let place : number ≡ 1 + length (take index tables) = omega (arith, next.counted, length-take-le index tables inside) in
+      subst (λ tables. AreReadAs format 1 tables (rows ++ row ∷ [])) (sym taken)
+      (are_read_more format 1 (take index tables) rows table row before (subst (λ i. IsReadAs format i table row) place read))
