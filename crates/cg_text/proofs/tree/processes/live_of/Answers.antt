@@ -1,8 +1,9 @@
-use Rattle.std.proofs.Common.{List, map, filter_map, take, sym, refl}
-use Rattle.std.proofs.lemmas.Result.{err_from_is_err_and}
+use Rattle.std.proofs.Common.{List, map, filter_map, take, refl}
 use Rattle.toml.specs.Data.{Members, as_table}
 use Rattle.toml.specs.View.{view, table_view}
+use Rattle.cg_text.specs.declared.tree.fault.TreeFault.TheVariants.{NoMemory}
 use Rattle.cg_text.proofs.EachRow.{IsNextTable}
+use Rattle.cg_text.proofs.RowLaws.{passed_on}
 use Rattle.cg_text.proofs.LiveLaws.{none_read, read_more, read_fails, all_read}
 use Rattle.cg_text.proofs.tree.processes.live_of.Goals as goal
 use Rattle.cg_text.proofs.tree.processes.live_of.Goals.{After-row_number}
@@ -34,14 +35,11 @@ returns c = λ tables among. all_read tables c.args.elements.now c.requires.tabl
 
 pub returns-in_err-pid : goal.returns-in_err-pid
 returns-in_err-pid c = λ tables among.
-    let p = err_from_is_err_and c.from_residual.result c.from_residual.ensures.1 in
     let had = c.loop-index.invariant tables among in
     let rows : List Members = filter_map as_table (map view c.args.elements.now) in
-    rw (p.1, p.2) (λ other.
+    passed_on _ _ _ c.in_err-pid.field-0.0 c.from_residual.ensures (λ memory.
     read_fails tables c.args.elements.now c.requires.tables _ _ _ (next (goal.at.returns-in_err-pid c).After-row_number) c.loop-index.live
-    had c.in_err-pid.field-0.0 (c.in_err-pid.ensures tables (take c.loop-index.index rows) among had.are.pids other))
+    had c.in_err-pid.field-0.0 (c.in_err-pid.ensures tables (take c.loop-index.index rows) among had.are.pids memory))
 
 pub returns-in_err-insert : goal.returns-in_err-insert
-returns-in_err-insert c = λ tables among.
-    let p = err_from_is_err_and c.from_residual-in_err-insert.result c.from_residual-in_err-insert.ensures.1 in
-    rw (p.1, p.2) (λ other. absurd (other refl))
+returns-in_err-insert c = λ tables among. passed_on _ _ _ NoMemory c.from_residual-in_err-insert.ensures (λ memory. absurd (memory refl))
