@@ -324,9 +324,7 @@ past_fault set (Some available) fault =
 orphan_fault : (root there : Bool) (found : Option Row) (at_root : ControllerSet) (fault : TreeFault) → there ≡ is_some found
     → first (unless (root || there) fault)
     ≡ cond (not (is_some (cond root (Some at_root) (option_map (λ (row : Row). row.cgroup.enabled) found)))) (Some fault) None
-orphan_fault true there found at_root fault is = refl
-orphan_fault false there None at_root fault is = ap (λ b. first (unless b fault)) is
-orphan_fault false there (Some row) at_root fault is = ap (λ b. first (unless b fault)) is
+orphan_fault root there found at_root fault is = grind arith
 
 eight_files : (a b c m n o p q cpu memory pids : Bool)
     → ((not a || true) && ((not b || true) && ((not c || cpu) && ((not m || memory) && ((not n || memory)
@@ -383,40 +381,26 @@ module _ (format : Format) (controllers : ControllerSet) (tables : List Members)
 
   twice_tells : Tells format twice_clause Duplicate is_twice 1 []
   twice_tells earlier met i table row before said =
-      let place : Place = AtCgroup i in
-      ap (λ o. first (present o (λ path. unless (not (is_there earlier path)) (Duplicate place)))) said.path
-      ∙ ap (λ b. first (unless (not b) (Duplicate place))) (there_is format 1 earlier met before row.path)
-      ∙ unless_fault (has_met met row.path) (Duplicate place)
+      rw (said.path, there_is format 1 earlier met before row.path) (unless_fault (has_met met row.path) (Duplicate (AtCgroup i)))
 
   orphan_tells : Tells format (orphan_clause tables) NoParent (λ _. has_no_parent) 1 []
   orphan_tells earlier met i table row before said =
-      let place : Place = AtCgroup i in
       let above : Names = parent row.path in
-      ap (λ o. first (present o (λ path. unless (is_root path || is_there tables (parent path)) (NoParent place)))) said.path
-      ∙ orphan_fault (is_root row.path) (is_there tables above) (find (at_path above) rows) no_controllers (NoParent place)
-      (there_is format 1 tables rows read above ∙ sym (is_some-find (at_path above) rows))
+      rw said.path
+      (orphan_fault (is_root row.path) (is_there tables above) (find (at_path above) rows) no_controllers (NoParent (AtCgroup i))
+      (there_is format 1 tables rows read above ∙ sym (is_some-find (at_path above) rows)))
 
   within_tells : Tells format (within_clause controllers tables) TopDown (λ _. enables_more) 1 []
   within_tells earlier met i table row before said =
-      let place : Place = AtCgroup i in
-      ap (λ o. first (present o (λ path. present (controllers_said (codes "enabled") table)
-      (λ enabled. present (over (Some controllers) tables path)
-      (λ available. unless (is_within enabled available) (TopDown place)))))) said.path
-      ∙ ap (λ o. first (present o (λ enabled. present (over (Some controllers) tables row.path)
-      (λ available. unless (is_within enabled available) (TopDown place))))) said.enabled
-      ∙ ap (λ o. first (present o (λ available. unless (is_within row.cgroup.enabled available) (TopDown place))))
-      (over_is format 1 tables rows read controllers row.path)
-      ∙ past_fault row.cgroup.enabled (over_first controllers rows row.path) (TopDown place)
+      rw (said.path, said.enabled, over_is format 1 tables rows read controllers row.path)
+      (past_fault row.cgroup.enabled (over_first controllers rows row.path) (TopDown (AtCgroup i)))
 
   files_tells : Tells format (files_clause tables) NoSuchFile (λ _. needs_more) 1 []
   files_tells earlier met i table row before said =
-      let place : Place = AtCgroup i in
-      ap (λ o. first (present o (λ path. present (over (Some no_controllers) tables path)
-      (λ above. unless (list_all (λ file. not (is_named (File file) table) || stands_under above file) all_files)
-      (NoSuchFile place))))) said.path
-      ∙ (λ j. first (present (over_is format 1 tables rows read no_controllers row.path j)
-      (λ above. unless (files_within format i table row above said j) (NoSuchFile place))))
-      ∙ past_fault row.needed (over_first no_controllers rows row.path) (NoSuchFile place)
+      rw said.path
+      ((λ j. first (present (over_is format 1 tables rows read no_controllers row.path j)
+      (λ above. unless (files_within format i table row above said j) (NoSuchFile (AtCgroup i)))))
+      ∙ past_fault row.needed (over_first no_controllers rows row.path) (NoSuchFile (AtCgroup i)))
 
   module _ (sorted : List Row) (least : Least) (same : AreSameRows sorted rows) (order : AreInOrder sorted)
       (tested : HasTested controllers sorted least) where

@@ -4,15 +4,16 @@ use Rattle.std.specs.Prelude.{◌&&◌, ◌||◌, find}
 use Rattle.std.specs.List.{list_any, list_all, AllByRecursion}
 use Rattle.std.specs.List.Sorted.{IsStrictlySortedBy}
 use Rattle.std.specs.Map.{keys_of, lookup}
-use Rattle.std.specs.BTreeMap.{is_at}
+use Rattle.std.specs.BTreeMap.{BTreeMap, is_at}
 use Rattle.std.specs.Ordering.{match_ordering}
 use Rattle.std.specs.String.{string_cmp}
 use Rattle.std.specs.Cmp.Lexicographic.{slice_cmp, texts_ties, bytes_decides, nat_list_eq_equiv}
 use Rattle.std.proofs.lemmas.Bool.{and_parts}
 use Rattle.toml.specs.Data.{Data, table, Members, no_members, member, get_member}
-use Rattle.toml.specs.View.{view, members_view}
+use Rattle.toml.specs.View.{view, table_view, members_view}
 use Rattle.toml.specs.declared.value.Value.{Value}
-use Rattle.toml.proofs.Views.{view-lookup}
+use Rattle.toml.proofs.Views.{view-lookup, view-Table}
+use Rattle.toml.specs.declared.value.Value.TheVariants.{Table}
 use Rattle.cg_cgroup.specs.Paths.{same_name}
 use Rattle.cg_cgroup.specs.Files.{all_files, file_name, file_named, entry_text, entry_named}
 use Rattle.cg_cgroup.specs.Texts as texts
@@ -229,7 +230,7 @@ has_key name es = some_mapped view (lookup (is_at (λ key. slice_cmp nat_cmp nam
 
 -- ---- tables with keys that have to be there
 
-pub row_is : (format : Format) (members : Members) → is_table (row_keys format) (table members)
+row_is : (format : Format) (members : Members) → is_table (row_keys format) (table members)
     ≡ (allows (row_keys format) members && is_some (get_member (codes "path") members))
 row_is format members =
     let at : Key → Bool = allows_at members in
@@ -237,6 +238,14 @@ row_is format members =
     (needed_at members (codes "path") is_text)
     ∙ one_needed (are_among (row_keys format) members) (at (must_have (codes "path") is_text))
     (is_some (get_member (codes "path") members)) (list_all at (drop 1 (row_keys format)))
+
+-- a value that is a table, whose keys are allowed and that has a path
+pub cgroup_is : (format : Format) (value : Value) (held : BTreeMap (String Global) Value) (fits has : Bool) → value ≡ Table held
+    → fits ≡ allows (row_keys format) (table_view held) → has ≡ is_some (get_member (codes "path") (table_view held))
+    → (fits && has) ≡ is_table (row_keys format) (view value)
+cgroup_is format value held fits has is fit had =
+    (λ i. fit i && had i) ∙ sym (row_is format (table_view held))
+    ∙ sym (ap (λ value. is_table (row_keys format) (view value)) is ∙ ap (is_table (row_keys format)) (view-Table held))
 
 pub live_is : (members : Members)
     → is_table live_keys (table members)
@@ -307,7 +316,7 @@ module _ (format : Format) (text : List ℕ) (held : Data) where
   owned_taken false false = files_taken
 
   -- a value at the name of an entry
-  pub file_taken : takes (file_keys_of format) text held ≡ takes_entry format (entry_named text) held
+  file_taken : takes (file_keys_of format) text held ≡ takes_entry format (entry_named text) held
   file_taken =
       elim (same_name text (codes "dir")) as (λ b. same_name text (codes "dir") ≡ b
       → takes (file_keys_of format) text held
@@ -317,3 +326,9 @@ module _ (format : Format) (text : List ℕ) (held : Data) where
         | true ↦ λ same. ap (λ name. takes (file_keys_of format) name held) (name_is text (codes "dir") same)
         | false ↦ λ other. owned_taken (same_name text texts.cgroup_procs) (same_name text texts.cgroup_subtree_control)
       ] refl
+
+  -- a value at the name of this entry
+  pub entry_taken : (name : EntryName) (found : Option EntryName) (taken : Bool) → found ≡ entry_named text → found ≡ Some name
+      → taken ≡ takes_entry format (Some name) held → taken ≡ takes (file_keys_of format) text held
+  entry_taken name found taken is some told =
+      told ∙ sym (file_taken ∙ ap (λ found. takes_entry format found held) (sym is ∙ some))
