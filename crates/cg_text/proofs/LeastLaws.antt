@@ -342,27 +342,13 @@ files_within format i table row above read =
     && ((not (sym read.memory j) || above.memory) && ((not (sym read.pids j) || above.pids) && true)))
 
 -- the faults in their order
-rest_in_turn : (orphan within files : Option ℕ)
-    → option_or (option_or (option_map (λ number. NoParent (AtCgroup number)) orphan)
-    (option_map (λ number. TopDown (AtCgroup number)) within)) (option_map (λ number. NoSuchFile (AtCgroup number)) files)
-    ≡ least_fault (record { twice = None; orphan = orphan; not_within = within; no_file = files }) true
-rest_in_turn (Some number) within files = refl
-rest_in_turn None (Some number) files = refl
-rest_in_turn None None files = refl
-
 in_turn : (twice orphan within files : Option ℕ) (root : Bool) (a b c d e : Option TreeFault)
     → a ≡ option_map (λ number. Duplicate (AtCgroup number)) twice → b ≡ cond root None (Some NoRoot)
     → (twice ≡ None → (c ≡ option_map (λ number. NoParent (AtCgroup number)) orphan)
     × (d ≡ option_map (λ number. TopDown (AtCgroup number)) within) × (e ≡ option_map (λ number. NoSuchFile (AtCgroup number)) files))
     → option_or (option_or (option_or (option_or a b) c) d) e
     ≡ least_fault (record { twice = twice; orphan = orphan; not_within = within; no_file = files }) root
-in_turn (Some number) orphan within files root a b c d e one two rest =
-    ap (λ a. option_or (option_or (option_or (option_or a b) c) d) e) one
-in_turn None orphan within files false a b c d e one two rest =
-    (λ i. option_or (option_or (option_or (option_or (one i) (two i)) c) d) e)
-in_turn None orphan within files true a b c d e one two rest =
-    let so = rest refl in
-    (λ i. option_or (option_or (option_or (option_or (one i) (two i)) (so.0 i)) (so.1 i)) (so.2 i)) ∙ rest_in_turn orphan within files
+in_turn twice orphan within files root a b c d e one two rest = grind arith
 
 module _ (format : Format) (controllers : ControllerSet) (tables : List Members) (rows : List Row)
     (read : AreReadAs format 1 tables rows) where

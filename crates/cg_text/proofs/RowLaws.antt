@@ -82,17 +82,6 @@ by_entry P dir procs control files Procs = procs
 by_entry P dir procs control files SubtreeControl = control
 by_entry P dir procs control files (File file) = files file
 
-pub by_file : (P : LimitFile → Type 0) → P MaxDescendants → P MaxDepth → P CpuWeight → P MemoryMin → P MemoryLow → P MemoryHigh
-    → P MemoryMax → P PidsMax → (file : LimitFile) → P file
-by_file P descendants depth weight least low high most pids MaxDescendants = descendants
-by_file P descendants depth weight least low high most pids MaxDepth = depth
-by_file P descendants depth weight least low high most pids CpuWeight = weight
-by_file P descendants depth weight least low high most pids MemoryMin = least
-by_file P descendants depth weight least low high most pids MemoryLow = low
-by_file P descendants depth weight least low high most pids MemoryHigh = high
-by_file P descendants depth weight least low high most pids MemoryMax = most
-by_file P descendants depth weight least low high most pids PidsMax = pids
-
 -- ---- a cgroup of entries
 
 module _ (said : Entries) where
@@ -253,10 +242,9 @@ are_read_more : (format : Format) (i : ℕ) (tables : List Members) (rows : List
     → AreReadAs format i tables rows → IsReadAs format (i + length tables) table row
     → AreReadAs format i (tables ++ table ∷ []) (rows ++ row ∷ [])
 are_read_more format i [] [] table row are is = (subst (λ number. IsReadAs format number table row) (omega arith) is, tt)
-are_read_more format i [] (other ∷ rows) table row are is = absurd are
-are_read_more format i (other ∷ tables) [] table row are is = absurd are
 are_read_more format i (other ∷ tables) (before ∷ rows) table row are is =
     (are.0, are_read_more format (i + 1) tables rows table row are.1 (subst (λ number. IsReadAs format number table row) (omega arith) is))
+are_read_more format i tables rows table row are is = absurd are
 
 -- the elements of which each is a table
 module _ (format : Format) (elements : List Value) (are : list_all (λ held. is_some (as_table (view held))) elements ≡ true)

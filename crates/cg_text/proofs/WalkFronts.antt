@@ -52,12 +52,12 @@ not_less p q h = ap is_lt (path_cmp_total.antisymm q p) ∙ turned (path_cmp p q
 
 -- what is neither greater than the other is the same
 not_apart : (p q : Names) → IsUpTo p q → IsUpTo q p → p ≡ q
-not_apart p q h k = path_cmp-IsAntisymmetric p q (tied p q h k (path_cmp q p) refl)
-  where
-    tied : (p q : Names) → IsUpTo p q → IsUpTo q p → (r : Ordering) → path_cmp q p ≡ r → path_cmp p q ≡ Equal
-    tied p q h k Less e = absurd (true≢false (sym (ap is_gt (path_cmp_total.antisymm p q ∙ ap ordering_reverse e)) ∙ h))
-    tied p q h k Equal e = path_cmp_total.antisymm p q ∙ ap ordering_reverse e
-    tied p q h k Greater e = absurd (true≢false (sym (ap is_gt e) ∙ k))
+not_apart p q h k =
+    elim (path_cmp p q) as (λ r. path_cmp p q ≡ r → is_gt r ≡ false → p ≡ q) [
+      | Less ↦ λ e _. absurd (true≢false (sym (ap is_gt (path_cmp_total.antisymm q p ∙ ap ordering_reverse e)) ∙ k))
+      | Equal ↦ λ e _. path_cmp-IsAntisymmetric p q e
+      | Greater ↦ λ _ more. absurd (true≢false more)
+    ] refl h
 
 pub rows_rise : (rows : List Row) → AreInOrder rows → (i j : ℕ) (d : Row) → i ≤ j → j < length rows
     → IsUpTo (get_or rows i d).path (get_or rows j d).path
