@@ -1,5 +1,5 @@
 -- Cgroups and processes that are those of a document's tables are a well-formed state, which the document is of.
-use Rattle.std.proofs.Common.{◌≡◌, ℕ, ◌≤◌, Bool, true, false, not, cond, ◌||◌, List, [], ◌∷◌, ◌++◌, codes, Option, Some, None, is_some, option_map, option_and_then, unwrap_or, refl, sym, ap, subst, ◌∙◌, true≢false, eqb-true, eq-eqb}
+use Rattle.std.proofs.Common.{◌≡◌, ℕ, ◌≤◌, Bool, true, false, not, cond, ◌||◌, List, [], ◌∷◌, ◌++◌, codes, Option, Some, None, is_some, option_map, option_and_then, unwrap_or, refl, sym, ap, subst, ◌∙◌, true≢false, eqb-true, eq-eqb, arith}
 use Rattle.std.specs.Prelude.{find, count_by, nat_eq}
 use Rattle.std.specs.Bool.{passes}
 use Rattle.std.specs.List.{AllByRecursion, list_any}
@@ -52,8 +52,7 @@ entry_small format row name entry is =
 
 read_accepted : (file : LimitFile) (read : Option Limit) (value : Limit) → option_and_then (accepted file) read ≡ Some value
     → accepts file value ≡ true
-read_accepted file None value is = absurd (true≢false (sym (ap is_some is)))
-read_accepted file (Some limit) value is = accepted_is file limit value is
+read_accepted file read value is = grind (arith, accepted_is)
 
 found_accepted : (file : LimitFile) (found : Option Data) (value : Limit)
     → elim found [ None ↦ Some (default_value file) | Some held ↦ option_and_then (accepted file) (limit_of held) ] ≡ Some value
@@ -77,13 +76,10 @@ found_by_path path (e ∷ es) =
 over_with : (b : Bool) (at_root : ControllerSet) (found : Option Cgroup) (there : Bool) → is_some found ≡ there → (b || there) ≡ true
     → cond b (Some at_root) (option_map (λ (c : Cgroup). c.enabled) found) ≡ Some
     (cond b at_root (elim found [ None ↦ no_controllers | Some row ↦ row.enabled ]))
-over_with true at_root found there is so = refl
-over_with false at_root None there is so = absurd (true≢false (sym so ∙ sym is))
-over_with false at_root (Some cgroup) there is so = refl
+over_with b at_root found there is so = grind arith
 
 implied : (a b : Bool) → (not a || b) ≡ true → a ≡ true → b ≡ true
-implied true b h so = h
-implied false b h so = absurd (true≢false (sym so))
+implied a b h so = grind arith
 
 module _ (format : Format) (tables : List Members) (controllers : ControllerSet) (entries : List (Names × Cgroup))
     (alone : each_cgroup (λ _. row_faults format) tables ≡ []) (together : cgroup_faults (Some controllers) tables ≡ [])

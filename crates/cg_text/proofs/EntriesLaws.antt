@@ -96,8 +96,7 @@ file_of-fitted_to above cgroup MaxDepth = refl
 file_of-fitted_to above cgroup file = refl
 
 was_there : {A B : Type 0} (g : A → B) (b : Bool) (o : Option A) (y : B) → option_map g (cond b o None) ≡ Some y → option_map g o ≡ Some y
-was_there g true o y is = is
-was_there g false o y is = absurd (true≢false (sym (ap is_some is)))
+was_there g b o y is = grind arith
 
 entry_was : (above : ControllerSet) (cgroup : Cgroup) (name : EntryName) (entry : Entry)
     → entry_in (fitted_to above cgroup) name ≡ Some entry → entry_in cgroup name ≡ Some entry
@@ -117,8 +116,7 @@ value_was above cgroup file held is =
     (ap (option_map value_at) (sym (file_of-fitted_to above cgroup file) ∙ is))
 
 stands : (b : Bool) (o : Option LimitEntry) → is_some o ≡ true → is_some (cond b o None) ≡ b
-stands true o is = is
-stands false o is = refl
+stands b o is = grind arith
 
 -- a row's cgroup, with the files that stand under what is over it
 pub read_entry : (format : Format) (tables : List Members) (number : ℕ) (table : Members) (row : Row) → IsReadAs format number table row

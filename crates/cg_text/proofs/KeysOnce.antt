@@ -1,5 +1,5 @@
 -- Rows none of which has a fault, and rows none of whose keys comes twice.
-use Rattle.std.proofs.Common.{◌≡◌, ℕ, ◌+◌, Bool, true, false, cond, ◌||◌, List, [], ◌∷◌, ◌++◌, length, Option, Some, None, is_some, refl, sym, ap, ◌∙◌, true≢false, append_assoc}
+use Rattle.std.proofs.Common.{◌≡◌, ℕ, ◌+◌, Bool, true, false, cond, ◌||◌, List, [], ◌∷◌, ◌++◌, length, Option, Some, None, is_some, refl, sym, ap, ◌∙◌, true≢false, append_assoc, arith}
 use Rattle.std.specs.Prelude.{find, count_by}
 use Rattle.std.specs.Option.{option_or, option_to_list}
 use Rattle.std.specs.List.{AllByRecursion, list_any}
@@ -116,8 +116,7 @@ module _ {A K : Type 0} (key : A → Option K) (same : K → K → Bool) where
         ∙ ap (λ b. cond b (Some row) (find (has q) after)) (has_key q row said)
 
     count_head : (some : List A) → length (option_to_list (head_of some)) ≡ cond (is_some (head_of some)) 1 0
-    count_head [] = refl
-    count_head (x ∷ some) = refl
+    count_head some = grind arith
 
     -- a key comes once, or not at all
     pub once_counted : (all : List A) → IsOnce all → (q : K) → count_by (has q) all ≡ cond (list_any (has q) all) 1 0

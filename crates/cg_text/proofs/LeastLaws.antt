@@ -195,9 +195,7 @@ least_moved fails bad rows others least same agree is = record {
 
 -- what a stable sort leaves
 tied : (o : Ordering) → (not (is_lt o) && not (is_lt (ordering_reverse o))) ≡ is_eq o
-tied Less = refl
-tied Equal = refl
-tied Greater = refl
+tied o = grind arith
 
 ties_is : (p q : Names) → (not (is_lt (path_cmp p q)) && not (is_lt (path_cmp q p))) ≡ same_path p q
 ties_is p q =
@@ -219,9 +217,7 @@ same_rows (row ∷ rows) sorted stable path = one_row path row (row ∷ rows) so
 
 -- what isn't after one and isn't before it is that one
 between : (o : Ordering) → is_gt o ≡ false → is_lt o ≡ false → is_eq o ≡ false → ⊥
-between Less low high apart = true≢false high
-between Equal low high apart = true≢false apart
-between Greater low high apart = true≢false low
+between o low high apart = grind arith
 
 -- a path that comes before a row's isn't one of the rows from it on
 pub none_behind : (front : List Row) (row : Row) (back : List Row) → AreInOrder (front ++ row ∷ back) → (path : Names)
@@ -292,8 +288,7 @@ over_before rows sorted same order once at_root front row back cut =
 -- ---- the root
 
 not_root : (path : Names) → is_root path ≡ false → same_path [] path ≡ false
-not_root [] below = absurd (true≢false below)
-not_root (name ∷ path) below = refl
+not_root path below = grind arith
 
 root_met : (row : Row) (back : List Row) → AreInOrder (row ∷ back) → (b : Bool) → is_root row.path ≡ b → b ≡ has_met (row ∷ back) []
 root_met row back order true is = sym (ap (λ path. same_path [] path || has_met back []) (is_root-is row.path is))
@@ -308,12 +303,10 @@ root_is (row ∷ back) order = root_met row back order (is_root row.path) refl
 -- ---- the clauses on rows together
 
 unless_fault : (b : Bool) (fault : TreeFault) → first (unless (not b) fault) ≡ cond b (Some fault) None
-unless_fault true fault = refl
-unless_fault false fault = refl
+unless_fault b fault = grind arith
 
 present_fault : (b : Bool) (fault : TreeFault) → first (unless b fault) ≡ cond b None (Some fault)
-present_fault true fault = refl
-present_fault false fault = refl
+present_fault b fault = grind arith
 
 past_fault : (set : ControllerSet) (found : Option ControllerSet) (fault : TreeFault)
     → first (present found (λ available. unless (is_within set available) fault)) ≡ cond (is_past set found) (Some fault) None

@@ -1,6 +1,6 @@
 -- What one more row adds to the least numbers of rows that fail.
 use Rattle.std.proofs.Common.{◌≡◌, ℕ, ◌≤◌, Bool, true, false, cond, ◌⊎◌, inl, inr, ⊎_elim, List, [], ◌∷◌, ◌++◌, Option, Some, None, refl, sym, ap, subst, ◌∙◌, append_assoc, arith}
-use Rattle.std.specs.Prelude.{nat_lt}
+use Rattle.std.specs.Prelude.{◌&&◌, nat_lt}
 use Rattle.std.proofs.lemmas.Bool.Decides.{nat_tests}
 use Rattle.cg_cgroup.specs.Paths.{Names, is_root}
 use Rattle.cg_cgroup.specs.Files.{no_controllers}
@@ -24,17 +24,14 @@ noted_is (Some old) number true found is =
 
 noted_old : (least : Option ℕ) (number : ℕ) (fails : Bool) (old other : ℕ) → least ≡ Some old → old ≤ other
     → (found : ℕ) × (noted least number fails ≡ Some found) × (found ≤ other)
-noted_old least number false old other is low = (old, is, low)
-noted_old None number true old other is low = cc
-noted_old (Some one) number true old other is low =
-    let same : one ≡ old = cc in
-    (cond (nat_lt one number) one number, refl, grind (arith, nat_tests))
+noted_old least number fails old other is low =
+    (cond (fails && nat_lt number old) number old, grind (arith, nat_tests), grind (arith, nat_tests))
 
 noted_own : (least : Option ℕ) (number : ℕ) (fails : Bool) (other : ℕ) → fails ≡ true → number ≤ other
     → (found : ℕ) × (noted least number fails ≡ Some found) × (found ≤ other)
-noted_own least number false other is low = cc
-noted_own None number true other is low = (number, refl, low)
-noted_own (Some old) number true other is low = (cond (nat_lt old number) old number, refl, grind (arith, nat_tests))
+noted_own None number fails other is low = (number, ap (noted None number) is, low)
+noted_own (Some old) number fails other is low =
+    (cond (nat_lt old number) old number, ap (noted (Some old) number) is, grind (arith, nat_tests))
 
 -- ---- one more row
 

@@ -64,8 +64,7 @@ module _ (tables : List Members) (cgroups : map.FinMap path_cmp Cgroup) (among :
   at_path said = first (absent (option_and_then look said) (NoSuchPlace place) ++ present said held)
 
   pathless : (said : Option Names) (fault : TreeFault) → first (absent said (NoSuchPlace place)) ≡ Some fault → at_path said ≡ Some fault
-  pathless None fault is = is
-  pathless (Some path) fault is = absurd (true≢false (sym (ap is_some is)))
+  pathless said fault is = grind arith
 
   pub without_path : (fault : TreeFault) → first (absent (path_said (codes "at") row) (NoSuchPlace place)) ≡ Some fault
       → first (place_faults tables place row) ≡ Some fault
@@ -75,11 +74,7 @@ module _ (tables : List Members) (cgroups : map.FinMap path_cmp Cgroup) (among :
       → enabled ≡ option_map (λ (c : Cgroup). c.enabled) found
       → first (absent table (NoSuchPlace place) ++ present enabled
       (λ enabled. unless (is_root at || enables_nothing enabled) (InternalProcess place))) ≡ place_fault place at found
-  by_table at None enabled None there is = refl
-  by_table at None enabled (Some cgroup) there is = absurd (true≢false (sym there))
-  by_table at (Some table) enabled None there is = absurd (true≢false there)
-  by_table at (Some table) enabled (Some cgroup) there is = ap (λ o. first
-      (present o (λ enabled. unless (is_root at || enables_nothing enabled) (InternalProcess place)))) is
+  by_table at table enabled found there is = grind arith
 
   pub at_place : (at : Names) → path_said (codes "at") row ≡ Some at
       → first (place_faults tables place row) ≡ place_fault place at (map.get cgroups at)

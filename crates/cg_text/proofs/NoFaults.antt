@@ -143,15 +143,13 @@ module _ (format : Format) (st : State) (row : Members) (is : IsRowOf format st 
 -- ---- the cgroups together
 
 either : {A : Type 0} (b : Bool) (x y : A) → cond b (Some x) (Some y) ≡ Some (cond b x y)
-either true x y = refl
-either false x y = refl
+either b x y = grind arith
 
 same_as_itself : (n : ℕ) → nat_eq n n ≡ true
 same_as_itself n = grind (arith, nat_tests)
 
 where_named : (a b : Bool) → (a ≡ true → b ≡ true) → (not a || b) ≡ true
-where_named true b so = so refl
-where_named false b so = refl
+where_named a b so = grind arith
 
 module _ (format : Format) (st : State) (tables : List Members) (all : AllByRecursion (IsRowOf format st) tables)
     (paths : (path : Names) → count_by (has_path path) tables ≡ cond (has_row st path) 1 0) (formed : IsWellFormed st) where

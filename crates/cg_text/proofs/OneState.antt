@@ -55,10 +55,7 @@ one_passes P p xs b all count is =
     has_head (x ∷ xs) some = refl
 
 same_test : (a b : Bool) → cond {A = ℕ} a 1 0 ≡ cond b 1 0 → a ≡ b
-same_test true true is = refl
-same_test false false is = refl
-same_test true false is = absurd (omega (arith, is))
-same_test false true is = absurd (omega (arith, is))
+same_test a b is = grind arith
 
 pub path_is : (path said : Names) (row : Members) → path_said (codes "path") row ≡ Some said → has_path path row ≡ true → path ≡ said
 path_is path said row is has =

@@ -44,16 +44,13 @@ use Rattle.cg_text.proofs.EachRow.{IsNextTable, tables_counted, table_taken}
 -- ---- answers
 
 pub ok_of : {A : Type 0} (o : Option A) (fault : TreeFault) (x : A) → Ok x ≡ or_fault o fault → o ≡ Some x
-ok_of None fault x is = cc
-ok_of (Some y) fault x is = cc
+ok_of o fault x is = grind arith
 
 pub err_of : {A : Type 0} (o : Option A) (fault found : TreeFault) → Err found ≡ or_fault o fault → (o ≡ None) × (fault ≡ found)
-err_of None fault found is = (refl, cc)
-err_of (Some y) fault found is = cc
+err_of o fault found is = grind arith
 
 pub ok_or_is : {A : Type 0} (o : Option A) (fault : TreeFault) → ok_or o fault ≡ or_fault o fault
-ok_or_is None fault = refl
-ok_or_is (Some x) fault = refl
+ok_or_is o fault = grind arith
 
 -- what a `?` returns
 abbrev pub Returns : {X : Type 0} → Result X TreeFault → TreeFault → Type 0
@@ -227,13 +224,11 @@ module _ (said : Entries) (row : Members) (dir : option_map (λ table. table_vie
 -- a row without a path, or whose controllers aren't
 pub no_path : {A : Type 0} (o : Option A) (fault found : TreeFault) (enabled entries values : List TreeFault)
     → first (absent o fault) ≡ Some found → first (absent o fault ++ enabled ++ entries ++ values) ≡ Some found
-no_path None fault found enabled entries values is = is
-no_path (Some x) fault found enabled entries values is = cc
+no_path o fault found enabled entries values is = grind arith
 
 pub no_enabled : {A B : Type 0} (path : Option A) (o : Option B) (other fault : TreeFault) (entries values : List TreeFault)
     → is_some path ≡ true → o ≡ None → first (absent path other ++ absent o fault ++ entries ++ values) ≡ Some fault
-no_enabled None o other fault entries values there none = cc
-no_enabled (Some x) o other fault entries values there none = ap (λ o. first (absent o fault ++ entries ++ values)) none
+no_enabled path o other fault entries values there none = grind arith
 
 -- ---- rows in turn
 

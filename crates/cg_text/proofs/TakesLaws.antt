@@ -8,12 +8,13 @@ use Rattle.std.specs.BTreeMap.{BTreeMap, is_at}
 use Rattle.std.specs.Ordering.{match_ordering}
 use Rattle.std.specs.String.{string_cmp}
 use Rattle.std.specs.Cmp.Lexicographic.{slice_cmp, texts_ties, bytes_decides, nat_list_eq_equiv}
-use Rattle.std.proofs.lemmas.Bool.{and_parts}
+use Rattle.std.proofs.lemmas.Bool.{and_parts, not-true}
 use Rattle.toml.specs.Data.{Data, table, Members, no_members, member, get_member}
 use Rattle.toml.specs.View.{view, table_view, members_view}
 use Rattle.toml.specs.declared.value.Value.{Value}
 use Rattle.toml.proofs.Views.{view-lookup, view-Table}
 use Rattle.toml.specs.declared.value.Value.TheVariants.{Table}
+use Rattle.cg_cgroup.proofs.Options.{is_some-mapped}
 use Rattle.cg_cgroup.specs.Paths.{same_name}
 use Rattle.cg_cgroup.specs.Files.{all_files, file_name, file_named, entry_text, entry_named}
 use Rattle.cg_cgroup.specs.Texts as texts
@@ -48,30 +49,19 @@ behind k (e ∷ es) rise =
 
 tied : (o : Ordering) (b : Bool) (found : Option Data) (held : Data) → b ≡ is_eq o → match_ordering o found (Some held) found
     ≡ cond b (Some held) found
-tied Less b found held is = sym (ap (λ b. cond b (Some held) found) is)
-tied Equal b found held is = sym (ap (λ b. cond b (Some held) found) is)
-tied Greater b found held is = sym (ap (λ b. cond b (Some held) found) is)
+tied o b found held is = grind arith
 
 get_first : (key name : List ℕ) (held : Data) (rest : Members) → get_member key (member name held rest)
     ≡ cond (same_name key name) (Some held) (get_member key rest)
 get_first key name held rest = tied (slice_cmp nat_cmp key name) (same_name key name) (get_member key rest) held (texts_ties key name)
 
-not_true : (b : Bool) → not b ≡ true → b ≡ false
-not_true true is = absurd (true≢false (sym is))
-not_true false is = refl
-
 -- ---- one member more
 
 and_swap : (a b c : Bool) → (a && (b && c)) ≡ (b && (a && c))
-and_swap true b c = refl
-and_swap false true c = refl
-and_swap false false c = refl
+and_swap a b c = grind arith
 
 and_three : (t all any l m : Bool) → (t && l) ≡ (any && m) → (t && (all && l)) ≡ ((any && all) && m)
-and_three t true true l m is = is
-and_three t true false l m is = is
-and_three t false true l m is = and_swap t false l
-and_three t false false l m is = and_swap t false l
+and_three t all any l m is = grind arith
 
 name_is : (one other : List ℕ) → same_name one other ≡ true → one ≡ other
 name_is one other same = (bytes_decides one other).0 same
@@ -103,7 +93,7 @@ module _ (name : List ℕ) (held : Data) (rest : Members) (none : get_member nam
   at_others key (other ∷ keys) same apart =
       let parts = and_parts (not (same_name key.name other.name)) (list_all (λ other. not (same_name key.name other.name)) keys) apart in
       let here = at_other other (ap (λ at. same_name at other.name) (name_is name key.name same)
-      ∙ not_true (same_name key.name other.name) parts.0) in
+      ∙ not-true (same_name key.name other.name) parts.0) in
       let later = at_others key keys same parts.1 in
       λ i. here i && later i
 
@@ -197,8 +187,7 @@ files_allowed format rows = refl
 -- ---- keys that have to be there
 
 and_true : (b : Bool) → b ≡ (b && true)
-and_true true = refl
-and_true false = refl
+and_true b = grind arith
 
 needed_at : (members : Members) (name : List ℕ) (test : Data → Bool) → fits_at members (must_have name test)
     ≡ (allows_at members (must_have name test) && is_some (get_member name members))
@@ -219,14 +208,11 @@ three_needed : (w a p b q c r : Bool) → (w && ((a && p) && ((b && q) && ((c &&
     ≡ ((w && (a && (b && (c && true)))) && (p && (q && r)))
 three_needed w a p b q c r = grind arith
 
-some_mapped : {A B : Type 0} (f : A → B) (o : Option A) → is_some o ≡ is_some (option_map f o)
-some_mapped f None = refl
-some_mapped f (Some x) = refl
-
 -- a key that the map of a table has
 pub has_key : (name : List ℕ) (es : List (String Global × Value))
     → is_some (lookup (is_at (λ key. slice_cmp nat_cmp name (string_bytes key))) es) ≡ is_some (get_member name (members_view es))
-has_key name es = some_mapped view (lookup (is_at (λ key. slice_cmp nat_cmp name (string_bytes key))) es) ∙ ap is_some (view-lookup name es)
+has_key name es =
+    sym (is_some-mapped view (lookup (is_at (λ key. slice_cmp nat_cmp name (string_bytes key))) es)) ∙ ap is_some (view-lookup name es)
 
 -- ---- tables with keys that have to be there
 
