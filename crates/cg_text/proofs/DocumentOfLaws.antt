@@ -1,5 +1,5 @@
 -- Cgroups and processes that are those of a document's tables are a well-formed state, which the document is of.
-use Rattle.std.proofs.Common.{◌≡◌, ℕ, ◌≤◌, Bool, true, false, not, cond, ◌||◌, List, [], ◌∷◌, ◌++◌, codes, Option, Some, None, is_some, option_map, option_and_then, unwrap_or, refl, sym, ap, subst, ◌∙◌, true≢false, eqb-true, eq-eqb, arith}
+use Rattle.std.proofs.Common.{◌≡◌, ℕ, ◌≤◌, Bool, true, false, not, cond, ◌||◌, List, [], ◌∷◌, ◌++◌, codes, Option, Some, None, is_some, option_map, option_and_then, unwrap_or, refl, sym, ap, subst, ◌∙◌, eqb-true, eq-eqb, arith}
 use Rattle.std.specs.Prelude.{find, count_by, nat_eq}
 use Rattle.std.specs.Bool.{passes}
 use Rattle.std.specs.List.{AllByRecursion, list_any}
@@ -38,7 +38,7 @@ use Rattle.cg_text.specs.declared.tree.format.Format.{Format}
 use Rattle.cg_text.proofs.Cuts.{is_some-find}
 use Rattle.cg_text.proofs.SaidRanges.{mode_small, entry_as, accepted_is}
 use Rattle.cg_text.proofs.KeysOnce.{none_at, all_rows, found_at, IsOnce, key_had, once_found, once_counted}
-use Rattle.cg_text.proofs.TablesSay.{SaysCgroup, row_says, StandsAmong, stands_among, root_there, SaysProcess, process_says}
+use Rattle.cg_text.proofs.TablesSay.{row_says, StandsAmong, stands_among, root_there, SaysProcess, process_says}
 
 -- ---- what is said is in range
 

@@ -1,5 +1,5 @@
 -- The entries that the walk leaves behind are those of the tables, each as its table says, with the files that stand.
-use Rattle.std.proofs.Common.{◌≡◌, ℕ, ◌+◌, ◌<◌, ◌≤◌, zero, suc, Bool, true, false, cond, ◌||◌, List, [], ◌∷◌, ◌++◌, length, take, get_or, filter, codes, Option, Some, None, is_some, option_map, unwrap_or, Less, Equal, Greater, is_eq, is_lt, refl, sym, ap, subst, ◌∙◌, true≢false, arith}
+use Rattle.std.proofs.Common.{◌≡◌, ℕ, ◌+◌, ◌<◌, ◌≤◌, zero, suc, Bool, true, false, cond, ◌||◌, List, [], ◌∷◌, ◌++◌, length, take, get_or, filter, Option, Some, None, is_some, option_map, unwrap_or, Less, Equal, Greater, is_eq, is_lt, refl, sym, ap, subst, ◌∙◌, true≢false, arith}
 use Rattle.std.specs.Prelude.{find}
 use Rattle.std.specs.Option.{option_to_list}
 use Rattle.std.specs.List.{list_any}
@@ -25,7 +25,7 @@ use Rattle.cg_cgroup.specs.declared.cgroup.LimitEntry.{LimitEntry}
 use Rattle.cg_cgroup.specs.declared.cgroup.Cgroup.{Cgroup}
 use Rattle.cg_cgroup.proofs.Options.{same_some}
 use Rattle.cg_cgroup.proofs.PathOrder.{path_cmp_total, same_path-ties, same_path_refl}
-use Rattle.cg_text.specs.Said.{path_said, has_path}
+use Rattle.cg_text.specs.Said.{has_path}
 use Rattle.cg_text.specs.TextFaults.{over}
 use Rattle.cg_text.specs.Rows.{IsReadAs, AreReadAs}
 use Rattle.cg_text.specs.Walk.{has_met, over_in, fitted_to, entries_from, HasTested, least_fault, AreInOrder, IsNext, IsEntryOf, AreEntriesOf}

@@ -1,6 +1,5 @@
 -- The clauses on a document's form, as the reader asks them in turn.
 use Rattle.std.proofs.Common.{◌≡◌, ◌≤◌, true, List, ◌++◌, length, map, nat_le, le-leb, codes, Some, None, sym, ap, ◌∙◌, subst, arith}
-use Rattle.std.specs.Prelude.{◌&&◌}
 use Rattle.std.specs.Option.{option_or}
 use Rattle.std.proofs.lemmas.Bool.{and_from}
 use Rattle.std.proofs.lemmas.List.{length-map}

@@ -1,10 +1,10 @@
 -- The least number of a row that fails, over the rows in the order of their paths, is that of the first table in the text that fails.
-use Rattle.std.proofs.Common.{◌≡◌, ℕ, ◌+◌, ◌-◌, ◌<◌, Bool, true, false, not, cond, ◌||◌, List, [], ◌∷◌, ◌++◌, length, get_or, reverse, find, filter, codes, Option, Some, None, is_some, is_lt, is_gt, is_eq, Ordering, Less, Equal, Greater, option_map, option_and_then, refl, sym, ap, subst, ◌∙◌, true≢false, length-append, append_assoc, append-nil, get_or-append-add, arith}
+use Rattle.std.proofs.Common.{◌≡◌, ℕ, ◌+◌, ◌-◌, Bool, true, false, not, cond, ◌||◌, List, [], ◌∷◌, ◌++◌, length, get_or, reverse, find, filter, codes, Option, Some, None, is_some, is_lt, is_gt, is_eq, Ordering, option_map, option_and_then, refl, sym, ap, subst, ◌∙◌, true≢false, length-append, append_assoc, append-nil, get_or-append-add, arith}
 use Rattle.std.specs.Prelude.{◌&&◌}
 use Rattle.std.specs.Option.{option_or, option_to_list}
 use Rattle.std.specs.Ordering.{ordering_reverse}
 use Rattle.std.specs.List.{list_all, list_any}
-use Rattle.std.specs.List.Sorted.{IsPermutation, IsStableByKey, ties}
+use Rattle.std.specs.List.Sorted.{IsStableByKey, ties}
 use Rattle.std.proofs.lemmas.Bool.{false_from_ne_true}
 use Rattle.std.proofs.lemmas.List.Elements.{filter-append, filter_agree}
 use Rattle.std.proofs.lemmas.List.Sorted.{sorted_far, ranks_by}
@@ -20,8 +20,8 @@ use Rattle.cg_cgroup.proofs.PathParents.{inside-take, is_root-is, parent-other}
 use Rattle.cg_cgroup.proofs.PathLaws.{inside-first}
 use Rattle.cg_model.specs.Clauses.{unless, present, first}
 use Rattle.cg_steps.proofs.ClauseLaws.{first_none, first_some}
-use Rattle.cg_text.specs.Said.{path_said, controllers_said, has_path, is_named}
-use Rattle.cg_text.specs.TextFaults.{each, is_there, over, on_path, cgroup_faults}
+use Rattle.cg_text.specs.Said.{controllers_said, has_path, is_named}
+use Rattle.cg_text.specs.TextFaults.{each, is_there, over, cgroup_faults}
 use Rattle.cg_text.specs.Rows.{IsReadAs, AreReadAs}
 use Rattle.cg_text.specs.Walk.{has_met, enabled_by, over_in, entries_from, is_orphan, is_past, is_not_within, has_no_file, IsLeast, least_fault, has_root, HasTested, AreInOrder}
 use Rattle.cg_text.specs.declared.tree.fault.Place.{Place}

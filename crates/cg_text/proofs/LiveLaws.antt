@@ -1,5 +1,5 @@
 -- The reader's processes are those of their tables, and its fault is the first of the clauses on them.
-use Rattle.std.proofs.Common.{◌≡◌, ℕ, ◌+◌, ◌<◌, ◌≤◌, Bool, true, false, not, cond, ◌||◌, List, [], ◌∷◌, ◌++◌, length, get_or, take, map as map_list, codes, Option, Some, None, is_some, option_map, option_and_then, refl, sym, ap, subst, ◌∙◌, true≢false, append_assoc, arith}
+use Rattle.std.proofs.Common.{◌≡◌, ℕ, ◌+◌, ◌≤◌, Bool, true, false, cond, ◌||◌, List, [], ◌∷◌, ◌++◌, length, take, map as map_list, codes, Option, Some, None, is_some, option_map, option_and_then, refl, sym, ap, subst, ◌∙◌, true≢false, arith}
 use Rattle.std.specs.Prelude.{find, filter_map, nat_eq}
 use Rattle.std.specs.List.{list_all, list_any}
 use Rattle.std.specs.Map.{lookup}
@@ -10,8 +10,8 @@ use Rattle.std.specs.Cmp.{nat_cmp_total, eq_by_cmp_equiv, unsigned_ties, Equal-i
 use Rattle.std.specs.FinMap as map
 use Rattle.std.specs.FinSet as set
 use Rattle.std.specs.FinMap.{nat_cmp-IsAntisymmetric}
-use Rattle.std.proofs.lemmas.Bool.{not-true, or_left, or_right}
-use Rattle.std.proofs.lemmas.List.{take_all, take_more}
+use Rattle.std.proofs.lemmas.Bool.{or_left, or_right}
+use Rattle.std.proofs.lemmas.List.{take_all}
 use Rattle.std.specs.Option.{option_or}
 use Rattle.std.proofs.lemmas.List.Folds.{find-append, list_any-append}
 use Rattle.std.proofs.lemmas.Map.Made.{is_some-lookup}
@@ -29,14 +29,14 @@ use Rattle.cg_rows.specs.Processes.{LiveAndUsed}
 use Rattle.cg_rows.proofs.StdMaps.{get-shown}
 use Rattle.cg_model.specs.Clauses.{unless, absent, present, first}
 use Rattle.cg_steps.proofs.ClauseLaws.{none_of_first}
-use Rattle.cg_text.specs.Said.{path_said, has_path, pid_said, uid_said}
+use Rattle.cg_text.specs.Said.{path_said, has_path, pid_said}
 use Rattle.cg_text.specs.TextOf.{has_pid}
 use Rattle.cg_text.specs.TextFaults.{each_process, enabled_there, process_faults}
 use Rattle.cg_text.specs.Live.{IsAmong, IsLive, AreLive, AreProcesses, place_faults}
 use Rattle.cg_text.specs.declared.tree.fault.Place.{Place}
 use Rattle.cg_text.specs.declared.tree.fault.Place.TheVariants.{Process as AtProcess}
 use Rattle.cg_text.specs.declared.tree.fault.TreeFault.{TreeFault}
-use Rattle.cg_text.specs.declared.tree.fault.TreeFault.TheVariants.{BadPid, BadEntry, DuplicatePid, NoSuchPlace, InternalProcess}
+use Rattle.cg_text.specs.declared.tree.fault.TreeFault.TheVariants.{NoSuchPlace, InternalProcess}
 use Rattle.cg_text.proofs.EachRow.{HavePassed, none_passed, IsNextTable, table_taken, table_passed, table_found, tables_passed, tables_taken}
 use Rattle.cg_text.proofs.Cuts.{is_some-find}
 use Rattle.cg_text.proofs.KeysOnce.{find_past}

@@ -1,14 +1,14 @@
 -- A text that is of a state has no fault.
 use Rattle.std.proofs.Common.{◌≡◌, ℕ, suc, filter, ◌+◌, Bool, true, false, not, cond, ◌||◌, nat_le, le-leb, List, [], ◌∷◌, ◌++◌, length, codes, Option, Some, None, is_some, option_map, option_and_then, unwrap_or, refl, sym, ap, ◌∙◌, true≢false, append_assoc, arith}
-use Rattle.std.specs.Prelude.{count_by, nat_eq, find}
+use Rattle.std.specs.Prelude.{count_by, nat_eq}
 use Rattle.std.specs.List.{AllByRecursion, list_all, list_any}
 use Rattle.std.proofs.lemmas.Bool.{and_parts, and_from, or_right, false_from_ne_true}
 use Rattle.std.proofs.lemmas.List.{append-nil, length-append, nil_from_length}
 use Rattle.std.proofs.lemmas.List.Sums.{length-filter}
 use Rattle.std.proofs.lemmas.Bool.Decides.{nat_tests}
-use Rattle.toml.specs.Data.{Data, Members, no_members, table}
+use Rattle.toml.specs.Data.{Data, Members, no_members}
 use Rattle.cg_cgroup.specs.Paths.{Names, same_path, is_root, parent}
-use Rattle.cg_cgroup.specs.Files.{all_files, all_entries, no_controllers, enables_nothing, is_within, stands_under}
+use Rattle.cg_cgroup.specs.Files.{all_files, all_entries, no_controllers, enables_nothing, stands_under}
 use Rattle.cg_cgroup.specs.Cgroups.{file_of}
 use Rattle.cg_cgroup.specs.declared.user.Entry.{Entry}
 use Rattle.cg_cgroup.specs.declared.files.ControllerSet.{ControllerSet}
@@ -20,17 +20,17 @@ use Rattle.cg_cgroup.proofs.Options.{none_value, is_some-mapped}
 use Rattle.cg_cgroup.proofs.PathOrder.{same_path_refl}
 use Rattle.cg_model.specs.Clauses.{unless, absent, present}
 use Rattle.cg_model.specs.States.{State, row_at, process_at}
-use Rattle.cg_model.specs.WellFormed.{has_row, enabled_at, enabled_above, available_at, IsWellFormed}
+use Rattle.cg_model.specs.WellFormed.{has_row, enabled_at, enabled_above, IsWellFormed}
 use Rattle.cg_steps.proofs.FormedParts.{may_hold-row}
-use Rattle.cg_text.specs.Form.{Key, most_rows, document_keys, row_keys, live_keys, is_table}
-use Rattle.cg_text.specs.Said.{elements_at, tables_at, path_said, controllers_said, format_said, owner_said, limit_said, table_of, entry_said, value_said, is_named, has_path, pid_said, uid_said}
+use Rattle.cg_text.specs.Form.{Key, most_rows, row_keys, live_keys, is_table}
+use Rattle.cg_text.specs.Said.{elements_at, tables_at, controllers_said, owner_said, limit_said, table_of, entry_said, value_said, is_named, has_path}
 use Rattle.cg_text.specs.TextOf.{IsInForm, IsRowOf, IsProcessOf, has_pid, IsDocumentOf, IsTextOf}
-use Rattle.cg_text.specs.TextFaults.{each, each_cgroup, each_process, has_few, form_faults, row_faults, is_there, enabled_there, over, on_path, cgroup_faults, process_faults, said_faults, document_faults, text_faults}
-use Rattle.cg_text.specs.TreeTexts.{longest_text, document_of}
+use Rattle.cg_text.specs.TextFaults.{each, each_cgroup, each_process, has_few, form_faults, row_faults, is_there, enabled_there, over, cgroup_faults, process_faults, said_faults, document_faults, text_faults}
+use Rattle.cg_text.specs.TreeTexts.{longest_text}
 use Rattle.cg_text.specs.declared.tree.fault.Place.{Place}
 use Rattle.cg_text.specs.declared.tree.fault.Place.TheVariants.{Top, Cgroup as AtCgroup, Process as AtProcess}
 use Rattle.cg_text.specs.declared.tree.fault.TreeFault.{TreeFault}
-use Rattle.cg_text.specs.declared.tree.fault.TreeFault.TheVariants.{TooLong, NotToml, Shape, Format as BadFormat, TooMany, BadController, BadPath, BadEntry, BadValue, Duplicate, NoRoot, NoParent, TopDown, NoSuchFile, BadPid, DuplicatePid, NoSuchPlace, InternalProcess}
+use Rattle.cg_text.specs.declared.tree.fault.TreeFault.TheVariants.{TooLong, NotToml, Shape, Format as BadFormat, TooMany, BadController, BadPath, BadEntry, BadValue, NoRoot, NoSuchFile, InternalProcess}
 use Rattle.cg_text.specs.declared.tree.format.Format.{Format}
 use Rattle.cg_text.specs.declared.tree.format.Format.TheVariants.{One, Two}
 use Rattle.cg_text.proofs.RowLaws.{all_so}

@@ -1,5 +1,5 @@
 -- A text is of one state at most. In it each cgroup stands at a path, and each live process has a PID.
-use Rattle.std.proofs.Common.{◌≡◌, ℕ, ◌+◌, ◌<◌, Bool, true, false, cond, List, [], ◌∷◌, length, filter, codes, Option, Some, None, is_some, option_map, option_and_then, refl, sym, ap, subst, ◌∙◌, true≢false, arith}
+use Rattle.std.proofs.Common.{◌≡◌, ℕ, ◌<◌, Bool, true, false, cond, List, [], ◌∷◌, length, filter, codes, Option, Some, None, is_some, option_map, option_and_then, refl, sym, ap, subst, ◌∙◌, true≢false, arith}
 use Rattle.std.specs.Prelude.{count_by, nat_eq, find}
 use Rattle.std.specs.List.{AllByRecursion}
 use Rattle.std.specs.Cmp.{nat_cmp_total}
@@ -26,7 +26,7 @@ use Rattle.cg_cgroup.proofs.PathOrder.{path_cmp_total, path_cmp-IsAntisymmetric,
 use Rattle.cg_cgroup.proofs.CgroupLaws.{SameRest, same_cgroup}
 use Rattle.cg_model.specs.States.{State, row_at, process_at}
 use Rattle.cg_model.specs.WellFormed.{has_row, enabled_at, enabled_above, IsWellFormed}
-use Rattle.cg_text.specs.Said.{tables_at, text_at, integer_at, path_said, pid_said, pid_read, passing, number_or, has_path}
+use Rattle.cg_text.specs.Said.{tables_at, text_at, integer_at, path_said, pid_said, pid_read, number_or, has_path}
 use Rattle.cg_text.specs.TextOf.{IsRowOf, IsProcessOf, has_pid, IsDocumentOf, IsTextOf}
 use Rattle.cg_text.specs.declared.tree.format.Format.{Format}
 use Rattle.cg_text.proofs.Cuts.{head_of, find_filter}

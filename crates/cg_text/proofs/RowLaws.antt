@@ -1,7 +1,7 @@
 -- What a row's reader makes of its tables: entries and values, or the clause that fails.
-use Rattle.std.proofs.Common.{◌≡◌, ◌≢◌, ℕ, ◌+◌, ◌<◌, ◌≤◌, Bool, true, false, ◌&&◌, ◌||◌, List, [], ◌∷◌, ◌++◌, length}
+use Rattle.std.proofs.Common.{◌≡◌, ◌≢◌, ℕ, ◌+◌, ◌<◌, ◌≤◌, Bool, true, false, ◌||◌, List, [], ◌∷◌, ◌++◌, length}
 use Rattle.std.proofs.Common.{get_or, take, map, filter_map, codes, Option, Some, None, is_some, option_map, option_and_then, unwrap_or}
-use Rattle.std.proofs.Common.{Result, Ok, Err, refl, sym, ap, subst, ◌∙◌, true≢false, arith}
+use Rattle.std.proofs.Common.{Result, Ok, Err, sym, ap, subst, ◌∙◌, true≢false, arith}
 use Rattle.std.specs.Option.{ok_or}
 use Rattle.std.specs.Result.{IsErr, IsErrAnd}
 use Rattle.std.specs.List.{list_all}
@@ -21,7 +21,7 @@ use Rattle.cg_cgroup.proofs.Options.{mapped_from, is_some-mapped}
 use Rattle.cg_cgroup.specs.declared.user.Entry.{Entry}
 use Rattle.cg_cgroup.specs.declared.files.ControllerSet.{ControllerSet}
 use Rattle.cg_cgroup.specs.declared.files.LimitFile.{LimitFile}
-use Rattle.cg_cgroup.specs.declared.files.LimitFile.TheVariants.{MaxDescendants, MaxDepth, CpuWeight, MemoryMin, MemoryLow}
+use Rattle.cg_cgroup.specs.declared.files.LimitFile.TheVariants.{CpuWeight, MemoryMin, MemoryLow}
 use Rattle.cg_cgroup.specs.declared.files.LimitFile.TheVariants.{MemoryHigh, MemoryMax, PidsMax}
 use Rattle.cg_cgroup.specs.declared.files.EntryName.{EntryName}
 use Rattle.cg_cgroup.specs.declared.files.EntryName.TheVariants.{Dir, Procs, SubtreeControl, File}
@@ -30,7 +30,7 @@ use Rattle.cg_cgroup.specs.declared.cgroup.Cgroup.{Cgroup}
 use Rattle.cg_model.specs.Clauses.{first, unless, absent}
 use Rattle.cg_text.specs.Said.{table_at, path_said, controllers_said, owner_said, limit_said, table_of, mode_missing}
 use Rattle.cg_text.specs.Said.{entry_said, value_said, is_named}
-use Rattle.cg_text.specs.TextFaults.{each_cgroup, row_faults}
+use Rattle.cg_text.specs.TextFaults.{row_faults}
 use Rattle.cg_text.specs.Faults.{or_fault, Passes}
 use Rattle.cg_text.specs.Rows.{table_in, owner_in, limit_in, entry_with, names, needed_by, entry_faults, IsCgroupOf, IsReadAs, AreReadAs}
 use Rattle.cg_text.specs.declared.tree.fault.Place.TheVariants.{Cgroup as AtCgroup}

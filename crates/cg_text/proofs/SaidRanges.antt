@@ -1,5 +1,5 @@
 -- What a table says is in range.
-use Rattle.std.proofs.Common.{◌≡◌, ℕ, ◌≤◌, ℤ, Bool, true, false, not, cond, ◌||◌, nat_le, Option, Some, None, is_some, option_map, option_and_then, refl, sym, ap, ◌∙◌, true≢false, arith}
+use Rattle.std.proofs.Common.{◌≡◌, ℕ, ◌≤◌, ℤ, Bool, true, not, ◌||◌, nat_le, Option, Some, option_and_then, sym, ap, ◌∙◌, arith}
 use Rattle.std.specs.Prelude.{◌&&◌}
 use Rattle.std.specs.Cmp.{first_so}
 use Rattle.std.proofs.lemmas.Bool.Decides.{nat_tests}
@@ -7,7 +7,6 @@ use Rattle.std.proofs.lemmas.Option.{cond_some}
 use Rattle.cg_cgroup.specs.Numbers.{is_mode}
 use Rattle.cg_cgroup.specs.Users.{has_bit}
 use Rattle.cg_cgroup.specs.Files.{accepts}
-use Rattle.cg_cgroup.proofs.Options.{same_some}
 use Rattle.cg_cgroup.specs.declared.user.Entry.{Entry}
 use Rattle.cg_cgroup.specs.declared.files.Limit.{Limit}
 use Rattle.cg_cgroup.specs.declared.files.LimitFile.{LimitFile}

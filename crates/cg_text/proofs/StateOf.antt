@@ -1,5 +1,5 @@
 -- A text without a fault is of a state: the cgroups and the processes that its tables say.
-use Rattle.std.proofs.Common.{◌≡◌, ℕ, Bool, true, false, cond, nat_le, ◌||◌, T, List, [], ◌∷◌, ◌++◌, length, map as map_list, codes, Option, Some, None, is_some, option_map, unwrap_or, refl, sym, ap, subst, ◌∙◌}
+use Rattle.std.proofs.Common.{◌≡◌, ℕ, Bool, true, false, ◌||◌, T, List, [], length, map as map_list, codes, Option, Some, is_some, option_map, unwrap_or, refl, sym, ap, subst, ◌∙◌}
 use Rattle.std.specs.Prelude.{find, nat_eq}
 use Rattle.std.specs.List.{AllByRecursion}
 use Rattle.std.specs.Map.{lookup}
@@ -29,10 +29,10 @@ use Rattle.cg_model.specs.States.{State}
 use Rattle.cg_steps.proofs.ClauseLaws.{no_parts, no_unless}
 use Rattle.cg_rows.specs.Processes.{LiveAndUsed}
 use Rattle.cg_rows.specs.RowsForm.{state_of_tables}
-use Rattle.cg_text.specs.Said.{tables_at, path_said, controllers_said, format_said, entry_said, is_named, has_path, pid_said}
+use Rattle.cg_text.specs.Said.{tables_at, path_said, format_said, entry_said, is_named, has_path, pid_said}
 use Rattle.cg_text.specs.TextOf.{has_pid, IsDocumentOf, IsTextOf}
 use Rattle.cg_text.specs.TextFaults.{form_faults, said_faults, row_faults, over, cgroup_faults, process_faults, document_faults, text_faults}
-use Rattle.cg_text.specs.TreeTexts.{longest_text, document_of}
+use Rattle.cg_text.specs.TreeTexts.{longest_text}
 use Rattle.cg_text.specs.Rows.{IsReadAs}
 use Rattle.cg_text.specs.Walk.{fitted_to, IsEntryOf, AreEntriesOf}
 use Rattle.cg_text.specs.Live.{IsLive, AreProcesses}

@@ -1,7 +1,7 @@
 -- What the tables of a document say, where the clauses on them find nothing.
-use Rattle.std.proofs.Common.{◌≡◌, ℕ, Bool, true, false, not, cond, ◌||◌, List, [], ◌∷◌, ◌++◌, map as map_list, codes, Option, Some, None, is_some, option_and_then, refl, sym, ap, ◌∙◌}
-use Rattle.std.specs.Prelude.{◌&&◌, find}
-use Rattle.std.specs.List.{AllByRecursion, list_all, list_any}
+use Rattle.std.proofs.Common.{◌≡◌, ℕ, Bool, true, false, not, ◌||◌, List, [], ◌∷◌, ◌++◌, codes, Option, Some, None, is_some, option_and_then, refl, sym, ap, ◌∙◌}
+use Rattle.std.specs.Prelude.{find}
+use Rattle.std.specs.List.{list_all, list_any}
 use Rattle.std.proofs.lemmas.Bool.{not-true, and_parts}
 use Rattle.std.proofs.lemmas.List.Folds.{list_all-map}
 use Rattle.toml.specs.Data.{Members}
@@ -15,7 +15,6 @@ use Rattle.cg_cgroup.specs.declared.files.ControllerSet.{ControllerSet}
 use Rattle.cg_cgroup.specs.declared.files.EntryName.{EntryName}
 use Rattle.cg_cgroup.specs.declared.files.EntryName.TheVariants.{Dir, Procs, SubtreeControl, File}
 use Rattle.cg_cgroup.specs.declared.files.LimitFile.{LimitFile}
-use Rattle.cg_model.specs.Clauses.{absent}
 use Rattle.cg_steps.proofs.ClauseLaws.{no_unless}
 use Rattle.cg_text.specs.Said.{path_said, controllers_said, entry_said, value_said, is_named, has_path, pid_said, uid_said}
 use Rattle.cg_text.specs.TextOf.{has_pid}

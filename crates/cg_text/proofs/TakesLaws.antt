@@ -1,5 +1,5 @@
 -- What the keys of a table take, member by member, is what the table has at each of them.
-use Rattle.std.proofs.Common.{◌≡◌, ℕ, Bool, true, false, not, cond, List, [], ◌∷◌, map as map_list, option_map, is_some, codes, drop, arith, String, Global, Option, Some, None, Ordering, Less, Equal, Greater, string_bytes, nat_cmp, is_eq, refl, sym, ap, ◌∙◌, true≢false}
+use Rattle.std.proofs.Common.{◌≡◌, ℕ, Bool, true, false, not, cond, List, [], ◌∷◌, map as map_list, option_map, is_some, codes, drop, arith, String, Global, Option, Some, None, Ordering, Less, string_bytes, nat_cmp, is_eq, refl, sym, ap, ◌∙◌}
 use Rattle.std.specs.Prelude.{◌&&◌, ◌||◌, find}
 use Rattle.std.specs.List.{list_any, list_all, AllByRecursion}
 use Rattle.std.specs.List.Sorted.{IsStrictlySortedBy}

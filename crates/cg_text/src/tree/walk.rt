@@ -214,7 +214,11 @@ impl Walk {
         self.least = Least {
             twice: noted(least.twice, row.number, twice),
             orphan: noted(least.orphan, row.number, over.is_none()),
-            not_within: noted(least.not_within, row.number, is_past(row.cgroup.enabled, available)),
+            not_within: noted(
+                least.not_within,
+                row.number,
+                is_past(row.cgroup.enabled, available),
+            ),
             no_file: noted(least.no_file, row.number, is_past(row.needed, over)),
         };
     }

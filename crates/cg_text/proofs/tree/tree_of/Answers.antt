@@ -8,7 +8,6 @@ use Rattle.cg_text.specs.Form.{row_keys, live_keys, is_table}
 use Rattle.cg_text.specs.Said.{tables_at, controllers_said}
 use Rattle.cg_text.specs.TextFaults.{each_cgroup, row_faults, cgroup_faults}
 use Rattle.cg_text.specs.Walk.{AreEntriesOf}
-use Rattle.cg_text.specs.Live.{IsAmong}
 use Rattle.cg_text.specs.declared.tree.fault.Place.TheVariants.{Top}
 use Rattle.cg_text.specs.declared.tree.fault.TreeFault.TheVariants.{BadController}
 use Rattle.cg_text.proofs.DocumentOfLaws.{among_these, formed_of, document_is_of}

@@ -56,15 +56,28 @@ owned c =
     (has_owner c.args.self Dir _ c.in_ok-dir.ensures)
     (has_owner c.args.self Procs _ c.in_ok-procs.ensures)
     (has_owner c.args.self SubtreeControl _ c.in_ok-subtree_control.ensures)
-    (each_file (λ file. is_some (owner_in c.args.self (File file)) ≡ true)
-    (has_owner c.args.self (File MaxDescendants) _ c.in_ok-max_descendants.ensures,
-    (has_owner c.args.self (File MaxDepth) _ c.in_ok-max_depth.ensures,
-    (has_owner c.args.self (File CpuWeight) _ c.in_ok-cpu_weight.ensures,
-    (has_owner c.args.self (File MemoryMin) _ c.in_ok-memory_min.ensures,
-    (has_owner c.args.self (File MemoryLow) _ c.in_ok-memory_low.ensures,
-    (has_owner c.args.self (File MemoryHigh) _ c.in_ok-memory_high.ensures,
-    (has_owner c.args.self (File MemoryMax) _ c.in_ok-memory_max.ensures,
-    (has_owner c.args.self (File PidsMax) _ c.in_ok-pids_max.ensures, tt)))))))))
+    (each_file (λ file. is_some (owner_in c.args.self (File file)) ≡ true) (
+      has_owner c.args.self (File MaxDescendants) _ c.in_ok-max_descendants.ensures,
+      (
+        has_owner c.args.self (File MaxDepth) _ c.in_ok-max_depth.ensures,
+        (
+          has_owner c.args.self (File CpuWeight) _ c.in_ok-cpu_weight.ensures,
+          (
+            has_owner c.args.self (File MemoryMin) _ c.in_ok-memory_min.ensures,
+            (
+              has_owner c.args.self (File MemoryLow) _ c.in_ok-memory_low.ensures,
+              (
+                has_owner c.args.self (File MemoryHigh) _ c.in_ok-memory_high.ensures,
+                (
+                  has_owner c.args.self (File MemoryMax) _ c.in_ok-memory_max.ensures,
+                  (has_owner c.args.self (File PidsMax) _ c.in_ok-pids_max.ensures, tt),
+                ),
+              ),
+            ),
+          ),
+        ),
+      ),
+    ))
 
 pub returns-in_err-held : goal.returns-in_err-held
 returns-in_err-held c =
@@ -109,12 +122,25 @@ returns-in_err-held-8 c =
 pub returns : goal.returns
 returns c =
     cgroup_read c.args.self c.args.enabled _ refl c.in_ok-dir.ensures c.in_ok-procs.ensures c.in_ok-subtree_control.ensures
-    (each_file (λ file. HasFile c.args.self _ file)
-    (has_file c.args.self _ MaxDescendants _ _ refl c.in_ok-max_descendants.ensures c.in_ok-held.ensures,
-    (has_file c.args.self _ MaxDepth _ _ refl c.in_ok-max_depth.ensures c.in_ok-held-2.ensures,
-    (has_file c.args.self _ CpuWeight _ _ refl c.in_ok-cpu_weight.ensures c.in_ok-held-3.ensures,
-    (has_file c.args.self _ MemoryMin _ _ refl c.in_ok-memory_min.ensures c.in_ok-held-4.ensures,
-    (has_file c.args.self _ MemoryLow _ _ refl c.in_ok-memory_low.ensures c.in_ok-held-5.ensures,
-    (has_file c.args.self _ MemoryHigh _ _ refl c.in_ok-memory_high.ensures c.in_ok-held-6.ensures,
-    (has_file c.args.self _ MemoryMax _ _ refl c.in_ok-memory_max.ensures c.in_ok-held-7.ensures,
-    (has_file c.args.self _ PidsMax _ _ refl c.in_ok-pids_max.ensures c.in_ok-held-8.ensures, tt)))))))))
+    (each_file (λ file. HasFile c.args.self _ file) (
+      has_file c.args.self _ MaxDescendants _ _ refl c.in_ok-max_descendants.ensures c.in_ok-held.ensures,
+      (
+        has_file c.args.self _ MaxDepth _ _ refl c.in_ok-max_depth.ensures c.in_ok-held-2.ensures,
+        (
+          has_file c.args.self _ CpuWeight _ _ refl c.in_ok-cpu_weight.ensures c.in_ok-held-3.ensures,
+          (
+            has_file c.args.self _ MemoryMin _ _ refl c.in_ok-memory_min.ensures c.in_ok-held-4.ensures,
+            (
+              has_file c.args.self _ MemoryLow _ _ refl c.in_ok-memory_low.ensures c.in_ok-held-5.ensures,
+              (
+                has_file c.args.self _ MemoryHigh _ _ refl c.in_ok-memory_high.ensures c.in_ok-held-6.ensures,
+                (
+                  has_file c.args.self _ MemoryMax _ _ refl c.in_ok-memory_max.ensures c.in_ok-held-7.ensures,
+                  (has_file c.args.self _ PidsMax _ _ refl c.in_ok-pids_max.ensures c.in_ok-held-8.ensures, tt),
+                ),
+              ),
+            ),
+          ),
+        ),
+      ),
+    ))

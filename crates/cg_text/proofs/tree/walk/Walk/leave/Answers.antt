@@ -1,4 +1,4 @@
-use Rattle.std.proofs.Common.{◌≡◌, refl, ap, sym, ◌∙◌, true, is_some, true≢false, arith, eqb-true}
+use Rattle.std.proofs.Common.{refl, ap, sym, ◌∙◌, is_some, true≢false, arith, eqb-true}
 use Rattle.std.specs.Vec.{vec_len}
 use Rattle.std.proofs.lemmas.List.{nil_from_length}
 use Rattle.cg_text.specs.Walk.{is_front, last_of}
