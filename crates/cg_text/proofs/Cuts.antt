@@ -1,30 +1,15 @@
 -- Lists cut at an element, and what a filter keeps of one.
-use Rattle.std.proofs.Common.{◌≡◌, ℕ, ◌<◌, zero, suc, Bool, true, false, cond, ◌||◌, ◌⊎◌, inl, inr, ⊎_elim, List, [], ◌∷◌, ◌++◌, length, get_or, take, reverse, find, filter, Option, Some, None, is_some, refl, sym, ap, ◌∙◌, append-nil, length-append, arith}
+use Rattle.std.proofs.Common.{◌≡◌, ℕ, ◌<◌, zero, suc, Bool, true, false, cond, ◌||◌, ◌⊎◌, inl, inr, ⊎_elim, List, [], ◌∷◌, ◌++◌, length, get_or, reverse, find, filter, Option, Some, None, is_some, refl, sym, ap, ◌∙◌, true≢false, append-nil, length-append, arith}
+use Rattle.std.specs.Option.{option_to_list}
 use Rattle.std.specs.List.{list_any}
 use Rattle.std.proofs.lemmas.List.{reverse-append}
 use Rattle.std.proofs.lemmas.List.Elements.{filter-append}
 
--- ---- cuts and places
+-- ---- cuts
 
 -- a list with an element has a length
 pub not_empty : {A : Type 0} (front : List A) (x : A) (back : List A) → front ++ x ∷ back ≡ [] → ⊥
 not_empty front x back is = absurd (omega (arith, length-append front (x ∷ back), ap length is))
-
-pub cut_at : {A : Type 0} (all : List A) (i : ℕ) (x : A) → i < length all → x ≡ get_or all i x
-    → (back : List A) × (take i all ++ x ∷ back ≡ all)
-cut_at [] i x inside is = absurd (omega arith)
-cut_at (y ∷ all) zero x inside is = (all, ap (λ z. z ∷ all) is)
-cut_at (y ∷ all) (suc i) x inside is =
-    let later = cut_at all i x (omega arith) is in
-    (later.0, ap (λ some. y ∷ some) later.1)
-
-pub place_of : {A : Type 0} (front : List A) (x : A) (back : List A)
-    → (length front < length (front ++ x ∷ back)) × (x ≡ get_or (front ++ x ∷ back) (length front) x)
-    × (take (length front) (front ++ x ∷ back) ≡ front)
-place_of [] x back = (omega arith, refl, refl)
-place_of (y ∷ front) x back =
-    let later = place_of front x back in
-    (omega (arith, later.0), later.1, ap (λ some. y ∷ some) later.2)
 
 -- a list with one more element is cut at that one, or before it
 pub cut_last : {A : Type 0} (front : List A) (x : A) (back all : List A) (y : A) → front ++ x ∷ back ≡ all ++ y ∷ []
@@ -59,13 +44,13 @@ module _ {A : Type 0} (p : A → Bool) where
         | false ↦ find_filter xs
       ]
 
+  pub is_some-find : (xs : List A) → is_some (find p xs) ≡ list_any p xs
+  is_some-find [] = refl
+  is_some-find (x ∷ xs) =
+      elim (p x) as (λ b. is_some (cond b (Some x) (find p xs)) ≡ (b || list_any p xs)) [ true ↦ refl | false ↦ is_some-find xs ]
+
   pub any_filter : (xs : List A) → list_any p xs ≡ is_some (head_of (filter p xs))
-  any_filter [] = refl
-  any_filter (x ∷ xs) =
-      elim (p x) as (λ b. (b || list_any p xs) ≡ is_some (head_of (cond b (x ∷ filter p xs) (filter p xs)))) [
-        | true ↦ refl
-        | false ↦ any_filter xs
-      ]
+  any_filter xs = sym (is_some-find xs) ∙ ap is_some (find_filter xs)
 
   pub filter_reverse : (xs : List A) → filter p (reverse xs) ≡ reverse (filter p xs)
   filter_reverse [] = refl
@@ -78,11 +63,11 @@ module _ {A : Type 0} (p : A → Bool) where
         | false ↦ append-nil (reverse (filter p xs))
       ]
 
-  pub filter_none : (xs : List A) → ((i : ℕ) (x : A) → i < length xs → x ≡ get_or xs i x → p x ≡ false) → filter p xs ≡ []
+  pub filter_none : (xs : List A) → ((i : ℕ) (d : A) → i < length xs → p (get_or xs i d) ≡ false) → filter p xs ≡ []
   filter_none [] each = refl
   filter_none (x ∷ xs) each =
-      ap (λ b. cond b (x ∷ filter p xs) (filter p xs)) (each zero x (omega arith) refl)
-      ∙ filter_none xs (λ i y inside is. each (suc i) y (omega arith) is)
+      ap (λ b. cond b (x ∷ filter p xs) (filter p xs)) (each zero x (omega arith))
+      ∙ filter_none xs (λ i d inside. each (suc i) d (omega arith))
 
   pub filter_cut : (front : List A) (y : A) (back : List A) → p y ≡ true
       → filter p (front ++ y ∷ back) ≡ filter p front ++ y ∷ filter p back
@@ -124,3 +109,16 @@ module _ {A : Type 0} (p : A → Bool) where
       → p y ≡ true → (before : List A) × (after : List A) × (before ++ y ∷ after ≡ ys) × (filter p before ≡ filter p front) × (p y ≡ true)
   cut_moved xs ys same front y back is passes =
       cut_kept ys (filter p front) y (filter p back) (sym same ∙ ap (filter p) (sym is) ∙ filter_cut front y back passes)
+
+  -- where no element passes behind one that does, the filter keeps the first
+  pub once_kept : (xs : List A) → ((front : List A) (x : A) (back : List A) → front ++ x ∷ back ≡ xs → p x ≡ true → list_any p front ≡ false)
+      → filter p xs ≡ option_to_list (head_of (filter p xs))
+  once_kept xs once = kept (filter p xs) refl
+    where
+      kept : (some : List A) → filter p xs ≡ some → some ≡ option_to_list (head_of some)
+      kept [] is = refl
+      kept (x ∷ []) is = refl
+      kept (x ∷ y ∷ rest) is =
+          let cut = cut_kept xs (x ∷ []) y rest is in
+          let met = any_filter cut.0 ∙ ap (λ some. is_some (head_of some)) cut.3 in
+          absurd (true≢false (sym met ∙ once cut.0 y cut.1 cut.2 cut.4))

@@ -1,7 +1,7 @@
 -- The first fault of a document, part by part, as the reader finds it; the tables of one in form; and the text whose document it is.
 use Rattle.std.proofs.Common.{◌≡◌, ◌≢◌, ℕ, ◌≤◌, true, nat_le, le-leb, List, [], ◌∷◌, ◌++◌, length, map as map_list, codes, Option, Some, None, is_some, Result, Ok, Err, MatchResult, refl, sym, ap, ◌∙◌, true≢false}
 use Rattle.std.specs.List.{list_all}
-use Rattle.std.specs.Option.{ok_or}
+use Rattle.std.specs.Option.{ok_or, option_or}
 use Rattle.std.proofs.lemmas.Bool.{and_parts, and_from}
 use Rattle.toml.specs.Data.{Data, table, Members, as_table}
 use Rattle.toml.specs.View.{view}
@@ -9,6 +9,7 @@ use Rattle.toml.specs.declared.value.Value.{Value}
 use Rattle.cg_cgroup.specs.declared.files.ControllerSet.{ControllerSet}
 use Rattle.cg_model.specs.Clauses.{unless, absent, present, first}
 use Rattle.cg_model.specs.States.{State}
+use Rattle.cg_steps.proofs.ClauseLaws.{first_none, first_some}
 use Rattle.cg_text.specs.Faults.{or_fault}
 use Rattle.cg_text.specs.Form.{Key, is_table}
 use Rattle.cg_text.specs.Said.{tables_at, controllers_said, format_said}
@@ -19,81 +20,60 @@ use Rattle.cg_text.specs.declared.tree.fault.Place.TheVariants.{Top}
 use Rattle.cg_text.specs.declared.tree.fault.TreeFault.{TreeFault}
 use Rattle.cg_text.specs.declared.tree.fault.TreeFault.TheVariants.{TooLong, NotToml, BadController, NoMemory}
 use Rattle.cg_text.specs.declared.tree.format.Format.{Format}
-use Rattle.cg_text.proofs.EachRow.{first_before, first_behind}
+use Rattle.cg_text.proofs.EachRow.{first_or}
 
 -- ---- faults
 
 pub form_fault : (document : Members) (fault : TreeFault) → first (form_faults document) ≡ Some fault
     → first (document_faults document) ≡ Some fault
 form_fault document fault is =
-    first_before (form_faults document) (present (format_said document) (λ format. said_faults format document)) fault is
+    first_some (form_faults document) (present (format_said document) (λ format. said_faults format document)) fault is
+
+four_or : {A : Type 0} (a b c d : List A) → first (((a ++ b) ++ c) ++ d)
+    ≡ option_or (option_or (option_or (first a) (first b)) (first c)) (first d)
+four_or a b c d = simp first_or
 
 -- a document in form
 module _ (document : Members) (format : Format) (passed : first (form_faults document) ≡ None) (form : IsInForm format document) where
   abbrev tables : List Members
   tables = tables_at (codes "cgroup") document
 
-  abbrev lives : List Members
-  lives = tables_at (codes "process") document
+  abbrev alone : Option TreeFault
+  alone = first (each_cgroup (λ _. row_faults format) tables)
 
-  abbrev top : List TreeFault
-  top = absent (controllers_said (codes "controllers") document) (BadController Top)
+  abbrev together : Option ControllerSet → Option TreeFault
+  together controllers = first (cgroup_faults controllers tables)
 
-  abbrev alone : List TreeFault
-  alone = each_cgroup (λ _. row_faults format) tables
+  abbrev living : Option TreeFault
+  living = first (each_process (process_faults tables) (tables_at (codes "process") document))
 
-  abbrev together : List TreeFault
-  together = cgroup_faults (controllers_said (codes "controllers") document) tables
-
-  abbrev living : List TreeFault
-  living = each_process (process_faults tables) lives
-
-  behind_form : first (document_faults document) ≡ first (said_faults format document)
-  behind_form =
-      first_behind (form_faults document) (present (format_said document) (λ format. said_faults format document)) passed
+  -- its faults, by its controllers
+  faults_behind : (controllers : Option ControllerSet) → controllers_said (codes "controllers") document ≡ controllers
+      → first (document_faults document)
+      ≡ option_or (option_or (option_or (first (absent controllers (BadController Top))) alone) (together controllers)) living
+  faults_behind controllers is =
+      first_none (form_faults document) (present (format_said document) (λ format. said_faults format document)) passed
       ∙ ap (λ o. first (present o (λ format. said_faults format document))) form.format
+      ∙ four_or (absent (controllers_said (codes "controllers") document) (BadController Top))
+      (each_cgroup (λ _. row_faults format) tables) (cgroup_faults (controllers_said (codes "controllers") document) tables)
+      (each_process (process_faults tables) (tables_at (codes "process") document))
+      ∙ (λ i. option_or (option_or (option_or (first (absent (is i) (BadController Top))) alone) (together (is i))) living)
 
   pub controllers_fault : controllers_said (codes "controllers") document ≡ None
       → first (document_faults document) ≡ Some (BadController Top)
-  controllers_fault none =
-      let here : first top ≡ Some (BadController Top) = ap (λ (o : Option ControllerSet). first (absent o (BadController Top))) none in
-      behind_form
-      ∙ first_before ((top ++ alone) ++ together) living (BadController Top)
-      (first_before (top ++ alone) together (BadController Top) (first_before top alone (BadController Top) here))
+  controllers_fault none = faults_behind None none
 
-  -- that names its controllers
-  module _ (controllers : ControllerSet) (named : controllers_said (codes "controllers") document ≡ Some controllers) (rows : List Members)
-      (are : rows ≡ tables_at (codes "cgroup") document) where
-    behind_top : first (top ++ alone) ≡ first (each_cgroup (λ _. row_faults format) rows)
-    behind_top =
-        first_behind top alone (ap (λ (o : Option ControllerSet). first (absent o (BadController Top))) named)
-        ∙ ap (λ some. first (each_cgroup (λ _. row_faults format) some)) (sym are)
+  module _ (controllers : ControllerSet) (named : controllers_said (codes "controllers") document ≡ Some controllers) (fault : TreeFault) where
+    pub row_fault : alone ≡ Some fault → first (document_faults document) ≡ Some fault
+    row_fault is =
+        faults_behind (Some controllers) named ∙ ap (λ o. option_or (option_or o (together (Some controllers))) living) is
 
-    together_is : first together ≡ first (cgroup_faults (Some controllers) rows)
-    together_is = ap (λ o. first (cgroup_faults o tables)) named ∙ ap (λ some. first (cgroup_faults (Some controllers) some)) (sym are)
+    pub cgroup_fault : alone ≡ None → together (Some controllers) ≡ Some fault → first (document_faults document) ≡ Some fault
+    cgroup_fault read is = faults_behind (Some controllers) named ∙ (λ i. option_or (option_or (read i) (is i)) living)
 
-    pub row_fault : (fault : TreeFault) → first (each_cgroup (λ _. row_faults format) rows) ≡ Some fault
+    pub process_fault : alone ≡ None → together (Some controllers) ≡ None → living ≡ Some fault
         → first (document_faults document) ≡ Some fault
-    row_fault fault is =
-        behind_form
-        ∙ first_before ((top ++ alone) ++ together) living fault (first_before (top ++ alone) together fault (behind_top ∙ is))
-
-    module _ (read : first (each_cgroup (λ _. row_faults format) rows) ≡ None) where
-      pub cgroup_fault : (fault : TreeFault) → first (cgroup_faults (Some controllers) rows) ≡ Some fault
-          → first (document_faults document) ≡ Some fault
-      cgroup_fault fault is =
-          behind_form
-          ∙ first_before ((top ++ alone) ++ together) living fault
-          (first_behind (top ++ alone) together (behind_top ∙ read) ∙ together_is ∙ is)
-
-      pub process_fault : first (cgroup_faults (Some controllers) rows) ≡ None → (others : List Members)
-          → others ≡ tables_at (codes "process") document → (fault : TreeFault)
-          → first (each_process (process_faults rows) others) ≡ Some fault → first (document_faults document) ≡ Some fault
-      process_fault none others those fault is =
-          behind_form
-          ∙ first_behind ((top ++ alone) ++ together) living
-          (first_behind (top ++ alone) together (behind_top ∙ read) ∙ together_is ∙ none)
-          ∙ (λ i. first (each_process (process_faults (sym are i)) (sym those i))) ∙ is
+    process_fault read none is = faults_behind (Some controllers) named ∙ (λ i. option_or (option_or (read i) (none i)) (is i))
 
 -- what is answered where something is missing
 pub missing_is : {A : Type 0} (o : Option A) (fault found : TreeFault) → ok_or o fault ≡ Err found → o ≡ None → found ≡ fault

@@ -1,24 +1,27 @@
 -- The first fault of rows in turn, as a loop over them finds it.
-use Rattle.std.proofs.Common.{◌≡◌, ℕ, ◌+◌, ◌<◌, ◌≤◌, suc, zero, true, List, [], ◌∷◌, ◌++◌, length, get_or, take, drop, map, Option, Some, None, is_some, refl, sym, ap, ◌∙◌, true≢false, arith}
+use Rattle.std.proofs.Common.{◌≡◌, ℕ, Bool, false, ◌+◌, ◌<◌, ◌≤◌, true, List, [], ◌∷◌, ◌++◌, length, get_or, take, drop, map, Some, None, is_some, unwrap_or, refl, sym, ap, ◌∙◌, arith}
 use Rattle.std.specs.Prelude.{filter_map}
+use Rattle.std.specs.Option.{option_or}
 use Rattle.std.specs.List.{list_all, cons_option}
 use Rattle.std.proofs.lemmas.Bool.{and_parts}
-use Rattle.std.proofs.lemmas.List.{drop_more, take_more, drop_all, length-map, take-map, get_or-map}
-use Rattle.std.proofs.lemmas.List.Folds.{list_all-map}
+use Rattle.std.proofs.lemmas.List.{drop_more, take_more, take_all, drop_all, length-map, get_or-map}
+use Rattle.cg_cgroup.proofs.Options.{some_value}
+use Rattle.cg_text.specs.Form.{Key, is_table}
 use Rattle.cg_text.specs.TextFaults.{each}
-use Rattle.cg_model.specs.Clauses.{first}
+use Rattle.toml.specs.Data.{Data, Members, no_members, as_table}
+use Rattle.toml.specs.View.{view}
+use Rattle.toml.specs.declared.value.Value.{Value}
+use Rattle.cg_model.specs.Clauses.{first, unless}
+use Rattle.cg_steps.proofs.ClauseLaws.{first_none, first_some}
 use Rattle.cg_text.specs.declared.tree.fault.Place.{Place}
 use Rattle.cg_text.specs.declared.tree.fault.TreeFault.{TreeFault}
+use Rattle.cg_text.specs.declared.tree.fault.TreeFault.TheVariants.{Shape}
 
 -- ---- clauses, one after another
 
-pub first_behind : (one other : List TreeFault) → first one ≡ None → first (one ++ other) ≡ first other
-first_behind [] other none = refl
-first_behind (fault ∷ one) other none = absurd (true≢false (ap is_some none))
-
-pub first_before : (one other : List TreeFault) (fault : TreeFault) → first one ≡ Some fault → first (one ++ other) ≡ Some fault
-first_before [] other fault is = absurd (true≢false (sym (ap is_some is)))
-first_before (found ∷ one) other fault is = is
+pub first_or : {A : Type 0} (one other : List A) → first (one ++ other) ≡ option_or (first one) (first other)
+first_or [] other = refl
+first_or (fault ∷ one) other = refl
 
 -- ---- a loop over rows
 
@@ -27,121 +30,139 @@ pub record HavePassed {A : Type 0} (clauses : List A → Place → A → List Tr
   where
     pub left : first (each clauses place 1 [] rows) ≡ first (each clauses place (i + 1) (take i rows) (drop i rows))
 
-module _ {A : Type 0} (clauses : List A → Place → A → List TreeFault) (place : ℕ → Place) (rows : List A) where
-  pub none_passed : HavePassed clauses place rows 0
-  none_passed = record { left = refl }
+pub none_passed : {A : Type 0} (clauses : List A → Place → A → List TreeFault) (place : ℕ → Place) (rows : List A)
+    → HavePassed clauses place rows 0
+none_passed clauses place rows = record { left = refl }
 
-  at_row : (i : ℕ) (row : A) → i < length rows → row ≡ get_or rows i row
-      → each clauses place (i + 1) (take i rows) (drop i rows)
-      ≡ clauses (take i rows) (place (i + 1)) row ++ each clauses place (i + 1 + 1) (take (i + 1) rows) (drop (i + 1) rows)
-  at_row i row below is =
-      let earlier : take (i + 1) rows ≡ take i rows ++ row ∷ [] = take_more rows i row below ∙ ap (λ x. take i rows ++ x ∷ []) (sym is) in
-      ap (each clauses place (i + 1) (take i rows)) (drop_more rows i row below ∙ ap (λ x. x ∷ drop (i + 1) rows) (sym is))
-      ∙ ap (λ before. clauses (take i rows) (place (i + 1)) row ++ each clauses place (i + 1 + 1) before (drop (i + 1) rows)) (sym earlier)
+-- rows that are seen of elements
+module _ {Y A : Type 0} (clauses : List A → Place → A → List TreeFault) (place : ℕ → Place) (see : Y → A) (elements : List Y)
+    (rows : List A) (are : rows ≡ map see elements) where
+  count : length rows ≡ length elements
+  count = ap length are ∙ length-map elements see
 
-  -- a row without a fault
-  pub more_passed : (i : ℕ) (row : A) → HavePassed clauses place rows i → i < length rows → row ≡ get_or rows i row
-      → first (clauses (take i rows) (place (i + 1)) row) ≡ None → HavePassed clauses place rows (i + 1)
-  more_passed i row passed below is none = record {
-    left =
-        passed.left ∙ ap first (at_row i row below is)
-        ∙ first_behind (clauses (take i rows) (place (i + 1)) row)
-        (each clauses place (i + 1 + 1) (take (i + 1) rows) (drop (i + 1) rows)) none;
-  }
+  -- behind the last
+  module _ (i : ℕ) (past : length elements ≤ i) where
+    pub end_passed : HavePassed clauses place rows i → first (each clauses place 1 [] rows) ≡ None
+    end_passed passed =
+        passed.left ∙ ap (λ left. first (each clauses place (i + 1) (take i rows) left)) (drop_all i rows (omega (arith, count)))
 
-  -- the first row that has one
-  pub fault_found : (i : ℕ) (row : A) (fault : TreeFault) → HavePassed clauses place rows i → i < length rows → row ≡ get_or rows i row
-      → first (clauses (take i rows) (place (i + 1)) row) ≡ Some fault → first (each clauses place 1 [] rows) ≡ Some fault
-  fault_found i row fault passed below is found =
-      passed.left ∙ ap first (at_row i row below is)
-      ∙ first_before (clauses (take i rows) (place (i + 1)) row)
-      (each clauses place (i + 1 + 1) (take (i + 1) rows) (drop (i + 1) rows)) fault found
+    pub end_taken : take i rows ≡ rows
+    end_taken = take_all i rows (omega (arith, count))
 
-  pub all_passed : (i : ℕ) → HavePassed clauses place rows i → length rows ≤ i → first (each clauses place 1 [] rows) ≡ None
-  all_passed i passed past = passed.left ∙ ap (λ left. first (each clauses place (i + 1) (take i rows) left)) (drop_all i rows past)
+  -- at the next
+  module _ (i : ℕ) (element : Y) (row : A) (below : i < length elements) (is : element ≡ get_or elements i element)
+      (seen : see element ≡ row) where
+    inside : i < length rows
+    inside = omega (arith, count)
 
--- ---- rows that are seen of elements
+    there : get_or rows i row ≡ row
+    there = ap (λ some. get_or some i row) are ∙ get_or-map see elements i element row below ∙ ap see (sym is) ∙ seen
 
-module _ {Y A : Type 0} (clauses : List A → Place → A → List TreeFault) (place : ℕ → Place) (see : Y → A) (elements : List Y) where
-  seen_at : (i : ℕ) (element : Y) → i < length elements → element ≡ get_or elements i element → see element
-      ≡ get_or (map see elements) i (see element)
-  seen_at i element below is = ap see is ∙ sym (get_or-map see elements i element (see element) below)
+    pub next_taken : take (i + 1) rows ≡ take i rows ++ row ∷ []
+    next_taken = take_more rows i row inside ∙ ap (λ x. take i rows ++ x ∷ []) there
 
-  pub more_seen : (i : ℕ) (element : Y) → HavePassed clauses place (map see elements) i → i < length elements → element
-      ≡ get_or elements i element
-      → first (clauses (take i (map see elements)) (place (i + 1)) (see element)) ≡ None
-      → HavePassed clauses place (map see elements) (i + 1)
-  more_seen i element passed below is none =
-      more_passed clauses place (map see elements) i (see element) passed (omega (arith, length-map elements see))
-      (seen_at i element below is) none
+    module _ (number : ℕ) (counted : number ≡ i + 1) (passed : HavePassed clauses place rows i) where
+      abbrev here : List TreeFault
+      here = clauses (take i rows) (place number) row
 
-  pub fault_seen : (i : ℕ) (element : Y) (fault : TreeFault) → HavePassed clauses place (map see elements) i → i < length elements
-      → element ≡ get_or elements i element
-      → first (clauses (take i (map see elements)) (place (i + 1)) (see element)) ≡ Some fault
-      → first (each clauses place 1 [] (map see elements)) ≡ Some fault
-  fault_seen i element fault passed below is found =
-      fault_found clauses place (map see elements) i (see element) fault passed (omega (arith, length-map elements see))
-      (seen_at i element below is) found
+      abbrev later : List TreeFault
+      later = each clauses place (i + 1 + 1) (take (i + 1) rows) (drop (i + 1) rows)
 
-  pub all_seen : (i : ℕ) → HavePassed clauses place (map see elements) i → length elements ≤ i
-      → first (each clauses place 1 [] (map see elements)) ≡ None
-  all_seen i passed past = all_passed clauses place (map see elements) i passed (omega (arith, length-map elements see))
+      at_row : first (each clauses place 1 [] rows) ≡ first (here ++ later)
+      at_row =
+          passed.left
+          ∙ ap (λ left. first (each clauses place (i + 1) (take i rows) left)) (drop_more rows i row inside
+          ∙ ap (λ x. x ∷ drop (i + 1) rows) there)
+          ∙ (λ j. first (clauses (take i rows) (place (sym counted j)) row
+          ++ each clauses place (i + 1 + 1) (sym next_taken j) (drop (i + 1) rows)))
 
--- ---- rows that are read from elements, each of which gives one
+      -- it has no fault
+      pub next_passed : first here ≡ None → HavePassed clauses place rows (i + 1)
+      next_passed none = record { left = at_row ∙ first_none here later none }
 
-some_of : {A : Type 0} (o : Option A) → is_some o ≡ true → (x : A) × (o ≡ Some x)
-some_of None is = absurd (true≢false (sym is))
-some_of (Some x) is = (x, refl)
+      -- it is the first that has one
+      pub next_found : (fault : TreeFault) → first here ≡ Some fault → first (each clauses place 1 [] rows) ≡ Some fault
+      next_found fault found = at_row ∙ first_some here later fault found
 
-at_next : {A : Type 0} (row : A) (o : Option A) (xs : List A) (i : ℕ) → is_some o ≡ true → row ≡ get_or xs i row → row
-    ≡ get_or (cons_option o xs) (suc i) row
-at_next row None xs i some is = absurd (true≢false (sym some))
-at_next row (Some x) xs i some is = is
+-- ---- elements that are tables with these keys
 
-module _ {X A : Type 0} (read : X → Option A) where
-  length_read : (xs : List X) → list_all (λ x. is_some (read x)) xs ≡ true → length (filter_map read xs) ≡ length xs
-  length_read [] are = refl
-  length_read (x ∷ xs) are =
-      let parts = and_parts (is_some (read x)) (list_all (λ x. is_some (read x)) xs) are in
-      let here = some_of (read x) parts.0 in
-      ap (λ o. length (cons_option o (filter_map read xs))) here.1 ∙ ap suc (length_read xs parts.1)
+module _ (keys : List Key) (place : ℕ → Place) (elements : List Value) where
+  abbrev shape : List Data → Place → Data → List TreeFault
+  shape _ here held = unless (is_table keys held) (Shape here)
 
-  read_at : (xs : List X) (i : ℕ) (x : X) (row : A) → list_all (λ x. is_some (read x)) xs ≡ true → i < length xs → x ≡ get_or xs i x
-      → read x ≡ Some row
-      → row ≡ get_or (filter_map read xs) i row
-  read_at [] i x row are below is seen = absurd (omega arith)
-  read_at (y ∷ xs) zero x row are below is seen = ap (λ o. get_or (cons_option o (filter_map read xs)) 0 row) (sym seen ∙ ap read is)
-  read_at (y ∷ xs) (suc i) x row are below is seen =
-      let parts = and_parts (is_some (read y)) (list_all (λ x. is_some (read x)) xs) are in
-      at_next row (read y) (filter_map read xs) i parts.0 (read_at xs i x row parts.1 (omega arith) is seen)
+  abbrev pub AreShaped : ℕ → Type 0
+  AreShaped i = HavePassed shape place (map view elements) i
 
-  take_read : (xs : List X) (i : ℕ) → list_all (λ x. is_some (read x)) xs ≡ true → take i (filter_map read xs) ≡ filter_map read (take i xs)
-  take_read [] zero are = refl
-  take_read [] (suc i) are = refl
-  take_read (x ∷ xs) zero are = refl
-  take_read (x ∷ xs) (suc i) are =
-      let parts = and_parts (is_some (read x)) (list_all (λ x. is_some (read x)) xs) are in
-      let here = some_of (read x) parts.0 in
-      ap (λ o. take (suc i) (cons_option o (filter_map read xs))) here.1 ∙ ap (λ rows. here.0 ∷ rows) (take_read xs i parts.1)
-      ∙ ap (λ o. cons_option o (filter_map read (take i xs))) (sym here.1)
+  module _ (i : ℕ) (element : Value) (passed : AreShaped i) (below : i < length elements) (is : element ≡ get_or elements i element)
+      (fits : Bool) (told : fits ≡ is_table keys (view element)) where
+    pub more_shaped : fits ≡ true → AreShaped (i + 1)
+    more_shaped fit =
+        next_passed shape place view elements (map view elements) refl i element (view element) below is refl (i + 1) refl passed
+        (ap (λ b. first (unless b (Shape (place (i + 1))))) (sym told ∙ fit))
 
-  -- by what is seen of each element
-  module _ {Y : Type 0} (see : Y → X) (elements : List Y) (are : list_all (λ element. is_some (read (see element))) elements ≡ true) where
-    are_seen : list_all (λ x. is_some (read x)) (map see elements) ≡ true
-    are_seen = list_all-map (λ x. is_some (read x)) see elements ∙ are
+    pub misshapen : (number : ℕ) → number ≡ i + 1 → fits ≡ false
+        → first (each shape place 1 [] (map view elements)) ≡ Some (Shape (place number))
+    misshapen number counted unfit =
+        next_found shape place view elements (map view elements) refl i element (view element) below is refl number counted passed
+        (Shape (place number)) (ap (λ b. first (unless b (Shape (place number)))) (sym told ∙ unfit))
 
-    -- as many rows as elements
-    pub row_count : length (filter_map read (map see elements)) ≡ length elements
-    row_count = length_read (map see elements) are_seen ∙ length-map elements see
+  pub all_shaped : (i : ℕ) → AreShaped i → length elements ≤ i → first (each shape place 1 [] (map view elements)) ≡ None
+  all_shaped i passed past = end_passed shape place view elements (map view elements) refl i past passed
 
-    -- the row of an element
-    pub row_at : (i : ℕ) (element : Y) (row : A) → i < length elements → element ≡ get_or elements i element → read (see element) ≡ Some row
-        → row ≡ get_or (filter_map read (map see elements)) i row
-    row_at i element row below is seen =
-        let there : see element ≡ get_or (map see elements) i (see element) = ap see is
-        ∙ sym (get_or-map see elements i element (see element) below) in
-        read_at (map see elements) i (see element) row are_seen (omega (arith, length-map elements see)) there seen
+-- ---- the tables of elements
 
-    -- the rows of the elements so far
-    pub rows_before : (i : ℕ) → take i (filter_map read (map see elements)) ≡ filter_map read (map see (take i elements))
-    rows_before i = take_read (map see elements) i are_seen ∙ ap (filter_map read) (take-map see i elements)
+-- the table that stands at an index, and the number of its row
+pub record IsNextTable (elements : List Value) (i : ℕ) (table : Members) (number : ℕ) : Type 0 where
+  pub element : Value
+  pub within : i < length elements
+  pub there : element ≡ get_or elements i element
+  pub held : Some table ≡ as_table (view element)
+  pub counted : number ≡ i + 1
+
+abbrev table_seen : Value → Members
+table_seen element = unwrap_or (as_table (view element)) no_members
+
+tables_seen : (elements : List Value) → list_all (λ held. is_some (as_table (view held))) elements ≡ true
+    → filter_map as_table (map view elements) ≡ map table_seen elements
+tables_seen [] are = refl
+tables_seen (element ∷ elements) are =
+    let parts = and_parts (is_some (as_table (view element))) _ are in
+    let here = some_value (as_table (view element)) parts.0 in
+    (λ i. cons_option (here.1 i) (tables_seen elements parts.1 i))
+    ∙ ap (λ o. unwrap_or o no_members ∷ map table_seen elements) (sym here.1)
+
+pub tables_counted : (elements : List Value) → list_all (λ held. is_some (as_table (view held))) elements ≡ true
+    → length (filter_map as_table (map view elements)) ≡ length elements
+tables_counted elements are = ap length (tables_seen elements are) ∙ length-map elements table_seen
+
+module _ (clauses : List Members → Place → Members → List TreeFault) (place : ℕ → Place) (elements : List Value)
+    (are : list_all (λ held. is_some (as_table (view held))) elements ≡ true) where
+  abbrev pub tables_of : List Members
+  tables_of = filter_map as_table (map view elements)
+
+  module _ (i : ℕ) (table : Members) (number : ℕ) (next : IsNextTable elements i table number) where
+    seen : table_seen next.element ≡ table
+    seen = ap (λ o. unwrap_or o no_members) (sym next.held)
+
+    pub table_taken : take (i + 1) tables_of ≡ take i tables_of ++ table ∷ []
+    table_taken =
+        next_taken clauses place table_seen elements tables_of (tables_seen elements are) i next.element table next.within next.there seen
+
+    pub table_passed : HavePassed clauses place tables_of i → first (clauses (take i tables_of) (place number) table) ≡ None
+        → HavePassed clauses place tables_of (i + 1)
+    table_passed passed none =
+        next_passed clauses place table_seen elements tables_of (tables_seen elements are) i next.element table next.within next.there seen
+        number next.counted passed none
+
+    pub table_found : HavePassed clauses place tables_of i → (fault : TreeFault)
+        → first (clauses (take i tables_of) (place number) table) ≡ Some fault → first (each clauses place 1 [] tables_of) ≡ Some fault
+    table_found passed fault found =
+        next_found clauses place table_seen elements tables_of (tables_seen elements are) i next.element table next.within next.there seen
+        number next.counted passed fault found
+
+  module _ (i : ℕ) (past : length elements ≤ i) where
+    pub tables_passed : HavePassed clauses place tables_of i → first (each clauses place 1 [] tables_of) ≡ None
+    tables_passed passed = end_passed clauses place table_seen elements tables_of (tables_seen elements are) i past passed
+
+    pub tables_taken : take i tables_of ≡ tables_of
+    tables_taken = end_taken clauses place table_seen elements tables_of (tables_seen elements are) i past

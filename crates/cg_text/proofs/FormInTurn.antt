@@ -1,9 +1,14 @@
 -- The clauses on a document's form, as the reader asks them in turn.
-use Rattle.std.proofs.Common.{◌≡◌, ◌≤◌, true, List, ◌++◌, length, nat_le, le-leb, codes, Some, None, sym, ap, ◌∙◌, subst}
-use Rattle.std.specs.Prelude.{◌&&◌}
+use Rattle.std.proofs.Common.{◌≡◌, ◌≤◌, true, List, ◌++◌, length, map, nat_le, le-leb, codes, Some, None, sym, ap, ◌∙◌, subst, arith}
+use Rattle.std.specs.Option.{option_or}
+use Rattle.std.proofs.lemmas.Bool.{and_from}
+use Rattle.std.proofs.lemmas.List.{length-map}
 use Rattle.std.proofs.lemmas.Option.{same_Some}
 use Rattle.toml.specs.Data.{Data, Members, table}
+use Rattle.toml.specs.View.{view}
+use Rattle.toml.specs.declared.value.Value.{Value}
 use Rattle.cg_model.specs.Clauses.{unless, absent, present, first}
+use Rattle.cg_steps.proofs.ClauseLaws.{none_of_first}
 use Rattle.cg_text.specs.Form.{most_rows, is_table, document_keys, row_keys, live_keys}
 use Rattle.cg_text.specs.Said.{elements_at, format_said}
 use Rattle.cg_text.specs.TextOf.{IsInForm}
@@ -12,41 +17,49 @@ use Rattle.cg_text.specs.declared.tree.fault.TreeFault.{TreeFault}
 use Rattle.cg_text.specs.declared.tree.fault.TreeFault.TheVariants.{Shape, Format as BadFormat, TooMany}
 use Rattle.cg_text.specs.declared.tree.fault.Place.TheVariants.{Top}
 use Rattle.cg_text.specs.declared.tree.format.Format.{Format}
+use Rattle.cg_text.proofs.EachRow.{first_or}
 use Rattle.cg_text.proofs.FormClauses.{in_form}
-use Rattle.cg_text.proofs.EachRow.{first_before, first_behind}
 
-abbrev pub cgroup_shapes : Format → List Data → List TreeFault
-cgroup_shapes format rows = each_cgroup (λ _ place held. unless (is_table (row_keys format) held) (Shape place)) rows
+few_are : (some : List Value) (all : List Data) → map view some ≡ all → length some ≤ most_rows → nat_le (length all) most_rows ≡ true
+few_are some all are few = le-leb (length all) most_rows (omega (arith, ap length are, length-map some view))
 
-abbrev pub process_shapes : List Data → List TreeFault
-process_shapes rows = each_process (λ _ place held. unless (is_table live_keys held) (Shape place)) rows
+pub has_few_rows : (document : Members) (cgroups processes : List Value) → map view cgroups ≡ elements_at (codes "cgroup") document
+    → length cgroups ≤ most_rows → map view processes ≡ elements_at (codes "process") document → length processes ≤ most_rows
+    → has_few document ≡ true
+has_few_rows document cgroups processes are few also few_also =
+    and_from _ _ (few_are cgroups (elements_at (codes "cgroup") document) are few)
+    (few_are processes (elements_at (codes "process") document) also few_also)
 
-module _ (document : Members) (format : Format) (cgroups processes : List Data) (top : is_table document_keys (table document) ≡ true)
-    (said : format_said document ≡ Some format)
-    (are_cgroups : cgroups ≡ elements_at (codes "cgroup") document) (few_cgroups : length cgroups ≤ most_rows)
-    (are_processes : processes ≡ elements_at (codes "process") document) (few_processes : length processes ≤ most_rows) where
-  few : has_few document ≡ true
-  few =
-      (λ i. nat_le (length (sym are_cgroups i)) most_rows && nat_le (length (sym are_processes i)) most_rows)
-      ∙ (let cgroups_few = le-leb (length cgroups) most_rows few_cgroups in let processes_few = le-leb (length processes) most_rows
-      few_processes in λ i. cgroups_few i && processes_few i)
+-- A document whose top table is in form, and which has few rows.
+pub record IsCounted (document : Members) (format : Format) : Type 0 where
+  pub top : is_table document_keys (table document) ≡ true
+  pub said : format_said document ≡ Some format
+  pub few : has_few document ≡ true
+
+module _ (document : Members) (format : Format) (is : IsCounted document format) where
+  abbrev cgroup_shapes : Format → List TreeFault
+  cgroup_shapes format =
+      each_cgroup (λ _ place held. unless (is_table (row_keys format) held) (Shape place)) (elements_at (codes "cgroup") document)
+
+  abbrev process_shapes : List TreeFault
+  process_shapes = each_process (λ _ place held. unless (is_table live_keys held) (Shape place)) (elements_at (codes "process") document)
 
   -- the rows are left
-  rows_left : form_faults document ≡ cgroup_shapes format cgroups ++ process_shapes processes
+  rows_left : first (form_faults document) ≡ option_or (first (cgroup_shapes format)) (first process_shapes)
   rows_left =
-      (λ i. unless (top i) (Shape Top) ++ absent (said i) BadFormat ++ unless (few i) TooMany ++ present (said i)
-      (λ format. cgroup_shapes format (sym are_cgroups i)) ++ process_shapes (sym are_processes i))
+      (λ i. first (unless (is.top i) (Shape Top) ++ absent (is.said i) BadFormat ++ unless (is.few i) TooMany
+      ++ present (is.said i) cgroup_shapes ++ process_shapes)) ∙ first_or (cgroup_shapes format) process_shapes
 
-  pub at_cgroup : (fault : TreeFault) → first (cgroup_shapes format cgroups) ≡ Some fault → first (form_faults document) ≡ Some fault
-  at_cgroup fault found = ap first rows_left ∙ first_before (cgroup_shapes format cgroups) (process_shapes processes) fault found
+  pub at_cgroup : (fault : TreeFault) → first (cgroup_shapes format) ≡ Some fault → first (form_faults document) ≡ Some fault
+  at_cgroup fault found = rows_left ∙ ap (λ o. option_or o (first process_shapes)) found
 
-  pub at_process : (fault : TreeFault) → first (cgroup_shapes format cgroups) ≡ None → first (process_shapes processes) ≡ Some fault
+  pub at_process : (fault : TreeFault) → first (cgroup_shapes format) ≡ None → first process_shapes ≡ Some fault
       → first (form_faults document) ≡ Some fault
-  at_process fault none found = ap first rows_left ∙ first_behind (cgroup_shapes format cgroups) (process_shapes processes) none ∙ found
+  at_process fault none found = rows_left ∙ (λ i. option_or (none i) (found i))
 
-  pub no_shape : first (cgroup_shapes format cgroups) ≡ None → first (process_shapes processes) ≡ None
+  pub no_shape : first (cgroup_shapes format) ≡ None → first process_shapes ≡ None
       → (first (form_faults document) ≡ None) × IsInForm format document
   no_shape none also =
-      let passed = ap first rows_left ∙ first_behind (cgroup_shapes format cgroups) (process_shapes processes) none ∙ also in
-      let form = in_form document passed in
-      (passed, subst (λ kind. IsInForm kind document) (same_Some form.0 format (sym form.1.format ∙ said)) form.1)
+      let passed = rows_left ∙ (λ i. option_or (none i) (also i)) in
+      let form = in_form document (none_of_first _ passed) in
+      (passed, subst (λ kind. IsInForm kind document) (same_Some form.0 format (sym form.1.format ∙ is.said)) form.1)

@@ -1,60 +1,35 @@
 -- Rows none of which has a fault, and rows none of whose keys comes twice.
-use Rattle.std.proofs.Common.{◌≡◌, ℕ, ◌+◌, Bool, true, false, cond, ◌||◌, List, [], ◌∷◌, ◌++◌, Option, Some, None, is_some, refl, sym, ap, ◌∙◌, true≢false, append_assoc}
+use Rattle.std.proofs.Common.{◌≡◌, ℕ, ◌+◌, Bool, true, false, cond, List, [], ◌∷◌, ◌++◌, length, Option, Some, None, is_some, refl, sym, ap, ◌∙◌, true≢false, append_assoc, arith}
 use Rattle.std.specs.Prelude.{find, count_by}
+use Rattle.std.specs.Option.{option_or, option_to_list}
 use Rattle.std.specs.List.{AllByRecursion, list_any}
-use Rattle.std.proofs.lemmas.Bool.{or_left, or_right}
 use Rattle.std.proofs.lemmas.List.{append-nil}
-use Rattle.std.proofs.lemmas.List.Folds.{list_any-append}
-use Rattle.cg_cgroup.proofs.Options.{same_some}
-use Rattle.cg_model.specs.Clauses.{unless, absent, present, first}
+use Rattle.std.proofs.lemmas.List.Folds.{find-append}
+use Rattle.std.proofs.lemmas.List.Sums.{length-filter}
+use Rattle.cg_cgroup.proofs.Options.{some_value, none_value, same_some}
+use Rattle.cg_model.specs.Clauses.{absent}
+use Rattle.cg_steps.proofs.ClauseLaws.{no_parts, no_absent}
 use Rattle.cg_text.specs.TextFaults.{each}
 use Rattle.cg_text.specs.declared.tree.fault.Place.{Place}
 use Rattle.cg_text.specs.declared.tree.fault.TreeFault.{TreeFault}
-use Rattle.cg_text.proofs.OnceLaws.{counted, counted_is}
+use Rattle.cg_text.proofs.Cuts.{head_of, is_some-find, any_filter, once_kept}
 
 -- ---- clauses
 
-pub none_left : {A : Type 0} (one other : List A) → first (one ++ other) ≡ None → first one ≡ None
-none_left [] other none = refl
-none_left (x ∷ one) other none = absurd (true≢false (ap is_some none))
+-- of five lists of clauses none has one
+pub five_none : {R : Type 0} (a b c d e : List R) → (((a ++ b) ++ c) ++ d) ++ e ≡ []
+    → (a ≡ []) × (b ≡ []) × (c ≡ []) × (d ≡ []) × (e ≡ [])
+five_none a b c d e none =
+    let four = no_parts (((a ++ b) ++ c) ++ d) e none in
+    let three = no_parts ((a ++ b) ++ c) d four.0 in
+    let two = no_parts (a ++ b) c three.0 in
+    let one = no_parts a b two.0 in
+    (one.0, one.1, two.1, three.1, four.1)
 
-pub none_right : {A : Type 0} (one other : List A) → first (one ++ other) ≡ None → first other ≡ None
-none_right [] other none = none
-none_right (x ∷ one) other none = absurd (true≢false (ap is_some none))
-
-pub unless_passes : {A : Type 0} (b : Bool) (fault : A) → first (unless b fault) ≡ None → b ≡ true
-unless_passes true fault none = refl
-unless_passes false fault none = absurd (true≢false (ap is_some none))
-
-pub absent_passes : {A R : Type 0} (o : Option A) (fault : R) → first (absent o fault) ≡ None → (x : A) × (o ≡ Some x)
-absent_passes None fault none = absurd (true≢false (ap is_some none))
-absent_passes (Some x) fault none = (x, refl)
-
-pub present_passes : {A R : Type 0} (o : Option A) (clauses : A → List R) (x : A) → o ≡ Some x → first (present o clauses) ≡ None
-    → first (clauses x) ≡ None
-present_passes o clauses x is none = sym (ap (λ o. first (present o clauses)) is) ∙ none
+pub absent_none : {A R : Type 0} (o : Option A) (fault : R) → absent o fault ≡ [] → (x : A) × (o ≡ Some x)
+absent_none o fault none = some_value o (no_absent o fault none)
 
 -- ---- rows in turn
-
-module _ {A : Type 0} (clauses : List A → Place → A → List TreeFault) (place : ℕ → Place) where
-  none_from : (i : ℕ) (earlier before : List A) (row : A) (after : List A)
-      → first (each clauses place i earlier (before ++ row ∷ after)) ≡ None
-      → (at : Place) × (first (clauses (earlier ++ before) at row) ≡ None)
-  none_from i earlier [] row after none = (
-    place i,
-    ap (λ some. first (clauses some (place i) row)) (append-nil earlier)
-        ∙ none_left (clauses earlier (place i) row) (each clauses place (i + 1) (earlier ++ row ∷ []) after) none,
-  )
-  none_from i earlier (x ∷ before) row after none =
-      let rest = none_right (clauses earlier (place i) x) (each clauses place (i + 1) (earlier ++ x ∷ []) (before ++ row ∷ after)) none in
-      let found = none_from (i + 1) (earlier ++ x ∷ []) before row after rest in
-      (found.0, ap (λ some. first (clauses some found.0 row)) (sym (append_assoc earlier (x ∷ []) before)) ∙ found.1)
-
-  -- where no row has a fault, the clauses of each pass behind those before it
-  pub none_at : (all : List A) → first (each clauses place 1 [] all) ≡ None → (before : List A) (row : A) (after : List A)
-      → before ++ row ∷ after ≡ all
-      → (at : Place) × (first (clauses before at row) ≡ None)
-  none_at all none before row after is = none_from 1 [] before row after (ap (λ some. first (each clauses place 1 [] some)) is ∙ none)
 
 -- what holds of each row behind those before it holds of all
 pub all_rows : {A : Type 0} (P : A → Type 0) (before rest : List A)
@@ -65,16 +40,27 @@ all_rows P before (row ∷ rest) each = (
   all_rows P (before ++ row ∷ []) rest (λ front x after is. each front x after (is ∙ append_assoc before (row ∷ []) rest)),
 )
 
--- ---- the first row that passes a test
+module _ {A : Type 0} (clauses : List A → Place → A → List TreeFault) (place : ℕ → Place) where
+  none_from : (i : ℕ) (earlier before : List A) (row : A) (after : List A) → each clauses place i earlier (before ++ row ∷ after) ≡ []
+      → (at : Place) × (clauses (earlier ++ before) at row ≡ [])
+  none_from i earlier [] row after none =
+      (place i, ap (λ some. clauses some (place i) row) (append-nil earlier) ∙ (no_parts (clauses earlier (place i) row) _ none).0)
+  none_from i earlier (x ∷ before) row after none =
+      let found = none_from (i + 1) (earlier ++ x ∷ []) before row after (no_parts (clauses earlier (place i) x) _ none).1 in
+      (found.0, ap (λ some. clauses some found.0 row) (sym (append_assoc earlier (x ∷ []) before)) ∙ found.1)
 
-pub is_some-find : {A : Type 0} (p : A → Bool) (xs : List A) → is_some (find p xs) ≡ list_any p xs
-is_some-find p [] = refl
-is_some-find p (x ∷ xs) = found_first (p x) x (find p xs) (list_any p xs) (is_some-find p xs)
-  where
-    found_first : {A : Type 0} (t : Bool) (x : A) (later : Option A) (any : Bool) → is_some later ≡ any
-        → is_some (cond t (Some x) later) ≡ (t || any)
-    found_first true x later any is = refl
-    found_first false x later any is = is
+  -- where no row has a fault, the clauses of each find none behind those before it
+  pub none_at : (all : List A) → each clauses place 1 [] all ≡ [] → (before : List A) (row : A) (after : List A)
+      → before ++ row ∷ after ≡ all → (at : Place) × (clauses before at row ≡ [])
+  none_at all none before row after is = none_from 1 [] before row after (ap (each clauses place 1 []) is ∙ none)
+
+  pub none_say : (P : A → Type 0) → ((earlier : List A) (at : Place) (row : A) → clauses earlier at row ≡ [] → P row) → (all : List A)
+      → each clauses place 1 [] all ≡ [] → AllByRecursion P all
+  none_say P says all none = all_rows P [] all (λ before row after is.
+      let found = none_at all none before row after is in
+      says before found.0 row found.1)
+
+-- ---- the first row that passes a test
 
 -- where a found row stands
 pub record IsFoundAt {A : Type 0} (p : A → Bool) (all : List A) (row : A) : Type 0 where
@@ -96,12 +82,9 @@ found_at p (x ∷ all) row is =
     ] refl is
 
 pub find_past : {A : Type 0} (p : A → Bool) (before rest : List A) → list_any p before ≡ false → find p (before ++ rest) ≡ find p rest
-find_past p [] rest none = refl
-find_past p (x ∷ before) rest none =
-    elim (p x) as (λ b. (b || list_any p before) ≡ false → cond b (Some x) (find p (before ++ rest)) ≡ find p rest) [
-      | true ↦ λ some. absurd (true≢false some)
-      | false ↦ λ none. find_past p before rest none
-    ] none
+find_past p before rest none =
+    find-append p before rest
+    ∙ ap (λ found. option_or found (find p rest)) (none_value (find p before) (is_some-find p before ∙ none))
 
 -- ---- keys
 
@@ -132,33 +115,11 @@ module _ {A K : Type 0} (key : A → Option K) (same : K → K → Bool) where
         ap (find (has q)) (sym is) ∙ find_past (has q) before (row ∷ after) (once.new before row after is q said)
         ∙ ap (λ b. cond b (Some row) (find (has q) after)) (has_key q row said)
 
-    behind : (before : List A) (row : A) (rest : List A) → IsOnce (before ++ row ∷ rest) → IsOnce ((before ++ row ∷ []) ++ rest)
-    behind before row rest once = record { new = λ front x after is. once.new front x after (is ∙ append_assoc before (row ∷ []) rest) }
-
-    none_later : (q : K) (before rest : List A) → IsOnce (before ++ rest) → list_any (has q) before ≡ true → counted (has q) rest ≡ 0
-    none_later q before [] once met = refl
-    none_later q before (row ∷ rest) once met =
-        let still : list_any (has q) (before ++ row ∷ []) ≡ true = list_any-append (has q) before (row ∷ [])
-        ∙ or_left (list_any (has q) before) (list_any (has q) (row ∷ [])) met in
-        let later : counted (has q) rest ≡ 0 = none_later q (before ++ row ∷ []) rest (behind before row rest once) still in
-        elim (has q row) as (λ b. has q row ≡ b → cond b (1 + counted (has q) rest) (counted (has q) rest) ≡ 0) [
-          | true ↦ λ so. absurd (true≢false (sym met ∙ once.new before row rest refl q (key_had q row so)))
-          | false ↦ λ _. later
-        ] refl
-
-    counted_from : (q : K) (before rest : List A) → IsOnce (before ++ rest) → counted (has q) rest ≡ cond (list_any (has q) rest) 1 0
-    counted_from q before [] once = refl
-    counted_from q before (row ∷ rest) once =
-        elim (has q row) as (λ b. has q row ≡ b → cond b (1 + counted (has q) rest) (counted (has q) rest) ≡ cond
-        (b || list_any (has q) rest) 1 0) [
-          | true ↦ λ so.
-              let here : list_any (has q) (row ∷ []) ≡ true = or_left (has q row) false so in
-              let met : list_any (has q) (before ++ row ∷ []) ≡ true = list_any-append (has q) before (row ∷ [])
-              ∙ or_right (list_any (has q) before) (list_any (has q) (row ∷ [])) here in
-              ap (λ n. 1 + n) (none_later q (before ++ row ∷ []) rest (behind before row rest once) met)
-          | false ↦ λ _. counted_from q (before ++ row ∷ []) rest (behind before row rest once)
-        ] refl
+    count_head : (some : List A) → length (option_to_list (head_of some)) ≡ cond (is_some (head_of some)) 1 0
+    count_head some = grind arith
 
     -- a key comes once, or not at all
     pub once_counted : (all : List A) → IsOnce all → (q : K) → count_by (has q) all ≡ cond (list_any (has q) all) 1 0
-    once_counted all once q = sym (counted_is (has q) all) ∙ counted_from q [] all once
+    once_counted all once q =
+        let kept = once_kept (has q) all (λ front x back cut at. once.new front x back cut q (key_had q x at)) in
+        sym (length-filter (has q) all) ∙ ap length kept ∙ count_head _ ∙ ap (λ b. cond b 1 0) (sym (any_filter (has q) all))

@@ -2,6 +2,8 @@ pub mod SaidLaws
 pub mod TextLaws
 pub mod OnceLaws
 pub mod KeysOnce
+pub mod TablesSay
+pub mod CgroupClauses
 pub mod LiveLaws
 pub mod DocumentOfLaws
 pub mod DocumentInTurn

@@ -1,5 +1,5 @@
 -- The reader's processes are those of their tables, and its fault is the first of the clauses on them.
-use Rattle.std.proofs.Common.{◌≡◌, ℕ, ◌+◌, ◌<◌, ◌≤◌, Bool, true, false, not, cond, ◌||◌, List, [], ◌∷◌, ◌++◌, length, get_or, take, map as map_list, codes, Option, Some, None, is_some, option_map, option_and_then, refl, sym, ap, subst, ◌∙◌, true≢false, append_assoc, arith}
+use Rattle.std.proofs.Common.{◌≡◌, ℕ, ◌+◌, ◌≤◌, Bool, true, false, cond, ◌||◌, List, [], ◌∷◌, ◌++◌, length, take, map as map_list, codes, Option, Some, None, is_some, option_map, option_and_then, refl, sym, ap, subst, ◌∙◌, true≢false, arith}
 use Rattle.std.specs.Prelude.{find, filter_map, nat_eq}
 use Rattle.std.specs.List.{list_all, list_any}
 use Rattle.std.specs.Map.{lookup}
@@ -10,9 +10,10 @@ use Rattle.std.specs.Cmp.{nat_cmp_total, eq_by_cmp_equiv, unsigned_ties, Equal-i
 use Rattle.std.specs.FinMap as map
 use Rattle.std.specs.FinSet as set
 use Rattle.std.specs.FinMap.{nat_cmp-IsAntisymmetric}
-use Rattle.std.proofs.lemmas.Bool.{not-true, or_left, or_right}
-use Rattle.std.proofs.lemmas.List.{take_all, take_more}
-use Rattle.std.proofs.lemmas.List.Folds.{list_any-append}
+use Rattle.std.proofs.lemmas.Bool.{or_left, or_right}
+use Rattle.std.proofs.lemmas.List.{take_all}
+use Rattle.std.specs.Option.{option_or}
+use Rattle.std.proofs.lemmas.List.Folds.{find-append, list_any-append}
 use Rattle.std.proofs.lemmas.Map.Made.{is_some-lookup}
 use Rattle.std.proofs.Math.Bool.{or-false}
 use Rattle.toml.specs.Data.{Members, as_table}
@@ -27,16 +28,19 @@ use Rattle.cg_cgroup.specs.declared.process.Process.{Process}
 use Rattle.cg_rows.specs.Processes.{LiveAndUsed}
 use Rattle.cg_rows.proofs.StdMaps.{get-shown}
 use Rattle.cg_model.specs.Clauses.{unless, absent, present, first}
-use Rattle.cg_text.specs.Said.{path_said, has_path, pid_said, uid_said}
+use Rattle.cg_steps.proofs.ClauseLaws.{none_of_first}
+use Rattle.cg_text.specs.Said.{path_said, has_path, pid_said}
 use Rattle.cg_text.specs.TextOf.{has_pid}
 use Rattle.cg_text.specs.TextFaults.{each_process, enabled_there, process_faults}
 use Rattle.cg_text.specs.Live.{IsAmong, IsLive, AreLive, AreProcesses, place_faults}
 use Rattle.cg_text.specs.declared.tree.fault.Place.{Place}
 use Rattle.cg_text.specs.declared.tree.fault.Place.TheVariants.{Process as AtProcess}
 use Rattle.cg_text.specs.declared.tree.fault.TreeFault.{TreeFault}
-use Rattle.cg_text.specs.declared.tree.fault.TreeFault.TheVariants.{BadPid, BadEntry, DuplicatePid, NoSuchPlace, InternalProcess}
-use Rattle.cg_text.proofs.EachRow.{HavePassed, none_passed, more_passed, fault_found, all_passed, row_count, row_at}
-use Rattle.cg_text.proofs.KeysOnce.{none_left, none_right, unless_passes, present_passes, is_some-find, find_past}
+use Rattle.cg_text.specs.declared.tree.fault.TreeFault.TheVariants.{NoSuchPlace, InternalProcess}
+use Rattle.cg_text.proofs.EachRow.{HavePassed, none_passed, IsNextTable, table_taken, table_passed, table_found, tables_passed, tables_taken}
+use Rattle.cg_text.proofs.Cuts.{is_some-find}
+use Rattle.cg_text.proofs.KeysOnce.{find_past}
+use Rattle.cg_text.proofs.TablesSay.{process_says}
 
 -- ---- the place of a process
 
@@ -60,8 +64,7 @@ module _ (tables : List Members) (cgroups : map.FinMap path_cmp Cgroup) (among :
   at_path said = first (absent (option_and_then look said) (NoSuchPlace place) ++ present said held)
 
   pathless : (said : Option Names) (fault : TreeFault) → first (absent said (NoSuchPlace place)) ≡ Some fault → at_path said ≡ Some fault
-  pathless None fault is = is
-  pathless (Some path) fault is = absurd (true≢false (sym (ap is_some is)))
+  pathless said fault is = grind arith
 
   pub without_path : (fault : TreeFault) → first (absent (path_said (codes "at") row) (NoSuchPlace place)) ≡ Some fault
       → first (place_faults tables place row) ≡ Some fault
@@ -71,11 +74,7 @@ module _ (tables : List Members) (cgroups : map.FinMap path_cmp Cgroup) (among :
       → enabled ≡ option_map (λ (c : Cgroup). c.enabled) found
       → first (absent table (NoSuchPlace place) ++ present enabled
       (λ enabled. unless (is_root at || enables_nothing enabled) (InternalProcess place))) ≡ place_fault place at found
-  by_table at None enabled None there is = refl
-  by_table at None enabled (Some cgroup) there is = absurd (true≢false (sym there))
-  by_table at (Some table) enabled None there is = absurd (true≢false there)
-  by_table at (Some table) enabled (Some cgroup) there is = ap (λ o. first
-      (present o (λ enabled. unless (is_root at || enables_nothing enabled) (InternalProcess place)))) is
+  by_table at table enabled found there is = grind arith
 
   pub at_place : (at : Names) → path_said (codes "at") row ≡ Some at
       → first (place_faults tables place row) ≡ place_fault place at (map.get cgroups at)
@@ -83,46 +82,6 @@ module _ (tables : List Members) (cgroups : map.FinMap path_cmp Cgroup) (among :
       ap at_path said
       ∙ by_table at (look at) (enabled_there tables at) (map.get cgroups at) (is_some-find (has_path at) tables ∙ sym (among.there at))
       (sym (among.enabled at))
-
-  -- ---- a process
-
-  module _ (earlier : List Members) where
-    abbrev faults : Option TreeFault
-    faults = first (process_faults tables earlier place row)
-
-    abbrev again : Option ℕ → List TreeFault
-    again said = present said (λ pid. unless (not (list_any (has_pid pid) earlier)) (DuplicatePid place))
-
-    abbrev in_turn : Option ℕ → Option ℕ → Option TreeFault
-    in_turn pid uid = first (absent pid (BadPid place) ++ (absent uid (BadEntry place) ++ (again pid ++ place_faults tables place row)))
-
-    grouped : (a b c d e : List TreeFault) → (((a ++ b) ++ c) ++ d) ++ e ≡ a ++ (b ++ (c ++ (d ++ e)))
-    grouped a b c d e = append_assoc ((a ++ b) ++ c) d e ∙ append_assoc (a ++ b) c (d ++ e) ∙ append_assoc a b (c ++ (d ++ e))
-
-    faults_are : faults ≡ in_turn (pid_said row) (uid_said row)
-    faults_are =
-        ap first (grouped (absent (pid_said row) (BadPid place)) (absent (uid_said row) (BadEntry place)) (again (pid_said row))
-        (absent (option_and_then look (path_said (codes "at") row)) (NoSuchPlace place)) (present (path_said (codes "at") row) held))
-
-    pub without_pid : pid_said row ≡ None → faults ≡ Some (BadPid place)
-    without_pid none = faults_are ∙ ap (λ pid. in_turn pid (uid_said row)) none
-
-    pub without_uid : (pid : ℕ) → pid_said row ≡ Some pid → uid_said row ≡ None → faults ≡ Some (BadEntry place)
-    without_uid pid said none = faults_are ∙ (λ i. in_turn (said i) (none i))
-
-    behind : (pid uid : ℕ) (met : Bool) → pid_said row ≡ Some pid → uid_said row ≡ Some uid → list_any (has_pid pid) earlier ≡ met
-        → faults ≡ first (unless (not met) (DuplicatePid place) ++ place_faults tables place row)
-    behind pid uid met said owner is =
-        faults_are ∙ (λ i. in_turn (said i) (owner i))
-        ∙ ap (λ b. first (unless (not b) (DuplicatePid place) ++ place_faults tables place row)) is
-
-    pub met_twice : (pid uid : ℕ) → pid_said row ≡ Some pid → uid_said row ≡ Some uid → list_any (has_pid pid) earlier ≡ true
-        → faults ≡ Some (DuplicatePid place)
-    met_twice pid uid said owner is = behind pid uid true said owner is
-
-    pub met_once : (pid uid : ℕ) → pid_said row ≡ Some pid → uid_said row ≡ Some uid → list_any (has_pid pid) earlier ≡ false
-        → faults ≡ first (place_faults tables place row)
-    met_once pid uid said owner is = behind pid uid false said owner is
 
 -- what a look-up of all names of a path gives
 pub got_whole : {X : Type 0} (cgroups : map.FinMap path_cmp X) (at : Names) (depth : ℕ) (found : Option X)
@@ -153,12 +112,7 @@ find_behind p before row none so = find_past p before (row ∷ []) none ∙ ap (
 
 find_before : (p : Members → Bool) (before rest : List Members) (row : Members) → find p before ≡ Some row
     → find p (before ++ rest) ≡ Some row
-find_before p [] rest row is = absurd (true≢false (sym (ap is_some is)))
-find_before p (x ∷ before) rest row is =
-    elim (p x) as (λ b. cond b (Some x) (find p before) ≡ Some row → cond b (Some x) (find p (before ++ rest)) ≡ Some row) [
-      | true ↦ λ is. is
-      | false ↦ λ is. find_before p before rest row is
-    ] is
+find_before p before rest row is = find-append p before rest ∙ ap (λ found. option_or found (find p rest)) is
 
 -- one process more
 module _ (earlier : List Members) (row : Members) (live after : BTreeMap ℕ Process) (pid : ℕ) (process : Process)
@@ -208,18 +162,8 @@ module _ (earlier : List Members) (row : Members) (live after : BTreeMap ℕ Pro
 pid_is_new : (tables earlier : List Members) (place : Place) (row : Members) (pid : ℕ) → pid_said row ≡ Some pid
     → first (process_faults tables earlier place row) ≡ None → list_any (has_pid pid) earlier ≡ false
 pid_is_new tables earlier place row pid said none =
-    let numbers : List TreeFault = absent (pid_said row) (BadPid place) ++ absent (uid_said row) (BadEntry place) in
-    let twice : List TreeFault = present (pid_said row) (λ pid. unless (not (list_any (has_pid pid) earlier)) (DuplicatePid place)) in
-    let nowhere : List TreeFault = absent (option_and_then (λ path. find (has_path path) tables) (path_said (codes "at") row))
-    (NoSuchPlace place) in
-    let internal : List TreeFault = present (path_said (codes "at") row)
-    (λ path. present (enabled_there tables path) (λ enabled. unless (is_root path || enables_nothing enabled)
-    (InternalProcess place))) in
-    let passes : first twice ≡ None = none_right numbers twice (none_left (numbers ++ twice) nowhere
-    (none_left ((numbers ++ twice) ++ nowhere) internal none)) in
-    not-true (list_any (has_pid pid) earlier)
-    (unless_passes (not (list_any (has_pid pid) earlier)) (DuplicatePid place)
-    (present_passes (pid_said row) (λ pid. unless (not (list_any (has_pid pid) earlier)) (DuplicatePid place)) pid said passes))
+    let says = process_says tables earlier place row (none_of_first _ none) in
+    ap (λ pid. list_any (has_pid pid) earlier) (same_some pid says.pid (sym said ∙ says.numbered)) ∙ says.fresh
 
 module _ (tables : List Members) (elements : List Value) (are : list_all (λ held. is_some (as_table (view held))) elements ≡ true) where
   abbrev rows : List Members
@@ -227,38 +171,26 @@ module _ (tables : List Members) (elements : List Value) (are : list_all (λ hel
 
   pub all_read : (i : ℕ) (live : BTreeMap ℕ Process) → length elements ≤ i → HasRead tables rows i live
       → (first (each_process (process_faults tables) rows) ≡ None) × AreLive rows live
-  all_read i live past had =
-      let whole : length rows ≤ i = omega (arith, row_count as_table view elements are) in (
-        all_passed (process_faults tables) AtProcess rows i had.passed whole,
-        subst (λ some. AreLive some live)
-            (take_all i rows whole) had.are,
-      )
+  all_read i live past had = (
+    tables_passed (process_faults tables) AtProcess elements are i past had.passed,
+    subst (λ some. AreLive some live) (tables_taken (process_faults tables) AtProcess elements are i past) had.are,
+  )
 
   -- the next table
-  module _ (i : ℕ) (element : Value) (row : Members) (below : i < length elements) (at : element ≡ get_or elements i element)
-      (seen : as_table (view element) ≡ Some row)
-      (number : ℕ) (next : number ≡ i + 1) (live : BTreeMap ℕ Process) (had : HasRead tables rows i live) where
-    inside : i < length rows
-    inside = omega (arith, row_count as_table view elements are)
-
-    row_is : row ≡ get_or rows i row
-    row_is = row_at as_table view elements are i element row below at seen
-
-    numbered : first (process_faults tables (take i rows) (AtProcess (i + 1)) row) ≡ first
-        (process_faults tables (take i rows) (AtProcess number) row)
-    numbered = ap (λ n. first (process_faults tables (take i rows) (AtProcess n) row)) (sym next)
-
+  module _ (i : ℕ) (row : Members) (number : ℕ) (next : IsNextTable elements i row number) (live : BTreeMap ℕ Process)
+      (had : HasRead tables rows i live) where
     pub read_fails : (fault : TreeFault) → first (process_faults tables (take i rows) (AtProcess number) row) ≡ Some fault
         → first (each_process (process_faults tables) rows) ≡ Some fault
-    read_fails fault is = fault_found (process_faults tables) AtProcess rows i row fault had.passed inside row_is (numbered ∙ is)
+    read_fails = table_found (process_faults tables) AtProcess elements are i row number next had.passed
 
     pub read_more : (after : BTreeMap ℕ Process) (pid : ℕ) (process : Process)
         → first (process_faults tables (take i rows) (AtProcess number) row) ≡ None → IsLive row (pid, process)
         → ((q : ℕ) → get nat_cmp after q ≡ cond (is_at (nat_cmp pid) q) (Some process) (get nat_cmp live q))
         → HasRead tables rows (i + 1) after
     read_more after pid process none is updates = record {
-      passed = more_passed (process_faults tables) AtProcess rows i row had.passed inside row_is (numbered ∙ none);
-      are = subst (λ some. AreLive some after) (sym (take_more rows i row inside ∙ ap (λ x. take i rows ++ x ∷ []) (sym row_is)))
+      passed = table_passed (process_faults tables) AtProcess elements are i row number next had.passed none;
+      are =
+          subst (λ some. AreLive some after) (sym (table_taken (process_faults tables) AtProcess elements are i row number next))
           (live_more (take i rows) row live after pid process is had.are
           (pid_is_new tables (take i rows) (AtProcess number) row pid is.pid none) updates);
     }

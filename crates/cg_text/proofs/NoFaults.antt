@@ -1,12 +1,14 @@
 -- A text that is of a state has no fault.
-use Rattle.std.proofs.Common.{◌≡◌, ℕ, ◌+◌, Bool, true, false, not, cond, ◌||◌, nat_le, le-leb, List, [], ◌∷◌, ◌++◌, length, codes, Option, Some, None, is_some, option_map, option_and_then, unwrap_or, refl, sym, ap, ◌∙◌, true≢false, append_assoc, arith}
-use Rattle.std.specs.Prelude.{count_by, nat_eq, find}
+use Rattle.std.proofs.Common.{◌≡◌, ℕ, suc, filter, ◌+◌, Bool, true, false, not, cond, ◌||◌, nat_le, le-leb, List, [], ◌∷◌, ◌++◌, length, codes, Option, Some, None, is_some, option_map, option_and_then, unwrap_or, refl, sym, ap, ◌∙◌, true≢false, append_assoc, arith}
+use Rattle.std.specs.Prelude.{count_by, nat_eq}
 use Rattle.std.specs.List.{AllByRecursion, list_all, list_any}
-use Rattle.std.proofs.lemmas.Bool.{and_parts, and_from}
+use Rattle.std.proofs.lemmas.Bool.{and_parts, and_from, or_right, false_from_ne_true}
+use Rattle.std.proofs.lemmas.List.{append-nil, length-append, nil_from_length}
+use Rattle.std.proofs.lemmas.List.Sums.{length-filter}
 use Rattle.std.proofs.lemmas.Bool.Decides.{nat_tests}
-use Rattle.toml.specs.Data.{Data, Members, no_members, table}
+use Rattle.toml.specs.Data.{Data, Members, no_members}
 use Rattle.cg_cgroup.specs.Paths.{Names, same_path, is_root, parent}
-use Rattle.cg_cgroup.specs.Files.{all_files, all_entries, no_controllers, enables_nothing, is_within, stands_under}
+use Rattle.cg_cgroup.specs.Files.{all_files, all_entries, no_controllers, enables_nothing, stands_under}
 use Rattle.cg_cgroup.specs.Cgroups.{file_of}
 use Rattle.cg_cgroup.specs.declared.user.Entry.{Entry}
 use Rattle.cg_cgroup.specs.declared.files.ControllerSet.{ControllerSet}
@@ -14,39 +16,29 @@ use Rattle.cg_cgroup.specs.declared.files.LimitFile.{LimitFile}
 use Rattle.cg_cgroup.specs.declared.files.EntryName.{EntryName}
 use Rattle.cg_cgroup.specs.declared.files.EntryName.TheVariants.{Dir, Procs, SubtreeControl, File}
 use Rattle.cg_cgroup.specs.declared.cgroup.LimitEntry.{LimitEntry}
-use Rattle.cg_cgroup.proofs.Options.{is_some-mapped}
+use Rattle.cg_cgroup.proofs.Options.{none_value, is_some-mapped}
 use Rattle.cg_cgroup.proofs.PathOrder.{same_path_refl}
 use Rattle.cg_model.specs.Clauses.{unless, absent, present}
 use Rattle.cg_model.specs.States.{State, row_at, process_at}
-use Rattle.cg_model.specs.WellFormed.{has_row, enabled_at, enabled_above, available_at, IsWellFormed}
+use Rattle.cg_model.specs.WellFormed.{has_row, enabled_at, enabled_above, IsWellFormed}
 use Rattle.cg_steps.proofs.FormedParts.{may_hold-row}
-use Rattle.cg_text.specs.Form.{Key, most_rows, document_keys, row_keys, live_keys, is_table}
-use Rattle.cg_text.specs.Said.{elements_at, tables_at, path_said, controllers_said, format_said, owner_said, limit_said, table_of, entry_said, value_said, is_named, has_path, pid_said, uid_said}
+use Rattle.cg_text.specs.Form.{Key, most_rows, row_keys, live_keys, is_table}
+use Rattle.cg_text.specs.Said.{elements_at, tables_at, controllers_said, owner_said, limit_said, table_of, entry_said, value_said, is_named, has_path}
 use Rattle.cg_text.specs.TextOf.{IsInForm, IsRowOf, IsProcessOf, has_pid, IsDocumentOf, IsTextOf}
-use Rattle.cg_text.specs.TextFaults.{each, each_cgroup, each_process, has_few, form_faults, row_faults, is_there, enabled_there, over, on_path, cgroup_faults, process_faults, said_faults, document_faults, text_faults}
-use Rattle.cg_text.specs.TreeTexts.{longest_text, document_of}
+use Rattle.cg_text.specs.TextFaults.{each, each_cgroup, each_process, has_few, form_faults, row_faults, is_there, enabled_there, over, cgroup_faults, process_faults, said_faults, document_faults, text_faults}
+use Rattle.cg_text.specs.TreeTexts.{longest_text}
 use Rattle.cg_text.specs.declared.tree.fault.Place.{Place}
 use Rattle.cg_text.specs.declared.tree.fault.Place.TheVariants.{Top, Cgroup as AtCgroup, Process as AtProcess}
 use Rattle.cg_text.specs.declared.tree.fault.TreeFault.{TreeFault}
-use Rattle.cg_text.specs.declared.tree.fault.TreeFault.TheVariants.{TooLong, NotToml, Shape, Format as BadFormat, TooMany, BadController, BadPath, BadEntry, BadValue, Duplicate, NoRoot, NoParent, TopDown, NoSuchFile, BadPid, DuplicatePid, NoSuchPlace, InternalProcess}
+use Rattle.cg_text.specs.declared.tree.fault.TreeFault.TheVariants.{TooLong, NotToml, Shape, Format as BadFormat, TooMany, BadController, BadPath, BadEntry, BadValue, NoRoot, NoSuchFile, InternalProcess}
 use Rattle.cg_text.specs.declared.tree.format.Format.{Format}
 use Rattle.cg_text.specs.declared.tree.format.Format.TheVariants.{One, Two}
-use Rattle.cg_text.proofs.OnceLaws.{counted, counted_is}
+use Rattle.cg_text.proofs.RowLaws.{all_so}
+use Rattle.cg_text.proofs.CgroupClauses.{twice_clause, orphan_clause, within_clause, files_clause}
+use Rattle.cg_text.proofs.Cuts.{head_of, is_some-find, any_filter, filter_cut}
 use Rattle.cg_text.proofs.OneState.{Passes, one_passes, path_is, enabled_in}
 
 -- ---- clauses that find nothing
-
-none_of_both : {A : Type 0} (one other : List A) → one ≡ [] → other ≡ [] → one ++ other ≡ []
-none_of_both one other none also = ap (λ xs. xs ++ other) none ∙ also
-
-passes : (b : Bool) (fault : TreeFault) → b ≡ true → unless b fault ≡ []
-passes b fault is = ap (λ b. unless b fault) is
-
-is_there_so : {A : Type 0} (o : Option A) (x : A) (fault : TreeFault) → o ≡ Some x → absent o fault ≡ []
-is_there_so o x fault is = ap (λ o. absent o fault) is
-
-none_present : {A : Type 0} (o : Option A) (x : A) (clauses : A → List TreeFault) → o ≡ Some x → clauses x ≡ [] → present o clauses ≡ []
-none_present o x clauses is none = ap (λ o. present o clauses) is ∙ none
 
 module _ {A : Type 0} (P : A → Type 0) (clauses : List A → Place → A → List TreeFault) (place : ℕ → Place) where
   abbrev FindNone : List A → Type 0
@@ -56,19 +48,15 @@ module _ {A : Type 0} (P : A → Type 0) (clauses : List A → Place → A → L
   none_from : (earlier rows : List A) (i : ℕ) → AllByRecursion P rows → FindNone (earlier ++ rows) → each clauses place i earlier rows ≡ []
   none_from earlier [] i all none = refl
   none_from earlier (row ∷ rows) i all none =
-      none_of_both (clauses earlier (place i) row) (each clauses place (i + 1) (earlier ++ row ∷ []) rows)
-      (none earlier row rows refl all.0 (place i))
-      (none_from (earlier ++ row ∷ []) rows (i + 1) all.1
-      (λ before x after is. none before x after (is ∙ append_assoc earlier (row ∷ []) rows)))
+      let here = none earlier row rows refl all.0 (place i) in
+      let later = none_from (earlier ++ row ∷ []) rows (i + 1) all.1
+      (λ before x after is. none before x after (is ∙ append_assoc earlier (row ∷ []) rows)) in
+      λ j. here j ++ later j
 
   none_of_each : (all : List A) → AllByRecursion P all → FindNone all → each clauses place 1 [] all ≡ []
   none_of_each all holds none = none_from [] all 1 holds none
 
 -- ---- lists
-
-all_pass : {A : Type 0} (p : A → Bool) → ((x : A) → p x ≡ true) → (xs : List A) → list_all p xs ≡ true
-all_pass p each [] = refl
-all_pass p each (x ∷ xs) = and_from (p x) (list_all p xs) (each x) (all_pass p each xs)
 
 all_of : {A : Type 0} (p : A → Bool) (xs : List A) → list_all p xs ≡ true → AllByRecursion (λ x. p x ≡ true) xs
 all_of p [] all = tt
@@ -76,45 +64,17 @@ all_of p (x ∷ xs) all =
     let parts = and_parts (p x) (list_all p xs) all in
     (parts.0, all_of p xs parts.1)
 
-found_any : {A : Type 0} (p : A → Bool) (xs : List A) (x : A) → find p xs ≡ Some x → list_any p xs ≡ true
-found_any p [] x is = absurd (true≢false (sym (ap is_some is)))
-found_any p (y ∷ xs) x is =
-    elim (p y) as (λ b. cond b (Some y) (find p xs) ≡ Some x → (b || list_any p xs) ≡ true) [
-      | true ↦ λ _. refl
-      | false ↦ λ later. found_any p xs x later
-    ] is
-
-counted_cut : {A : Type 0} (p : A → Bool) (before rest : List A) → counted p (before ++ rest) ≡ counted p before + counted p rest
-counted_cut p [] rest = omega arith
-counted_cut p (x ∷ before) rest =
-    let later = counted_cut p before rest in
-    let whole : ℕ = counted p (before ++ rest) in
-    let front : ℕ = counted p before in
-    elim (p x) as (λ b. cond b (1 + whole) whole ≡ cond b (1 + front) front + counted p rest) [
-      | true ↦ omega (arith, later)
-      | false ↦ later
-    ]
-
-none_counted : {A : Type 0} (p : A → Bool) (xs : List A) → counted p xs ≡ 0 → list_any p xs ≡ false
-none_counted p [] is = refl
-none_counted p (x ∷ xs) is =
-    elim (p x) as (λ b. cond b (1 + counted p xs) (counted p xs) ≡ 0 → (b || list_any p xs) ≡ false) [
-      | true ↦ λ more. absurd (omega (arith, more))
-      | false ↦ λ none. none_counted p xs none
-    ] is
-
-at_most_one : (before here after n : ℕ) (b : Bool) → before + here ≡ n → n ≡ cond b 1 0 → here ≡ 1 + after → before ≡ 0
-at_most_one before here after n true sum count some = omega (arith, sum, count, some)
-at_most_one before here after n false sum count some = omega (arith, sum, count, some)
-
 -- before the one that passes a test none does
 none_before : {A : Type 0} (p : A → Bool) (all before : List A) (x : A) (after : List A) (b : Bool) → before ++ x ∷ after ≡ all
     → count_by p all ≡ cond b 1 0 → p x ≡ true → list_any p before ≡ false
 none_before p all before x after b is count here =
-    let sum : counted p before + counted p (x ∷ after) ≡ counted p all = sym (counted_cut p before (x ∷ after)) ∙ ap (counted p) is in
-    let some : counted p (x ∷ after) ≡ 1 + counted p after = ap (λ t. cond t (1 + counted p after) (counted p after)) here in
-    none_counted p before
-    (at_most_one (counted p before) (counted p (x ∷ after)) (counted p after) (counted p all) b sum (counted_is p all ∙ count) some)
+    let sum = sym (length-append (filter p before) (x ∷ filter p after)) ∙ ap length (sym (filter_cut p before x after here) ∙ ap (filter p) is)
+    ∙ length-filter p all ∙ count in
+    any_filter p before ∙ ap (λ some. is_some (head_of some)) (nil_from_length (filter p before) (one_at_most _ _ b sum))
+  where
+    one_at_most : (m n : ℕ) (b : Bool) → m + suc n ≡ cond b 1 0 → m ≡ 0
+    one_at_most m n true is = omega arith
+    one_at_most m n false is = omega arith
 
 -- ---- form
 
@@ -122,7 +82,7 @@ shapes_fit : (keys : List Key) (place : ℕ → Place) (some : List Data) → li
     → each (λ _ here held. unless (is_table keys held) (Shape here)) place 1 [] some ≡ []
 shapes_fit keys place some all =
     none_of_each (λ held. is_table keys held ≡ true) (λ _ here held. unless (is_table keys held) (Shape here)) place some
-    (all_of (is_table keys) some all) (λ before held after is fits here. passes (is_table keys held) (Shape here) fits)
+    (all_of (is_table keys) some all) (λ before held after is fits here. ap (λ b. unless b (Shape here)) fits)
 
 form_has_none : (document : Members) (format : Format) → IsInForm format document → form_faults document ≡ []
 form_has_none document format form =
@@ -131,12 +91,12 @@ form_has_none document format form =
     let few : has_few document ≡ true =
     and_from (nat_le (length cgroups) most_rows) (nat_le (length processes) most_rows)
     (le-leb (length cgroups) most_rows form.few_cgroups) (le-leb (length processes) most_rows form.few_processes) in
-    none_of_both _ _ (none_of_both _ _ (none_of_both _ _ (none_of_both _ _
-    (passes (is_table document_keys (table document)) (Shape Top) form.top)
-    (is_there_so (format_said document) format BadFormat form.format))
-    (passes (has_few document) TooMany few))
-    (none_present (format_said document) format _ form.format (shapes_fit (row_keys format) AtCgroup cgroups form.cgroups)))
-    (shapes_fit live_keys AtProcess processes form.processes)
+    let cgroups_fit = shapes_fit (row_keys format) AtCgroup cgroups form.cgroups in
+    let processes_fit = shapes_fit live_keys AtProcess processes form.processes in
+    (λ i. unless (form.top i) (Shape Top) ++ absent (form.format i) BadFormat ++ unless (few i) TooMany
+    ++ present (form.format i) (λ format. each_cgroup (λ _ place held. unless (is_table (row_keys format) held) (Shape place)) cgroups)
+    ++ each_process (λ _ place held. unless (is_table live_keys held) (Shape place)) processes)
+    ∙ (λ i. cgroups_fit i ++ processes_fit i)
 
 -- ---- a cgroup by itself
 
@@ -145,15 +105,12 @@ nobody : (format : Format) → is_some (owner_said format 420 no_members) ≡ tr
 nobody One = refl
 nobody Two = refl
 
-is_absent : {A : Type 0} (o : Option A) → (is_some o ≡ true → ⊥) → o ≡ None
-is_absent None never = refl
-is_absent (Some x) never = absurd (never refl)
-
 module _ (format : Format) (st : State) (row : Members) (is : IsRowOf format st row) where
   unnamed : (file : LimitFile) → file_of is.cgroup file ≡ None → table_of (File file) row ≡ None
   unnamed file none =
       let entry_of : Option LimitEntry → Option Entry = option_map (λ (f : LimitEntry). f.entry) in
-      is_absent (table_of (File file) row) (λ named. true≢false (sym (is.files (File file) named) ∙ ap (λ o. is_some (entry_of o)) none))
+      none_value (table_of (File file) row) (false_from_ne_true (is_named (File file) row) (λ named.
+      true≢false (sym (is.files (File file) named) ∙ ap (λ o. is_some (entry_of o)) none)))
 
   file_said : (file : LimitFile) (found : Option LimitEntry) → file_of is.cgroup file ≡ found
       → (is_some (entry_said format row (File file)) ≡ true) × (is_some (value_said row file) ≡ true)
@@ -178,30 +135,21 @@ module _ (format : Format) (st : State) (row : Members) (is : IsRowOf format st 
 
   row_has_none : (place : Place) → row_faults format place row ≡ []
   row_has_none place =
-      none_of_both _ _ (none_of_both _ _ (none_of_both _ _
-      (is_there_so (path_said (codes "path") row) is.path (BadPath place) is.named)
-      (is_there_so (controllers_said (codes "enabled") row) is.cgroup.enabled (BadController place) is.enabled))
-      (passes (list_all (λ name. is_some (entry_said format row name)) all_entries) (BadEntry place)
-      (all_pass (λ name. is_some (entry_said format row name)) each_entry all_entries)))
-      (passes (list_all (λ file. is_some (value_said row file)) all_files) (BadValue place)
-      (all_pass (λ file. is_some (value_said row file)) each_value all_files))
+      let entries = all_so (λ name. is_some (entry_said format row name)) each_entry all_entries in
+      let values = all_so (λ file. is_some (value_said row file)) each_value all_files in
+      λ i. absent (is.named i) (BadPath place) ++ absent (is.enabled i) (BadController place) ++ unless (entries i) (BadEntry place)
+      ++ unless (values i) (BadValue place)
 
 -- ---- the cgroups together
 
 either : {A : Type 0} (b : Bool) (x y : A) → cond b (Some x) (Some y) ≡ Some (cond b x y)
-either true x y = refl
-either false x y = refl
-
-or_so : (a b : Bool) → b ≡ true → (a || b) ≡ true
-or_so true b so = refl
-or_so false b so = so
+either b x y = grind arith
 
 same_as_itself : (n : ℕ) → nat_eq n n ≡ true
 same_as_itself n = grind (arith, nat_tests)
 
 where_named : (a b : Bool) → (a ≡ true → b ≡ true) → (not a || b) ≡ true
-where_named true b so = so refl
-where_named false b so = refl
+where_named a b so = grind arith
 
 module _ (format : Format) (st : State) (tables : List Members) (all : AllByRecursion (IsRowOf format st) tables)
     (paths : (path : Names) → count_by (has_path path) tables ≡ cond (has_row st path) 1 0) (formed : IsWellFormed st) where
@@ -211,7 +159,7 @@ module _ (format : Format) (st : State) (tables : List Members) (all : AllByRecu
   there_so : (path : Names) → has_row st path ≡ true → is_there tables path ≡ true
   there_so path there =
       let one = found path there in
-      found_any (has_path path) tables one.0 one.3
+      sym (is_some-find (has_path path) tables) ∙ ap is_some one.3
 
   enabled_so : (path : Names) → has_row st path ≡ true → enabled_there tables path ≡ Some (enabled_at st path)
   enabled_so path there =
@@ -234,47 +182,20 @@ module _ (format : Format) (st : State) (tables : List Members) (all : AllByRecu
       none_of_each (IsRowOf format st) (λ _. row_faults format) AtCgroup tables all
       (λ before row after cut is here. row_has_none format st row is here)
 
-  abbrev Clause : Type 0
-  Clause = List Members → Place → Members → List TreeFault
-
-  abbrev twice_clause : Clause
-  twice_clause = λ earlier place row. present (path_said (codes "path") row) (λ path.
-      unless (not (is_there earlier path)) (Duplicate place))
-
-  abbrev orphan_clause : Clause
-  orphan_clause = on_path (λ path place row. unless (is_root path || is_there tables (parent path)) (NoParent place))
-
-  abbrev within_clause : Clause
-  within_clause = on_path (λ path place row. present (controllers_said (codes "enabled") row) (λ enabled.
-      present (over (Some st.controllers) tables path) (λ available. unless (is_within enabled available) (TopDown place))))
-
-  abbrev files_clause : Clause
-  files_clause = on_path (λ path place row. present (over (Some no_controllers) tables path) (λ above.
-      unless (list_all (λ file. not (is_named (File file) row) || stands_under above file) all_files) (NoSuchFile place)))
-
   none_twice : each_cgroup twice_clause tables ≡ []
   none_twice =
       none_of_each (IsRowOf format st) twice_clause AtCgroup tables all (λ before row after cut is here.
-      none_present (path_said (codes "path") row) is.path _ is.named
-      (passes (not (is_there before is.path)) (Duplicate here)
-      (ap not (none_before (has_path is.path) tables before row after (has_row st is.path) cut (paths is.path) (has_own row is)))))
+      rw (is.named, none_before (has_path is.path) tables before row after (has_row st is.path) cut (paths is.path) (has_own row is)))
 
-  none_orphan : each_cgroup orphan_clause tables ≡ []
+  none_orphan : each_cgroup (orphan_clause tables) tables ≡ []
   none_orphan =
-      none_of_each (IsRowOf format st) orphan_clause AtCgroup tables all (λ before row after cut is here.
-      let above : Names = parent is.path in
-      none_present (path_said (codes "path") row) is.path _ is.named
-      (passes (is_root is.path || is_there tables above) (NoParent here)
-      (or_so (is_root is.path) (is_there tables above) (there_so above (formed.parents is.path (ap is_some is.there))))))
+      none_of_each (IsRowOf format st) (orphan_clause tables) AtCgroup tables all (λ before row after cut is here.
+      rw (is.named, or_right (is_root is.path) _ (there_so (parent is.path) (formed.parents is.path (ap is_some is.there)))))
 
-  none_past : each_cgroup within_clause tables ≡ []
+  none_past : each_cgroup (within_clause st.controllers tables) tables ≡ []
   none_past =
-      none_of_each (IsRowOf format st) within_clause AtCgroup tables all (λ before row after cut is here.
-      none_present (path_said (codes "path") row) is.path _ is.named
-      (none_present (controllers_said (codes "enabled") row) is.cgroup.enabled _ is.enabled
-      (none_present (over (Some st.controllers) tables is.path) (available_at st is.path) _
-      (over_so st.controllers is.path (ap is_some is.there))
-      (passes (is_within is.cgroup.enabled (available_at st is.path)) (TopDown here) (formed.top_down is.path is.cgroup is.there)))))
+      none_of_each (IsRowOf format st) (within_clause st.controllers tables) AtCgroup tables all (λ before row after cut is here.
+      rw (is.named, is.enabled, over_so st.controllers is.path (ap is_some is.there), formed.top_down is.path is.cgroup is.there))
 
   stands : (row : Members) (is : IsRowOf format st row) (file : LimitFile) → is_named (File file) row ≡ true
       → stands_under (enabled_above st is.path) file ≡ true
@@ -282,24 +203,18 @@ module _ (format : Format) (st : State) (tables : List Members) (all : AllByRecu
       sym ((formed.rows is.path is.cgroup is.there).files file)
       ∙ sym (is_some-mapped (λ (f : LimitEntry). f.entry) (file_of is.cgroup file)) ∙ is.files (File file) named
 
-  none_misplaced : each_cgroup files_clause tables ≡ []
+  none_misplaced : each_cgroup (files_clause tables) tables ≡ []
   none_misplaced =
-      none_of_each (IsRowOf format st) files_clause AtCgroup tables all (λ before row after cut is here.
+      none_of_each (IsRowOf format st) (files_clause tables) AtCgroup tables all (λ before row after cut is here.
       let above : ControllerSet = enabled_above st is.path in
-      none_present (path_said (codes "path") row) is.path _ is.named
-      (none_present (over (Some no_controllers) tables is.path) above _ (over_so no_controllers is.path (ap is_some is.there))
-      (passes (list_all (λ file. not (is_named (File file) row) || stands_under above file) all_files) (NoSuchFile here)
-      (all_pass (λ file. not (is_named (File file) row) || stands_under above file)
-      (λ file. where_named (is_named (File file) row) (stands_under above file) (stands row is file)) all_files))))
+      let brought = all_so (λ file. not (is_named (File file) row) || stands_under above file)
+      (λ file. where_named (is_named (File file) row) (stands_under above file) (stands row is file)) all_files in
+      rw (is.named, over_so no_controllers is.path (ap is_some is.there)) (ap (λ b. unless b (NoSuchFile here)) brought))
 
   cgroups_have_none : cgroup_faults (Some st.controllers) tables ≡ []
   cgroups_have_none =
-      none_of_both _ _ (none_of_both _ _ (none_of_both _ _ (none_of_both _ _
-      none_twice
-      (passes (is_there tables []) NoRoot (there_so [] formed.root)))
-      none_orphan)
-      none_past)
-      none_misplaced
+      let root = there_so [] formed.root in
+      λ i. none_twice i ++ unless (root i) NoRoot ++ none_orphan i ++ none_past i ++ none_misplaced i
 
   -- ---- processes
 
@@ -312,17 +227,9 @@ module _ (format : Format) (st : State) (tables : List Members) (all : AllByRecu
         let holds = may_hold-row st path (formed.places is.pid is.process is.there) in
         let there : has_row st path ≡ true = ap is_some holds.1 in
         let one = found path there in
-        none_of_both _ _ (none_of_both _ _ (none_of_both _ _ (none_of_both _ _
-        (is_there_so (pid_said row) is.pid (BadPid place) is.named)
-        (is_there_so (uid_said row) is.process.uid (BadEntry place) is.owner))
-        (none_present (pid_said row) is.pid (λ pid. unless (not (list_any (has_pid pid) before)) (DuplicatePid place)) is.named
-        (passes (not (list_any (has_pid is.pid) before)) (DuplicatePid place) (ap not new))))
-        (is_there_so (option_and_then (λ path. find (has_path path) tables) (path_said (codes "at") row)) one.0 (NoSuchPlace place)
-        (ap (option_and_then (λ path. find (has_path path) tables)) is.place ∙ one.3)))
-        (none_present (path_said (codes "at") row) path _ is.place
-        (none_present (enabled_there tables path) (enabled_at st path) _ (enabled_so path there)
-        (passes (is_root path || enables_nothing (enabled_at st path)) (InternalProcess place)
-        (ap (λ o. is_root path || enables_nothing (enabled_in o)) holds.1 ∙ holds.2))))
+        rw (is.named, is.owner, is.place, new, enabled_so path there, one.3)
+        (ap (λ o. unless (is_root path || enables_nothing (enabled_in o)) (InternalProcess place)) holds.1
+        ∙ ap (λ b. unless b (InternalProcess place)) holds.2)
 
     own_pid : (row : Members) (is : IsProcessOf st row) → has_pid is.pid row ≡ true
     own_pid row is =
@@ -340,18 +247,16 @@ document_has_none : (document : Members) (st : State) → IsDocumentOf st docume
 document_has_none document st is =
     let tables : List Members = tables_at (codes "cgroup") document in
     let lives : List Members = tables_at (codes "process") document in
-    let controllers : Option ControllerSet = controllers_said (codes "controllers") document in
-    none_of_both _ _ (form_has_none document is.format is.form)
-    (none_present (format_said document) is.format (λ format. said_faults format document) is.form.format
-    (none_of_both _ _ (none_of_both _ _ (none_of_both _ _
-    (is_there_so controllers st.controllers (BadController Top) is.controllers)
-    (rows_have_none is.format st tables is.cgroups is.paths is.formed))
-    (ap (λ o. cgroup_faults o tables) is.controllers ∙ cgroups_have_none is.format st tables is.cgroups is.paths is.formed))
-    (processes_have_none is.format st tables is.cgroups is.paths is.formed lives is.processes is.pids)))
+    let form = form_has_none document is.format is.form in
+    let alone = rows_have_none is.format st tables is.cgroups is.paths is.formed in
+    let together = cgroups_have_none is.format st tables is.cgroups is.paths is.formed in
+    let living = processes_have_none is.format st tables is.cgroups is.paths is.formed lives is.processes is.pids in
+    (λ i. form i ++ present (is.form.format i) (λ format. said_faults format document))
+    ∙ (λ i. absent (is.controllers i) (BadController Top) ++ alone i ++ cgroup_faults (is.controllers i) tables ++ living i)
+    ∙ append-nil _ ∙ together
 
 pub no_faults : (bytes : List ℕ) (st : State) → IsTextOf st bytes → text_faults bytes ≡ []
 no_faults bytes st is =
-    none_of_both _ _ (none_of_both _ _
-    (passes (nat_le (length bytes) longest_text) TooLong (le-leb (length bytes) longest_text is.short))
-    (is_there_so (document_of bytes) is.document NotToml is.parsed))
-    (none_present (document_of bytes) is.document document_faults is.parsed (document_has_none is.document st is.says))
+    let short = le-leb (length bytes) longest_text is.short in
+    (λ i. unless (short i) TooLong ++ absent (is.parsed i) NotToml ++ present (is.parsed i) document_faults)
+    ∙ document_has_none is.document st is.says

@@ -1,5 +1,5 @@
 -- Lists in which no key comes twice, by places and from the front, and how often a key comes.
-use Rattle.std.proofs.Common.{◌≡◌, ℕ, ◌+◌, ◌<◌, ◌≤◌, zero, suc, Bool, true, false, cond, List, [], ◌∷◌, length, take, get_or, map as map_list, Option, Some, None, is_some, refl, sym, ap, subst, ◌∙◌, true≢false, arith}
+use Rattle.std.proofs.Common.{◌≡◌, ℕ, ◌+◌, ◌<◌, zero, suc, Bool, true, false, cond, List, [], ◌∷◌, length, take, get_or, map as map_list, Option, Some, None, is_some, refl, sym, ap, ◌∙◌, true≢false, arith}
 use Rattle.std.specs.Prelude.{count_by}
 use Rattle.std.specs.List.{AllByRecursion}
 use Rattle.std.proofs.lemmas.List.Recursion.{is_count_by}
@@ -54,13 +54,6 @@ module _ {A K X : Type 0} {R : K → K → Ordering} (total : IsTotalOrder R) (s
   turned : (one other : A) → ties (pair one).0 other ≡ false → ties (pair other).0 one ≡ false
   turned one other is = sym ((eq_by_cmp_equiv total).symm (pair one).0 (pair other).0) ∙ is
 
-  -- a key that isn't found is that of no row
-  pub others : (q : K) (rows : List A) → look rows q ≡ None → AllByRecursion (λ row. ties q row ≡ false) rows
-  others q [] none = tt
-  others q (row ∷ rows) none =
-      let parts = missed (ties q row) (pair row).1 (look rows q) none in
-      (parts.0, others q rows parts.1)
-
   unfound : (q : K) (rows : List A) → AllByRecursion (λ row. ties q row ≡ false) rows → look rows q ≡ None
   unfound q [] all = refl
   unfound q (row ∷ rows) all = ap (λ b. cond b (Some (pair row).1) (look rows q)) all.0 ∙ unfound q rows all.1
@@ -79,34 +72,6 @@ module _ {A K X : Type 0} {R : K → K → Ordering} (total : IsTotalOrder R) (s
         fresh_once rows (λ i x inside is. (parts i x inside is).1),
       )
 
-  one_of : (P : A → Type 0) (rows : List A) → AllByRecursion P rows → (i : ℕ) (row : A) → i < length rows → row ≡ get_or rows i row → P row
-  one_of P [] all i row inside is = absurd (omega arith)
-  one_of P (x ∷ rows) all zero row inside is = subst P (sym is) all.0
-  one_of P (x ∷ rows) all (suc i) row inside is = one_of P rows all.1 i row (omega arith) is
-
-  pub once_fresh : (rows : List A) → IsFresh rows → Once rows
-  once_fresh [] fresh i row inside is = absurd (omega arith)
-  once_fresh (x ∷ rows) fresh zero row inside is = refl
-  once_fresh (x ∷ rows) fresh (suc i) row inside is =
-      let apart : ties (pair row).0 x ≡ false = turned x row (one_of (λ row. ties (pair x).0 row ≡ false) rows (others (pair x).0 rows fresh.0) i row (omega arith) is) in
-      ap (λ b. cond b (Some (pair x).1) (look (take i rows) (pair row).0)) apart ∙ once_fresh rows fresh.1 i row (omega arith) is
-
-  -- each row is found
-  found_among : (rows some : List A) → AllByRecursion (λ row. look rows (pair row).0 ≡ Some (pair row).1) some → (x : A) → AllByRecursion (λ row. ties (pair x).0 row ≡ false) some
-      → AllByRecursion (λ row. look (x ∷ rows) (pair row).0 ≡ Some (pair row).1) some
-  found_among rows [] found x apart = tt
-  found_among rows (row ∷ some) found x apart = (
-    ap (λ b. cond b (Some (pair x).1) (look rows (pair row).0)) (turned x row apart.0) ∙ found.0,
-    found_among rows some found.1 x apart.1,
-  )
-
-  pub found_fresh : (rows : List A) → IsFresh rows → AllByRecursion (λ row. look rows (pair row).0 ≡ Some (pair row).1) rows
-  found_fresh [] fresh = tt
-  found_fresh (row ∷ rows) fresh = (
-    ap (λ b. cond b (Some (pair row).1) (look rows (pair row).0)) ((eq_by_cmp_equiv total).refl (pair row).0),
-    found_among rows rows (found_fresh rows fresh.1) row (others (pair row).0 rows fresh.0),
-  )
-
   -- ---- how often a key comes
 
   pub none_counted : (q : K) (rows : List A) → look rows q ≡ None → counted (ties q) rows ≡ 0
@@ -124,26 +89,3 @@ module _ {A K X : Type 0} {R : K → K → Ordering} (total : IsTotalOrder R) (s
             ap (λ n. 1 + n) (none_counted q rows (ap (look rows) is ∙ fresh.0))
         | false ↦ λ _. once_counted q rows fresh.1
       ] refl
-
-  counted_none : (q : K) (rows : List A) → counted (ties q) rows ≡ 0 → look rows q ≡ None
-  counted_none q [] is = refl
-  counted_none q (row ∷ rows) is =
-      elim (ties q row) as (λ b. cond b (1 + counted (ties q) rows) (counted (ties q) rows) ≡ 0 → cond b (Some (pair row).1) (look rows q) ≡ None) [
-        | true ↦ λ more. absurd (omega (arith, more))
-        | false ↦ λ none. counted_none q rows none
-      ] is
-
-  more_counted : (b : Bool) (n : ℕ) → n ≤ cond b (1 + n) n
-  more_counted true n = omega arith
-  more_counted false n = omega arith
-
-  pub counted_fresh : (rows : List A) → ((q : K) → counted (ties q) rows ≤ 1) → IsFresh rows
-  counted_fresh [] few = tt
-  counted_fresh (row ∷ rows) few =
-      let here : 1 + counted (ties (pair row).0) rows ≤ 1 = subst (λ b. cond b (1 + counted (ties (pair row).0) rows) (counted (ties (pair row).0) rows) ≤ 1) ((eq_by_cmp_equiv total).refl (pair row).0) (few (pair row).0) in (
-        counted_none (pair row).0 rows (omega (arith, here)),
-        counted_fresh rows (λ q. omega (arith, few q, more_counted (ties q row) (counted (ties q) rows))),
-      )
-
-  pub none_of : (q : K) (rows : List A) → counted (ties q) rows ≡ 0 → look rows q ≡ None
-  none_of q rows is = counted_none q rows is

@@ -1,11 +1,13 @@
 -- A text is of one state at most. In it each cgroup stands at a path, and each live process has a PID.
-use Rattle.std.proofs.Common.{◌≡◌, ℕ, ◌+◌, ◌<◌, Bool, true, false, cond, List, [], ◌∷◌, codes, Option, Some, None, is_some, option_map, option_and_then, refl, sym, ap, subst, ◌∙◌, true≢false, arith}
+use Rattle.std.proofs.Common.{◌≡◌, ℕ, ◌<◌, Bool, true, false, cond, List, [], ◌∷◌, length, filter, codes, Option, Some, None, is_some, option_map, option_and_then, refl, sym, ap, subst, ◌∙◌, true≢false, arith}
 use Rattle.std.specs.Prelude.{count_by, nat_eq, find}
 use Rattle.std.specs.List.{AllByRecursion}
 use Rattle.std.specs.Cmp.{nat_cmp_total}
 use Rattle.std.specs.FinMap.{nat_cmp-IsAntisymmetric, same_map}
 use Rattle.std.specs.FinSet.{same_set}
 use Rattle.std.proofs.lemmas.Bool.Decides.{nat_tests}
+use Rattle.std.proofs.lemmas.List.Sums.{length-filter}
+use Rattle.cg_steps.proofs.Lists.{all-both, find-all, find-passes}
 use Rattle.toml.specs.Data.{Members}
 use Rattle.cg_cgroup.specs.Paths.{Names, IsPath, same_path, is_root, parent, path_at}
 use Rattle.cg_cgroup.specs.Numbers.{is_pid}
@@ -18,16 +20,17 @@ use Rattle.cg_cgroup.specs.declared.files.EntryName.{EntryName}
 use Rattle.cg_cgroup.specs.declared.files.EntryName.TheVariants.{Dir, Procs, SubtreeControl, File}
 use Rattle.cg_cgroup.specs.declared.cgroup.LimitEntry.{LimitEntry}
 use Rattle.cg_cgroup.specs.declared.cgroup.Cgroup.{Cgroup}
-use Rattle.cg_cgroup.proofs.Options.{none_value, same_some}
+use Rattle.cg_cgroup.proofs.Options.{some_value, none_value, same_some}
 use Rattle.cg_cgroup.proofs.PathAt.{path_at-is}
 use Rattle.cg_cgroup.proofs.PathOrder.{path_cmp_total, path_cmp-IsAntisymmetric, same_path-is}
 use Rattle.cg_cgroup.proofs.CgroupLaws.{SameRest, same_cgroup}
 use Rattle.cg_model.specs.States.{State, row_at, process_at}
 use Rattle.cg_model.specs.WellFormed.{has_row, enabled_at, enabled_above, IsWellFormed}
-use Rattle.cg_text.specs.Said.{tables_at, text_at, integer_at, path_said, pid_said, pid_read, passing, number_or, has_path}
+use Rattle.cg_text.specs.Said.{tables_at, text_at, integer_at, path_said, pid_said, pid_read, number_or, has_path}
 use Rattle.cg_text.specs.TextOf.{IsRowOf, IsProcessOf, has_pid, IsDocumentOf, IsTextOf}
 use Rattle.cg_text.specs.declared.tree.format.Format.{Format}
-use Rattle.cg_text.proofs.OnceLaws.{counted, counted_is}
+use Rattle.cg_text.proofs.Cuts.{head_of, find_filter}
+use Rattle.cg_text.proofs.SaidRanges.{passed}
 
 -- ---- what is found
 
@@ -40,30 +43,19 @@ and_then_from f (Some x) y is = (x, refl, is)
 abbrev pub Passes : {A : Type 0} → (A → Type 0) → (A → Bool) → List A → Type 0
 Passes {A = A} P p xs = (x : A) × P x × (p x ≡ true) × (find p xs ≡ Some x)
 
-counted_there : {A : Type 0} (P : A → Type 0) (p : A → Bool) (xs : List A) → AllByRecursion P xs → 0 < counted p xs → Passes P p xs
-counted_there P p [] all some = absurd (omega arith)
-counted_there {A = A} P p (x ∷ xs) all some =
-    elim (p x) as (λ b. p x ≡ b → 0 < cond b (1 + counted p xs) (counted p xs)
-    → (y : A) × P y × (p y ≡ true) × (cond b (Some x) (find p xs) ≡ Some y)) [
-      | true ↦ λ passes _. (x, all.0, passes, refl)
-      | false ↦ λ _ more. counted_there P p xs all.1 more
-    ] refl some
-
 pub one_passes : {A : Type 0} (P : A → Type 0) (p : A → Bool) (xs : List A) (b : Bool) → AllByRecursion P xs
     → count_by p xs ≡ cond b 1 0 → b ≡ true → Passes P p xs
 one_passes P p xs b all count is =
-    let one : counted p xs ≡ 1 = counted_is p xs ∙ count ∙ ap (λ b. cond b 1 0) is in
-    counted_there P p xs all (omega (arith, one))
+    let one : length (filter p xs) ≡ 1 = length-filter p xs ∙ count ∙ ap (λ b. cond b 1 0) is in
+    let found = some_value (find p xs) (ap is_some (find_filter p xs) ∙ has_head (filter p xs) (omega (arith, one))) in
+    (found.0, find-all P p xs all found.0 found.1, find-passes p xs found.0 found.1, found.1)
+  where
+    has_head : {A : Type 0} (xs : List A) → 0 < length xs → is_some (head_of xs) ≡ true
+    has_head [] some = absurd (omega arith)
+    has_head (x ∷ xs) some = refl
 
 same_test : (a b : Bool) → cond {A = ℕ} a 1 0 ≡ cond b 1 0 → a ≡ b
-same_test true true is = refl
-same_test false false is = refl
-same_test true false is = absurd (omega (arith, is))
-same_test false true is = absurd (omega (arith, is))
-
-all_both : {A : Type 0} (P Q : A → Type 0) (xs : List A) → AllByRecursion P xs → AllByRecursion Q xs → AllByRecursion (λ x. P x × Q x) xs
-all_both P Q [] one other = tt
-all_both P Q (x ∷ xs) one other = ((one.0, other.0), all_both P Q xs one.1 other.1)
+same_test a b is = grind arith
 
 pub path_is : (path said : Names) (row : Members) → path_said (codes "path") row ≡ Some said → has_path path row ≡ true → path ≡ said
 path_is path said row is has =
@@ -77,14 +69,6 @@ pid_is pid said row is has =
     same_number pid said (ap (λ (o : Option ℕ). elim o [ None ↦ false | Some said ↦ nat_eq pid said ]) (sym is) ∙ has)
 
 -- ---- names
-
-passed : (test : ℕ → Bool) (found : Option ℕ) (number : ℕ) → passing test found ≡ Some number → test number ≡ true
-passed test None number is = absurd (true≢false (sym (ap is_some is)))
-passed test (Some found) number is =
-    elim (test found) as (λ b. test found ≡ b → cond b (Some found) None ≡ Some number → test number ≡ true) [
-      | true ↦ λ passes same. ap test (sym (same_some found number same)) ∙ passes
-      | false ↦ λ _ none. absurd (true≢false (sym (ap is_some none)))
-    ] refl is
 
 pub paths_are_paths : (bytes : List ℕ) (st : State) (path : Names) → IsTextOf st bytes → has_row st path ≡ true → IsPath path
 paths_are_paths bytes st path is there =
@@ -154,7 +138,7 @@ module _ (format : Format) (st other : State) (tables : List Members)
   IsSaid row = IsRowOf format st row × IsRowOf format other row
 
   all_said : AllByRecursion IsSaid tables
-  all_said = all_both (IsRowOf format st) (IsRowOf format other) tables here there
+  all_said = all-both (IsRowOf format st) (IsRowOf format other) IsSaid (λ row is also. (is, also)) tables here there
 
   has_same : (path : Names) → has_row st path ≡ has_row other path
   has_same path = same_test (has_row st path) (has_row other path) (sym (paths path) ∙ paths_also path)
@@ -201,7 +185,7 @@ module _ (st other : State) (lives : List Members)
   IsLive row = IsProcessOf st row × IsProcessOf other row
 
   all_live : AllByRecursion IsLive lives
-  all_live = all_both (IsProcessOf st) (IsProcessOf other) lives here there
+  all_live = all-both (IsProcessOf st) (IsProcessOf other) IsLive (λ row is also. (is, also)) lives here there
 
   lives_same : (pid : ℕ) → is_some (process_at st pid) ≡ is_some (process_at other pid)
   lives_same pid = same_test (is_some (process_at st pid)) (is_some (process_at other pid)) (sym (pids pid) ∙ pids_also pid)

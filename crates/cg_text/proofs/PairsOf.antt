@@ -1,5 +1,5 @@
 -- Rows of which each gives a key and a value, as the entries of a map: what the map finds is what the first row of the key gives.
-use Rattle.std.proofs.Common.{◌≡◌, Bool, true, false, cond, ◌||◌, List, [], ◌∷◌, Option, Some, None, is_some, refl, sym, ap, ◌∙◌, true≢false}
+use Rattle.std.proofs.Common.{◌≡◌, Bool, true, false, cond, ◌||◌, List, [], ◌∷◌, Option, Some, None, is_some, refl, sym, ap, ◌∙◌, true≢false, arith}
 use Rattle.std.specs.Prelude.{find}
 use Rattle.std.specs.List.{AllByRecursion, list_any}
 use Rattle.std.specs.Ordering.{eq_by_cmp}
@@ -11,8 +11,7 @@ use Rattle.cg_cgroup.proofs.Options.{same_some}
 
 found_or : {X : Type 0} (tied : Bool) (x : X) (later : Option X) (any : Bool) → is_some later ≡ any
     → is_some (cond tied (Some x) later) ≡ (tied || any)
-found_or true x later any is = refl
-found_or false x later any is = is
+found_or tied x later any is = grind arith
 
 module _ {A K X : Type 0} {R : K → K → Ordering} (one : IsAntisymmetric R) (key : A → Option K) (same : K → K → Bool)
     (ties : (q k : K) → same q k ≡ eq_by_cmp R q k) (P : A → Type 0) (pair : (row : A) → P row → K × X)

@@ -1,12 +1,15 @@
 -- What a row's reader makes of its tables: entries and values, or the clause that fails.
-use Rattle.std.proofs.Common.{◌≡◌, ◌≢◌, ℕ, ◌+◌, ◌<◌, ◌≤◌, Bool, true, false, ◌&&◌, ◌||◌, List, [], ◌∷◌, ◌++◌, length}
+use Rattle.std.proofs.Common.{◌≡◌, ◌≢◌, ℕ, ◌+◌, ◌<◌, ◌≤◌, Bool, true, false, ◌||◌, List, [], ◌∷◌, ◌++◌, length}
 use Rattle.std.proofs.Common.{get_or, take, map, filter_map, codes, Option, Some, None, is_some, option_map, option_and_then, unwrap_or}
-use Rattle.std.proofs.Common.{Result, Ok, Err, refl, sym, ap, subst, ◌∙◌, true≢false, arith}
+use Rattle.std.proofs.Common.{Result, Ok, Err, sym, ap, subst, ◌∙◌, true≢false, arith}
 use Rattle.std.specs.Option.{ok_or}
 use Rattle.std.specs.Result.{IsErr, IsErrAnd}
 use Rattle.std.specs.List.{list_all}
-use Rattle.std.proofs.lemmas.Bool.{and_from}
-use Rattle.std.proofs.lemmas.List.{take_more, take_all, length-take-le}
+use Rattle.std.proofs.lemmas.Bool.{false_from_ne_true}
+use Rattle.std.proofs.lemmas.List.Sums.{list_all-from_AllPass}
+use Rattle.cg_cgroup.proofs.AllFiles.{each_passes}
+use Rattle.cg_text.proofs.TablesSay.{each_entry}
+use Rattle.std.proofs.lemmas.List.{length-take-le}
 use Rattle.std.proofs.lemmas.List.Folds.{list_all_at}
 use Rattle.toml.specs.Data.{Members, no_members, as_table}
 use Rattle.toml.specs.View.{view, table_view}
@@ -18,7 +21,7 @@ use Rattle.cg_cgroup.proofs.Options.{mapped_from, is_some-mapped}
 use Rattle.cg_cgroup.specs.declared.user.Entry.{Entry}
 use Rattle.cg_cgroup.specs.declared.files.ControllerSet.{ControllerSet}
 use Rattle.cg_cgroup.specs.declared.files.LimitFile.{LimitFile}
-use Rattle.cg_cgroup.specs.declared.files.LimitFile.TheVariants.{MaxDescendants, MaxDepth, CpuWeight, MemoryMin, MemoryLow}
+use Rattle.cg_cgroup.specs.declared.files.LimitFile.TheVariants.{CpuWeight, MemoryMin, MemoryLow}
 use Rattle.cg_cgroup.specs.declared.files.LimitFile.TheVariants.{MemoryHigh, MemoryMax, PidsMax}
 use Rattle.cg_cgroup.specs.declared.files.EntryName.{EntryName}
 use Rattle.cg_cgroup.specs.declared.files.EntryName.TheVariants.{Dir, Procs, SubtreeControl, File}
@@ -27,7 +30,7 @@ use Rattle.cg_cgroup.specs.declared.cgroup.Cgroup.{Cgroup}
 use Rattle.cg_model.specs.Clauses.{first, unless, absent}
 use Rattle.cg_text.specs.Said.{table_at, path_said, controllers_said, owner_said, limit_said, table_of, mode_missing}
 use Rattle.cg_text.specs.Said.{entry_said, value_said, is_named}
-use Rattle.cg_text.specs.TextFaults.{each_cgroup, row_faults}
+use Rattle.cg_text.specs.TextFaults.{row_faults}
 use Rattle.cg_text.specs.Faults.{or_fault, Passes}
 use Rattle.cg_text.specs.Rows.{table_in, owner_in, limit_in, entry_with, names, needed_by, entry_faults, IsCgroupOf, IsReadAs, AreReadAs}
 use Rattle.cg_text.specs.declared.tree.fault.Place.TheVariants.{Cgroup as AtCgroup}
@@ -36,21 +39,18 @@ use Rattle.cg_text.specs.declared.tree.fault.TreeFault.TheVariants.{BadPath, Bad
 use Rattle.cg_text.specs.declared.tree.format.Format.{Format}
 use Rattle.cg_text.specs.declared.tree.row.Entries.{Entries}
 use Rattle.cg_text.specs.declared.tree.row.Row.{Row}
-use Rattle.cg_text.proofs.EachRow.{HavePassed, more_passed, fault_found, all_passed, row_count, row_at}
+use Rattle.cg_text.proofs.EachRow.{IsNextTable, tables_counted, table_taken}
 
 -- ---- answers
 
 pub ok_of : {A : Type 0} (o : Option A) (fault : TreeFault) (x : A) → Ok x ≡ or_fault o fault → o ≡ Some x
-ok_of None fault x is = cc
-ok_of (Some y) fault x is = cc
+ok_of o fault x is = grind arith
 
 pub err_of : {A : Type 0} (o : Option A) (fault found : TreeFault) → Err found ≡ or_fault o fault → (o ≡ None) × (fault ≡ found)
-err_of None fault found is = (refl, cc)
-err_of (Some y) fault found is = cc
+err_of o fault found is = grind arith
 
 pub ok_or_is : {A : Type 0} (o : Option A) (fault : TreeFault) → ok_or o fault ≡ or_fault o fault
-ok_or_is None fault = refl
-ok_or_is (Some x) fault = refl
+ok_or_is o fault = grind arith
 
 -- what a `?` returns
 abbrev pub Returns : {X : Type 0} → Result X TreeFault → TreeFault → Type 0
@@ -63,33 +63,14 @@ passed_on P fault (Err other) found is expected = λ memory. rw is.1 (expected (
 
 -- ---- all entries and all limit files
 
-all_so : {A : Type 0} (p : A → Bool) → ((x : A) → p x ≡ true) → (xs : List A) → list_all p xs ≡ true
-all_so p each [] = refl
-all_so p each (x ∷ xs) = and_from (p x) (list_all p xs) (each x) (all_so p each xs)
+pub all_so : {A : Type 0} (p : A → Bool) → ((x : A) → p x ≡ true) → (xs : List A) → list_all p xs ≡ true
+all_so p each xs = list_all-from_AllPass p xs (λ k d inside. each (get_or xs k d))
 
 file_failed : (p : LimitFile → Bool) (file : LimitFile) → p file ≡ false → list_all p all_files ≡ false
-file_failed p MaxDescendants is = list_all_at p all_files 0 PidsMax (omega arith) is
-file_failed p MaxDepth is = list_all_at p all_files 1 PidsMax (omega arith) is
-file_failed p CpuWeight is = list_all_at p all_files 2 PidsMax (omega arith) is
-file_failed p MemoryMin is = list_all_at p all_files 3 PidsMax (omega arith) is
-file_failed p MemoryLow is = list_all_at p all_files 4 PidsMax (omega arith) is
-file_failed p MemoryHigh is = list_all_at p all_files 5 PidsMax (omega arith) is
-file_failed p MemoryMax is = list_all_at p all_files 6 PidsMax (omega arith) is
-file_failed p PidsMax is = list_all_at p all_files 7 PidsMax (omega arith) is
-
-three_and_false : (a b c : Bool) → (a && (b && (c && false))) ≡ false
-three_and_false true true true = refl
-three_and_false true true false = refl
-three_and_false true false c = refl
-three_and_false false b c = refl
+file_failed p file is = false_from_ne_true (list_all p all_files) (λ all. true≢false (sym (each_passes p all file) ∙ is))
 
 entry_failed : (p : EntryName → Bool) (name : EntryName) → p name ≡ false → list_all p all_entries ≡ false
-entry_failed p Dir is = list_all_at p all_entries 0 Dir (omega arith) is
-entry_failed p Procs is = list_all_at p all_entries 1 Dir (omega arith) is
-entry_failed p SubtreeControl is = list_all_at p all_entries 2 Dir (omega arith) is
-entry_failed p (File file) is =
-    ap (λ b. p Dir && (p Procs && (p SubtreeControl && b))) (file_failed (λ file. p (File file)) file is)
-    ∙ three_and_false (p Dir) (p Procs) (p SubtreeControl)
+entry_failed p name is = false_from_ne_true (list_all p all_entries) (λ all. true≢false (sym (each_entry p all name) ∙ is))
 
 pub by_entry : (P : EntryName → Type 0) → P Dir → P Procs → P SubtreeControl → ((file : LimitFile) → P (File file))
     → (name : EntryName) → P name
@@ -97,17 +78,6 @@ by_entry P dir procs control files Dir = dir
 by_entry P dir procs control files Procs = procs
 by_entry P dir procs control files SubtreeControl = control
 by_entry P dir procs control files (File file) = files file
-
-pub by_file : (P : LimitFile → Type 0) → P MaxDescendants → P MaxDepth → P CpuWeight → P MemoryMin → P MemoryLow → P MemoryHigh
-    → P MemoryMax → P PidsMax → (file : LimitFile) → P file
-by_file P descendants depth weight least low high most pids MaxDescendants = descendants
-by_file P descendants depth weight least low high most pids MaxDepth = depth
-by_file P descendants depth weight least low high most pids CpuWeight = weight
-by_file P descendants depth weight least low high most pids MemoryMin = least
-by_file P descendants depth weight least low high most pids MemoryLow = low
-by_file P descendants depth weight least low high most pids MemoryHigh = high
-by_file P descendants depth weight least low high most pids MemoryMax = most
-by_file P descendants depth weight least low high most pids PidsMax = pids
 
 -- ---- a cgroup of entries
 
@@ -254,13 +224,11 @@ module _ (said : Entries) (row : Members) (dir : option_map (λ table. table_vie
 -- a row without a path, or whose controllers aren't
 pub no_path : {A : Type 0} (o : Option A) (fault found : TreeFault) (enabled entries values : List TreeFault)
     → first (absent o fault) ≡ Some found → first (absent o fault ++ enabled ++ entries ++ values) ≡ Some found
-no_path None fault found enabled entries values is = is
-no_path (Some x) fault found enabled entries values is = cc
+no_path o fault found enabled entries values is = grind arith
 
 pub no_enabled : {A B : Type 0} (path : Option A) (o : Option B) (other fault : TreeFault) (entries values : List TreeFault)
     → is_some path ≡ true → o ≡ None → first (absent path other ++ absent o fault ++ entries ++ values) ≡ Some fault
-no_enabled None o other fault entries values there none = cc
-no_enabled (Some x) o other fault entries values there none = ap (λ o. first (absent o fault ++ entries ++ values)) none
+no_enabled path o other fault entries values there none = grind arith
 
 -- ---- rows in turn
 
@@ -269,68 +237,29 @@ are_read_more : (format : Format) (i : ℕ) (tables : List Members) (rows : List
     → AreReadAs format i tables rows → IsReadAs format (i + length tables) table row
     → AreReadAs format i (tables ++ table ∷ []) (rows ++ row ∷ [])
 are_read_more format i [] [] table row are is = (subst (λ number. IsReadAs format number table row) (omega arith) is, tt)
-are_read_more format i [] (other ∷ rows) table row are is = absurd are
-are_read_more format i (other ∷ tables) [] table row are is = absurd are
 are_read_more format i (other ∷ tables) (before ∷ rows) table row are is =
     (are.0, are_read_more format (i + 1) tables rows table row are.1 (subst (λ number. IsReadAs format number table row) (omega arith) is))
-
--- the table that stands at an index, and the number of its row
-pub record IsNext (tables : List Members) (index : ℕ) (table : Members) (number : ℕ) : Type 0 where
-  pub within : index < length tables
-  pub there : table ≡ get_or tables index table
-  pub counted : number ≡ index + 1
-
-module _ (format : Format) (tables : List Members) (index : ℕ) (table : Members) (number : ℕ)
-    (next : IsNext tables index table number) where
-  by_number : first (row_faults format (AtCgroup (index + 1)) table) ≡ first (row_faults format (AtCgroup number) table)
-  by_number = ap (λ i. first (row_faults format (AtCgroup i) table)) (sym next.counted)
-
-  pub row_passed : HavePassed (λ _. row_faults format) AtCgroup tables index → first (row_faults format (AtCgroup number) table) ≡ None
-      → HavePassed (λ _. row_faults format) AtCgroup tables (index + 1)
-  row_passed passed none = more_passed (λ _. row_faults format) AtCgroup tables index table passed next.within next.there (by_number ∙ none)
-
-  pub row_found : (fault : TreeFault) → HavePassed (λ _. row_faults format) AtCgroup tables index
-      → first (row_faults format (AtCgroup number) table) ≡ Some fault → first (each_cgroup (λ _. row_faults format) tables) ≡ Some fault
-  row_found fault passed found =
-      fault_found (λ _. row_faults format) AtCgroup tables index table fault passed next.within next.there (by_number ∙ found)
-
-  pub row_added : (rows : List Row) (row : Row) → AreReadAs format 1 (take index tables) rows → IsReadAs format number table row
-      → AreReadAs format 1 (take (index + 1) tables) (rows ++ row ∷ [])
-  row_added rows row are read =
-      let before : length (take index tables) ≡ index = length-take-le index tables (omega (arith, next.within)) in
-      let place : number ≡ 1 + length (take index tables) = omega (arith, next.counted, before) in
-      let grown : take index tables ++ table ∷ [] ≡ take (index + 1) tables =
-      ap (λ x. take index tables ++ x ∷ []) next.there ∙ sym (take_more tables index table next.within) in
-      subst (λ tables. AreReadAs format 1 tables (rows ++ row ∷ [])) grown
-      (are_read_more format 1 (take index tables) rows table row are (subst (λ i. IsReadAs format i table row) place read))
+are_read_more format i tables rows table row are is = absurd are
 
 -- the elements of which each is a table
-module _ (elements : List Value) (tables_are : list_all (λ held. is_some (as_table (view held))) elements ≡ true) (index : ℕ) where
-  module _ (element : Value) (below : index < length elements) (is : element ≡ get_or elements index element) where
-    pub no_other : None ≡ as_table (view element) → ⊥
-    no_other none =
-        let p : Value → Bool = λ held. is_some (as_table (view held)) in
-        let fails : p (get_or elements index element) ≡ false = ap p (sym is) ∙ ap is_some (sym none) in
-        true≢false (sym tables_are ∙ list_all_at p elements index element below fails)
+module _ (format : Format) (elements : List Value) (are : list_all (λ held. is_some (as_table (view held))) elements ≡ true)
+    (index : ℕ) where
+  pub no_other : (element : Value) → index < length elements → element ≡ get_or elements index element
+      → None ≡ as_table (view element) → ⊥
+  no_other element below is none =
+      let p : Value → Bool = λ held. is_some (as_table (view held)) in
+      let fails : p (get_or elements index element) ≡ false = ap p (sym is) ∙ ap is_some (sym none) in
+      true≢false (sym are ∙ list_all_at p elements index element below fails)
 
-    pub is_next : (table : Members) (number : ℕ) → Some table ≡ as_table (view element) → number ≡ index + 1
-        → IsNext (filter_map as_table (map view elements)) index table number
-    is_next table number held counted = record {
-      within = omega (arith, row_count as_table view elements tables_are);
-      there = row_at as_table view elements tables_are index element table below is (sym held);
-      counted = counted;
-    }
+  abbrev tables : List Members
+  tables = filter_map as_table (map view elements)
 
-  module _ (format : Format) (past : length elements ≤ index) where
-    abbrev tables : List Members
-    tables = filter_map as_table (map view elements)
-
-    pub no_row_found : HavePassed (λ _. row_faults format) AtCgroup tables index
-        → first (each_cgroup (λ _. row_faults format) tables) ≡ None
-    no_row_found passed =
-        all_passed (λ _. row_faults format) AtCgroup tables index passed (omega (arith, row_count as_table view elements tables_are))
-
-    pub all_read : (rows : List Row) → AreReadAs format 1 (take index tables) rows → AreReadAs format 1 tables rows
-    all_read rows are =
-        let past_all : length tables ≤ index = omega (arith, row_count as_table view elements tables_are) in
-        subst (λ tables. AreReadAs format 1 tables rows) (take_all index tables past_all) are
+  pub row_added : (table : Members) (number : ℕ) → IsNextTable elements index table number → (rows : List Row) (row : Row)
+      → AreReadAs format 1 (take index tables) rows → IsReadAs format number table row
+      → AreReadAs format 1 (take (index + 1) tables) (rows ++ row ∷ [])
+  row_added table number next rows row before read =
+      let taken = table_taken (λ _. row_faults format) AtCgroup elements are index table number next in
+      let inside : index ≤ length tables = omega (arith, next.within, tables_counted elements are) in
+      let place : number ≡ 1 + length (take index tables) = omega (arith, next.counted, length-take-le index tables inside) in
+      subst (λ tables. AreReadAs format 1 tables (rows ++ row ∷ [])) (sym taken)
+      (are_read_more format 1 (take index tables) rows table row before (subst (λ i. IsReadAs format i table row) place read))

@@ -1,12 +1,12 @@
 -- What a table says is in range.
-use Rattle.std.proofs.Common.{◌≡◌, ℕ, ◌≤◌, ℤ, Bool, true, false, not, cond, ◌||◌, nat_le, Option, Some, None, is_some, option_map, option_and_then, refl, sym, ap, ◌∙◌, true≢false, arith}
+use Rattle.std.proofs.Common.{◌≡◌, ℕ, ◌≤◌, ℤ, Bool, true, not, ◌||◌, nat_le, Option, Some, option_and_then, sym, ap, ◌∙◌, arith}
 use Rattle.std.specs.Prelude.{◌&&◌}
 use Rattle.std.specs.Cmp.{first_so}
 use Rattle.std.proofs.lemmas.Bool.Decides.{nat_tests}
+use Rattle.std.proofs.lemmas.Option.{cond_some}
 use Rattle.cg_cgroup.specs.Numbers.{is_mode}
 use Rattle.cg_cgroup.specs.Users.{has_bit}
 use Rattle.cg_cgroup.specs.Files.{accepts}
-use Rattle.cg_cgroup.proofs.Options.{same_some}
 use Rattle.cg_cgroup.specs.declared.user.Entry.{Entry}
 use Rattle.cg_cgroup.specs.declared.files.Limit.{Limit}
 use Rattle.cg_cgroup.specs.declared.files.LimitFile.{LimitFile}
@@ -15,12 +15,7 @@ use Rattle.cg_text.specs.Said.{number_or, passing, mode_read, accepted}
 use Rattle.cg_text.specs.declared.tree.format.Format.{Format}
 
 pub passed : (test : ℕ → Bool) (found : Option ℕ) (number : ℕ) → passing test found ≡ Some number → test number ≡ true
-passed test None number is = absurd (true≢false (sym (ap is_some is)))
-passed test (Some found) number is =
-    elim (test found) as (λ b. test found ≡ b → cond b (Some found) None ≡ Some number → test number ≡ true) [
-      | true ↦ λ passes same. ap test (sym (same_some found number same)) ∙ passes
-      | false ↦ λ _ none. absurd (true≢false (sym (ap is_some none)))
-    ] refl is
+passed test found number is = grind arith
 
 pub mode_small : (format : Format) (missing : ℕ) (written : Option ℤ) (number : ℕ)
     → mode_read format missing written ≡ Some number → number ≤ 511
@@ -34,14 +29,9 @@ mode_small format missing written number is =
 pub entry_as : (uid gid mode : Option ℕ) (entry : Entry)
     → option_and_then (λ u. option_and_then (λ g. option_and_then (λ m. Some (record { uid = u; gid = g; mode = m })) mode) gid) uid
     ≡ Some entry → mode ≡ Some entry.mode
-entry_as None gid mode entry is = cc
-entry_as (Some u) None mode entry is = cc
-entry_as (Some u) (Some g) None entry is = cc
-entry_as (Some u) (Some g) (Some m) entry is = ap (option_map (λ (e : Entry). e.mode)) is
+entry_as uid gid mode entry is = grind arith
 
 pub accepted_is : (file : LimitFile) (value found : Limit) → accepted file value ≡ Some found → accepts file found ≡ true
 accepted_is file value found is =
-    elim (accepts file value) as (λ b. accepts file value ≡ b → cond b (Some value) None ≡ Some found → accepts file found ≡ true) [
-      | true ↦ λ so same. ap (accepts file) (sym (same_some value found same)) ∙ so
-      | false ↦ λ _ none. absurd (true≢false (sym (ap is_some none)))
-    ] refl is
+    let parts = cond_some (accepts file value) value found is in
+    ap (accepts file) (sym parts.1) ∙ parts.0

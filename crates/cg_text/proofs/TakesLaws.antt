@@ -1,18 +1,20 @@
 -- What the keys of a table take, member by member, is what the table has at each of them.
-use Rattle.std.proofs.Common.{◌≡◌, ℕ, Bool, true, false, not, cond, List, [], ◌∷◌, map as map_list, option_map, is_some, codes, drop, arith, String, Global, Option, Some, None, Ordering, Less, Equal, Greater, string_bytes, nat_cmp, is_eq, refl, sym, ap, ◌∙◌, true≢false}
+use Rattle.std.proofs.Common.{◌≡◌, ℕ, Bool, true, false, not, cond, List, [], ◌∷◌, map as map_list, option_map, is_some, codes, drop, arith, String, Global, Option, Some, None, Ordering, Less, string_bytes, nat_cmp, is_eq, refl, sym, ap, ◌∙◌}
 use Rattle.std.specs.Prelude.{◌&&◌, ◌||◌, find}
 use Rattle.std.specs.List.{list_any, list_all, AllByRecursion}
 use Rattle.std.specs.List.Sorted.{IsStrictlySortedBy}
 use Rattle.std.specs.Map.{keys_of, lookup}
-use Rattle.std.specs.BTreeMap.{is_at}
+use Rattle.std.specs.BTreeMap.{BTreeMap, is_at}
 use Rattle.std.specs.Ordering.{match_ordering}
 use Rattle.std.specs.String.{string_cmp}
 use Rattle.std.specs.Cmp.Lexicographic.{slice_cmp, texts_ties, bytes_decides, nat_list_eq_equiv}
-use Rattle.std.proofs.lemmas.Bool.{and_parts}
+use Rattle.std.proofs.lemmas.Bool.{and_parts, not-true}
 use Rattle.toml.specs.Data.{Data, table, Members, no_members, member, get_member}
-use Rattle.toml.specs.View.{view, members_view}
+use Rattle.toml.specs.View.{view, table_view, members_view}
 use Rattle.toml.specs.declared.value.Value.{Value}
-use Rattle.toml.proofs.Views.{view-lookup}
+use Rattle.toml.proofs.Views.{view-lookup, view-Table}
+use Rattle.toml.specs.declared.value.Value.TheVariants.{Table}
+use Rattle.cg_cgroup.proofs.Options.{is_some-mapped}
 use Rattle.cg_cgroup.specs.Paths.{same_name}
 use Rattle.cg_cgroup.specs.Files.{all_files, file_name, file_named, entry_text, entry_named}
 use Rattle.cg_cgroup.specs.Texts as texts
@@ -47,30 +49,19 @@ behind k (e ∷ es) rise =
 
 tied : (o : Ordering) (b : Bool) (found : Option Data) (held : Data) → b ≡ is_eq o → match_ordering o found (Some held) found
     ≡ cond b (Some held) found
-tied Less b found held is = sym (ap (λ b. cond b (Some held) found) is)
-tied Equal b found held is = sym (ap (λ b. cond b (Some held) found) is)
-tied Greater b found held is = sym (ap (λ b. cond b (Some held) found) is)
+tied o b found held is = grind arith
 
 get_first : (key name : List ℕ) (held : Data) (rest : Members) → get_member key (member name held rest)
     ≡ cond (same_name key name) (Some held) (get_member key rest)
 get_first key name held rest = tied (slice_cmp nat_cmp key name) (same_name key name) (get_member key rest) held (texts_ties key name)
 
-not_true : (b : Bool) → not b ≡ true → b ≡ false
-not_true true is = absurd (true≢false (sym is))
-not_true false is = refl
-
 -- ---- one member more
 
 and_swap : (a b c : Bool) → (a && (b && c)) ≡ (b && (a && c))
-and_swap true b c = refl
-and_swap false true c = refl
-and_swap false false c = refl
+and_swap a b c = grind arith
 
 and_three : (t all any l m : Bool) → (t && l) ≡ (any && m) → (t && (all && l)) ≡ ((any && all) && m)
-and_three t true true l m is = is
-and_three t true false l m is = is
-and_three t false true l m is = and_swap t false l
-and_three t false false l m is = and_swap t false l
+and_three t all any l m is = grind arith
 
 name_is : (one other : List ℕ) → same_name one other ≡ true → one ≡ other
 name_is one other same = (bytes_decides one other).0 same
@@ -102,7 +93,7 @@ module _ (name : List ℕ) (held : Data) (rest : Members) (none : get_member nam
   at_others key (other ∷ keys) same apart =
       let parts = and_parts (not (same_name key.name other.name)) (list_all (λ other. not (same_name key.name other.name)) keys) apart in
       let here = at_other other (ap (λ at. same_name at other.name) (name_is name key.name same)
-      ∙ not_true (same_name key.name other.name) parts.0) in
+      ∙ not-true (same_name key.name other.name) parts.0) in
       let later = at_others key keys same parts.1 in
       λ i. here i && later i
 
@@ -150,15 +141,16 @@ takes_all_is keys (e ∷ es) apart rise =
 module _ (keys : List Key) (all : List (String Global × Value)) (apart : are_apart keys ≡ true)
     (rise : IsStrictlySortedBy string_cmp (keys_of all)) where
   -- at a member that isn't taken
-  pub not_taken : (left rest : List (String Global × Value)) (key : String Global) (value : Value) → takes_all keys (members_view left)
-      ≡ takes_all keys (members_view all) → left ≡ (key, value) ∷ rest
-      → takes keys (string_bytes key) (view value) ≡ false → false ≡ allows keys (members_view all)
-  not_taken left rest key value so_far is isnt =
-      sym (ap (λ es. takes_all keys (members_view es)) is ∙ ap (λ b. b && takes_all keys (members_view rest)) isnt) ∙ so_far
+  pub not_taken : (left rest : List (String Global × Value)) (key : String Global) (value : Value) (name : List ℕ) (taken : Bool)
+      → takes_all keys (members_view left) ≡ takes_all keys (members_view all) → left ≡ (key, value) ∷ rest → name ≡ string_bytes key
+      → taken ≡ takes keys name (view value) → taken ≡ false → false ≡ allows keys (members_view all)
+  not_taken left rest key value name taken so_far is named told isnt =
+      let own = ap (λ name. takes keys name (view value)) (sym named) ∙ sym told ∙ isnt in
+      sym (ap (λ es. takes_all keys (members_view es)) is ∙ ap (λ b. b && takes_all keys (members_view rest)) own) ∙ so_far
       ∙ takes_all_is keys all apart rise
 
-  pub all_taken : (left : List (String Global × Value)) → takes_all keys (members_view left) ≡ takes_all keys (members_view all) → left
-      ≡ [] → true ≡ allows keys (members_view all)
+  pub all_taken : (left : List (String Global × Value)) → takes_all keys (members_view left) ≡ takes_all keys (members_view all) → left ≡ []
+      → true ≡ allows keys (members_view all)
   all_taken left so_far is = sym (ap (λ es. takes_all keys (members_view es)) is) ∙ so_far ∙ takes_all_is keys all apart rise
 
 -- ---- the keys of each table
@@ -195,8 +187,7 @@ files_allowed format rows = refl
 -- ---- keys that have to be there
 
 and_true : (b : Bool) → b ≡ (b && true)
-and_true true = refl
-and_true false = refl
+and_true b = grind arith
 
 needed_at : (members : Members) (name : List ℕ) (test : Data → Bool) → fits_at members (must_have name test)
     ≡ (allows_at members (must_have name test) && is_some (get_member name members))
@@ -217,18 +208,15 @@ three_needed : (w a p b q c r : Bool) → (w && ((a && p) && ((b && q) && ((c &&
     ≡ ((w && (a && (b && (c && true)))) && (p && (q && r)))
 three_needed w a p b q c r = grind arith
 
-some_mapped : {A B : Type 0} (f : A → B) (o : Option A) → is_some o ≡ is_some (option_map f o)
-some_mapped f None = refl
-some_mapped f (Some x) = refl
-
 -- a key that the map of a table has
 pub has_key : (name : List ℕ) (es : List (String Global × Value))
     → is_some (lookup (is_at (λ key. slice_cmp nat_cmp name (string_bytes key))) es) ≡ is_some (get_member name (members_view es))
-has_key name es = some_mapped view (lookup (is_at (λ key. slice_cmp nat_cmp name (string_bytes key))) es) ∙ ap is_some (view-lookup name es)
+has_key name es =
+    sym (is_some-mapped view (lookup (is_at (λ key. slice_cmp nat_cmp name (string_bytes key))) es)) ∙ ap is_some (view-lookup name es)
 
 -- ---- tables with keys that have to be there
 
-pub row_is : (format : Format) (members : Members) → is_table (row_keys format) (table members)
+row_is : (format : Format) (members : Members) → is_table (row_keys format) (table members)
     ≡ (allows (row_keys format) members && is_some (get_member (codes "path") members))
 row_is format members =
     let at : Key → Bool = allows_at members in
@@ -236,6 +224,14 @@ row_is format members =
     (needed_at members (codes "path") is_text)
     ∙ one_needed (are_among (row_keys format) members) (at (must_have (codes "path") is_text))
     (is_some (get_member (codes "path") members)) (list_all at (drop 1 (row_keys format)))
+
+-- a value that is a table, whose keys are allowed and that has a path
+pub cgroup_is : (format : Format) (value : Value) (held : BTreeMap (String Global) Value) (fits has : Bool) → value ≡ Table held
+    → fits ≡ allows (row_keys format) (table_view held) → has ≡ is_some (get_member (codes "path") (table_view held))
+    → (fits && has) ≡ is_table (row_keys format) (view value)
+cgroup_is format value held fits has is fit had =
+    (λ i. fit i && had i) ∙ sym (row_is format (table_view held))
+    ∙ sym (ap (λ value. is_table (row_keys format) (view value)) is ∙ ap (is_table (row_keys format)) (view-Table held))
 
 pub live_is : (members : Members)
     → is_table live_keys (table members)
@@ -306,7 +302,7 @@ module _ (format : Format) (text : List ℕ) (held : Data) where
   owned_taken false false = files_taken
 
   -- a value at the name of an entry
-  pub file_taken : takes (file_keys_of format) text held ≡ takes_entry format (entry_named text) held
+  file_taken : takes (file_keys_of format) text held ≡ takes_entry format (entry_named text) held
   file_taken =
       elim (same_name text (codes "dir")) as (λ b. same_name text (codes "dir") ≡ b
       → takes (file_keys_of format) text held
@@ -316,3 +312,9 @@ module _ (format : Format) (text : List ℕ) (held : Data) where
         | true ↦ λ same. ap (λ name. takes (file_keys_of format) name held) (name_is text (codes "dir") same)
         | false ↦ λ other. owned_taken (same_name text texts.cgroup_procs) (same_name text texts.cgroup_subtree_control)
       ] refl
+
+  -- a value at the name of this entry
+  pub entry_taken : (name : EntryName) (found : Option EntryName) (taken : Bool) → found ≡ entry_named text → found ≡ Some name
+      → taken ≡ takes_entry format (Some name) held → taken ≡ takes (file_keys_of format) text held
+  entry_taken name found taken is some told =
+      told ∙ sym (file_taken ∙ ap (λ found. takes_entry format found held) (sym is ∙ some))

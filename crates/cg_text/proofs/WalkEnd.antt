@@ -1,5 +1,5 @@
 -- What the walk's end answers: the entries of the tables, or the first fault of the rows together.
-use Rattle.std.proofs.Common.{◌≡◌, Bool, List, [], Some, None, Result, Ok, Err, Vec, Global, IsPermutation, sym, ap, subst, ◌∙◌}
+use Rattle.std.proofs.Common.{◌≡◌, Bool, List, [], Some, None, Result, Ok, Err, Vec, Global, sym, ap, subst, ◌∙◌}
 use Rattle.std.specs.List.Sorted.{IsStableByKey}
 use Rattle.toml.specs.Data.{Members}
 use Rattle.cg_cgroup.specs.Paths.{path_cmp}
@@ -22,18 +22,17 @@ abbrev Entries : Type 0
 Entries = Vec (Path × Cgroup) Global
 
 module _ (format : Format) (controllers : ControllerSet) (tables : List Members) (rows sorted : List Row) (walk : Walk) where
-  pub walked_is : (result : Result Entries TreeFault) → AreReadAs format 1 tables rows → IsPermutation rows sorted → AreInOrder sorted
-      → IsStableByKey (λ row. row.path) path_cmp rows sorted → HasMet controllers sorted walk
+  pub walked_is : (result : Result Entries TreeFault) → AreReadAs format 1 tables rows → AreInOrder sorted → IsStableByKey (λ row. row.path) path_cmp rows sorted → HasMet controllers sorted walk
       → Passes (λ entries. entries ≡ walk.entries) (least_fault walk.least (has_root walk.entries.items)) result
       → Passes (λ (entries : Entries). AreEntriesOf format tables entries.items) (first (cgroup_faults (Some controllers) tables)) result
-  walked_is (Ok entries) read same order stable met passes =
+  walked_is (Ok entries) read order stable met passes =
       let root : Bool = has_root (entries_from [] sorted) in
-      let fault_is = least_fault_is_first format controllers tables rows sorted walk.least read same order stable met.tested in
+      let fault_is = least_fault_is_first format controllers tables rows sorted walk.least read order stable met.tested in
       let none : least_fault walk.least root ≡ None = ap (λ some. least_fault walk.least (has_root some)) (sym met.entries) ∙ passes.0 in (
         fault_is ∙ none,
         subst (λ some. AreEntriesOf format tables some) (sym (ap (λ (entries : Entries). entries.items) passes.1 ∙ met.entries))
-            (entries_of_tables format tables rows sorted controllers walk.least root read same order met.tested none),
+            (entries_of_tables format tables rows sorted controllers walk.least root read order stable met.tested none),
       )
-  walked_is (Err fault) read same order stable met passes = λ found.
-      least_fault_is_first format controllers tables rows sorted walk.least read same order stable met.tested
+  walked_is (Err fault) read order stable met passes = λ found.
+      least_fault_is_first format controllers tables rows sorted walk.least read order stable met.tested
       ∙ ap (λ some. least_fault walk.least (has_root some)) (sym met.entries) ∙ passes found

@@ -1,27 +1,29 @@
 -- The fronts of a path that were met, what a row behind all others does to them, and what the walk takes off before it.
-use Rattle.std.proofs.Common.{◌≡◌, ℕ, zero, suc, ◌+◌, ◌-◌, ◌<◌, ◌≤◌, Bool, true, false, ◌&&◌, ◌||◌, cond, List, [], ◌∷◌, ◌++◌, length, take, get_or, map as map_list, reverse, Option, Some, None, is_some, refl, sym, ap, subst, ◌∙◌, true≢false, arith, ltb, eqb, ◌⊎◌, inl, inr, ⊎_elim, add-one}
+use Rattle.std.proofs.Common.{◌≡◌, ℕ, zero, suc, ◌+◌, ◌-◌, ◌<◌, ◌≤◌, Bool, true, false, ◌&&◌, cond, List, [], ◌∷◌, ◌++◌, length, take, get_or, map as map_list, reverse, Option, Some, None, is_some, refl, sym, ap, subst, ◌∙◌, true≢false, arith, ltb, eqb, ◌⊎◌, inl, inr, ⊎_elim, min}
 use Rattle.std.specs.Prelude.{find, option_and_then, unwrap_or}
 use Rattle.std.specs.Option.{option_map, option_to_list}
-use Rattle.std.specs.List.{list_any, list_all}
 use Rattle.std.specs.Ordering.{is_le, is_lt, is_gt, ordering_reverse}
 use Rattle.std.specs.declared.cmp.Ordering.{Ordering}
 use Rattle.std.specs.declared.cmp.Ordering.TheVariants.{Less, Equal, Greater}
-use Rattle.std.proofs.lemmas.Bool.{and_parts, and_from, and_left, and_right, or_parts, or_from, cases_lt, false_from_ne_true, lt-ltb, le-ltb, eq-eqb, ne_eqb}
+use Rattle.std.proofs.lemmas.Bool.{cases_lt, false_from_ne_true, ltb-true, ltb-false, eq-eqb, ne_eqb}
+use Rattle.std.proofs.lemmas.Bool.Decides.{nat_tests}
 use Rattle.std.proofs.lemmas.List.{append-nil, append_assoc, reverse-append, length_push, get_or_push, get_or_append_left, take_all, take-take, length-take-le, map_push, same_from_push}
-use Rattle.std.proofs.lemmas.List.Folds.{Any-from_list_any, list_any-append, list_any_at}
+use Rattle.std.proofs.lemmas.List.Folds.{Any-from_list_any, list_any_at}
 use Rattle.std.proofs.lemmas.List.Sorted.{sorted_far, ranks_by, IsPermutation-reverse, list_any-IsPermutation}
 use Rattle.std.proofs.lemmas.Option.{slice_get-get_or}
 use Rattle.cg_cgroup.specs.Paths.{Names, path_cmp, same_path, inside, common}
 use Rattle.cg_cgroup.specs.Files.{no_controllers}
 use Rattle.cg_cgroup.specs.declared.files.ControllerSet.{ControllerSet}
 use Rattle.cg_cgroup.specs.declared.cgroup.Cgroup.{Cgroup}
+use Rattle.cg_cgroup.proofs.Options.{none_value}
 use Rattle.cg_cgroup.proofs.PathOrder.{path_cmp_total, path_cmp-IsAntisymmetric, same_path-is, same_path_refl, same_path_comm, same_path-not}
 use Rattle.cg_cgroup.proofs.PathParents.{inside-take}
 use Rattle.cg_cgroup.proofs.PathLaws.{inside_between, inside-length, common-longest, common-take, common-take_first, common-inside_second}
 use Rattle.cg_text.specs.declared.tree.walk.Walk.{Walk}
-use Rattle.cg_text.specs.Walk.{HasMet, HasTested, has_met, enabled_by, over_in, over_at, fitted_to, entries_from, last_of, fronts_from, fronts_above, fronts, is_front, AreInOrder, IsNext}
+use Rattle.cg_text.specs.Walk.{HasMet, HasTested, has_met, enabled_by, over_in, over_at, fitted_to, entries_from, last_of, front_at, fronts_below, met_at, fronts_above, fronts, is_front, AreInOrder, IsNext}
 use Rattle.cg_text.specs.declared.tree.row.Row.{Row}
 use Rattle.cg_text.specs.declared.tree.walk.Above.{Above}
+use Rattle.cg_text.proofs.Cuts.{not_empty, is_some-find}
 
 -- ---- rows in order
 
@@ -49,12 +51,12 @@ not_less p q h = ap is_lt (path_cmp_total.antisymm q p) ∙ turned (path_cmp p q
 
 -- what is neither greater than the other is the same
 not_apart : (p q : Names) → IsUpTo p q → IsUpTo q p → p ≡ q
-not_apart p q h k = path_cmp-IsAntisymmetric p q (tied p q h k (path_cmp q p) refl)
-  where
-    tied : (p q : Names) → IsUpTo p q → IsUpTo q p → (r : Ordering) → path_cmp q p ≡ r → path_cmp p q ≡ Equal
-    tied p q h k Less e = absurd (true≢false (sym (ap is_gt (path_cmp_total.antisymm p q ∙ ap ordering_reverse e)) ∙ h))
-    tied p q h k Equal e = path_cmp_total.antisymm p q ∙ ap ordering_reverse e
-    tied p q h k Greater e = absurd (true≢false (sym (ap is_gt e) ∙ k))
+not_apart p q h k =
+    elim (path_cmp p q) as (λ r. path_cmp p q ≡ r → is_gt r ≡ false → p ≡ q) [
+      | Less ↦ λ e _. absurd (true≢false (sym (ap is_gt (path_cmp_total.antisymm q p ∙ ap ordering_reverse e)) ∙ k))
+      | Equal ↦ λ e _. path_cmp-IsAntisymmetric p q e
+      | Greater ↦ λ _ more. absurd (true≢false more)
+    ] refl h
 
 pub rows_rise : (rows : List Row) → AreInOrder rows → (i j : ℕ) (d : Row) → i ≤ j → j < length rows
     → IsUpTo (get_or rows i d).path (get_or rows j d).path
@@ -117,12 +119,6 @@ met_last rows last row order =
 
 -- ---- what a path enables
 
-unfound : {X : Type 0} (test : X → Bool) (xs : List X) → list_any test xs ≡ false → find test xs ≡ None
-unfound test [] none = refl
-unfound test (x ∷ xs) none =
-    let parts = or_parts (test x) (list_any test xs) none in
-    ap (λ (b : Bool). cond b (Some x) (find test xs)) parts.0 ∙ unfound test xs parts.1
-
 abbrev enabled_in : Option Row → Option ControllerSet
 enabled_in found = option_map (λ (row : Row). row.cgroup.enabled) found
 
@@ -131,7 +127,7 @@ pub enabled_unmet : (met : List Row) (path : Names) → has_met met path ≡ fal
 enabled_unmet met path unmet =
     let test = λ (row : Row). same_path path row.path in
     let turned = list_any-IsPermutation test met (reverse met) (IsPermutation-reverse met) in
-    ap enabled_in (unfound test (reverse met) (sym turned ∙ unmet))
+    ap enabled_in (none_value (find test (reverse met)) (is_some-find test (reverse met) ∙ sym turned ∙ unmet))
 
 -- one more row is asked first
 pub enabled_push : (met : List Row) (row : Row) (path : Names)
@@ -146,40 +142,6 @@ enabled_push met row path =
     split false rest = refl
 
 -- ---- fronts by the number of their names
-
-abbrev met_at : List Row → Names → ℕ → Option ControllerSet
-met_at met path len = enabled_by met (take len path)
-
-abbrev front_at : ℕ → Option ControllerSet → List Above
-front_at len None = []
-front_at len (Some enabled) = record { len = len; enabled = enabled } ∷ []
-
--- those of fewer names than a number
-abbrev fronts_below : (ℕ → Option ControllerSet) → ℕ → List Above
-fronts_below at zero = []
-fronts_below at (suc len) = fronts_below at len ++ front_at len (at len)
-
-front_first : (len : ℕ) (here : Option ControllerSet) (rest : List Above)
-    → elim here [ None ↦ rest | Some enabled ↦ record { len = len; enabled = enabled } ∷ rest ] ≡ front_at len here ++ rest
-front_first len None rest = refl
-front_first len (Some enabled) rest = refl
-
-fronts_join : (met : List Row) (path : Names) (more len end : ℕ) → len + more ≡ end
-    → fronts_below (met_at met path) len ++ fronts_from len more met path ≡ fronts_below (met_at met path) end
-fronts_join met path zero len end e =
-    let is : len ≡ end = omega arith in
-    append-nil (fronts_below (met_at met path) len) ∙ ap (fronts_below (met_at met path)) is
-fronts_join met path (suc more) len end e =
-    let below = fronts_below (met_at met path) in
-    let rest = fronts_from (len + 1) more met path in
-    let one : suc len ≡ len + 1 = omega arith in
-    ap (λ (xs : List Above). below len ++ xs) (front_first len (met_at met path len) rest)
-    ∙ sym (append_assoc (below len) (front_at len (met_at met path len)) rest)
-    ∙ ap (λ (n : ℕ). below n ++ rest) one
-    ∙ fronts_join met path more (len + 1) end (omega arith)
-
-fronts_are : (met : List Row) (path : Names) (len : ℕ) → fronts_from 0 len met path ≡ fronts_below (met_at met path) len
-fronts_are met path len = fronts_join met path len 0 len (omega arith)
 
 fronts_same : (at other : ℕ → Option ControllerSet) (len : ℕ) → ((k : ℕ) → k < len → at k ≡ other k)
     → fronts_below at len ≡ fronts_below other len
@@ -207,18 +169,15 @@ pub fronts_step : (met : List Row) (row : Row)
     → fronts (met ++ row ∷ []) row.path ≡ fronts_above met row.path ++ record { len = length row.path; enabled = row.cgroup.enabled } ∷ []
 fronts_step met row =
     let len = length row.path in
-    let with_row = met_at (met ++ row ∷ []) row.path in
-    let own : with_row len ≡ Some row.cgroup.enabled =
+    let own : met_at (met ++ row ∷ []) row.path len ≡ Some row.cgroup.enabled =
     ap (enabled_by (met ++ row ∷ [])) (take_all len row.path (omega arith)) ∙ enabled_push met row row.path
     ∙ ap (λ (b : Bool). cond b (Some row.cgroup.enabled) (enabled_by met row.path)) (same_path_refl row.path) in
-    let other : (k : ℕ) → k < len → same_path (take k row.path) row.path ≡ false =
-    λ k l. same_path-not (take k row.path) row.path (λ e. absurd (omega (arith, ap length e, length-take-le k row.path (omega arith)))) in
-    let shorter : (k : ℕ) → k < len → with_row k ≡ met_at met row.path k =
-    λ k l.
+    let front = fronts_same (met_at (met ++ row ∷ []) row.path) (met_at met row.path) len (λ k l.
+    let other = same_path-not (take k row.path) row.path
+    (λ e. absurd (omega (arith, ap length e, length-take-le k row.path (omega arith)))) in
     enabled_push met row (take k row.path)
-    ∙ ap (λ (b : Bool). cond b (Some row.cgroup.enabled) (enabled_by met (take k row.path))) (other k l) in
-    let front = fronts_same with_row (met_at met row.path) len shorter ∙ sym (fronts_are met row.path len) in
-    fronts_are (met ++ row ∷ []) row.path (len + 1) ∙ ap (fronts_below with_row) (add-one len) ∙ (λ i. front i ++ front_at len (own i))
+    ∙ ap (λ (b : Bool). cond b (Some row.cgroup.enabled) (enabled_by met (take k row.path))) other) in
+    λ i. front i ++ front_at len (own i)
 
 -- ---- the last of the fronts
 
@@ -269,122 +228,14 @@ over_fronts met [] = refl
 over_fronts met (name ∷ names) =
     let path = name ∷ names in
     let len = length names in
-    let is = fronts_are met path (suc len) in
     let one : suc len - 1 ≡ len = omega arith in
     let rest = enabled_at (suc len - 1) (last_of (fronts_above met path)) in
     ap (λ (b : Bool). cond b (Some no_controllers) rest) (ne_eqb (suc len) 0 (λ e. absurd (omega arith)))
-    ∙ (λ i. enabled_at (one i) (last_of (is i)))
+    ∙ ap (λ (n : ℕ). enabled_at n (last_of (fronts_above met path))) one
     ∙ over_below (met_at met path) len
     ∙ ap (λ (n : ℕ). enabled_by met (take n path)) (sym one)
 
 -- ---- what the walk takes off before a path
-
--- whether a cgroup above the last one is above the next
-abbrev pub holds_next : Names → Names → Above → Bool
-holds_next path last top = ltb top.len (length path) && inside (take top.len path) last
-
--- what stays of a list, and what is taken off its end, which fails a test
-pub record HasLeft {X : Type 0} (test : X → Bool) (all stays : List X) : Type 0 where
-  pub left : List X
-  pub is : all ≡ stays ++ left
-  pub fails : list_any test left ≡ false
-
-ended : {X : Type 0} (xs : List X) → (xs ≡ []) ⊎ ((front : List X) × (last : X) × (xs ≡ front ++ last ∷ []))
-ended [] = inl refl
-ended (x ∷ xs) =
-    inr (elim (ended xs) [
-      | inl e ↦ ([], x, ap (λ ys. x ∷ ys) e)
-      | inr w ↦ (x ∷ w.0, w.1, ap (λ ys. x ∷ ys) w.2)
-    ])
-
--- where all of a list fail a test but its last passes, it is empty
-none_stay : {X : Type 0} (test : X → Bool) (stays : List X) → list_any test stays ≡ false
-    → ((xs : List X) (x : X) → stays ≡ xs ++ x ∷ [] → test x ≡ true) → stays ≡ []
-none_stay test stays fails ends =
-    elim (ended stays) [
-      | inl e ↦ e
-      | inr w ↦
-          let none = sym (ap (list_any test) w.2 ∙ list_any-append test w.0 (w.1 ∷ [])) ∙ fails in
-          let last = or_parts (list_any test w.0) (list_any test (w.1 ∷ [])) none in
-          absurd (true≢false (sym (ends w.0 w.1 w.2) ∙ (or_parts (test w.1) false last.1).0))
-    ]
-
--- where the front of a list passes a test and the rest doesn't, taking off ends at the front
-left_front : {X : Type 0} (test : X → Bool) (front behind stays left : List X) → front ++ behind ≡ stays ++ left
-    → list_all test front ≡ true → list_any test behind ≡ false → list_any test left ≡ false
-    → ((xs : List X) (x : X) → stays ≡ xs ++ x ∷ [] → test x ≡ true) → stays ≡ front
-left_front test [] behind stays left e passes fails gone ends =
-    let none = sym (list_any-append test stays left) ∙ ap (list_any test) (sym e) ∙ fails in
-    none_stay test stays (or_parts (list_any test stays) (list_any test left) none).0 ends
-left_front test (x ∷ front) behind [] left e passes fails gone ends =
-    let none = ap (list_any test) e ∙ gone in
-    let passed = and_parts (test x) (list_all test front) passes in
-    absurd (true≢false (sym passed.0 ∙ (or_parts (test x) (list_any test (front ++ behind)) none).0))
-left_front test (x ∷ front) behind (y ∷ stays) left e passes fails gone ends =
-    let parts = heads x y (front ++ behind) (stays ++ left) e in
-    let passed = and_parts (test x) (list_all test front) passes in
-    let rest = left_front test front behind stays left parts.1 passed.1 fails gone (λ xs z f. ends (y ∷ xs) z (ap (λ zs. y ∷ zs) f)) in
-    λ i. sym parts.0 i ∷ rest i
-  where
-    heads : {X : Type 0} (x y : X) (xs ys : List X) → x ∷ xs ≡ y ∷ ys → (x ≡ y) × (xs ≡ ys)
-    heads x y xs ys e = (cc, cc)
-
--- the fronts of fewer names than a number pass a test that these pass
-below_passes : (test : Above → Bool) (at : ℕ → Option ControllerSet) (len : ℕ) → ((top : Above) → top.len < len → test top ≡ true)
-    → list_all test (fronts_below at len) ≡ true
-below_passes test at zero passes = refl
-below_passes test at (suc len) passes =
-    all_push (fronts_below at len) (at len) (below_passes test at len (λ top l. passes top (omega arith)))
-  where
-    all_push : (xs : List Above) (here : Option ControllerSet) → list_all test xs ≡ true → list_all test (xs ++ front_at len here) ≡ true
-    all_push [] None h = refl
-    all_push [] (Some enabled) h =
-        let own : Above = record { len = len; enabled = enabled } in
-        and_from (test own) true (passes own (omega arith)) refl
-    all_push (x ∷ xs) here h =
-        let parts = and_parts (test x) (list_all test xs) h in
-        and_from (test x) (list_all test (xs ++ front_at len here)) parts.0 (all_push xs here parts.1)
-
--- those of at least so many names stand behind those of fewer
-record Parted (test : Above → Bool) (at : ℕ → Option ControllerSet) (low high : ℕ) : Type 0 where
-  behind : List Above
-  is : fronts_below at high ≡ fronts_below at low ++ behind
-  fails : list_any test behind ≡ false
-
-parted_none : (test : Above → Bool) (at : ℕ → Option ControllerSet) (low high : ℕ) → high ≡ low → Parted test at low high
-parted_none test at low high same = record {
-  behind = [];
-  is = ap (fronts_below at) same ∙ sym (append-nil (fronts_below at low));
-  fails = refl;
-}
-
-parted : (test : Above → Bool) (at : ℕ → Option ControllerSet) (low high : ℕ) → low ≤ high
-    → ((top : Above) → low ≤ top.len → test top ≡ false) → Parted test at low high
-parted test at low zero l fails = parted_none test at low zero (omega arith)
-parted test at low (suc high) l fails =
-    ⊎_elim
-    (λ less.
-    let front = parted test at low high (omega arith) fails in
-    let here = front_at high (at high) in
-    record {
-      behind = front.behind ++ here;
-      is = ap (λ (xs : List Above). xs ++ here) front.is ∙ append_assoc (fronts_below at low) front.behind here;
-      fails = list_any-append test front.behind here ∙ (λ i. front.fails i || one (at high) less i);
-    })
-    (λ more. parted_none test at low (suc high) (omega arith))
-    (cases_lt low (suc high))
-  where
-    one : (here : Option ControllerSet) → low < suc high → list_any test (front_at high here) ≡ false
-    one None m = refl
-    one (Some enabled) m = ap (λ (b : Bool). b || false) (fails (record { len = high; enabled = enabled }) (omega arith))
-
--- How many first names of a path are looked at: those that it shares with the last path, and one more, but fewer than it has.
-record Shares (path last : Names) (bound : ℕ) : Type 0 where
-  own : bound ≤ length path
-  others : bound ≤ length last + 1
-  same : (k : ℕ) → k < bound → take k path ≡ take k last
-  passes : (top : Above) → top.len < bound → holds_next path last top ≡ true
-  fails : (top : Above) → bound ≤ top.len → holds_next path last top ≡ false
 
 -- the last path isn't inside a front of a path that they don't share
 not_shared : (path last : Names) (k : ℕ) → k < length path → length (common path last) < k → inside (take k path) last ≡ false
@@ -398,63 +249,80 @@ shared_front path last k l =
     let n = length (common path last) in
     sym (take-take k n path l) ∙ ap (take k) (sym (common-take_first path last) ∙ common-take path last) ∙ take-take k n last l
 
-shares : (path last : Names) (bound : ℕ) → bound ≤ length path → bound ≤ length (common path last) + 1
-    → ((k : ℕ) → bound ≤ k → k < length path → length (common path last) < k) → Shares path last bound
-shares path last bound own most above =
-    let shorter = λ (top : Above). ltb top.len (length path) in
-    let within = λ (top : Above). inside (take top.len path) last in
-    record {
-      own = own;
-      others = omega (arith, inside-length (common path last) last (common-inside_second path last));
-      same = λ k l. shared_front path last k (omega arith);
-      passes = λ top l.
-          let front = ap (λ (p : Names). inside p last) (shared_front path last top.len (omega arith)) ∙ inside-take top.len last in
-          and_from (shorter top) (within top) (lt-ltb top.len (length path) (omega arith)) front;
-      fails = λ top l. ⊎_elim
-          (λ less. and_right (shorter top) (within top) (not_shared path last top.len less (above top.len l less)))
-          (λ more. and_left (shorter top) (within top) (le-ltb top.len (length path) more))
-          (cases_lt top.len (length path));
-    }
+-- How many first names of a path are looked at: those that it shares with the last path, and one more, but fewer than it has.
+abbrev pub looked_at : Names → Names → ℕ
+looked_at path last = min (length path) (length (common path last) + 1)
 
-some_shares : (path last : Names) → (bound : ℕ) × Shares path last bound
-some_shares path last =
-    let n = length (common path last) in
-    ⊎_elim
-    (λ less. (n + 1, shares path last (n + 1) (omega arith) (omega arith) (λ k l m. omega arith)))
-    (λ more. (length path, shares path last (length path) (omega arith) (omega arith) (λ k l m. absurd (omega arith))))
-    (cases_lt n (length path))
+below_both : (k m n : ℕ) (b : Bool) → (k < n → b ≡ true) → (k < m → n ≤ k → b ≡ false) → (ltb k m && b) ≡ ltb k (min m n)
+below_both k m n b shared apart = grind (arith, nat_tests)
+
+holds_is : (path last : Names) (k : ℕ) → (ltb k (length path) && inside (take k path) last) ≡ ltb k (looked_at path last)
+holds_is path last k =
+    below_both k (length path) (length (common path last) + 1) (inside (take k path) last)
+    (λ shared. ap (λ (p : Names). inside p last) (shared_front path last k (omega arith)) ∙ inside-take k last)
+    (λ less more. not_shared path last k less (omega arith))
 
 -- no front of the next path was met that isn't one of the last
 none_beyond : (rows : List Row) (last row : Row) (k : ℕ) → AreInOrder ((rows ++ last ∷ []) ++ row ∷ []) → k < length row.path
-    → holds_next row.path last.path (record { len = k; enabled = no_controllers }) ≡ false → met_at (rows ++ last ∷ []) row.path k ≡ None
-none_beyond rows last row k order l fails =
+    → length (common row.path last.path) < k → met_at (rows ++ last ∷ []) row.path k ≡ None
+none_beyond rows last row k order less more =
     let front = take k row.path in
     enabled_unmet (rows ++ last ∷ []) front (false_from_ne_true (has_met (rows ++ last ∷ []) front) (λ met.
     let before = met_before rows last front (order_front (rows ++ last ∷ []) row order) met in
     let within = inside_between front last.path row.path before (last_before rows last row order) (inside-take k row.path) in
-    true≢false (sym (and_from (ltb k (length row.path)) (inside front last.path) (lt-ltb k (length row.path) l) within) ∙ fails)))
+    true≢false (sym within ∙ not_shared row.path last.path k less more)))
 
--- what is taken off from the last path's fronts, up to one that holds the next path, leaves those above the next
-pub left_above : (rows : List Row) (last row : Row) (stays : List Above) → AreInOrder ((rows ++ last ∷ []) ++ row ∷ [])
-    → HasLeft (holds_next row.path last.path) (fronts (rows ++ last ∷ []) last.path) stays
-    → ((xs : List Above) (top : Above) → stays ≡ xs ++ top ∷ [] → holds_next row.path last.path top ≡ true)
-    → stays ≡ fronts_above (rows ++ last ∷ []) row.path
-left_above rows last row stays order has ends =
+-- the fronts of the next path are those of the last that it shares
+next_fronts : (rows : List Row) (last row : Row) → AreInOrder ((rows ++ last ∷ []) ++ row ∷ [])
+    → fronts_below (met_at (rows ++ last ∷ []) last.path) (looked_at row.path last.path) ≡ fronts_above (rows ++ last ∷ []) row.path
+next_fronts rows last row order =
     let met = rows ++ last ∷ [] in
-    let test = holds_next row.path last.path in
-    let some = some_shares row.path last.path in
-    let bound = some.0 in
-    let of_last = met_at met last.path in
-    let of_next = met_at met row.path in
-    let behind = parted test of_last bound (length last.path + 1) some.1.others some.1.fails in
-    let split = sym behind.is ∙ sym (fronts_are met last.path (length last.path + 1)) ∙ has.is in
-    let passes = below_passes test of_last bound some.1.passes in
-    let none : (k : ℕ) → bound ≤ k → k < length row.path → of_next k ≡ None =
-    λ k l m. none_beyond rows last row k order m (some.1.fails (record { len = k; enabled = no_controllers }) l) in
-    left_front test (fronts_below of_last bound) behind.behind stays has.left split passes behind.fails has.fails ends
-    ∙ fronts_same of_last of_next bound (λ k l. ap (enabled_by met) (sym (some.1.same k l)))
-    ∙ sym (fronts_until of_next bound (length row.path) some.1.own none)
-    ∙ sym (fronts_are met row.path (length row.path))
+    let bound = looked_at row.path last.path in
+    fronts_same (met_at met last.path) (met_at met row.path) bound
+    (λ k l. ap (enabled_by met) (sym (shared_front row.path last.path k (omega arith))))
+    ∙ sym (fronts_until (met_at met row.path) bound (length row.path) (omega arith)
+    (λ k l m. none_beyond rows last row k order m (omega arith)))
+
+-- ---- taking the last off
+
+-- leaves those of fewer names
+one_less : (at : ℕ → Option ControllerSet) (k : ℕ) (next : List Above) (top : Above) → fronts_below at k ≡ next ++ top ∷ []
+    → next ≡ fronts_below at top.len
+one_less at zero next top is = absurd (not_empty next top [] (sym is))
+one_less at (suc k) next top is =
+    elim (at k) as (λ here. fronts_below at k ++ front_at k here ≡ next ++ top ∷ [] → next ≡ fronts_below at top.len) [
+      | None ↦ λ is. one_less at k next top (sym (append-nil (fronts_below at k)) ∙ is)
+      | Some enabled ↦ λ is.
+          let parts = same_from_push (fronts_below at k) next (record { len = k; enabled = enabled }) top is in
+          sym parts.0 ∙ ap (λ (top : Above). fronts_below at top.len) parts.1
+    ] is
+
+-- where the last has fewer names, so have all
+all_less : (at : ℕ → Option ControllerSet) (bound k : ℕ) → bound ≤ k
+    → ((top : Above) → last_of (fronts_below at k) ≡ Some top → top.len < bound) → fronts_below at k ≡ fronts_below at bound
+all_less at bound zero low less = let is : 0 ≡ bound = omega arith in ap (fronts_below at) is
+all_less at bound (suc k) low less =
+    ⊎_elim
+    (λ (inside : bound < suc k).
+    elim (at k) as (λ here. ((top : Above) → last_of (fronts_below at k ++ front_at k here) ≡ Some top → top.len < bound)
+    → fronts_below at k ++ front_at k here ≡ fronts_below at bound) [
+      | None ↦ λ less.
+          append-nil (fronts_below at k)
+          ∙ all_less at bound k (omega arith) (λ top is. less top (ap last_of (append-nil (fronts_below at k)) ∙ is))
+      | Some enabled ↦ λ less.
+          let own : Above = record { len = k; enabled = enabled } in
+          absurd (omega (arith, less own (last_push (fronts_below at k) own)))
+    ] less)
+    (λ (whole : suc k ≤ bound). let is : suc k ≡ bound = omega arith in ap (fronts_below at) is)
+    (cases_lt bound (suc k))
+
+ended : {X : Type 0} (xs : List X) → (xs ≡ []) ⊎ ((front : List X) × (last : X) × (xs ≡ front ++ last ∷ []))
+ended [] = inl refl
+ended (x ∷ xs) =
+    inr (elim (ended xs) [
+      | inl e ↦ ([], x, ap (λ ys. x ∷ ys) e)
+      | inr w ↦ (x ∷ w.0, w.1, ap (λ ys. x ∷ ys) w.2)
+    ])
 
 -- ---- the walk's entries
 
@@ -474,6 +342,9 @@ pub entries_push : (met : List Row) (row : Row)
     → entries_from [] (met ++ row ∷ [])
     ≡ entries_from [] met ++ (row.path, fitted_to (unwrap_or (over_in no_controllers met row.path) no_controllers) row.cgroup) ∷ []
 entries_push met row = entries_behind [] met row
+
+fronts_none : (path : Names) → fronts_above [] path ≡ []
+fronts_none path = fronts_until (met_at [] path) 0 (length path) (omega arith) (λ k l m. refl)
 
 -- the last entry is the last row's
 pub last_entry : (rows : List Row) (last : Row) → last_of (entries_from [] (rows ++ last ∷ [])) ≡ Some (entry_from rows last)
@@ -510,85 +381,74 @@ met_by_last entries met row last are order some =
 
 -- ---- the walk's leaving
 
--- whether a cgroup above the last entry is above the next, where there is a last entry
-abbrev pub holds_after : Option Names → Names → Above → Bool
-holds_after last path top = elim last [ None ↦ false | Some other ↦ holds_next path other top ]
-
-pub none_left : {X : Type 0} (test : X → Bool) (all : List X) → HasLeft test all all
-none_left test all = record { left = []; is = sym (append-nil all); fails = refl }
-
--- the last of them is asked
-front_last : (stays : List Above) (paths : List Names) (path : Names) (xs : List Above) (top : Above) → stays ≡ xs ++ top ∷ []
-    → is_front stays paths path ≡ holds_after (last_of paths) path top
-front_last stays paths path xs top e =
-    ap (λ (last : Option Above). elim last [ None ↦ false | Some top ↦ holds_after (last_of paths) path top ])
-    (ap last_of e ∙ last_push xs top)
-
--- one more is taken off, which doesn't hold the next path
-pub leaves_one : (paths : List Names) (path : Names) (all stays next : List Above) (taken : Option Above)
-    → is_front stays paths path ≡ false → stays ≡ next ++ option_to_list taken
-    → HasLeft (holds_after (last_of paths) path) all stays → HasLeft (holds_after (last_of paths) path) all next
-leaves_one paths path all stays next None other e has = record {
-  left = has.left;
-  is = has.is ∙ ap (λ (xs : List Above). xs ++ has.left) (e ∙ append-nil next);
-  fails = has.fails;
-}
-leaves_one paths path all stays next (Some top) other e has =
-    let test = holds_after (last_of paths) path in
-    record {
-      left = top ∷ has.left;
-      is = has.is ∙ ap (λ (xs : List Above). xs ++ has.left) e ∙ append_assoc next (top ∷ []) has.left;
-      fails = or_from (test top) (list_any test has.left) (sym (front_last stays paths path next top e) ∙ other) has.fails;
-    }
-
--- where the last of them holds the next path, or there is none, no more is taken off
-pub ends_at_front : (stays : List Above) (paths : List Names) (path : Names) → is_front stays paths path ≡ true
-    → (xs : List Above) (top : Above) → stays ≡ xs ++ top ∷ [] → holds_after (last_of paths) path top ≡ true
-ends_at_front stays paths path front xs top e = sym (front_last stays paths path xs top e) ∙ front
-
-pub ends_at_none : (stays : List Above) (P : Type 0) → length stays ≡ 0 → (xs : List Above) (top : Above) → stays ≡ xs ++ top ∷ [] → P
-ends_at_none stays P none xs top e = absurd (omega (arith, none, ap length e, length_push xs top))
-
-nothing_left : {X : Type 0} (stays left : List X) → [] ≡ stays ++ left → stays ≡ []
-nothing_left [] left e = refl
-nothing_left (x ∷ stays) left e = absurd (omega (arith, ap length e))
-
-fronts_none : (path : Names) → fronts_above [] path ≡ []
-fronts_none path = fronts_are [] path (length path) ∙ fronts_until (met_at [] path) 0 (length path) (omega arith) (λ k l m. refl)
-
 abbrev pub paths_in : List (Names × Cgroup) → List Names
 paths_in entries = map_list (λ entry. entry.0) entries
 
-last_path : (rows : List Row) (last : Row) → last_of (paths_in (entries_from [] (rows ++ last ∷ []))) ≡ Some last.path
-last_path rows last =
-    ap (λ es. last_of (paths_in es)) (entries_push rows last)
+last_path : (entries : List (Names × Cgroup)) (met rows : List Row) (last : Row) → entries ≡ entries_from [] met → met ≡ rows ++ last ∷ []
+    → last_of (paths_in entries) ≡ Some last.path
+last_path entries met rows last are is =
+    ap (λ es. last_of (paths_in es)) (are ∙ ap (entries_from []) is ∙ entries_push rows last)
     ∙ ap last_of (map_push (λ (entry : Names × Cgroup). entry.0) (entries_from [] rows) (entry_from rows last))
     ∙ last_push (paths_in (entries_from [] rows)) last.path
 
--- what stays above once no more is taken off
-pub leaves : (controllers : ControllerSet) (met : List Row) (row : Row) (old : Walk) (stays : List Above) (path : Names)
-    → HasMet controllers met old → IsNext met row → row.path ≡ path
-    → HasLeft (holds_after (last_of (paths_in old.entries.items)) path) old.above.items stays
-    → ((xs : List Above) (top : Above) → stays ≡ xs ++ top ∷ [] → holds_after (last_of (paths_in old.entries.items)) path top ≡ true)
-    → stays ≡ fronts_above met path
-leaves controllers met row old stays path has order is gone ends =
-    elim (ended met) [
-      | inl e ↦
-          nothing_left stays gone.left (sym (has.none e) ∙ gone.is)
-          ∙ sym (ap (λ (rows : List Row). fronts_above rows path) e ∙ fronts_none path)
-      | inr w ↦
-          let met = w.0 ++ w.1 ∷ [] in
-          let last = ap (λ es. last_of (paths_in es)) (has.entries ∙ ap (entries_from []) w.2) ∙ last_path w.0 w.1 in
-          let all : old.above.items ≡ fronts met w.1.path = has.above w.1 w.0 w.2 ∙ ap (λ (rows : List Row). fronts rows w.1.path) w.2 in
-          let kept : HasLeft (holds_next row.path w.1.path) (fronts met w.1.path) stays = record {
-            left = gone.left;
-            is = sym all ∙ gone.is;
-            fails = sym (λ i. list_any (holds_after (last i) (sym is i)) gone.left) ∙ gone.fails;
-          } in
-          left_above w.0 w.1 row stays (subst (λ (rows : List Row). AreInOrder (rows ++ row ∷ [])) w.2 order) kept
-          (λ xs top e. sym (λ i. holds_after (last i) (sym is i) top) ∙ ends xs top e)
-          ∙ (λ i. fronts_above (sym w.2 i) (is i))
-    ]
+-- what is above while cgroups are taken off: fronts of the last path, of all numbers of names that are looked at
+pub record AreFronts (met : List Row) (path : Names) (above : List Above) : Type 0 where
+  pub none : met ≡ [] → above ≡ []
+  pub some : (rows : List Row) (last : Row) → met ≡ rows ++ last ∷ []
+      → (k : ℕ) × (looked_at path last.path ≤ k) × (above ≡ fronts_below (met_at met last.path) k)
+
+pub fronts_first : (controllers : ControllerSet) (met : List Row) (old : Walk) (path : Names) → HasMet controllers met old
+    → AreFronts met path old.above.items
+fronts_first controllers met old path has = record {
+  none = has.none;
+  some = λ rows last e.
+      let within = inside-length (common path last.path) last.path (common-inside_second path last.path) in
+      (suc (length last.path), omega arith, has.above last rows e);
+}
+
+module _ (controllers : ControllerSet) (met : List Row) (path : Names) (old : Walk) (has : HasMet controllers met old) (stays : List Above)
+    (are : AreFronts met path stays) where
+  abbrev paths : List Names
+  paths = paths_in old.entries.items
+
+  front_is : (rows : List Row) (last : Row) → met ≡ rows ++ last ∷ [] → (top : Above) → last_of stays ≡ Some top
+      → is_front stays paths path ≡ ltb top.len (looked_at path last.path)
+  front_is rows last e top is =
+      rw (is, last_path old.entries.items met rows last has.entries e, is_front) (holds_is path last.path top.len)
+
+  -- one more is taken off, which doesn't hold the next path
+  pub fronts_more : (next : List Above) (taken : Option Above) → is_front stays paths path ≡ false → stays ≡ next ++ option_to_list taken
+      → AreFronts met path next
+  fronts_more next None other popped = subst (AreFronts met path) (popped ∙ append-nil next) are
+  fronts_more next (Some top) other popped = record {
+    none = λ e. absurd (not_empty next top [] (sym popped ∙ are.none e));
+    some = λ rows last e.
+        let had = are.some rows last e in
+        let front = front_is rows last e top (ap last_of popped ∙ last_push next top) in (
+          top.len,
+          ltb-false top.len (looked_at path last.path) (sym front ∙ other),
+          one_less (met_at met last.path) had.0 next top (sym had.2 ∙ popped),
+        );
+  }
+
+  -- what stays above once no more is taken off
+  pub leaves : (row : Row) → IsNext met row → row.path ≡ path
+      → ((top : Above) → last_of stays ≡ Some top → is_front stays paths path ≡ true) → stays ≡ fronts_above met path
+  leaves row order is ends =
+      elim (ended met) [
+        | inl e ↦ are.none e ∙ sym (ap (λ (rows : List Row). fronts_above rows path) e ∙ fronts_none path)
+        | inr w ↦
+            let last : Row = w.1 in
+            let had = are.some w.0 last w.2 in
+            let order = subst (λ (rows : List Row). AreInOrder (rows ++ row ∷ [])) w.2 order in
+            had.2
+            ∙ all_less (met_at met last.path) (looked_at path last.path) had.0 had.1 (λ top at.
+            let top_is = ap last_of had.2 ∙ at in
+            ltb-true top.len (looked_at path last.path) (sym (front_is w.0 last w.2 top top_is) ∙ ends top top_is))
+            ∙ subst (λ (path : Names). fronts_below (met_at met last.path) (looked_at path last.path) ≡ fronts_above met path) is
+            (subst (λ (met : List Row). fronts_below (met_at met last.path) (looked_at row.path last.path) ≡ fronts_above met row.path)
+            (sym w.2) (next_fronts w.0 last row order))
+      ]
 
 -- ---- the walk's step
 

@@ -1,6 +1,6 @@
 -- How it is read and written: nobody has to believe it.
 -- The reader's walk over rows in the order of their paths: what is above each, and which test it fails. Own.
-use Rattle.std.specs.Prelude.{◌≡◌, ℕ, ◌+◌, ◌-◌, option_and_then, ◌≤◌, ◌<◌, nat_lt, nat_eq, Bool, true, false, ◌&&◌, not, cond, List, [], ◌∷◌, ◌++◌, length, take, Option, Some, None, is_some, unwrap_or, find, reverse, codes, slice_get, slice_index_or, zero, suc}
+use Rattle.std.specs.Prelude.{◌≡◌, ℕ, ◌-◌, option_and_then, ◌≤◌, nat_lt, nat_eq, Bool, true, false, ◌&&◌, not, cond, List, [], ◌∷◌, ◌++◌, length, take, Option, Some, None, is_some, unwrap_or, find, reverse, codes, slice_get, zero, suc}
 use Rattle.std.specs.Option.{option_map}
 use Rattle.std.specs.List.{list_any}
 use Rattle.std.specs.Map.{lookup}
@@ -76,12 +76,27 @@ has_no_file met row = is_past row.needed (over_in no_controllers met row.path)
 
 -- The least number of a row that fails a test behind those before it.
 pub record IsLeast (fails : List Row → Row → Bool) (rows : List Row) (least : Option ℕ) : Type 0 where
-  pub found : (number : ℕ) → least ≡ Some number → (i : ℕ) × (row : Row) × (i < length rows) × (row ≡ slice_index_or rows i row) × (fails (take i rows) row ≡ true) × (row.number ≡ number)
-  pub below : (i : ℕ) (row : Row) → i < length rows → row ≡ slice_index_or rows i row → fails (take i rows) row ≡ true → (number : ℕ) × (least ≡ Some number) × (number ≤ row.number)
+  pub found : (number : ℕ) → least ≡ Some number → (front : List Row) × (row : Row) × (back : List Row) × (front ++ row ∷ back ≡ rows)
+      × (fails front row ≡ true) × (row.number ≡ number)
+  pub below : (front : List Row) (row : Row) (back : List Row) → front ++ row ∷ back ≡ rows → fails front row ≡ true
+      → (number : ℕ) × (least ≡ Some number) × (number ≤ row.number)
 
 abbrev pub lesser : Option ℕ → ℕ → Option ℕ
 lesser None number = Some number
 lesser (Some least) number = Some (cond (nat_lt least number) least number)
+
+-- the least number behind a row of this number
+abbrev pub noted : Option ℕ → ℕ → Bool → Option ℕ
+noted least number fails = cond fails (lesser least number) least
+
+-- the least numbers behind a row, by whether its path was met and by what is over it
+abbrev pub least_behind : ControllerSet → Bool → Option ControllerSet → Row → Least → Least
+least_behind controllers twice over row least = record {
+  twice = noted least.twice row.number twice;
+  orphan = noted least.orphan row.number (not (is_some over));
+  not_within = noted least.not_within row.number (is_past row.cgroup.enabled (cond (is_root row.path) (Some controllers) over));
+  no_file = noted least.no_file row.number (is_past row.needed over);
+}
 
 -- the first fault of the least numbers
 abbrev pub least_fault : Least → Bool → Option TreeFault
@@ -110,18 +125,25 @@ abbrev pub over_at : List Above → ℕ → Option ControllerSet
 over_at above len =
     cond (nat_eq len 0) (Some no_controllers) (option_and_then (λ (top : Above). cond (nat_eq top.len (len - 1)) (Some top.enabled) None) (last_of above))
 
--- the fronts of a path that were met, from the root down, each with what it enables: those of at least so many names, and of so many more at most
-abbrev pub fronts_from : ℕ → ℕ → List Row → Names → List Above
-fronts_from len zero met path = []
-fronts_from len (suc more) met path =
-    elim (enabled_by met (take len path)) [ None ↦ fronts_from (len + 1) more met path | Some enabled ↦ record { len = len; enabled = enabled } ∷ fronts_from (len + 1) more met path ]
+abbrev pub front_at : ℕ → Option ControllerSet → List Above
+front_at len None = []
+front_at len (Some enabled) = record { len = len; enabled = enabled } ∷ []
 
--- those of fewer names than the path, and all
+-- the fronts of fewer names than a number, from the root down, by what those that were met enable
+abbrev pub fronts_below : (ℕ → Option ControllerSet) → ℕ → List Above
+fronts_below at zero = []
+fronts_below at (suc len) = fronts_below at len ++ front_at len (at len)
+
+-- what the front of a path enables that has so many names
+abbrev pub met_at : List Row → Names → ℕ → Option ControllerSet
+met_at met path len = enabled_by met (take len path)
+
+-- the fronts of a path of fewer names than it has, and all
 abbrev pub fronts_above : List Row → Names → List Above
-fronts_above met path = fronts_from 0 (length path) met path
+fronts_above met path = fronts_below (met_at met path) (length path)
 
 abbrev pub fronts : List Row → Names → List Above
-fronts met path = fronts_from 0 (length path + 1) met path
+fronts met path = fronts_below (met_at met path) (suc (length path))
 
 -- whether the last of these cgroups has a path that is a front of this one and of the last path
 abbrev pub is_front : List Above → List Names → Names → Bool

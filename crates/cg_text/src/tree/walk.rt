@@ -3,7 +3,7 @@ ghost use Rattle.std.specs.Prelude.{◌≡◌, List, [], ◌∷◌, ◌++◌, ma
 ghost use Rattle.std.specs.List.Sorted.{IsPermutation, IsStableByKey};
 ghost use Rattle.toml.specs.Data.{Members};
 ghost use Rattle.cg_cgroup.specs.Paths.{path_cmp, is_root};
-ghost use Rattle.cg_cgroup.specs.Files.{no_controllers, stands_under};
+ghost use Rattle.cg_cgroup.specs.Files.{stands_under};
 ghost use Rattle.cg_cgroup.specs.declared.files.ControllerSet.{ControllerSet};
 ghost use Rattle.cg_model.specs.Clauses.{first};
 ghost use Rattle.cg_text.specs.declared.tree.format.Format.{Format};
@@ -11,7 +11,7 @@ ghost use Rattle.cg_text.specs.declared.tree.row.Row.{Row};
 ghost use Rattle.cg_text.specs.TextFaults.{cgroup_faults};
 ghost use Rattle.cg_text.specs.Faults.{Passes};
 ghost use Rattle.cg_text.specs.Rows.{AreReadAs};
-ghost use Rattle.cg_text.specs.Walk.{has_met, over_in, over_at, fitted_to, entries_from, lesser, least_fault, has_root, is_front, fronts_above, HasMet, HasTested, AreInOrder, IsNext, AreEntriesOf};
+ghost use Rattle.cg_text.specs.Walk.{has_met, is_past, over_at, fitted_to, entries_from, noted, least_behind, least_fault, has_root, is_front, fronts_above, HasMet, AreInOrder, IsNext, AreEntriesOf};
 
 use crate::tree::fault::{Place, TreeFault};
 use crate::tree::row::Row;
@@ -72,12 +72,41 @@ pub fn is_root(path: &Path) -> bool
     path.depth() == 0
 }
 
-fn lesser(least: Option<u32>, number: u32) -> Option<u32>
-    ensures { result ≡ lesser least number }
+/// The least number behind a row of this number.
+fn noted(least: Option<u32>, number: u32, fails: bool) -> Option<u32>
+    ensures { result ≡ noted least number fails }
 {
+    if !fails {
+        return least;
+    }
     match least {
         Some(least) if least < number => Some(least),
         _ => Some(number),
+    }
+}
+
+/// Whether a set goes past what there is, where that is known.
+fn is_past(set: ControllerSet, available: Option<ControllerSet>) -> bool
+    ensures { result ≡ is_past set available }
+{
+    match available {
+        None => false,
+        Some(available) => !set.is_within(&available),
+    }
+}
+
+/// What may be enabled at a path: what is over it, and at the root what there is.
+fn available(
+    path: &Path,
+    over: Option<ControllerSet>,
+    controllers: ControllerSet,
+) -> Option<ControllerSet>
+    ensures { result ≡ cond (is_root path.now) (Some controllers) over }
+{
+    if is_root(path) {
+        Some(controllers)
+    } else {
+        over
     }
 }
 
@@ -175,29 +204,23 @@ impl Walk {
     /// Keeps the row's number for each test that it fails.
     fn test(&mut self, row: &Row, over: Option<ControllerSet>, controllers: ControllerSet)
         ensures tested { (met : List Row) → self.old.entries.items ≡ entries_from [] met → IsNext met row.now
-            → over ≡ over_in no_controllers met row.now.path
-            → HasTested controllers met self.old.least → HasTested controllers (met ++ row.now ∷ []) self.new.least }
+            → self.new.least ≡ least_behind controllers (has_met met row.now.path) over row.now self.old.least }
         ensures entries { self.new.entries ≡ self.old.entries }
         ensures above { self.new.above ≡ self.old.above }
     {
-        if self.has_met(&row.path) {
-            self.least.twice = lesser(self.least.twice, row.number);
-        }
-        let Some(over) = over else {
-            self.least.orphan = lesser(self.least.orphan, row.number);
-            return;
+        let least = self.least;
+        let twice = self.has_met(&row.path);
+        let available = available(&row.path, over, controllers);
+        self.least = Least {
+            twice: noted(least.twice, row.number, twice),
+            orphan: noted(least.orphan, row.number, over.is_none()),
+            not_within: noted(
+                least.not_within,
+                row.number,
+                is_past(row.cgroup.enabled, available),
+            ),
+            no_file: noted(least.no_file, row.number, is_past(row.needed, over)),
         };
-        let available = if is_root(&row.path) {
-            controllers
-        } else {
-            over
-        };
-        if !row.cgroup.enabled.is_within(&available) {
-            self.least.not_within = lesser(self.least.not_within, row.number);
-        }
-        if !row.needed.is_within(&over) {
-            self.least.no_file = lesser(self.least.no_file, row.number);
-        }
     }
 
     /// Goes on to a row, whose path is that of the last one or comes after it.

@@ -1,12 +1,7 @@
-use Rattle.std.proofs.Common.{map}
-use Rattle.toml.specs.View.{view}
-use Rattle.cg_model.specs.Clauses.{unless}
-use Rattle.cg_text.specs.Form.{is_table, row_keys}
+use Rattle.cg_text.specs.Form.{row_keys}
 use Rattle.cg_text.specs.declared.tree.fault.Place.TheVariants.{Cgroup}
-use Rattle.cg_text.specs.declared.tree.fault.TreeFault.TheVariants.{Shape}
-use Rattle.cg_text.proofs.EachRow.{HavePassed}
+use Rattle.cg_text.proofs.EachRow.{AreShaped}
 use Rattle.cg_text.proofs.tree.form.cgroups_in_form.Given as goal
 
 abbrev pub invariant-loop-index : goal.invariant-loop-index
-invariant-loop-index l = HavePassed (λ _ place held. unless (is_table (row_keys l.format) held) (Shape place)) Cgroup
-    (map view l.cgroups) l.index
+invariant-loop-index l = AreShaped (row_keys l.format) Cgroup l.cgroups l.index

@@ -1,20 +1,12 @@
-use Rattle.std.proofs.Common.{◌≡◌, ap, sym, ◌∙◌, false, string_bytes}
-use Rattle.toml.specs.View.{view}
 use Rattle.cg_text.specs.Form.{file_keys_of}
-use Rattle.cg_text.specs.Keys.{takes}
 use Rattle.cg_text.proofs.TakesLaws.{not_taken, all_taken, file_apart}
 use Rattle.cg_text.proofs.tree.form.files_fit.Goals as goal
 
 pub returns-then-not-takes_file : goal.returns-then-not-takes_file
 returns-then-not-takes_file c =
-    let isnt : takes (file_keys_of c.args.format) (string_bytes c.in-Some.key.now) (view c.in-Some.value.now) ≡ false =
-    ap (λ name. takes (file_keys_of c.args.format) name (view c.in-Some.value.now)) (sym c.as_str.ensures.value)
-    ∙ sym c.takes_file.ensures ∙ c.if-not-takes_file.true in
-    not_taken (file_keys_of c.args.format) c.args.table.now.entries (file_apart c.args.format)
-    c.into_iter-key-iterator.ensures.into_iter_gives.5 c.loop-key.key-iterator c.next.new.self c.in-Some.key.now c.in-Some.value.now
-    c.loop-key.invariant c.in-Some.ensures.steps isnt
+    not_taken (file_keys_of c.args.format) _ (file_apart c.args.format) c.into_iter-key-iterator.ensures.into_iter_gives.5 _ _ _ _ _ _ c.loop-key.invariant
+    c.in-Some.ensures.steps c.as_str.ensures.value c.takes_file.ensures c.if-not-takes_file.true
 
 pub returns : goal.returns
 returns c =
-    all_taken (file_keys_of c.args.format) c.args.table.now.entries (file_apart c.args.format)
-    c.into_iter-key-iterator.ensures.into_iter_gives.5 c.loop-key.key-iterator c.loop-key.invariant c.in-None.ensures.steps.0
+    all_taken (file_keys_of c.args.format) _ (file_apart c.args.format) c.into_iter-key-iterator.ensures.into_iter_gives.5 _ c.loop-key.invariant c.in-None.ensures.steps.0

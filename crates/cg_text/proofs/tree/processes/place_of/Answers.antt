@@ -1,15 +1,14 @@
 use Rattle.std.proofs.Common.{ap, ◌∙◌}
 use Rattle.std.specs.Option.{option_copied}
-use Rattle.std.proofs.lemmas.Result.{err_from_is_err_and}
 use Rattle.toml.specs.View.{table_view}
+use Rattle.cg_text.proofs.RowLaws.{passed_on}
 use Rattle.cg_text.proofs.LiveLaws.{place_fault, without_path, at_place, got_whole}
 use Rattle.cg_text.proofs.tree.processes.place_of.Goals as goal
 
 pub returns-in_err-at : goal.returns-in_err-at
 returns-in_err-at c = λ tables among.
-    let p = err_from_is_err_and c.from_residual.result c.from_residual.ensures.1 in
-    rw (p.1, p.2) (λ other. without_path tables c.args.cgroups.now among c.args.place (table_view c.args.row.now) c.in_err-at.field-0.0
-    (c.in_err-at.ensures other))
+    passed_on _ _ _ c.in_err-at.field-0.0 c.from_residual.ensures (λ memory.
+    without_path tables c.args.cgroups.now among c.args.place (table_view c.args.row.now) c.in_err-at.field-0.0 (c.in_err-at.ensures memory))
 
 pub returns-in_default : goal.returns-in_default
 returns-in_default c = λ tables among other.

@@ -28,5 +28,5 @@ returns c = λ format tables read.
     let all = YieldsList-end yields some at c.loop-row.yielded_by c.next.result c.next.new.self c.in-None.is c.next.ensures.steps in
     let whole : some ≡ rows = sym (map-id some) ∙ all.0 in
     let met = subst (λ (some : List Row). HasMet c.args.controllers some c.loop-row.walk) whole c.loop-row.invariant in
-    walked_is format c.args.controllers tables c.args.rows.items rows c.loop-row.walk c.end.result read c.sort.ensures.same
+    walked_is format c.args.controllers tables c.args.rows.items rows c.loop-row.walk c.end.result read
     c.in_ok-sort.ensures.order c.sort.ensures.stable met c.end.ensures

@@ -4,18 +4,17 @@ use Rattle.cg_cgroup.specs.declared.files.LimitFile.TheVariants.{MaxDescendants,
 use Rattle.cg_cgroup.specs.declared.files.LimitFile.TheVariants.{MemoryHigh, MemoryMax, PidsMax}
 use Rattle.cg_cgroup.specs.declared.files.EntryName.{EntryName}
 use Rattle.cg_cgroup.specs.declared.files.EntryName.TheVariants.{Dir, Procs, SubtreeControl, File}
+use Rattle.cg_cgroup.proofs.AllFiles.{each_file}
 use Rattle.cg_text.specs.Rows.{owner_in}
-use Rattle.cg_text.proofs.RowLaws.{by_entry, by_file, has_owner, no_owner, no_value, HasFile, has_file, cgroup_read}
+use Rattle.cg_text.proofs.RowLaws.{by_entry, has_owner, no_owner, no_value, HasFile, has_file, cgroup_read}
 use Rattle.cg_text.proofs.tree.row.Entries.cgroup.Goals as goal
 use Rattle.cg_text.proofs.tree.row.Entries.cgroup.Goals.{In_ok-pids_max}
 
 pub returns-in_err-dir : goal.returns-in_err-dir
-returns-in_err-dir c =
-    no_owner c.args.self Dir _ _ _ c.from_residual.ensures c.in_err-dir.ensures
+returns-in_err-dir c = no_owner c.args.self Dir _ _ _ c.from_residual.ensures c.in_err-dir.ensures
 
 pub returns-in_err-procs : goal.returns-in_err-procs
-returns-in_err-procs c =
-    no_owner c.args.self Procs _ _ _ c.from_residual-in_err-procs.ensures c.in_err-procs.ensures
+returns-in_err-procs c = no_owner c.args.self Procs _ _ _ c.from_residual-in_err-procs.ensures c.in_err-procs.ensures
 
 pub returns-in_err-subtree_control : goal.returns-in_err-subtree_control
 returns-in_err-subtree_control c =
@@ -26,8 +25,7 @@ returns-in_err-max_descendants c =
     no_owner c.args.self (File MaxDescendants) _ _ _ c.from_residual-in_err-max_descendants.ensures c.in_err-max_descendants.ensures
 
 pub returns-in_err-max_depth : goal.returns-in_err-max_depth
-returns-in_err-max_depth c =
-    no_owner c.args.self (File MaxDepth) _ _ _ c.from_residual-in_err-max_depth.ensures c.in_err-max_depth.ensures
+returns-in_err-max_depth c = no_owner c.args.self (File MaxDepth) _ _ _ c.from_residual-in_err-max_depth.ensures c.in_err-max_depth.ensures
 
 pub returns-in_err-cpu_weight : goal.returns-in_err-cpu_weight
 returns-in_err-cpu_weight c =
@@ -50,8 +48,7 @@ returns-in_err-memory_max c =
     no_owner c.args.self (File MemoryMax) _ _ _ c.from_residual-in_err-memory_max.ensures c.in_err-memory_max.ensures
 
 pub returns-in_err-pids_max : goal.returns-in_err-pids_max
-returns-in_err-pids_max c =
-    no_owner c.args.self (File PidsMax) _ _ _ c.from_residual-in_err-pids_max.ensures c.in_err-pids_max.ensures
+returns-in_err-pids_max c = no_owner c.args.self (File PidsMax) _ _ _ c.from_residual-in_err-pids_max.ensures c.in_err-pids_max.ensures
 
 owned : (c : In_ok-pids_max) (name : EntryName) → is_some (owner_in c.args.self name) ≡ true
 owned c =
@@ -59,15 +56,28 @@ owned c =
     (has_owner c.args.self Dir _ c.in_ok-dir.ensures)
     (has_owner c.args.self Procs _ c.in_ok-procs.ensures)
     (has_owner c.args.self SubtreeControl _ c.in_ok-subtree_control.ensures)
-    (by_file (λ file. is_some (owner_in c.args.self (File file)) ≡ true)
-    (has_owner c.args.self (File MaxDescendants) _ c.in_ok-max_descendants.ensures)
-    (has_owner c.args.self (File MaxDepth) _ c.in_ok-max_depth.ensures)
-    (has_owner c.args.self (File CpuWeight) _ c.in_ok-cpu_weight.ensures)
-    (has_owner c.args.self (File MemoryMin) _ c.in_ok-memory_min.ensures)
-    (has_owner c.args.self (File MemoryLow) _ c.in_ok-memory_low.ensures)
-    (has_owner c.args.self (File MemoryHigh) _ c.in_ok-memory_high.ensures)
-    (has_owner c.args.self (File MemoryMax) _ c.in_ok-memory_max.ensures)
-    (has_owner c.args.self (File PidsMax) _ c.in_ok-pids_max.ensures))
+    (each_file (λ file. is_some (owner_in c.args.self (File file)) ≡ true) (
+      has_owner c.args.self (File MaxDescendants) _ c.in_ok-max_descendants.ensures,
+      (
+        has_owner c.args.self (File MaxDepth) _ c.in_ok-max_depth.ensures,
+        (
+          has_owner c.args.self (File CpuWeight) _ c.in_ok-cpu_weight.ensures,
+          (
+            has_owner c.args.self (File MemoryMin) _ c.in_ok-memory_min.ensures,
+            (
+              has_owner c.args.self (File MemoryLow) _ c.in_ok-memory_low.ensures,
+              (
+                has_owner c.args.self (File MemoryHigh) _ c.in_ok-memory_high.ensures,
+                (
+                  has_owner c.args.self (File MemoryMax) _ c.in_ok-memory_max.ensures,
+                  (has_owner c.args.self (File PidsMax) _ c.in_ok-pids_max.ensures, tt),
+                ),
+              ),
+            ),
+          ),
+        ),
+      ),
+    ))
 
 pub returns-in_err-held : goal.returns-in_err-held
 returns-in_err-held c =
@@ -112,12 +122,25 @@ returns-in_err-held-8 c =
 pub returns : goal.returns
 returns c =
     cgroup_read c.args.self c.args.enabled _ refl c.in_ok-dir.ensures c.in_ok-procs.ensures c.in_ok-subtree_control.ensures
-    (by_file (λ file. HasFile c.args.self _ file)
-    (has_file c.args.self _ MaxDescendants _ _ refl c.in_ok-max_descendants.ensures c.in_ok-held.ensures)
-    (has_file c.args.self _ MaxDepth _ _ refl c.in_ok-max_depth.ensures c.in_ok-held-2.ensures)
-    (has_file c.args.self _ CpuWeight _ _ refl c.in_ok-cpu_weight.ensures c.in_ok-held-3.ensures)
-    (has_file c.args.self _ MemoryMin _ _ refl c.in_ok-memory_min.ensures c.in_ok-held-4.ensures)
-    (has_file c.args.self _ MemoryLow _ _ refl c.in_ok-memory_low.ensures c.in_ok-held-5.ensures)
-    (has_file c.args.self _ MemoryHigh _ _ refl c.in_ok-memory_high.ensures c.in_ok-held-6.ensures)
-    (has_file c.args.self _ MemoryMax _ _ refl c.in_ok-memory_max.ensures c.in_ok-held-7.ensures)
-    (has_file c.args.self _ PidsMax _ _ refl c.in_ok-pids_max.ensures c.in_ok-held-8.ensures))
+    (each_file (λ file. HasFile c.args.self _ file) (
+      has_file c.args.self _ MaxDescendants _ _ refl c.in_ok-max_descendants.ensures c.in_ok-held.ensures,
+      (
+        has_file c.args.self _ MaxDepth _ _ refl c.in_ok-max_depth.ensures c.in_ok-held-2.ensures,
+        (
+          has_file c.args.self _ CpuWeight _ _ refl c.in_ok-cpu_weight.ensures c.in_ok-held-3.ensures,
+          (
+            has_file c.args.self _ MemoryMin _ _ refl c.in_ok-memory_min.ensures c.in_ok-held-4.ensures,
+            (
+              has_file c.args.self _ MemoryLow _ _ refl c.in_ok-memory_low.ensures c.in_ok-held-5.ensures,
+              (
+                has_file c.args.self _ MemoryHigh _ _ refl c.in_ok-memory_high.ensures c.in_ok-held-6.ensures,
+                (
+                  has_file c.args.self _ MemoryMax _ _ refl c.in_ok-memory_max.ensures c.in_ok-held-7.ensures,
+                  (has_file c.args.self _ PidsMax _ _ refl c.in_ok-pids_max.ensures c.in_ok-held-8.ensures, tt),
+                ),
+              ),
+            ),
+          ),
+        ),
+      ),
+    ))

@@ -1,0 +1,142 @@
+-- What the tables of a document say, where the clauses on them find nothing.
+use Rattle.std.proofs.Common.{◌≡◌, ℕ, Bool, true, false, not, ◌||◌, List, [], ◌∷◌, ◌++◌, codes, Option, Some, None, is_some, option_and_then, refl, sym, ap, ◌∙◌}
+use Rattle.std.specs.Prelude.{find}
+use Rattle.std.specs.List.{list_all, list_any}
+use Rattle.std.proofs.lemmas.Bool.{not-true, and_parts}
+use Rattle.std.proofs.lemmas.List.Folds.{list_all-map}
+use Rattle.toml.specs.Data.{Members}
+use Rattle.cg_cgroup.specs.Paths.{Names, is_root, parent}
+use Rattle.cg_cgroup.specs.Files.{all_files, all_entries, no_controllers, enables_nothing, is_within, stands_under}
+use Rattle.cg_cgroup.proofs.AllFiles.{each_passes}
+use Rattle.cg_cgroup.proofs.Options.{some_value}
+use Rattle.cg_cgroup.specs.declared.user.Entry.{Entry}
+use Rattle.cg_cgroup.specs.declared.files.Limit.{Limit}
+use Rattle.cg_cgroup.specs.declared.files.ControllerSet.{ControllerSet}
+use Rattle.cg_cgroup.specs.declared.files.EntryName.{EntryName}
+use Rattle.cg_cgroup.specs.declared.files.EntryName.TheVariants.{Dir, Procs, SubtreeControl, File}
+use Rattle.cg_cgroup.specs.declared.files.LimitFile.{LimitFile}
+use Rattle.cg_steps.proofs.ClauseLaws.{no_unless}
+use Rattle.cg_text.specs.Said.{path_said, controllers_said, entry_said, value_said, is_named, has_path, pid_said, uid_said}
+use Rattle.cg_text.specs.TextOf.{has_pid}
+use Rattle.cg_text.specs.TextFaults.{row_faults, is_there, enabled_there, over, cgroup_faults, process_faults}
+use Rattle.cg_text.specs.declared.tree.fault.Place.{Place}
+use Rattle.cg_text.specs.declared.tree.fault.Place.TheVariants.{Cgroup as AtCgroup}
+use Rattle.cg_text.specs.declared.tree.format.Format.{Format}
+use Rattle.cg_text.proofs.CgroupClauses.{twice_clause, orphan_clause, within_clause, files_clause}
+use Rattle.cg_text.proofs.Cuts.{is_some-find}
+use Rattle.cg_text.proofs.KeysOnce.{five_none, absent_none, none_at}
+
+-- ---- a cgroup's table
+
+-- all that the table of a cgroup says
+pub record SaysCgroup (format : Format) (row : Members) : Type 0 where
+  pub path : Names
+  pub named : path_said (codes "path") row ≡ Some path
+  pub enabled : ControllerSet
+  pub enables : controllers_said (codes "enabled") row ≡ Some enabled
+  pub owner : EntryName → Entry
+  pub owned : (name : EntryName) → entry_said format row name ≡ Some (owner name)
+  pub value : LimitFile → Limit
+  pub valued : (file : LimitFile) → value_said row file ≡ Some (value file)
+
+pub each_entry : (p : EntryName → Bool) → list_all p all_entries ≡ true → (name : EntryName) → p name ≡ true
+each_entry p all name =
+    let dir = and_parts (p Dir) _ all in
+    let procs = and_parts (p Procs) _ dir.1 in
+    let control = and_parts (p SubtreeControl) _ procs.1 in
+    elim name as (λ name. p name ≡ true) [
+      | Dir ↦ dir.0
+      | Procs ↦ procs.0
+      | SubtreeControl ↦ control.0
+      | File file ↦ each_passes (λ file. p (File file)) (sym (list_all-map p File all_files) ∙ control.1) file
+    ]
+
+pub row_says : (format : Format) (place : Place) (row : Members) → row_faults format place row ≡ [] → SaysCgroup format row
+row_says format place row none =
+    let parts = five_none [] _ _ _ _ none in
+    let path = absent_none _ _ parts.1 in
+    let enabled = absent_none _ _ parts.2 in
+    let owned = λ (name : EntryName). some_value (entry_said format row name)
+    (each_entry (λ name. is_some (entry_said format row name)) (no_unless _ _ parts.3) name) in
+    let valued = λ (file : LimitFile). some_value (value_said row file)
+    (each_passes (λ file. is_some (value_said row file)) (no_unless _ _ parts.4) file) in
+    record {
+      path = path.0;
+      named = path.1;
+      enabled = enabled.0;
+      enables = enabled.1;
+      owner = λ name. (owned name).0;
+      owned = λ name. (owned name).1;
+      value = λ file. (valued file).0;
+      valued = λ file. (valued file).1;
+    }
+
+-- ---- a cgroup among the others
+
+-- how the table of a cgroup stands to the others, behind those before it
+pub record StandsAmong (controllers : ControllerSet) (tables before : List Members) (row : Members) (path : Names) : Type 0 where
+  pub fresh : is_there before path ≡ false
+  pub parent_there : (is_root path || is_there tables (parent path)) ≡ true
+  pub within : (enabled available : ControllerSet) → controllers_said (codes "enabled") row ≡ Some enabled
+      → over (Some controllers) tables path ≡ Some available → is_within enabled available ≡ true
+  pub brought : (above : ControllerSet) → over (Some no_controllers) tables path ≡ Some above → (file : LimitFile)
+      → (not (is_named (File file) row) || stands_under above file) ≡ true
+
+pub stands_among : (controllers : ControllerSet) (tables : List Members) → cgroup_faults (Some controllers) tables ≡ []
+    → (before : List Members) (row : Members) (after : List Members) → before ++ row ∷ after ≡ tables
+    → (path : Names) → path_said (codes "path") row ≡ Some path → StandsAmong controllers tables before row path
+stands_among controllers tables none before row after is path named =
+    let parts = five_none _ _ _ _ _ none in
+    let twice = none_at twice_clause AtCgroup tables parts.0 before row after is in
+    let orphan = none_at (orphan_clause tables) AtCgroup tables parts.2 before row after is in
+    let past = none_at (within_clause controllers tables) AtCgroup tables parts.3 before row after is in
+    let unbrought = none_at (files_clause tables) AtCgroup tables parts.4 before row after is in
+    record {
+      fresh = not-true _ (no_unless _ _ (rw named at twice.1));
+      parent_there = no_unless _ _ (rw named at orphan.1);
+      within = λ enabled available enables above. no_unless _ _ (rw (named, enables, above) at past.1);
+      brought = λ above over_is. each_passes _ (no_unless _ _ (rw (named, over_is) at unbrought.1));
+    }
+
+pub root_there : (controllers : ControllerSet) (tables : List Members) → cgroup_faults (Some controllers) tables ≡ []
+    → is_there tables [] ≡ true
+root_there controllers tables none = no_unless _ _ (five_none _ _ _ _ _ none).1
+
+-- ---- a process's table
+
+-- all that the table of a process says, behind those before it
+pub record SaysProcess (tables earlier : List Members) (row : Members) : Type 0 where
+  pub pid : ℕ
+  pub numbered : pid_said row ≡ Some pid
+  pub uid : ℕ
+  pub owned : uid_said row ≡ Some uid
+  pub fresh : list_any (has_pid pid) earlier ≡ false
+  pub place : Names
+  pub placed : path_said (codes "at") row ≡ Some place
+  pub there : is_there tables place ≡ true
+  pub free : (enabled : ControllerSet) → enabled_there tables place ≡ Some enabled → (is_root place || enables_nothing enabled) ≡ true
+
+found_there : (tables : List Members) (said : Option Names) (table : Members)
+    → option_and_then (λ path. find (has_path path) tables) said ≡ Some table → (path : Names) × (said ≡ Some path) × (is_there tables path ≡ true)
+found_there tables None table is = cc
+found_there tables (Some path) table is = (path, refl, sym (is_some-find (has_path path) tables) ∙ ap is_some is)
+
+pub process_says : (tables earlier : List Members) (place : Place) (row : Members) → process_faults tables earlier place row ≡ []
+    → SaysProcess tables earlier row
+process_says tables earlier place row none =
+    let parts = five_none _ _ _ _ _ none in
+    let pid = absent_none _ _ parts.0 in
+    let uid = absent_none _ _ parts.1 in
+    let table = absent_none _ _ parts.3 in
+    let at = found_there tables (path_said (codes "at") row) table.0 table.1 in
+    record {
+      pid = pid.0;
+      numbered = pid.1;
+      uid = uid.0;
+      owned = uid.1;
+      fresh = not-true _ (no_unless _ _ (rw pid.1 at parts.2));
+      place = at.0;
+      placed = at.1;
+      there = at.2;
+      free = λ enabled is. no_unless _ _ (rw (at.1, is) at parts.4);
+    }
