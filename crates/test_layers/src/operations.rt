@@ -225,8 +225,7 @@ fn controllers_are_enabled_from_the_top_down(rt: HostRuntime) -> Result<(), Fail
 #[test]
 fn limits_take_what_their_files_accept(rt: HostRuntime) -> Result<(), Fail> {
     let a = rt.alloc();
-    let file = LimitFile::MaxDepth;
-    let memory = LimitFile::MemoryMax;
+    let (file, memory) = (LimitFile::MaxDepth, LimitFile::MemoryMax);
     let mut t = Trial::new(&rt, a, 1000)?;
     t.done(&rt, set(a, "/c0/c00", file, Limit::At(9223372036854775807)))?;
     t.refused(

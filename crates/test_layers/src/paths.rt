@@ -81,16 +81,14 @@ fn expect_reserved(rt: &impl Abort, alloc: Global, name: &str) -> Result<(), Fai
     Ok(())
 }
 
-/// Reserved names of files that aren't limit files.
-const OF_NO_LIMIT: [&str; 3] = [
-    "cgroup.controllers",
-    "cgroup.procs",
-    "cgroup.subtree_control",
-];
-
 #[test]
 fn reserved_names(rt: HostRuntime) -> Result<(), Fail> {
-    for name in OF_NO_LIMIT {
+    // of files that aren't limit files
+    for name in [
+        "cgroup.controllers",
+        "cgroup.procs",
+        "cgroup.subtree_control",
+    ] {
         expect_reserved(&rt, rt.alloc(), name)?;
     }
     for (_, name) in NAMED {

@@ -14,10 +14,7 @@ use fixtures::{
     ALL, MEMORY, Owners, add, copy_of, delegation, end, nested, nested_of_tables, open_delegation,
     path, populate, remove, set_enabled, set_limit, set_mode, transfer,
 };
-use readings::{
-    check_controllers, check_counts, check_enabled, check_entries, check_gone, check_holds,
-    check_limits, check_lists, check_places, check_uses,
-};
+use readings::{Said, check, check_controllers, check_gone, check_lists, check_places};
 use std::alloc::Global;
 use std::collections::{BTreeMap, BTreeSet};
 use std::process::Abort;
@@ -49,88 +46,125 @@ fn enable<H: Hierarchy>(
 }
 
 #[test]
-fn counts_what_lies_below(rt: HostRuntime) -> Result<(), Fail> {
+fn what_is_said_of_the_delegation_example(rt: HostRuntime) -> Result<(), Fail> {
     let a = rt.alloc();
     let wanted = [
-        ("/", 0, (5, 2)),
-        ("/c0", 1, (2, 1)),
-        ("/c0/c00", 1, (2, 1)),
-        ("/c0/c00", 2, (0, 0)),
-        ("/c0/c01", 2, (0, 0)),
-        ("/c1", 1, (1, 1)),
-        ("/c1/c10", 0, (5, 2)),
+        ("/", Said::Counts(0, 5, 2)),
+        ("/", Said::Holds(0, true, false)),
+        ("/", Said::Uses(Controller::Memory, Some(false))),
+        ("/", Said::Enables(Some(MEMORY))),
+        ("/", Said::EntryIs(EntryName::Procs, entry(0, 0o644))),
+        ("/", Said::LimitIs(LimitFile::MemoryMax, None)),
+        ("/c0", Said::Counts(1, 2, 1)),
+        ("/c0", Said::Enables(Some(ControllerSet::none()))),
+        (
+            "/c0",
+            Said::LimitIs(LimitFile::MaxDepth, Some(Limit::At(2))),
+        ),
+        (
+            "/c0",
+            Said::LimitIs(LimitFile::MaxDescendants, Some(Limit::At(4))),
+        ),
+        (
+            "/c0",
+            Said::LimitIs(LimitFile::MemoryMin, Some(Limit::At(0))),
+        ),
+        (
+            "/c0",
+            Said::LimitIs(LimitFile::MemoryMax, Some(Limit::At(1073741824))),
+        ),
+        ("/c0", Said::LimitIs(LimitFile::PidsMax, None)),
+        ("/c0/c00", Said::Counts(1, 2, 1)),
+        ("/c0/c00", Said::Counts(2, 0, 0)),
+        ("/c0/c00", Said::Holds(2, false, true)),
+        (
+            "/c0/c00",
+            Said::LimitIs(LimitFile::MaxDepth, Some(Limit::Max)),
+        ),
+        ("/c0/c01", Said::Counts(2, 0, 0)),
+        ("/c0/c02", Said::Uses(Controller::Memory, None)),
+        ("/c0/c02", Said::Enables(None)),
+        ("/c1", Said::Counts(1, 1, 1)),
+        ("/c1", Said::Holds(1, true, false)),
+        ("/c1", Said::Uses(Controller::Cpu, Some(false))),
+        ("/c1", Said::LimitIs(LimitFile::MemoryMax, Some(Limit::Max))),
+        ("/c1/c10", Said::Counts(0, 5, 2)),
     ];
-    check_counts(&rt, a, &delegation(&rt, a)?, &wanted)?;
-    let wanted = [
-        ("/", 0, (6, 2)),
-        ("/c0", 1, (2, 1)),
-        ("/c01", 1, (0, 0)),
-        ("/c1", 1, (1, 1)),
-    ];
-    check_counts(&rt, a, &open_delegation(&rt, a)?, &wanted)?;
-    let wanted = [("/", 0, (2, 2)), ("/p", 1, (1, 1)), ("/p/s", 2, (0, 0))];
-    check_counts(&rt, a, &nested(&rt, a)?, &wanted)
+    check(&rt, a, &delegation(&rt, a)?, &wanted)
 }
 
 #[test]
-fn tells_children_and_processes(rt: HostRuntime) -> Result<(), Fail> {
+fn what_is_said_of_it_with_an_open_root(rt: HostRuntime) -> Result<(), Fail> {
     let a = rt.alloc();
+    let memory = EntryName::File(LimitFile::MemoryMax);
+    let depth = EntryName::File(LimitFile::MaxDepth);
     let wanted = [
-        ("/", 0, (true, false)),
-        ("/c0/c00", 2, (false, true)),
-        ("/c1", 1, (true, false)),
+        ("/", Said::Counts(0, 6, 2)),
+        ("/", Said::Holds(0, true, false)),
+        ("/", Said::Uses(Controller::Pids, Some(false))),
+        ("/", Said::EntryIs(EntryName::Dir, entry(0, 0o755))),
+        ("/", Said::EntryIs(EntryName::Procs, entry(0, 0o646))),
+        ("/c0", Said::Counts(1, 2, 1)),
+        ("/c0", Said::Holds(1, true, false)),
+        ("/c0", Said::EntryIs(EntryName::Dir, entry(1000, 0o755))),
+        (
+            "/c0",
+            Said::EntryIs(EntryName::SubtreeControl, entry(1000, 0o644)),
+        ),
+        ("/c0", Said::EntryIs(memory, entry(0, 0o644))),
+        ("/c0/c00", Said::Holds(2, false, true)),
+        ("/c0/c00", Said::EntryIs(depth, entry(1000, 0o644))),
+        ("/c0/c00", Said::EntryIs(memory, None)),
+        ("/c0/c01", Said::Holds(2, false, false)),
+        ("/c0/c01", Said::Holds(1, true, false)),
+        ("/c01", Said::Counts(1, 0, 0)),
+        ("/c01", Said::Holds(1, false, true)),
+        ("/c01", Said::Enables(Some(ControllerSet::none()))),
+        ("/c01", Said::EntryIs(EntryName::Procs, entry(1000, 0o644))),
+        (
+            "/c01",
+            Said::EntryIs(EntryName::SubtreeControl, entry(0, 0o644)),
+        ),
+        (
+            "/c01",
+            Said::LimitIs(LimitFile::MemoryMax, Some(Limit::Max)),
+        ),
+        ("/c1", Said::Counts(1, 1, 1)),
+        ("/c1", Said::Holds(1, true, false)),
+        ("/c1/c10", Said::Holds(2, false, true)),
     ];
-    check_holds(&rt, a, &delegation(&rt, a)?, &wanted)?;
-    let wanted = [
-        ("/", 0, (true, false)),
-        ("/c0", 1, (true, false)),
-        ("/c0/c00", 2, (false, true)),
-        ("/c0/c01", 2, (false, false)),
-        ("/c0/c01", 1, (true, false)),
-        ("/c01", 1, (false, true)),
-        ("/c1", 1, (true, false)),
-        ("/c1/c10", 2, (false, true)),
-    ];
-    check_holds(&rt, a, &open_delegation(&rt, a)?, &wanted)?;
-    let wanted = [
-        ("/", 0, (true, false)),
-        ("/p", 1, (true, false)),
-        ("/p/s", 2, (false, true)),
-    ];
-    check_holds(&rt, a, &nested(&rt, a)?, &wanted)
+    check(&rt, a, &open_delegation(&rt, a)?, &wanted)
 }
 
 #[test]
-fn tells_what_children_enable(rt: HostRuntime) -> Result<(), Fail> {
+fn what_is_said_of_two_levels_that_enable_memory(rt: HostRuntime) -> Result<(), Fail> {
     let a = rt.alloc();
+    let memory = EntryName::File(LimitFile::MemoryMax);
     let wanted = [
-        ("/", Controller::Memory, Some(false)),
-        ("/c1", Controller::Cpu, Some(false)),
-        ("/c0/c02", Controller::Memory, None),
+        ("/", Said::Counts(0, 2, 2)),
+        ("/", Said::Holds(0, true, false)),
+        ("/", Said::Uses(Controller::Memory, Some(true))),
+        ("/", Said::Uses(Controller::Cpu, Some(false))),
+        ("/p", Said::Counts(1, 1, 1)),
+        ("/p", Said::Holds(1, true, false)),
+        ("/p", Said::Uses(Controller::Memory, Some(false))),
+        ("/p", Said::Enables(Some(MEMORY))),
+        ("/p", Said::EntryIs(EntryName::Dir, entry(1000, 0o755))),
+        (
+            "/p",
+            Said::EntryIs(EntryName::SubtreeControl, entry(0, 0o644)),
+        ),
+        ("/p", Said::LimitIs(LimitFile::CpuWeight, None)),
+        ("/p/s", Said::Counts(2, 0, 0)),
+        ("/p/s", Said::Holds(2, false, true)),
+        ("/p/s", Said::EntryIs(EntryName::Procs, entry(0, 0o644))),
+        ("/p/s", Said::EntryIs(memory, entry(0, 0o644))),
+        (
+            "/p/s",
+            Said::LimitIs(LimitFile::MemoryLow, Some(Limit::At(0))),
+        ),
     ];
-    check_uses(&rt, a, &delegation(&rt, a)?, &wanted)?;
-    let wanted = [("/", Controller::Pids, Some(false))];
-    check_uses(&rt, a, &open_delegation(&rt, a)?, &wanted)?;
-    let wanted = [
-        ("/", Controller::Memory, Some(true)),
-        ("/", Controller::Cpu, Some(false)),
-        ("/p", Controller::Memory, Some(false)),
-    ];
-    check_uses(&rt, a, &nested(&rt, a)?, &wanted)
-}
-
-#[test]
-fn tells_what_is_enabled(rt: HostRuntime) -> Result<(), Fail> {
-    let a = rt.alloc();
-    let wanted = [
-        ("/", Some(MEMORY)),
-        ("/c0", Some(ControllerSet::none())),
-        ("/c0/c02", None),
-    ];
-    check_enabled(&rt, a, &delegation(&rt, a)?, &wanted)?;
-    let wanted = [("/c01", Some(ControllerSet::none()))];
-    check_enabled(&rt, a, &open_delegation(&rt, a)?, &wanted)?;
-    check_enabled(&rt, a, &nested(&rt, a)?, &[("/p", Some(MEMORY))])
+    check(&rt, a, &nested(&rt, a)?, &wanted)
 }
 
 #[test]
@@ -175,74 +209,21 @@ fn tells_that_no_process_is_there(rt: HostRuntime) -> Result<(), Fail> {
 }
 
 #[test]
-fn gets_entries(rt: HostRuntime) -> Result<(), Fail> {
-    let a = rt.alloc();
-    let depth = EntryName::File(LimitFile::MaxDepth);
-    let memory = EntryName::File(LimitFile::MemoryMax);
-    let wanted = [("/", EntryName::Procs, entry(0, 0o644))];
-    check_entries(&rt, a, &delegation(&rt, a)?, &wanted)?;
-    let wanted = [
-        ("/", EntryName::Dir, entry(0, 0o755)),
-        ("/", EntryName::Procs, entry(0, 0o646)),
-        ("/c0", EntryName::Dir, entry(1000, 0o755)),
-        ("/c0", EntryName::SubtreeControl, entry(1000, 0o644)),
-        ("/c0", memory, entry(0, 0o644)),
-        ("/c0/c00", depth, entry(1000, 0o644)),
-        ("/c0/c00", memory, None),
-        ("/c01", EntryName::Procs, entry(1000, 0o644)),
-        ("/c01", EntryName::SubtreeControl, entry(0, 0o644)),
-    ];
-    check_entries(&rt, a, &open_delegation(&rt, a)?, &wanted)?;
-    let wanted = [
-        ("/p", EntryName::Dir, entry(1000, 0o755)),
-        ("/p", EntryName::SubtreeControl, entry(0, 0o644)),
-        ("/p/s", EntryName::Procs, entry(0, 0o644)),
-        ("/p/s", memory, entry(0, 0o644)),
-    ];
-    check_entries(&rt, a, &nested(&rt, a)?, &wanted)
-}
-
-#[test]
-fn gets_limits(rt: HostRuntime) -> Result<(), Fail> {
-    let a = rt.alloc();
-    let wanted = [
-        ("/", LimitFile::MemoryMax, None),
-        ("/c0", LimitFile::MaxDepth, Some(Limit::At(2))),
-        ("/c0", LimitFile::MaxDescendants, Some(Limit::At(4))),
-        ("/c0", LimitFile::MemoryMin, Some(Limit::At(0))),
-        ("/c0", LimitFile::MemoryMax, Some(Limit::At(1073741824))),
-        ("/c0", LimitFile::PidsMax, None),
-        ("/c1", LimitFile::MemoryMax, Some(Limit::Max)),
-        ("/c0/c00", LimitFile::MaxDepth, Some(Limit::Max)),
-    ];
-    check_limits(&rt, a, &delegation(&rt, a)?, &wanted)?;
-    let wanted = [("/c01", LimitFile::MemoryMax, Some(Limit::Max))];
-    check_limits(&rt, a, &open_delegation(&rt, a)?, &wanted)?;
-    let wanted = [
-        ("/p", LimitFile::CpuWeight, None),
-        ("/p/s", LimitFile::MemoryLow, Some(Limit::At(0))),
-    ];
-    check_limits(&rt, a, &nested(&rt, a)?, &wanted)
-}
-
-#[test]
 fn sets_limits(rt: HostRuntime) -> Result<(), Fail> {
     let a = rt.alloc();
     let file = LimitFile::MemoryLow;
     let mut tree = delegation(&rt, a)?;
     assert!(rt; set_limit(&mut tree, &path(a, "/c1")?, file, Limit::At(7)));
     let wanted = [
-        ("/c1", file, Some(Limit::At(7))),
-        ("/c1", LimitFile::MemoryHigh, Some(Limit::Max)),
-        ("/c0", file, Some(Limit::At(0))),
+        ("/c1", Said::LimitIs(file, Some(Limit::At(7)))),
+        (
+            "/c1",
+            Said::LimitIs(LimitFile::MemoryHigh, Some(Limit::Max)),
+        ),
+        ("/c0", Said::LimitIs(file, Some(Limit::At(0)))),
+        ("/c1", Said::EntryIs(EntryName::File(file), entry(0, 0o644))),
     ];
-    check_limits(&rt, a, &tree, &wanted)?;
-    check_entries(
-        &rt,
-        a,
-        &tree,
-        &[("/c1", EntryName::File(file), entry(0, 0o644))],
-    )
+    check(&rt, a, &tree, &wanted)
 }
 
 #[test]
@@ -252,16 +233,15 @@ fn sets_modes(rt: HostRuntime) -> Result<(), Fail> {
     let mut tree = delegation(&rt, a)?;
     assert!(rt; set_mode(&mut tree, &path(a, "/c1")?, EntryName::Dir, mode));
     let wanted = [
-        ("/c1", EntryName::Dir, entry(1000, 0o555)),
-        ("/c1", EntryName::Procs, entry(1000, 0o644)),
+        ("/c1", Said::EntryIs(EntryName::Dir, entry(1000, 0o555))),
+        ("/c1", Said::EntryIs(EntryName::Procs, entry(1000, 0o644))),
         (
             "/c1",
-            EntryName::File(LimitFile::MemoryLow),
-            entry(0, 0o644),
+            Said::EntryIs(EntryName::File(LimitFile::MemoryLow), entry(0, 0o644)),
         ),
-        ("/c1/c10", EntryName::Dir, entry(1000, 0o755)),
+        ("/c1/c10", Said::EntryIs(EntryName::Dir, entry(1000, 0o755))),
     ];
-    check_entries(&rt, a, &tree, &wanted)
+    check(&rt, a, &tree, &wanted)
 }
 
 #[test]
@@ -270,14 +250,19 @@ fn enables(rt: HostRuntime) -> Result<(), Fail> {
     let file = EntryName::File(LimitFile::MemoryMax);
     let mut tree = delegation(&rt, a)?;
     assert!(rt; enable(a, &mut tree, "/c0", MEMORY)?);
-    check_uses(&rt, a, &tree, &[("/", Controller::Memory, Some(true))])?;
+    check(
+        &rt,
+        a,
+        &tree,
+        &[("/", Said::Uses(Controller::Memory, Some(true)))],
+    )?;
     let wanted = [
-        ("/c0", file, entry(0, 0o644)),
-        ("/c0/c00", file, made_entry()),
-        ("/c0/c01", file, made_entry()),
-        ("/c1/c10", file, None),
+        ("/c0", Said::EntryIs(file, entry(0, 0o644))),
+        ("/c0/c00", Said::EntryIs(file, made_entry())),
+        ("/c0/c01", Said::EntryIs(file, made_entry())),
+        ("/c1/c10", Said::EntryIs(file, None)),
     ];
-    check_entries(&rt, a, &tree, &wanted)
+    check(&rt, a, &tree, &wanted)
 }
 
 #[test]
@@ -286,8 +271,18 @@ fn disables(rt: HostRuntime) -> Result<(), Fail> {
     let mut tree = delegation(&rt, a)?;
     assert!(rt; enable(a, &mut tree, "/c0", MEMORY)?);
     assert!(rt; enable(a, &mut tree, "/c0", ControllerSet::none())?);
-    check_uses(&rt, a, &tree, &[("/", Controller::Memory, Some(false))])?;
-    check_limits(&rt, a, &tree, &[("/c0/c00", LimitFile::MemoryMax, None)])
+    check(
+        &rt,
+        a,
+        &tree,
+        &[("/", Said::Uses(Controller::Memory, Some(false)))],
+    )?;
+    check(
+        &rt,
+        a,
+        &tree,
+        &[("/c0/c00", Said::LimitIs(LimitFile::MemoryMax, None))],
+    )
 }
 
 #[test]
@@ -297,7 +292,8 @@ fn adds(rt: HostRuntime) -> Result<(), Fail> {
     assert!(rt; add(a, &mut tree, &path(a, "/c0-x")?, Owners::KEPT)?);
     let paths = " / /c0 /c0/c00 /c0/c01 /c0-x /c01 /c1 /c1/c10";
     check_lists(&rt, a, &tree, paths, &[10, 11, 14])?;
-    check_counts(&rt, a, &tree, &[("/", 0, (7, 2)), ("/c0", 1, (2, 1))])
+    let wanted = [("/", Said::Counts(0, 7, 2)), ("/c0", Said::Counts(1, 2, 1))];
+    check(&rt, a, &tree, &wanted)
 }
 
 #[test]
@@ -305,9 +301,15 @@ fn removes(rt: HostRuntime) -> Result<(), Fail> {
     let a = rt.alloc();
     let mut tree = open_delegation(&rt, a)?;
     assert!(rt; remove(&mut tree, &path(a, "/c0/c01")?));
-    let paths = " / /c0 /c0/c00 /c01 /c1 /c1/c10";
-    check_lists(&rt, a, &tree, paths, &[10, 11, 14])?;
-    check_counts(&rt, a, &tree, &[("/", 0, (5, 2)), ("/c0", 1, (1, 1))])
+    let wanted = [("/", Said::Counts(0, 5, 2)), ("/c0", Said::Counts(1, 1, 1))];
+    check(&rt, a, &tree, &wanted)?;
+    check_lists(
+        &rt,
+        a,
+        &tree,
+        " / /c0 /c0/c00 /c01 /c1 /c1/c10",
+        &[10, 11, 14],
+    )
 }
 
 #[test]
@@ -317,10 +319,10 @@ fn moves_processes(rt: HostRuntime) -> Result<(), Fail> {
     assert!(rt; transfer(a, &mut tree, 11, "/c0/c01")?);
     check_places(&rt, &tree, &[(10, 1000, "/c1/c10"), (11, 1000, "/c0/c01")])?;
     let wanted = [
-        ("/c0/c00", 2, (false, false)),
-        ("/c0/c01", 2, (false, true)),
+        ("/c0/c00", Said::Holds(2, false, false)),
+        ("/c0/c01", Said::Holds(2, false, true)),
     ];
-    check_holds(&rt, a, &tree, &wanted)
+    check(&rt, a, &tree, &wanted)
 }
 
 #[test]
@@ -334,7 +336,7 @@ fn adds_processes(rt: HostRuntime) -> Result<(), Fail> {
         (12, 1001, "/c0/c01"),
     ];
     check_places(&rt, &tree, &wanted)?;
-    check_holds(&rt, a, &tree, &[("/c0/c01", 2, (false, true))])
+    check(&rt, a, &tree, &[("/c0/c01", Said::Holds(2, false, true))])
 }
 
 #[test]
@@ -355,15 +357,23 @@ fn copies_are_equal(rt: HostRuntime) -> Result<(), Fail> {
     let paths = " / /c0 /c0/c00 /c0/c01 /c1 /c1/c10";
     check_lists(&rt, a, &tree, paths, &[10, 11])?;
     check_controllers(&rt, &tree, ALL);
-    let wanted = [("/c0", LimitFile::MaxDescendants, Some(Limit::At(4)))];
-    check_limits(&rt, a, &tree, &wanted)
+    let wanted = [(
+        "/c0",
+        Said::LimitIs(LimitFile::MaxDescendants, Some(Limit::At(4))),
+    )];
+    check(&rt, a, &tree, &wanted)
 }
 
 #[test]
 fn copies_of_an_open_tree_are_equal(rt: HostRuntime) -> Result<(), Fail> {
     let a = rt.alloc();
     let tree = copy_of(a, &open_delegation(&rt, a)?)?;
-    check_entries(&rt, a, &tree, &[("/", EntryName::Procs, entry(0, 0o646))])?;
+    check(
+        &rt,
+        a,
+        &tree,
+        &[("/", Said::EntryIs(EntryName::Procs, entry(0, 0o646)))],
+    )?;
     check_places(&rt, &tree, &[(14, 1000, "/c01")])
 }
 
@@ -383,7 +393,15 @@ fn copies_stay_as_they_were(rt: HostRuntime) -> Result<(), Fail> {
     let copy = copy_from_before(&rt, a)?;
     check_lists(&rt, a, &copy, " / /p /p/s", &[20])?;
     check_places(&rt, &copy, &[(20, 1000, "/p/s")])?;
-    check_enabled(&rt, a, &copy, &[("/p", Some(MEMORY)), ("/c0", None)])
+    check(
+        &rt,
+        a,
+        &copy,
+        &[
+            ("/p", Said::Enables(Some(MEMORY))),
+            ("/c0", Said::Enables(None)),
+        ],
+    )
 }
 
 #[test]
@@ -391,7 +409,15 @@ fn tables_make_a_tree(rt: HostRuntime) -> Result<(), Fail> {
     let a = rt.alloc();
     let tree = nested_of_tables(&rt, a)?;
     check_lists(&rt, a, &tree, " / /p /p/s", &[20])?;
-    check_counts(&rt, a, &tree, &[("/", 0, (2, 2)), ("/p/s", 1, (1, 1))])?;
+    check(
+        &rt,
+        a,
+        &tree,
+        &[
+            ("/", Said::Counts(0, 2, 2)),
+            ("/p/s", Said::Counts(1, 1, 1)),
+        ],
+    )?;
     check_places(&rt, &tree, &[(20, 1000, "/p/s")])?;
     check_controllers(&rt, &tree, MEMORY);
     Ok(())

@@ -56,23 +56,13 @@ fn step<A: Hierarchy, B: Hierarchy>(
     Ok(outcome == Outcome::Done)
 }
 
-/// A random operation of one of two users on both trees, three of four times the first's. Whether it was carried
-/// out.
-fn random_step<A: Hierarchy, B: Hierarchy>(
-    rt: &impl Abort,
-    alloc: Global,
-    one: &mut A,
-    other: &mut B,
-    users: &(User, User),
-    random: &mut Random,
-) -> Result<bool, Fail> {
-    let op = operation(alloc, random)?;
-    let user = if random.below(4) > 0 {
+/// One of two users, three of four times the first.
+fn one_of<'a>(users: &'a (User, User), random: &mut Random) -> &'a User {
+    if random.below(4) > 0 {
         &users.0
     } else {
         &users.1
-    };
-    Ok(step(rt, alloc, one, other, user, &op)?)
+    }
 }
 
 /// Adds the same processes at the roots of both trees.
@@ -101,7 +91,7 @@ fn hold_copy<A: Hierarchy, B: Hierarchy + Drop>(
     hold(rt, alloc, one, &copy, paths, PIDS)
 }
 
-/// Random operations on two trees with the same outcomes. Both answer alike after each that is carried out, as does a
+/// Random operations of two users on two trees, with the same outcomes. Both answer alike after each that is carried out, as does a
 /// copy of the second. How many were carried out.
 fn run<A: Hierarchy, B: Hierarchy + Drop>(
     rt: &impl Abort,
@@ -114,7 +104,8 @@ fn run<A: Hierarchy, B: Hierarchy + Drop>(
 ) -> Result<u64, Fail> {
     let mut done: u64 = 0;
     for _step in 0..STEPS {
-        if random_step(rt, alloc, one, other, users, random)? {
+        let op = operation(alloc, random)?;
+        if step(rt, alloc, one, other, one_of(users, random), &op)? {
             done = done.saturating_add(1);
             hold(rt, alloc, one, other, paths, PIDS)?;
             hold_copy(rt, alloc, one, other, paths)?;

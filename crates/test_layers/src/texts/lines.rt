@@ -97,11 +97,10 @@ const OF_OPERATIONS: [&str; 15] = [
 
 #[test]
 fn lines_of_operations_and_of_none(rt: HostRuntime) -> Result<(), Fail> {
-    for line in OF_NONE {
-        assert!(rt; !is_line(rt.alloc(), line)?, "{line}");
-    }
-    for line in OF_OPERATIONS {
-        assert!(rt; is_line(rt.alloc(), line)?, "{line}");
+    for (lines, of_an_operation) in [(OF_NONE.as_slice(), false), (&OF_OPERATIONS, true)] {
+        for line in lines {
+            assert_eq!(rt; is_line(rt.alloc(), line)?, of_an_operation, "{line}");
+        }
     }
     let bytes = read_op(rt.alloc(), b"mkdir /\xff");
     assert_eq!(rt; bytes.err(), Some(LineFault::BadWord));

@@ -31,6 +31,16 @@ fn shows(alloc: Global, op: &Op, refusal: Refusal, line: &str) -> Result<bool, N
     Ok(text.as_slice() == line.as_bytes())
 }
 
+/// Fails where a refusal that an operation can meet is shown by another line.
+macro_rules! expect_lines {
+    ($rt:expr, $alloc:expr, $op:expr; $($refusal:expr => $line:expr,)*) => {
+        {
+            let op = $op;
+            $(assert!($rt; shows($alloc, &op, $refusal, $line)?);)*
+        }
+    };
+}
+
 #[test]
 fn what_is_carried_out(rt: HostRuntime) -> Result<(), Fail> {
     let pid = Pid::new(1).ok_or("a PID")?;
@@ -40,189 +50,86 @@ fn what_is_carried_out(rt: HostRuntime) -> Result<(), Fail> {
 }
 
 #[test]
-fn refusals_of_a_move(rt: HostRuntime) -> Result<(), Fail> {
+fn refusals_of_moves_and_controls(rt: HostRuntime) -> Result<(), Fail> {
     let alloc = rt.alloc();
     let pid = Pid::new(4194303).ok_or("a PID")?;
     let to = place(alloc).ok_or("a path")?;
-    let op = Op::Move { pid, to };
-    let refusal = Refusal::NoSuchCgroup { len: 2 };
-    assert!(rt; shows(alloc, &op, refusal, "refused no-such-cgroup /c0/c01\n")?);
-    let refusal = Refusal::NoAccess {
-        len: 0,
-        entry: EntryName::Procs,
-    };
-    assert!(rt; shows(alloc, &op, refusal, "refused no-access / cgroup.procs\n")?);
-    let refusal = Refusal::NoSuchProcess { pid };
-    assert!(rt; shows(alloc, &op, refusal, "refused no-such-process 4194303\n")?);
-    let refusal = Refusal::InternalProcess { len: 2 };
-    assert!(rt; shows(alloc, &op, refusal, "refused internal-process /c0/c01\n")?);
-    Ok(())
-}
-
-#[test]
-fn refusals_of_a_control(rt: HostRuntime) -> Result<(), Fail> {
-    let alloc = rt.alloc();
+    expect_lines!(rt, alloc, Op::Move { pid, to };
+        Refusal::NoSuchCgroup { len: 2 } => "refused no-such-cgroup /c0/c01\n",
+        Refusal::NoAccess { len: 0, entry: EntryName::Procs } => "refused no-access / cgroup.procs\n",
+        Refusal::NoSuchProcess { pid } => "refused no-such-process 4194303\n",
+        Refusal::InternalProcess { len: 2 } => "refused internal-process /c0/c01\n",
+    );
     let at = place(alloc).ok_or("a path")?;
     let changes = Changes::new(alloc);
-    let op = Op::Control { at, changes };
-    let refusal = Refusal::NoSuchCgroup { len: 1 };
-    assert!(rt; shows(alloc, &op, refusal, "refused no-such-cgroup /c0\n")?);
-    let refusal = Refusal::NoAccess {
-        len: 2,
-        entry: EntryName::SubtreeControl,
-    };
-    assert!(rt;
-        shows(
-            alloc,
-            &op,
-            refusal,
-            "refused no-access /c0/c01 cgroup.subtree_control\n"
-        )?
+    expect_lines!(rt, alloc, Op::Control { at, changes };
+        Refusal::NoSuchCgroup { len: 1 } => "refused no-such-cgroup /c0\n",
+        Refusal::NoAccess { len: 2, entry: EntryName::SubtreeControl }
+            => "refused no-access /c0/c01 cgroup.subtree_control\n",
+        Refusal::NotAvailable { controller: Controller::Pids } => "refused not-available pids\n",
+        Refusal::ChildUses { controller: Controller::Cpu } => "refused child-uses cpu\n",
+        Refusal::InternalProcess { len: 1 } => "refused internal-process /c0\n",
     );
-    let refusal = Refusal::NotAvailable {
-        controller: Controller::Pids,
-    };
-    assert!(rt; shows(alloc, &op, refusal, "refused not-available pids\n")?);
-    let refusal = Refusal::ChildUses {
-        controller: Controller::Cpu,
-    };
-    assert!(rt; shows(alloc, &op, refusal, "refused child-uses cpu\n")?);
-    let refusal = Refusal::InternalProcess { len: 1 };
-    assert!(rt; shows(alloc, &op, refusal, "refused internal-process /c0\n")?);
     Ok(())
 }
 
 #[test]
-fn refusals_of_a_mkdir(rt: HostRuntime) -> Result<(), Fail> {
+fn refusals_of_directories(rt: HostRuntime) -> Result<(), Fail> {
     let alloc = rt.alloc();
     let path = place(alloc).ok_or("a path")?;
-    let op = Op::Mkdir { path };
-    let refusal = Refusal::Exists;
-    assert!(rt; shows(alloc, &op, refusal, "refused exists /c0/c01\n")?);
-    let refusal = Refusal::NoSuchCgroup { len: 1 };
-    assert!(rt; shows(alloc, &op, refusal, "refused no-such-cgroup /c0\n")?);
-    let refusal = Refusal::NoAccess {
-        len: 1,
-        entry: EntryName::Dir,
-    };
-    assert!(rt; shows(alloc, &op, refusal, "refused no-access /c0 dir\n")?);
-    let refusal = Refusal::DescendantLimit { len: 1 };
-    assert!(rt; shows(alloc, &op, refusal, "refused descendant-limit /c0\n")?);
-    let refusal = Refusal::DepthLimit { len: 0 };
-    assert!(rt; shows(alloc, &op, refusal, "refused depth-limit /\n")?);
-    Ok(())
-}
-
-#[test]
-fn refusals_of_a_rmdir(rt: HostRuntime) -> Result<(), Fail> {
-    let alloc = rt.alloc();
+    expect_lines!(rt, alloc, Op::Mkdir { path };
+        Refusal::Exists => "refused exists /c0/c01\n",
+        Refusal::NoSuchCgroup { len: 1 } => "refused no-such-cgroup /c0\n",
+        Refusal::NoAccess { len: 1, entry: EntryName::Dir } => "refused no-access /c0 dir\n",
+        Refusal::DescendantLimit { len: 1 } => "refused descendant-limit /c0\n",
+        Refusal::DepthLimit { len: 0 } => "refused depth-limit /\n",
+    );
     let path = place(alloc).ok_or("a path")?;
-    let op = Op::Rmdir { path };
-    let refusal = Refusal::RootCgroup;
-    assert!(rt; shows(alloc, &op, refusal, "refused root-cgroup\n")?);
-    let refusal = Refusal::NoSuchCgroup { len: 2 };
-    assert!(rt; shows(alloc, &op, refusal, "refused no-such-cgroup /c0/c01\n")?);
-    let refusal = Refusal::NoAccess {
-        len: 1,
-        entry: EntryName::Dir,
-    };
-    assert!(rt; shows(alloc, &op, refusal, "refused no-access /c0 dir\n")?);
-    let refusal = Refusal::HasChildren;
-    assert!(rt; shows(alloc, &op, refusal, "refused has-children /c0/c01\n")?);
-    let refusal = Refusal::HasProcesses;
-    assert!(rt; shows(alloc, &op, refusal, "refused has-processes /c0/c01\n")?);
+    expect_lines!(rt, alloc, Op::Rmdir { path };
+        Refusal::RootCgroup => "refused root-cgroup\n",
+        Refusal::NoSuchCgroup { len: 2 } => "refused no-such-cgroup /c0/c01\n",
+        Refusal::NoAccess { len: 1, entry: EntryName::Dir } => "refused no-access /c0 dir\n",
+        Refusal::HasChildren => "refused has-children /c0/c01\n",
+        Refusal::HasProcesses => "refused has-processes /c0/c01\n",
+    );
     Ok(())
 }
 
 #[test]
-fn refusals_of_a_set(rt: HostRuntime) -> Result<(), Fail> {
+fn refusals_at_files(rt: HostRuntime) -> Result<(), Fail> {
     let alloc = rt.alloc();
-    let at = place(alloc).ok_or("a path")?;
     let (file, value) = (LimitFile::CpuWeight, Limit::At(0));
-    let op = Op::Set { at, file, value };
-    let refusal = Refusal::NoSuchCgroup { len: 2 };
-    assert!(rt; shows(alloc, &op, refusal, "refused no-such-cgroup /c0/c01\n")?);
-    let refusal = Refusal::NoSuchFile { file };
-    assert!(rt;
-        shows(
-            alloc,
-            &op,
-            refusal,
-            "refused no-such-file /c0/c01 cpu.weight\n"
-        )?
+    let at = place(alloc).ok_or("a path")?;
+    expect_lines!(rt, alloc, Op::Set { at, file, value };
+        Refusal::NoSuchCgroup { len: 2 } => "refused no-such-cgroup /c0/c01\n",
+        Refusal::NoSuchFile { file } => "refused no-such-file /c0/c01 cpu.weight\n",
+        Refusal::NoAccess { len: 2, entry: EntryName::File(file) } => "refused no-access /c0/c01 cpu.weight\n",
+        Refusal::BadValue { file } => "refused bad-value cpu.weight\n",
     );
-    let refusal = Refusal::NoAccess {
-        len: 2,
-        entry: EntryName::File(file),
-    };
-    assert!(rt;
-        shows(
-            alloc,
-            &op,
-            refusal,
-            "refused no-access /c0/c01 cpu.weight\n"
-        )?
+    let file = LimitFile::MemoryMax;
+    let (entry, mode) = (EntryName::File(file), Mode::new(0o640).ok_or("a mode")?);
+    let at = place(alloc).ok_or("a path")?;
+    expect_lines!(rt, alloc, Op::Chmod { at, entry, mode };
+        Refusal::NoSuchCgroup { len: 2 } => "refused no-such-cgroup /c0/c01\n",
+        Refusal::NoSuchFile { file } => "refused no-such-file /c0/c01 memory.max\n",
+        Refusal::NotOwner { entry } => "refused not-owner /c0/c01 memory.max\n",
     );
-    let refusal = Refusal::BadValue { file };
-    assert!(rt; shows(alloc, &op, refusal, "refused bad-value cpu.weight\n")?);
     Ok(())
 }
 
 #[test]
-fn refusals_of_a_fork(rt: HostRuntime) -> Result<(), Fail> {
+fn refusals_of_processes(rt: HostRuntime) -> Result<(), Fail> {
     let alloc = rt.alloc();
     let parent = Pid::new(11).ok_or("a PID")?;
     let child = Pid::new(4194303).ok_or("a PID")?;
-    let op = Op::Fork { parent, child };
-    let refusal = Refusal::NoSuchProcess { pid: parent };
-    assert!(rt; shows(alloc, &op, refusal, "refused no-such-process 11\n")?);
-    let refusal = Refusal::NotYours { pid: parent };
-    assert!(rt; shows(alloc, &op, refusal, "refused not-yours 11\n")?);
-    let refusal = Refusal::PidUsed { pid: child };
-    assert!(rt; shows(alloc, &op, refusal, "refused pid-used 4194303\n")?);
-    Ok(())
-}
-
-#[test]
-fn refusals_of_an_exit(rt: HostRuntime) -> Result<(), Fail> {
-    let alloc = rt.alloc();
-    let pid = Pid::new(4194303).ok_or("a PID")?;
-    let op = Op::Exit { pid };
-    let refusal = Refusal::NoSuchProcess { pid };
-    assert!(rt; shows(alloc, &op, refusal, "refused no-such-process 4194303\n")?);
-    let refusal = Refusal::NotYours { pid };
-    assert!(rt; shows(alloc, &op, refusal, "refused not-yours 4194303\n")?);
-    Ok(())
-}
-
-#[test]
-fn refusals_of_a_chmod(rt: HostRuntime) -> Result<(), Fail> {
-    let alloc = rt.alloc();
-    let at = place(alloc).ok_or("a path")?;
-    let entry = EntryName::File(LimitFile::MemoryMax);
-    let mode = Mode::new(0o640).ok_or("a mode")?;
-    let op = Op::Chmod { at, entry, mode };
-    let refusal = Refusal::NoSuchCgroup { len: 2 };
-    assert!(rt; shows(alloc, &op, refusal, "refused no-such-cgroup /c0/c01\n")?);
-    let refusal = Refusal::NoSuchFile {
-        file: LimitFile::MemoryMax,
-    };
-    assert!(rt;
-        shows(
-            alloc,
-            &op,
-            refusal,
-            "refused no-such-file /c0/c01 memory.max\n"
-        )?
+    expect_lines!(rt, alloc, Op::Fork { parent, child };
+        Refusal::NoSuchProcess { pid: parent } => "refused no-such-process 11\n",
+        Refusal::NotYours { pid: parent } => "refused not-yours 11\n",
+        Refusal::PidUsed { pid: child } => "refused pid-used 4194303\n",
     );
-    let refusal = Refusal::NotOwner { entry };
-    assert!(rt;
-        shows(
-            alloc,
-            &op,
-            refusal,
-            "refused not-owner /c0/c01 memory.max\n"
-        )?
+    expect_lines!(rt, alloc, Op::Exit { pid: child };
+        Refusal::NoSuchProcess { pid: child } => "refused no-such-process 4194303\n",
+        Refusal::NotYours { pid: child } => "refused not-yours 4194303\n",
     );
     Ok(())
 }

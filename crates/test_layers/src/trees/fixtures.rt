@@ -4,7 +4,7 @@ ghost use Rattle.cg_cgroup.specs.Files.{enables, stands_under};
 ghost use Rattle.cg_cgroup.specs.Cgroups.{file_made_by, entry_made_by, cgroup_made_by};
 ghost use Rattle.cg_model.specs.States.{child_enables};
 ghost use Rattle.cg_rows.specs.RowsForm.{IsRoot, state_of_root};
-ghost use Rattle.cg_model.specs.WellFormed.{has_row, available_at};
+ghost use Rattle.cg_model.specs.WellFormed.{has_row, may_hold, available_at};
 
 use cg_cgroup::cgroup::{Cgroup, LimitEntry};
 use cg_cgroup::files::{Controller, ControllerSet, EntryName, Limit, LimitFile};
@@ -226,6 +226,16 @@ pub fn remove<H: Hierarchy>(tree: &mut H, path: &Path) -> bool {
     true
 }
 
+/// Whether a cgroup is there and enables nothing.
+fn may_hold<H: Hierarchy>(tree: &H, path: &Path) -> bool
+    ensures { result ≡ may_hold (H.state tree.now) path.now }
+{
+    match tree.get(path, path.depth()) {
+        Some(cgroup) => cgroup.enabled.is_empty(),
+        None => false,
+    }
+}
+
 /// Adds a process. False where its PID was used, or the cgroup isn't there or enables something.
 fn add_process<H: Hierarchy>(
     alloc: Global,
@@ -234,10 +244,7 @@ fn add_process<H: Hierarchy>(
     uid: u32,
     path: &Path,
 ) -> Result<bool, NoMemory> {
-    let Some(cgroup) = tree.get(path, path.depth()) else {
-        return Ok(false);
-    };
-    if !cgroup.enabled.is_empty() || tree.is_used(pid) {
+    if !may_hold(tree, path) || tree.is_used(pid) {
         return Ok(false);
     }
     tree.add_process(alloc, pid, uid, path)?;
@@ -260,10 +267,7 @@ fn set_place<H: Hierarchy>(
     pid: Pid,
     path: &Path,
 ) -> Result<bool, NoMemory> {
-    let Some(cgroup) = tree.get(path, path.depth()) else {
-        return Ok(false);
-    };
-    if !cgroup.enabled.is_empty() || tree.owner(pid).is_none() {
+    if !may_hold(tree, path) || tree.owner(pid).is_none() {
         return Ok(false);
     }
     tree.set_place(alloc, pid, path)?;
@@ -405,33 +409,25 @@ pub fn open_delegation(rt: &impl Abort, alloc: Global) -> Result<Rows, Fail> {
     Ok(tree)
 }
 
-/// Adds `/p`, which enables memory, and `/p/s` with a process. The root enables memory.
-pub fn nest<H: Hierarchy>(
-    rt: &impl Abort,
-    alloc: Global,
-    tree: &mut H,
-    maker: &User,
-) -> Result<(), Fail> {
+/// Adds `/p`, which enables memory, and `/p/s` with a process to a root alone that has memory, and enables it there.
+fn nest(rt: &impl Abort, alloc: Global, mut tree: Rows) -> Result<Rows, Fail> {
+    let maker = User::new(1000).ok_or("uid 0")?;
     let p = path(alloc, "/p")?;
-    assert!(rt; set_enabled(tree, &Path::root(alloc), MEMORY, maker));
-    assert!(rt; add(alloc, tree, &p, Owners::PROCESSES)?);
-    assert!(rt; set_enabled(tree, &p, MEMORY, maker));
-    assert!(rt; add(alloc, tree, &path(alloc, "/p/s")?, Owners::KEPT)?);
-    assert!(rt; populate(alloc, tree, 20, 1000, "/p/s")?);
-    Ok(())
+    assert!(rt; set_enabled(&mut tree, &Path::root(alloc), MEMORY, &maker));
+    assert!(rt; add(alloc, &mut tree, &p, Owners::PROCESSES)?);
+    assert!(rt; set_enabled(&mut tree, &p, MEMORY, &maker));
+    assert!(rt; add(alloc, &mut tree, &path(alloc, "/p/s")?, Owners::KEPT)?);
+    assert!(rt; populate(alloc, &mut tree, 20, 1000, "/p/s")?);
+    Ok(tree)
 }
 
 /// A tree in which two levels enable the one controller that there is.
 pub fn nested(rt: &impl Abort, alloc: Global) -> Result<Rows, Fail> {
-    let mut tree = root_alone(alloc, MEMORY, Owners::KEPT)?;
-    nest(rt, alloc, &mut tree, &User::new(1000).ok_or("uid 0")?)?;
-    Ok(tree)
+    nest(rt, alloc, root_alone(alloc, MEMORY, Owners::KEPT)?)
 }
 
 /// The same tree, from finished tables.
 pub fn nested_of_tables(rt: &impl Abort, alloc: Global) -> Result<Rows, Fail> {
     let root = cgroup_of(Owners::KEPT, ControllerSet::none());
-    let mut tree = of_tables(alloc, MEMORY, root)?;
-    nest(rt, alloc, &mut tree, &User::new(1000).ok_or("uid 0")?)?;
-    Ok(tree)
+    nest(rt, alloc, of_tables(alloc, MEMORY, root)?)
 }

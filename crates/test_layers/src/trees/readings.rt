@@ -1,6 +1,5 @@
 //! What any tree answers, compared with what is wanted.
 use crate::trees::fixtures::path;
-use cg_cgroup::cgroup::Cgroup;
 use cg_cgroup::files::{Controller, ControllerSet, EntryName, Limit, LimitFile};
 use cg_cgroup::memory::NoMemory;
 use cg_cgroup::path::Path;
@@ -40,12 +39,6 @@ fn enabled<H: Hierarchy>(tree: &H, path: &Path) -> Option<ControllerSet> {
     Some(tree.get(path, path.depth())?.enabled)
 }
 
-/// A cgroup.
-fn cgroup<H: Hierarchy>(alloc: Global, tree: &H, text: &str) -> Result<Cgroup, Fail> {
-    let path = path(alloc, text)?;
-    Ok(*tree.get(&path, path.depth()).ok_or("no cgroup")?)
-}
-
 /// The texts of all paths, a space before each.
 fn texts<H: Hierarchy>(alloc: Global, tree: &H) -> Result<String, Fail> {
     let paths = tree.paths(alloc)?;
@@ -68,44 +61,48 @@ fn is_path(path: &Path, text: &str) -> bool {
     path.prefix(path.depth()) == text
 }
 
-/// Compares what a tree counts below the first names of paths.
-pub fn check_counts<H: Hierarchy>(
-    rt: &impl Abort,
-    alloc: Global,
-    tree: &H,
-    wanted: &[(&str, usize, (u64, u64))],
-) -> Result<(), Fail> {
-    for (text, len, below) in wanted {
-        let path = path(alloc, text)?;
-        assert_eq!(rt; counts(tree, &path, *len), Some(*below), "{text} {len}");
-    }
-    Ok(())
+/// What a tree says of the cgroup of a path; `None` for one, an entry or a limit that isn't there.
+#[derive(Clone, Copy, Debug)]
+pub enum Said {
+    /// Of so many first names: how many cgroups lie below, and how many levels down.
+    Counts(usize, u64, u64),
+    /// Of so many first names: whether there is a child, and whether there is a process.
+    Holds(usize, bool, bool),
+    /// Whether a child enables a controller.
+    Uses(Controller, Option<bool>),
+    Enables(Option<ControllerSet>),
+    EntryIs(EntryName, Option<Entry>),
+    LimitIs(LimitFile, Option<Limit>),
 }
 
-/// Compares whether the cgroups of the first names of paths have children and processes.
-pub fn check_holds<H: Hierarchy>(
-    rt: &impl Abort,
-    alloc: Global,
-    tree: &H,
-    wanted: &[(&str, usize, (bool, bool))],
-) -> Result<(), Fail> {
-    for (text, len, has) in wanted {
-        let path = path(alloc, text)?;
-        assert_eq!(rt; holds(tree, &path, *len), Some(*has), "{text} {len}");
+/// Whether a tree says this of a path.
+fn says<H: Hierarchy>(tree: &H, path: &Path, said: Said) -> bool {
+    match said {
+        Said::Counts(len, below, levels) => counts(tree, path, len) == Some((below, levels)),
+        Said::Holds(len, child, live) => holds(tree, path, len) == Some((child, live)),
+        Said::Uses(controller, is_used) => uses(tree, path, controller) == is_used,
+        Said::Enables(controllers) => enabled(tree, path) == controllers,
+        Said::EntryIs(name, entry) => match tree.get(path, path.depth()) {
+            Some(cgroup) => cgroup.entry(name) == entry,
+            None => false,
+        },
+        Said::LimitIs(file, limit) => match tree.get(path, path.depth()) {
+            Some(cgroup) => cgroup.limit(file) == limit,
+            None => false,
+        },
     }
-    Ok(())
 }
 
-/// Compares which controllers the children of cgroups enable; `None` for a cgroup that isn't there.
-pub fn check_uses<H: Hierarchy>(
+/// Compares what a tree says of the cgroups of paths.
+pub fn check<H: Hierarchy>(
     rt: &impl Abort,
     alloc: Global,
     tree: &H,
-    wanted: &[(&str, Controller, Option<bool>)],
+    wanted: &[(&str, Said)],
 ) -> Result<(), Fail> {
-    for (text, controller, is_used) in wanted {
+    for (text, said) in wanted {
         let path = path(alloc, text)?;
-        assert_eq!(rt; uses(tree, &path, *controller), *is_used, "{text}");
+        assert!(rt; says(tree, &path, *said), "{text} {said:?}");
     }
     Ok(())
 }
@@ -113,48 +110,6 @@ pub fn check_uses<H: Hierarchy>(
 /// Compares the controllers that the root has.
 pub fn check_controllers<H: Hierarchy>(rt: &impl Abort, tree: &H, wanted: ControllerSet) {
     assert_eq!(rt; tree.controllers(), wanted);
-}
-
-/// Compares which controllers cgroups enable; `None` for a cgroup that isn't there.
-pub fn check_enabled<H: Hierarchy>(
-    rt: &impl Abort,
-    alloc: Global,
-    tree: &H,
-    wanted: &[(&str, Option<ControllerSet>)],
-) -> Result<(), Fail> {
-    for (text, controllers) in wanted {
-        let path = path(alloc, text)?;
-        assert_eq!(rt; enabled(tree, &path), *controllers, "{text}");
-    }
-    Ok(())
-}
-
-/// Compares the entries of cgroups.
-pub fn check_entries<H: Hierarchy>(
-    rt: &impl Abort,
-    alloc: Global,
-    tree: &H,
-    wanted: &[(&str, EntryName, Option<Entry>)],
-) -> Result<(), Fail> {
-    for (text, name, entry) in wanted {
-        let cgroup = cgroup(alloc, tree, text)?;
-        assert_eq!(rt; cgroup.entry(*name), *entry, "{text} {name:?}");
-    }
-    Ok(())
-}
-
-/// Compares the limits of cgroups.
-pub fn check_limits<H: Hierarchy>(
-    rt: &impl Abort,
-    alloc: Global,
-    tree: &H,
-    wanted: &[(&str, LimitFile, Option<Limit>)],
-) -> Result<(), Fail> {
-    for (text, file, limit) in wanted {
-        let cgroup = cgroup(alloc, tree, text)?;
-        assert_eq!(rt; cgroup.limit(*file), *limit, "{text} {file:?}");
-    }
-    Ok(())
 }
 
 /// Compares where a process is, and its uid. Its PID is used.
