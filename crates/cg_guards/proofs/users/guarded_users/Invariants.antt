@@ -3,7 +3,7 @@ use Rattle.cg_model.specs.Guards.{guarded_entries}
 use Rattle.cg_guards.specs.GuardedUsers.{AreSpared, kept_off}
 use Rattle.cg_guards.specs.Reach.{AreCovered}
 use Rattle.cg_guards.proofs.KeptOff.{kept_from}
-use Rattle.cg_guards.proofs.users.off_entries.Given as goal
+use Rattle.cg_guards.proofs.users.guarded_users.Given as goal
 
 -- those left, kept off the entries that are still to come, are those kept off all; none of them reaches one that is out of reach or the one asked last
 abbrev pub invariant-loop-place : goal.invariant-loop-place
