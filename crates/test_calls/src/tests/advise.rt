@@ -1,7 +1,7 @@
 //! `advise_bytes` on rows worked out by hand, and at writers that fail and dawdle; `check` has its faults.
 use super::answers_written::Written;
 use super::calls::{Call, expect};
-use crate::users::{USER, user};
+use crate::tests::users::{USER, user};
 use std::alloc::Global;
 use std::process::Abort;
 use std::test::Fail;

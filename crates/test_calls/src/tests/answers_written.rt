@@ -2,7 +2,7 @@
 use super::calls::Call;
 use super::changed::{Change, ROOT_PROCS_OWNED, SECOND_USER, delegation_with};
 use super::writers::{ByteByByte, FailsOnce, TakesNone};
-use crate::users::USER;
+use crate::tests::users::USER;
 use cg_cli::arguments::UserIds;
 use cg_cli::fault::CliFault;
 use std::alloc::Global;

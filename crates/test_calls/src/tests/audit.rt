@@ -1,7 +1,7 @@
 //! `audit_bytes` on rows worked out by hand, and on faults, of which those of `audit_all_bytes` are the same.
 use super::calls::{Call, expect, expect_fault};
 use super::changed::{FORMAT_2, GROUP_WRITES, SECOND_USER, delegation_with};
-use crate::users::{MANY_GROUPS, USER, user};
+use crate::tests::users::{MANY_GROUPS, USER, user};
 use cg_cli::fault::CliFault;
 use cg_model::fault::CheckFault;
 use cg_text::tree::{Place, TreeFault};

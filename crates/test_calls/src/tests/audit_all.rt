@@ -1,7 +1,7 @@
 //! `audit_all_bytes` on rows worked out by hand; `audit` has its faults.
 use super::calls::{Call, expect};
 use super::changed::{Change, FORMAT_2, GROUP_WRITES, ROOT, SECOND_USER, delegation_with};
-use crate::users::{USER, user};
+use crate::tests::users::{USER, user};
 use std::test::Fail;
 
 /// User 1002 owns the root's directory.

@@ -1,5 +1,5 @@
 //! The calls over bytes as values, and what is expected of one.
-use crate::readers::Pieces;
+use crate::tests::readers::Pieces;
 use cg_cli::advise::advise_bytes;
 use cg_cli::arguments::UserIds;
 use cg_cli::audit::audit_bytes;

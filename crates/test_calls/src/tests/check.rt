@@ -4,7 +4,7 @@ use super::changed::{
     Change, FORMAT_2, GROUP_WRITES, MEMORY_MAX, MEMORY_MAX_OWNED, ROOT, ROOT_PROCS_OPEN,
     ROOT_PROCS_OWNED, TOO_MANY, delegation_with,
 };
-use crate::users::{MANY_GROUPS, MOST_GROUPS, USER, user};
+use crate::tests::users::{MANY_GROUPS, MOST_GROUPS, USER, user};
 use cg_cli::fault::{CliFault, fault_text};
 use cg_model::fault::CheckFault;
 use cg_text::tree::{Place, TreeFault};

@@ -1,7 +1,7 @@
 //! `replay_bytes` and `replay_from` on rows worked out by hand.
 use super::changed::{MEMORY_MAX_OWNED, ROOT_PROCS_OPEN, TOO_MANY, delegation_with};
 use super::readers::{Pieces, Uneven};
-use crate::users::{USER, user};
+use crate::tests::users::{USER, user};
 use cg_cli::arguments::UserIds;
 use cg_cli::fault::CliFault;
 use cg_cli::replay::{replay_bytes, replay_from};

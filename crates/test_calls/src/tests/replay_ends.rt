@@ -2,7 +2,7 @@
 use super::answers_written::REPLAYS;
 use super::calls::{Call, expect_fault};
 use super::readers::{Again, Pieces};
-use crate::users::{MANY_GROUPS, MOST_GROUPS, USER, user};
+use crate::tests::users::{MANY_GROUPS, MOST_GROUPS, USER, user};
 use cg_cli::fault::{CliFault, fault_text};
 use cg_cli::replay::replay_from;
 use cg_lines::lines::LineFault;

@@ -3,7 +3,7 @@ use super::answers_written::Written;
 use super::calls::{self, Call, expect_fault};
 use super::changed::{MEMORY_MAX, ROOT, delegation_with};
 use super::vectors::{BASE, Parts, text_of};
-use crate::users::USER;
+use crate::tests::users::USER;
 use cg_cgroup::process::Pid;
 use cg_cli::fault::CliFault;
 use cg_cli::upgrade::upgrade_bytes;

@@ -9,7 +9,7 @@ mod rows;
 mod top;
 mod whole;
 
-use crate::users::user;
+use crate::tests::users::user;
 use cg_cgroup::cgroup::Cgroup;
 use cg_cgroup::memory::NoMemory;
 use cg_cgroup::path::Path;
@@ -69,6 +69,14 @@ pub fn expect_line(
     let said = said(alloc, text, asked)?.ok_or("the calls differ")?;
     let wanted = format!(in alloc; "{line}\n")?;
     assert_eq!(rt; from_utf8(said.as_slice())?, wanted.as_str());
+    Ok(())
+}
+
+/// Fails where the calls say another line of one of these texts.
+pub fn expect_lines(rt: &impl Abort, alloc: Global, texts: &[(&str, &str)]) -> Result<(), Fail> {
+    for (text, line) in texts {
+        expect_line(rt, alloc, text.as_bytes(), TO_A, line)?;
+    }
     Ok(())
 }
 

@@ -1,6 +1,6 @@
 //! What format 2 has and format 1 hasn't: groups, and the bit of a group's members.
 use super::{Asked, BASE, Parts, READ, cgroup_of, entry_keys, expect, expect_keys, expect_line};
-use crate::changed::{FORMAT_2, delegation_with};
+use crate::tests::changed::{FORMAT_2, delegation_with};
 use cg_cgroup::user::Entry;
 use std::test::Fail;
 

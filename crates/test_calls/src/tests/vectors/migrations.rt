@@ -1,6 +1,6 @@
 //! Single migrations: what is said of one, and of arguments that are none's.
 use super::{Asked, expect_line};
-use crate::users::{MANY_GROUPS, MOST_GROUPS};
+use crate::tests::users::{MANY_GROUPS, MOST_GROUPS};
 use cg_cli::arguments::UserIds;
 use cg_cli::fault::fault_text;
 use cg_cli::may::may_bytes;

@@ -1,5 +1,5 @@
 //! Texts with two faults, and the one that is said.
-use super::{BASE, Parts, TO_A, expect, expect_line, repeated, text_of};
+use super::{BASE, Parts, TO_A, expect, expect_line, expect_lines, repeated, text_of};
 use std::test::Fail;
 
 const IO: &str = "format = 1\ncontrollers = ['io']";
@@ -15,7 +15,7 @@ fn length_then_form_then_the_top_table(rt: HostRuntime) -> Result<(), Fail> {
         TO_A,
         "fault: tree too-long",
     )?;
-    for (text, line) in [
+    let texts = [
         ("x = 1\n=", "fault: tree not-toml"),
         (
             "format = 3\ncontrollers = []\nx = 1",
@@ -29,10 +29,8 @@ fn length_then_form_then_the_top_table(rt: HostRuntime) -> Result<(), Fail> {
             "format = 3\ncontrollers = []\ncgroup = [1]",
             "fault: tree format",
         ),
-    ] {
-        expect_line(&rt, rt.alloc(), text.as_bytes(), TO_A, line)?;
-    }
-    Ok(())
+    ];
+    expect_lines(&rt, rt.alloc(), &texts)
 }
 
 #[test]
@@ -191,25 +189,6 @@ const TOGETHER: [(&str, &str); 9] = [
     ),
 ];
 
-#[test]
-fn rows_together(rt: HostRuntime) -> Result<(), Fail> {
-    for (rows, line) in TOGETHER {
-        let text = format!(in rt.alloc(); "format = 1\ncontrollers = ['cpu']\ncgroup = [{rows}]")?;
-        expect_line(&rt, rt.alloc(), text.as_bytes(), TO_A, line)?;
-    }
-    Ok(())
-}
-
-#[test]
-fn rows_then_processes(rt: HostRuntime) -> Result<(), Fail> {
-    let parts = Parts {
-        keys: "files = { 'memory.max' = {} }",
-        rest: "[[process]]\npid = 0\nuid = 0\nat = '/a'",
-        ..BASE
-    };
-    expect(&rt, rt.alloc(), parts, "fault: tree no-such-file cgroup 2")
-}
-
 /// The processes beside a cgroup `/a` that enables `cpu`, and what is said.
 const PROCESSES: [(&str, &str); 7] = [
     (
@@ -241,6 +220,25 @@ const PROCESSES: [(&str, &str); 7] = [
         "fault: tree no-such-place process 2",
     ),
 ];
+
+#[test]
+fn rows_together(rt: HostRuntime) -> Result<(), Fail> {
+    for (rows, line) in TOGETHER {
+        let text = format!(in rt.alloc(); "format = 1\ncontrollers = ['cpu']\ncgroup = [{rows}]")?;
+        expect_line(&rt, rt.alloc(), text.as_bytes(), TO_A, line)?;
+    }
+    Ok(())
+}
+
+#[test]
+fn rows_then_processes(rt: HostRuntime) -> Result<(), Fail> {
+    let parts = Parts {
+        keys: "files = { 'memory.max' = {} }",
+        rest: "[[process]]\npid = 0\nuid = 0\nat = '/a'",
+        ..BASE
+    };
+    expect(&rt, rt.alloc(), parts, "fault: tree no-such-file cgroup 2")
+}
 
 #[test]
 fn within_processes(rt: HostRuntime) -> Result<(), Fail> {

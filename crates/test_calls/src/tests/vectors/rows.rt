@@ -122,37 +122,39 @@ const TOP_DOWN: &str = "fault: tree top-down cgroup 2";
 
 #[test]
 fn what_cgroups_enable(rt: HostRuntime) -> Result<(), Fail> {
-    for (enabled, line) in [
-        ("['cpu']", READ),
-        ("['cpu', 'cpu']", READ),
-        ("[]", READ),
-        ("['io']", BAD_CONTROLLER),
-        ("['Cpu']", BAD_CONTROLLER),
-        ("['cpu', '']", BAD_CONTROLLER),
-        ("['memory']", TOP_DOWN),
-        ("['cpu', 'pids']", TOP_DOWN),
+    for (line, texts) in [
+        (READ, ["['cpu']", "['cpu', 'cpu']", "[]"].as_slice()),
+        (BAD_CONTROLLER, &["['io']", "['Cpu']", "['cpu', '']"]),
+        (TOP_DOWN, &["['memory']", "['cpu', 'pids']"]),
     ] {
-        let keys = format!(in rt.alloc(); "enabled = {enabled}")?;
-        expect_keys(&rt, rt.alloc(), keys.as_str(), line)?;
+        for enabled in texts {
+            let keys = format!(in rt.alloc(); "enabled = {enabled}")?;
+            expect_keys(&rt, rt.alloc(), keys.as_str(), line)?;
+        }
     }
     Ok(())
 }
 
+const NO_CONTROLLER: &str = "fault: tree bad-controller top";
+
 #[test]
 fn what_the_root_has(rt: HostRuntime) -> Result<(), Fail> {
-    for (controllers, line) in [
-        ("['io']", "fault: tree bad-controller top"),
-        ("['cpu', 'io']", "fault: tree bad-controller top"),
-        ("[]", "fault: tree top-down cgroup 1"),
-        ("['memory', 'pids']", "fault: tree top-down cgroup 1"),
-        ("['pids', 'cpu', 'memory', 'cpu']", READ),
+    for (line, texts) in [
+        (NO_CONTROLLER, ["['io']", "['cpu', 'io']"].as_slice()),
+        (
+            "fault: tree top-down cgroup 1",
+            &["[]", "['memory', 'pids']"],
+        ),
+        (READ, &["['pids', 'cpu', 'memory', 'cpu']"]),
     ] {
-        let top = format!(in rt.alloc(); "format = 1\ncontrollers = {controllers}")?;
-        let parts = Parts {
-            top: top.as_str(),
-            ..BASE
-        };
-        expect(&rt, rt.alloc(), parts, line)?;
+        for controllers in texts {
+            let top = format!(in rt.alloc(); "format = 1\ncontrollers = {controllers}")?;
+            let parts = Parts {
+                top: top.as_str(),
+                ..BASE
+            };
+            expect(&rt, rt.alloc(), parts, line)?;
+        }
     }
     Ok(())
 }

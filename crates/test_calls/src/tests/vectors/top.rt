@@ -1,5 +1,5 @@
 //! The top table, the form of the text, and how much it may hold.
-use super::{Asked, BASE, READ, TO_A, expect_keys, expect_line, repeated, text_of};
+use super::{Asked, BASE, READ, TO_A, expect_keys, expect_line, expect_lines, repeated, text_of};
 use cg_cgroup::process::Pid;
 use cg_text::tree::read_tree;
 use cg_tree::hierarchy::Hierarchy;
@@ -50,10 +50,7 @@ const TEXTS: [(&str, &str); 20] = [
 
 #[test]
 fn keys_of_the_top_table(rt: HostRuntime) -> Result<(), Fail> {
-    for (text, line) in TEXTS {
-        expect_line(&rt, rt.alloc(), text.as_bytes(), TO_A, line)?;
-    }
-    Ok(())
+    expect_lines(&rt, rt.alloc(), &TEXTS)
 }
 
 #[test]
