@@ -19,6 +19,8 @@ Example:
   zirofen may --tree examples/delegation.toml --uid 1000 --pid 11 --to /c0/c01
   granted";
 
+const CHECK: &str = "Says whether a subtree is contained against a user, whatever he does";
+
 const CHECK_HELP: &str = "\
 Status: 0 contained, 1 escapes, 2 unsettled, 3 a fault
 `contained` means that the subtree is held whatever the user does. `escapes` has below it operations of the user, one a
@@ -60,6 +62,8 @@ Example:
   ok
   ok";
 
+const ADVISE: &str = "Says what to change so that a subtree is contained against a user";
+
 const ADVISE_HELP: &str = "\
 Status: 0 contained, 1 a guard fails, 3 a fault
 `contained` means that the subtree is held whatever the user does. Else each guard that fails for him has a line `fails`
@@ -94,49 +98,55 @@ pub(crate) fn command<'a>(alloc: Global) -> Result<Command<'a>, AllocError> {
         .after_help(HELP)
         .subcommand_required(true)
         .subcommand(may_command(alloc)?)?
-        .subcommand(check_command(alloc)?)?
+        .subcommand(subtree_command(alloc, "check", CHECK, CHECK_HELP)?)?
         .subcommand(audit_command(alloc)?)?
-        .subcommand(advise_command(alloc)?)?
+        .subcommand(subtree_command(alloc, "advise", ADVISE, ADVISE_HELP)?)?
         .subcommand(replay_command(alloc)?)?
         .subcommand(upgrade_command(alloc)?)
 }
 
-fn may_command<'a>(alloc: Global) -> Result<Command<'a>, AllocError> {
-    Command::new(alloc, "may")
-        .about("Says whether a user may move a process to a cgroup")
-        .after_help(MAY_HELP)
+/// A command that is asked of a tree and a user.
+fn user_command<'a>(
+    alloc: Global,
+    name: &'a str,
+    about: &'a str,
+    help: &'a str,
+) -> Result<Command<'a>, AllocError> {
+    Command::new(alloc, name)
+        .about(about)
+        .after_help(help)
         .arg(tree_argument(alloc))?
-        .arg(uid_argument(alloc))?
-        .arg(gid_argument(alloc))?
+        .arg(needed_number(alloc, "uid", "UID", "The user"))?
         .arg(
-            Arg::new(alloc, "pid")
-                .long("pid")
-                .value_name("PID")
-                .value_parser(value_parser!(u32))
-                .required(true)
-                .help("The process to be moved"),
-        )?
+            number_argument(alloc, "gid", "GID")
+                .action(ArgAction::Append)
+                .help("A group of the user, up to 32 times; the first is the primary one"),
+        )
+}
+
+fn may_command<'a>(alloc: Global) -> Result<Command<'a>, AllocError> {
+    let about = "Says whether a user may move a process to a cgroup";
+    user_command(alloc, "may", about, MAY_HELP)?
+        .arg(needed_number(alloc, "pid", "PID", "The process to be moved"))?
         .arg(
-            Arg::new(alloc, "to")
-                .long("to")
-                .value_name("PATH")
+            word_argument(alloc, "to", "PATH")
                 .required(true)
                 .help("The cgroup that it is to be moved to"),
         )
 }
 
-fn check_command<'a>(alloc: Global) -> Result<Command<'a>, AllocError> {
-    Command::new(alloc, "check")
-        .about("Says whether a subtree is contained against a user, whatever he does")
-        .after_help(CHECK_HELP)
-        .arg(tree_argument(alloc))?
-        .arg(uid_argument(alloc))?
-        .arg(gid_argument(alloc))?
-        .arg(
-            subtree_argument(alloc)
-                .required(true)
-                .help("The top of the subtree"),
-        )
+/// A command that is asked of a tree, a user and a subtree.
+fn subtree_command<'a>(
+    alloc: Global,
+    name: &'a str,
+    about: &'a str,
+    help: &'a str,
+) -> Result<Command<'a>, AllocError> {
+    user_command(alloc, name, about, help)?.arg(
+        subtree_argument(alloc)
+            .required(true)
+            .help("The top of the subtree"),
+    )
 }
 
 fn audit_command<'a>(alloc: Global) -> Result<Command<'a>, AllocError> {
@@ -147,9 +157,7 @@ fn audit_command<'a>(alloc: Global) -> Result<Command<'a>, AllocError> {
         .after_help(AUDIT_HELP)
         .arg(tree_argument(alloc))?
         .arg(
-            Arg::new(alloc, "uid")
-                .long("uid")
-                .value_name("UID[:GID,GID..]")
+            word_argument(alloc, "uid", "UID[:GID,GID..]")
                 .action(ArgAction::Append)
                 .required(true)
                 .help("A user and his groups, once or more"),
@@ -168,20 +176,6 @@ fn audit_command<'a>(alloc: Global) -> Result<Command<'a>, AllocError> {
         )
 }
 
-fn advise_command<'a>(alloc: Global) -> Result<Command<'a>, AllocError> {
-    Command::new(alloc, "advise")
-        .about("Says what to change so that a subtree is contained against a user")
-        .after_help(ADVISE_HELP)
-        .arg(tree_argument(alloc))?
-        .arg(uid_argument(alloc))?
-        .arg(gid_argument(alloc))?
-        .arg(
-            subtree_argument(alloc)
-                .required(true)
-                .help("The top of the subtree"),
-        )
-}
-
 fn upgrade_command<'a>(alloc: Global) -> Result<Command<'a>, AllocError> {
     Command::new(alloc, "upgrade")
         .about("Writes the tree again, in format 2 with every key")
@@ -190,50 +184,36 @@ fn upgrade_command<'a>(alloc: Global) -> Result<Command<'a>, AllocError> {
 }
 
 fn replay_command<'a>(alloc: Global) -> Result<Command<'a>, AllocError> {
-    Command::new(alloc, "replay")
-        .about("Says of each of a user's operations whether it is carried out")
-        .after_help(REPLAY_HELP)
-        .arg(tree_argument(alloc))?
-        .arg(uid_argument(alloc))?
-        .arg(gid_argument(alloc))?
+    let about = "Says of each of a user's operations whether it is carried out";
+    user_command(alloc, "replay", about, REPLAY_HELP)?
         .arg(
-            Arg::new(alloc, "ops")
-                .long("ops")
-                .value_name("FILE")
-                .required(true)
-                .help(
-                    "The operations, one a line; - is standard input, and then the tree's text is a file",
-                ),
+            word_argument(alloc, "ops", "FILE").required(true).help(
+                "The operations, one a line; - is standard input, and then the tree's text is a file",
+            ),
         )?
         .arg(subtree_argument(alloc).help("The top of a subtree, on which a verdict is wanted"))
 }
 
 fn tree_argument<'a>(alloc: Global) -> Arg<'a> {
-    Arg::new(alloc, "tree").long("tree").value_name("FILE").help(
+    word_argument(alloc, "tree", "FILE").help(
         "The tree's text; standard input where this is left out or is -",
     )
 }
 
 fn subtree_argument<'a>(alloc: Global) -> Arg<'a> {
-    Arg::new(alloc, "subtree")
-        .long("subtree")
-        .value_name("PATH")
+    word_argument(alloc, "subtree", "PATH")
 }
 
-fn uid_argument<'a>(alloc: Global) -> Arg<'a> {
-    Arg::new(alloc, "uid")
-        .long("uid")
-        .value_name("UID")
-        .value_parser(value_parser!(u32))
+fn number_argument<'a>(alloc: Global, name: &'a str, value: &'a str) -> Arg<'a> {
+    word_argument(alloc, name, value).value_parser(value_parser!(u32))
+}
+
+fn needed_number<'a>(alloc: Global, name: &'a str, value: &'a str, help: &'a str) -> Arg<'a> {
+    number_argument(alloc, name, value)
         .required(true)
-        .help("The user")
+        .help(help)
 }
 
-fn gid_argument<'a>(alloc: Global) -> Arg<'a> {
-    Arg::new(alloc, "gid")
-        .long("gid")
-        .value_name("GID")
-        .value_parser(value_parser!(u32))
-        .action(ArgAction::Append)
-        .help("A group of the user, up to 32 times; the first is the primary one")
+fn word_argument<'a>(alloc: Global, name: &'a str, value: &'a str) -> Arg<'a> {
+    Arg::new(alloc, name).long(name).value_name(value)
 }

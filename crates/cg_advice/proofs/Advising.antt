@@ -11,6 +11,7 @@ use Rattle.cg_cgroup.specs.Cgroups.{entry_in, value_in}
 use Rattle.cg_cgroup.specs.declared.user.Entry.{Entry}
 use Rattle.cg_cgroup.specs.declared.files.Limit.{Limit}
 use Rattle.cg_cgroup.specs.declared.files.Limit.TheVariants.{At}
+use Rattle.cg_cgroup.specs.declared.files.LimitFile.{LimitFile}
 use Rattle.cg_cgroup.specs.declared.files.LimitFile.TheVariants.{MaxDescendants, MaxDepth}
 use Rattle.cg_cgroup.specs.declared.files.EntryName.{EntryName}
 use Rattle.cg_cgroup.proofs.PathOrder.{same_path-is, same_path_refl}
@@ -34,7 +35,7 @@ use Rattle.cg_model.specs.declared.mend.Mend.{Mend}
 use Rattle.cg_model.specs.declared.mend.Mend.TheVariants.{Chown, Chmod, Set}
 use Rattle.cg_advice.proofs.OwnerLaws.{enabled_at-with_owner, paths_of-with_owner, formed-with_owner}
 use Rattle.cg_advice.proofs.Taken.{shut-le, off-spared, less-spared}
-use Rattle.cg_advice.proofs.Running.{run, run-append, run-limits, leaves-all, entry_at-made, entry_at-advised, value_at-advised, value_at-entries}
+use Rattle.cg_advice.proofs.Running.{run_one, run, through-append, run-limits, leaves-all, entry_at-made, entry_at-advised, value_at-advised, value_at-entries}
 
 -- ---- what no change touches
 
@@ -114,43 +115,35 @@ module _ (st : State) (user : Identity) (subtree : Names) where
 
   -- the subtree is within its limits, and so is each that was within its own
   module _ (path : Names) where
-    descendants-by : (b : Bool) → same_path subtree path ≡ b → (b ≡ false → fits_descendants st path ≡ true)
-        → fits_descendants new path ≡ true
-    descendants-by b is kept =
-        descendants-limit new path
-        ∙ ap (λ n. fits_in n (value_at new path MaxDescendants)) (count_below-same_paths st new same_paths path)
-        ∙ ap (fits_in (count_below st path)) (value_at-advised st user subtree path MaxDescendants ∙ ap (λ s. cond s (option_map (raised st subtree MaxDescendants) (value_at st path MaxDescendants)) (value_at st path MaxDescendants)) is)
+    -- of one of the two limits: what it bounds, and by what it is raised
+    fits-by : (fits : State → Names → Bool) (below : State → Names → ℕ) (file : LimitFile)
+        → ((st : State) (path : Names) → fits st path ≡ fits_in (below st path) (value_at st path file))
+        → ((limit : Limit) → raised st subtree file limit ≡ cond (fits st subtree) limit (At (below st subtree)))
+        → below new path ≡ below st path
+        → (b : Bool) → same_path subtree path ≡ b → (b ≡ false → fits st path ≡ true) → fits new path ≡ true
+    fits-by fits below file bound raise same b is kept =
+        bound new path
+        ∙ ap (λ n. fits_in n (value_at new path file)) same
+        ∙ ap (fits_in (below st path)) (value_at-advised st user subtree path file ∙ ap (λ s. cond s (option_map (raised st subtree file) (value_at st path file)) (value_at st path file)) is)
         ∙ by_path b is kept
       where
-        by_path : (b : Bool) → same_path subtree path ≡ b → (b ≡ false → fits_descendants st path ≡ true)
-            → fits_in (count_below st path) (cond b (option_map (raised st subtree MaxDescendants) (value_at st path MaxDescendants)) (value_at st path MaxDescendants)) ≡ true
-        by_path true same kept =
-            let e = same_path-is subtree path same in
-            ap (λ p. fits_in (count_below st path) (option_map (λ l. cond (fits_descendants st p) l (At (count_below st p))) (value_at st path MaxDescendants))) e
-            ∙ ap (λ b. fits_in (count_below st path) (option_map (λ l. cond b l (At (count_below st path))) (value_at st path MaxDescendants))) (descendants-limit st path)
-            ∙ raised_fits (count_below st path) (value_at st path MaxDescendants)
-        by_path false other kept = sym (descendants-limit st path) ∙ kept refl
-
-    depth-by : (b : Bool) → same_path subtree path ≡ b → (b ≡ false → fits_depth st path ≡ true) → fits_depth new path ≡ true
-    depth-by b is kept =
-        depth-limit new path
-        ∙ ap (λ n. fits_in n (value_at new path MaxDepth)) (depth_below-same_paths st new same_paths path)
-        ∙ ap (fits_in (depth_below st path)) (value_at-advised st user subtree path MaxDepth ∙ ap (λ s. cond s (option_map (raised st subtree MaxDepth) (value_at st path MaxDepth)) (value_at st path MaxDepth)) is)
-        ∙ by_path b is kept
-      where
-        by_path : (b : Bool) → same_path subtree path ≡ b → (b ≡ false → fits_depth st path ≡ true)
-            → fits_in (depth_below st path) (cond b (option_map (raised st subtree MaxDepth) (value_at st path MaxDepth)) (value_at st path MaxDepth)) ≡ true
-        by_path true same kept =
-            let e = same_path-is subtree path same in
-            ap (λ p. fits_in (depth_below st path) (option_map (λ l. cond (fits_depth st p) l (At (depth_below st p))) (value_at st path MaxDepth))) e
-            ∙ ap (λ b. fits_in (depth_below st path) (option_map (λ l. cond b l (At (depth_below st path))) (value_at st path MaxDepth))) (depth-limit st path)
-            ∙ raised_fits (depth_below st path) (value_at st path MaxDepth)
-        by_path false other kept = sym (depth-limit st path) ∙ kept refl
+        by_path : (b : Bool) → same_path subtree path ≡ b → (b ≡ false → fits st path ≡ true)
+            → fits_in (below st path) (cond b (option_map (raised st subtree file) (value_at st path file)) (value_at st path file)) ≡ true
+        by_path true here kept =
+            ap (λ f. fits_in (below st path) (option_map f (value_at st path file))) (λ i limit. raise limit i)
+            ∙ ap (λ p. fits_in (below st path) (option_map (λ l. cond (fits st p) l (At (below st p))) (value_at st path file))) (same_path-is subtree path here)
+            ∙ ap (λ b. fits_in (below st path) (option_map (λ l. cond b l (At (below st path))) (value_at st path file))) (bound st path)
+            ∙ raised_fits (below st path) (value_at st path file)
+        by_path false other kept = sym (bound st path) ∙ kept refl
 
     not_over : (same_path subtree path ≡ false → (fits_descendants st path && fits_depth st path) ≡ true) → over_failures new path ≡ []
     not_over kept =
         ap (λ fits. unless fits (record { guard = AlreadyOver; len = length path }))
-        (and_from _ _ (descendants-by (same_path subtree path) refl (λ other. (and_parts _ _ (kept other)).0)) (depth-by (same_path subtree path) refl (λ other. (and_parts _ _ (kept other)).1)))
+        (and_from _ _
+        (fits-by fits_descendants count_below MaxDescendants descendants-limit (λ limit. refl) (count_below-same_paths st new same_paths path)
+        (same_path subtree path) refl (λ other. (and_parts _ _ (kept other)).0))
+        (fits-by fits_depth depth_below MaxDepth depth-limit (λ limit. refl) (depth_below-same_paths st new same_paths path)
+        (same_path subtree path) refl (λ other. (and_parts _ _ (kept other)).1)))
 
 -- ---- the guards on entries
 
@@ -228,7 +221,7 @@ entry_at-all_but st user subtree at =
     let path = take at.len subtree in
     let others = filter (is_other subtree at) (reached st user subtree) in
     entry_at-made subtree path at.name (flat_map (entry_mends user) others ++ limit_mends st subtree) st
-    ∙ ap (λ f. option_map f (entry_at st path at.name)) (λ i entry. (run-append subtree path at.name (flat_map (entry_mends user) others) (limit_mends st subtree) entry
+    ∙ ap (λ f. option_map f (entry_at st path at.name)) (λ i entry. (through-append (run_one subtree path at.name) (flat_map (entry_mends user) others) (limit_mends st subtree) entry
     ∙ run-limits subtree path at.name st (run subtree path at.name (flat_map (entry_mends user) others) entry)
     ∙ leaves-all subtree path at.name user others
     (all_each (λ other. is_other subtree at other ≡ true) (λ other. (same_path (take other.len subtree) path && same_entry other.name at.name) ≡ false) (λ other apart. not-true _ apart) others (all_filtered (is_other subtree at) (reached st user subtree)))

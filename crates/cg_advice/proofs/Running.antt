@@ -43,6 +43,34 @@ map_same : {A : Type 0} (o : Option A) → option_map (λ x. x) o ≡ o
 map_same None = refl
 map_same (Some x) = refl
 
+same_either : {A : Type 0} (test : Bool) (x : A) → cond test x x ≡ x
+same_either true x = refl
+same_either false x = refl
+
+-- ---- what stands at one place, under one change after another
+
+module _ {V : Type 0} (one : Mend → V → V) where
+  abbrev pub through : List Mend → V → V
+  through [] v = v
+  through (mend ∷ mends) v = through mends (one mend v)
+
+  pub through-append : (xs ys : List Mend) (v : V) → through (xs ++ ys) v ≡ through ys (through xs v)
+  through-append [] ys v = refl
+  through-append (x ∷ xs) ys v = through-append xs ys (one x v)
+
+  through-unless : (test : Bool) (mend : Mend) (v : V) → through (unless test mend) v ≡ cond test v (one mend v)
+  through-unless true mend v = refl
+  through-unless false mend v = refl
+
+  -- where each change does so to what stands there
+  through-made : (subtree : Names) (at : State → Option V)
+      → ((mend : Mend) (st : State) → at (made_one subtree mend st) ≡ option_map (one mend) (at st))
+      → (mends : List Mend) (st : State) → at (made subtree mends st) ≡ option_map (through mends) (at st)
+  through-made subtree at each [] st = sym (map_same (at st))
+  through-made subtree at each (mend ∷ mends) st =
+      through-made subtree at each mends (made_one subtree mend st) ∙ ap (option_map (through mends)) (each mend st)
+      ∙ map_map (one mend) (through mends) (at st)
+
 -- ---- an entry
 
 module _ (subtree path : Names) (name : EntryName) where
@@ -56,8 +84,7 @@ module _ (subtree path : Names) (name : EntryName) where
   run_one (Set len file value) entry = entry
 
   abbrev pub run : List Mend → Entry → Entry
-  run [] entry = entry
-  run (mend ∷ mends) entry = run mends (run_one mend entry)
+  run mends entry = through run_one mends entry
 
   entry_at-made_one : (mend : Mend) (st : State)
       → entry_at (made_one subtree mend st) path name ≡ option_map (run_one mend) (entry_at st path name)
@@ -70,36 +97,21 @@ module _ (subtree path : Names) (name : EntryName) where
 
   pub entry_at-made : (mends : List Mend) (st : State)
       → entry_at (made subtree mends st) path name ≡ option_map (run mends) (entry_at st path name)
-  entry_at-made [] st = sym (map_same (entry_at st path name))
-  entry_at-made (mend ∷ mends) st =
-      entry_at-made mends (made_one subtree mend st) ∙ ap (option_map (run mends)) (entry_at-made_one mend st)
-      ∙ map_map (run_one mend) (run mends) (entry_at st path name)
-
-  pub run-append : (xs ys : List Mend) (entry : Entry) → run (xs ++ ys) entry ≡ run ys (run xs entry)
-  run-append [] ys entry = refl
-  run-append (x ∷ xs) ys entry = run-append xs ys (run_one x entry)
-
-  run-unless : (test : Bool) (mend : Mend) (entry : Entry) → run (unless test mend) entry ≡ cond test entry (run_one mend entry)
-  run-unless true mend entry = refl
-  run-unless false mend entry = refl
-
-  same_either : (test : Bool) (entry : Entry) → cond test entry entry ≡ entry
-  same_either true entry = refl
-  same_either false entry = refl
+  entry_at-made mends st = through-made run_one subtree (λ st. entry_at st path name) entry_at-made_one mends st
 
   -- limits are no entries
   pub run-limits : (st : State) (entry : Entry) → run (limit_mends st subtree) entry ≡ entry
   run-limits st entry =
-      run-append (descendants_of st subtree) (depth_of st subtree) entry
-      ∙ ap (run (depth_of st subtree)) (run-unless (fits_descendants st subtree) _ entry ∙ same_either (fits_descendants st subtree) entry)
-      ∙ run-unless (fits_depth st subtree) _ entry ∙ same_either (fits_depth st subtree) entry
+      through-append run_one (descendants_of st subtree) (depth_of st subtree) entry
+      ∙ ap (run (depth_of st subtree)) (through-unless run_one (fits_descendants st subtree) _ entry ∙ same_either (fits_descendants st subtree) entry)
+      ∙ through-unless run_one (fits_depth st subtree) _ entry ∙ same_either (fits_depth st subtree) entry
 
   -- changes of another entry leave it
   leaves : (user : Identity) (at : GuardedEntry) → is_it at.len at.name ≡ false → (entry : Entry) → run (entry_mends user at) entry ≡ entry
   leaves user at other entry =
-      run-append (chown_of user at) (chmod_of user at) entry
-      ∙ ap (run (chmod_of user at)) (run-unless (not (owns user at.entry)) _ entry ∙ skipped (not (owns user at.entry)) (owned_by (given_uid user at.entry) at.entry.gid entry) entry)
-      ∙ run-unless (nat_eq (shut_mode user at.entry) at.entry.mode) _ entry
+      through-append run_one (chown_of user at) (chmod_of user at) entry
+      ∙ ap (run (chmod_of user at)) (through-unless run_one (not (owns user at.entry)) _ entry ∙ skipped (not (owns user at.entry)) (owned_by (given_uid user at.entry) at.entry.gid entry) entry)
+      ∙ through-unless run_one (nat_eq (shut_mode user at.entry) at.entry.mode) _ entry
       ∙ skipped (nat_eq (shut_mode user at.entry) at.entry.mode) (with_mode_of (shut_mode user at.entry) entry) entry
     where
       skipped : (test : Bool) (new entry : Entry) → cond test entry (cond (is_it at.len at.name) new entry) ≡ entry
@@ -109,7 +121,7 @@ module _ (subtree path : Names) (name : EntryName) where
       → run (flat_map (entry_mends user) ats) entry ≡ entry
   leaves-all user [] others entry = refl
   leaves-all user (at ∷ ats) others entry =
-      run-append (entry_mends user at) (flat_map (entry_mends user) ats) entry
+      through-append run_one (entry_mends user at) (flat_map (entry_mends user) ats) entry
       ∙ ap (run (flat_map (entry_mends user) ats)) (leaves user at others.0 entry) ∙ leaves-all user ats others.1 entry
 
 -- an owner and then a mode are set, each where it differs, over what is there or what they give
@@ -145,9 +157,9 @@ module _ (st : State) (user : Identity) (subtree path : Names) (name : EntryName
   gives : (at : GuardedEntry) → is_it subtree path name at.len at.name ≡ true → at.entry ≡ entry → (given : Bool)
       → run subtree path name (entry_mends user at) (before given) ≡ mended user entry
   gives at here same given =
-      run-append subtree path name (chown_of user at) (chmod_of user at) (before given)
-      ∙ ap (run subtree path name (chmod_of user at)) (run-unless subtree path name (not (owns user at.entry)) (Chown at.len at.name (given_uid user at.entry) at.entry.gid) (before given))
-      ∙ run-unless subtree path name (nat_eq (shut_mode user at.entry) at.entry.mode) (Chmod at.len at.name (shut_mode user at.entry)) _
+      through-append (run_one subtree path name) (chown_of user at) (chmod_of user at) (before given)
+      ∙ ap (run subtree path name (chmod_of user at)) (through-unless (run_one subtree path name) (not (owns user at.entry)) (Chown at.len at.name (given_uid user at.entry) at.entry.gid) (before given))
+      ∙ through-unless (run_one subtree path name) (nat_eq (shut_mode user at.entry) at.entry.mode) (Chmod at.len at.name (shut_mode user at.entry)) _
       ∙ ap (λ b. step given b at.entry) here
       ∙ ap (step given true) same
       ∙ settled (owns user entry) given (nat_eq (shut_mode user entry) entry.mode) entry.uid entry.gid entry.mode (shut_mode user entry) (eqb-true (shut_mode user entry) entry.mode)
@@ -163,14 +175,14 @@ module _ (st : State) (user : Identity) (subtree path : Names) (name : EntryName
             let named = same_entry-true guarded.name name parts.1 in
             ap (λ o. run subtree path name (flat_map (entry_mends user) (present (option_map (found guarded) o) (if_reached user))) (either given)) ((λ i. entry_at st (place i) (named i)) ∙ is)
             ∙ elim (reaches user entry) as (λ r. run subtree path name (flat_map (entry_mends user) (unless (not r) (found guarded entry))) (cond given (cond r (mended user entry) entry) entry) ≡ cond r (mended user entry) entry) [
-              | true ↦ run-append subtree path name (entry_mends user (found guarded entry)) [] (cond given (mended user entry) entry) ∙ gives (found guarded entry) here refl given
-              | false ↦ same_either subtree path name given entry
+              | true ↦ through-append (run_one subtree path name) (entry_mends user (found guarded entry)) [] (cond given (mended user entry) entry) ∙ gives (found guarded entry) here refl given
+              | false ↦ same_either given entry
             ]
         | false ↦ λ other.
             elim (guarded_entry st subtree guarded) as (λ o. run subtree path name (flat_map (entry_mends user) (present (option_map (found guarded) o) (if_reached user))) (either given) ≡ either given) [
               | None ↦ refl
               | Some x ↦ elim (reaches user x) as (λ r. run subtree path name (flat_map (entry_mends user) (unless (not r) (found guarded x))) (either given) ≡ either given) [
-                | true ↦ run-append subtree path name (entry_mends user (found guarded x)) [] (either given) ∙ leaves subtree path name user (found guarded x) other (either given)
+                | true ↦ through-append (run_one subtree path name) (entry_mends user (found guarded x)) [] (either given) ∙ leaves subtree path name user (found guarded x) other (either given)
                 | false ↦ refl
               ]
             ]
@@ -182,17 +194,17 @@ module _ (st : State) (user : Identity) (subtree path : Names) (name : EntryName
   walk [] given = refl
   walk (guarded ∷ gs) given =
       ap (λ mends. run subtree path name mends (either given)) (flat_map-append (entry_mends user) (reached_of st user subtree guarded) (flat_map (reached_of st user subtree) gs))
-      ∙ run-append subtree path name (flat_map (entry_mends user) (reached_of st user subtree guarded)) (flat_map (entry_mends user) (flat_map (reached_of st user subtree) gs)) (either given)
+      ∙ through-append (run_one subtree path name) (flat_map (entry_mends user) (reached_of st user subtree guarded)) (flat_map (entry_mends user) (flat_map (reached_of st user subtree) gs)) (either given)
       ∙ ap (run subtree path name (flat_map (entry_mends user) (flat_map (reached_of st user subtree) gs))) (turn guarded given)
       ∙ elim (is_on subtree path name guarded) as (λ b. run subtree path name (flat_map (entry_mends user) (flat_map (reached_of st user subtree) gs)) (cond b (spared user entry) (either given))
       ≡ cond (b || list_any (is_on subtree path name) gs) (spared user entry) (either given)) [
-        | true ↦ walk gs true ∙ same_either subtree path name (list_any (is_on subtree path name) gs) (spared user entry)
+        | true ↦ walk gs true ∙ same_either (list_any (is_on subtree path name) gs) (spared user entry)
         | false ↦ walk gs given
       ]
 
   all_run : run subtree path name (mends st user subtree) entry ≡ cond (is_guarded_entry subtree path name) (spared user entry) entry
   all_run =
-      run-append subtree path name (flat_map (entry_mends user) (reached st user subtree)) (limit_mends st subtree) entry
+      through-append (run_one subtree path name) (flat_map (entry_mends user) (reached st user subtree)) (limit_mends st subtree) entry
       ∙ run-limits subtree path name st (run subtree path name (flat_map (entry_mends user) (reached st user subtree)) entry)
       ∙ walk (guarded_entries subtree) false
 
@@ -223,8 +235,7 @@ module _ (subtree path : Names) (file : LimitFile) where
   hold_one (Set len other value) limit = cond (same_path (take len subtree) path && same_file other file) value limit
 
   abbrev hold : List Mend → Limit → Limit
-  hold [] limit = limit
-  hold (mend ∷ mends) limit = hold mends (hold_one mend limit)
+  hold mends limit = through hold_one mends limit
 
   value_at-made_one : (mend : Mend) (st : State)
       → value_at (made_one subtree mend st) path file ≡ option_map (hold_one mend) (value_at st path file)
@@ -238,35 +249,20 @@ module _ (subtree path : Names) (file : LimitFile) where
 
   value_at-made : (mends : List Mend) (st : State)
       → value_at (made subtree mends st) path file ≡ option_map (hold mends) (value_at st path file)
-  value_at-made [] st = sym (map_same (value_at st path file))
-  value_at-made (mend ∷ mends) st =
-      value_at-made mends (made_one subtree mend st) ∙ ap (option_map (hold mends)) (value_at-made_one mend st)
-      ∙ map_map (hold_one mend) (hold mends) (value_at st path file)
-
-  hold-append : (xs ys : List Mend) (limit : Limit) → hold (xs ++ ys) limit ≡ hold ys (hold xs limit)
-  hold-append [] ys limit = refl
-  hold-append (x ∷ xs) ys limit = hold-append xs ys (hold_one x limit)
-
-  hold-unless : (test : Bool) (mend : Mend) (limit : Limit) → hold (unless test mend) limit ≡ cond test limit (hold_one mend limit)
-  hold-unless true mend limit = refl
-  hold-unless false mend limit = refl
-
-  same_limit : (test : Bool) (limit : Limit) → cond test limit limit ≡ limit
-  same_limit true limit = refl
-  same_limit false limit = refl
+  value_at-made mends st = through-made hold_one subtree (λ st. value_at st path file) value_at-made_one mends st
 
   -- the changes of entries leave it
   hold-entry : (user : Identity) (at : GuardedEntry) (limit : Limit) → hold (entry_mends user at) limit ≡ limit
   hold-entry user at limit =
-      hold-append (chown_of user at) (chmod_of user at) limit
-      ∙ ap (hold (chmod_of user at)) (hold-unless (not (owns user at.entry)) _ limit ∙ same_limit (not (owns user at.entry)) limit)
-      ∙ hold-unless (nat_eq (shut_mode user at.entry) at.entry.mode) _ limit
-      ∙ same_limit (nat_eq (shut_mode user at.entry) at.entry.mode) limit
+      through-append hold_one (chown_of user at) (chmod_of user at) limit
+      ∙ ap (hold (chmod_of user at)) (through-unless hold_one (not (owns user at.entry)) _ limit ∙ same_either (not (owns user at.entry)) limit)
+      ∙ through-unless hold_one (nat_eq (shut_mode user at.entry) at.entry.mode) _ limit
+      ∙ same_either (nat_eq (shut_mode user at.entry) at.entry.mode) limit
 
   hold-entries : (user : Identity) (ats : List GuardedEntry) (limit : Limit) → hold (flat_map (entry_mends user) ats) limit ≡ limit
   hold-entries user [] limit = refl
   hold-entries user (at ∷ ats) limit =
-      hold-append (entry_mends user at) (flat_map (entry_mends user) ats) limit
+      through-append hold_one (entry_mends user at) (flat_map (entry_mends user) ats) limit
       ∙ ap (hold (flat_map (entry_mends user) ats)) (hold-entry user at limit) ∙ hold-entries user ats limit
 
 -- a limit by whether the two fit
@@ -289,22 +285,20 @@ both_set false true true count depth file limit = refl
 both_set false true false count depth file limit = refl
 both_set false false true count depth file limit = refl
 both_set false false false count depth file limit = refl
-both_set true true true count depth MaxDescendants limit = refl
+both_set true fits_d true count depth MaxDescendants limit = refl
+both_set true fits_d false count depth MaxDescendants limit = refl
 both_set true true true count depth file limit = refl
-both_set true true false count depth MaxDescendants limit = refl
 both_set true true false count depth file limit = refl
-both_set true false true count depth MaxDescendants limit = refl
 both_set true false true count depth file limit = refl
-both_set true false false count depth MaxDescendants limit = refl
 both_set true false false count depth file limit = refl
 
 hold-limits : (st : State) (subtree path : Names) (file : LimitFile) (limit : Limit)
     → hold subtree path file (limit_mends st subtree) limit ≡ cond (same_path subtree path) (raised st subtree file limit) limit
 hold-limits st subtree path file limit =
     let whole : take (length subtree) subtree ≡ subtree = take_all (length subtree) subtree (omega arith) in
-    hold-append subtree path file (descendants_of st subtree) (depth_of st subtree) limit
-    ∙ hold-unless subtree path file (fits_depth st subtree) _ (hold subtree path file (descendants_of st subtree) limit)
-    ∙ ap (λ first. cond (fits_depth st subtree) first (cond (same_path (take (length subtree) subtree) path && same_file MaxDepth file) (At (depth_below st subtree)) first)) (hold-unless subtree path file (fits_descendants st subtree) _ limit)
+    through-append (hold_one subtree path file) (descendants_of st subtree) (depth_of st subtree) limit
+    ∙ through-unless (hold_one subtree path file) (fits_depth st subtree) _ (hold subtree path file (descendants_of st subtree) limit)
+    ∙ ap (λ first. cond (fits_depth st subtree) first (cond (same_path (take (length subtree) subtree) path && same_file MaxDepth file) (At (depth_below st subtree)) first)) (through-unless (hold_one subtree path file) (fits_descendants st subtree) _ limit)
     ∙ ap (λ p. let first : Limit = cond (fits_descendants st subtree) limit (cond (same_path p path && same_file MaxDescendants file) (At (count_below st subtree)) limit) in
     cond (fits_depth st subtree) first (cond (same_path p path && same_file MaxDepth file) (At (depth_below st subtree)) first)) whole
     ∙ both_set (same_path subtree path) (fits_descendants st subtree) (fits_depth st subtree) (count_below st subtree) (depth_below st subtree) file limit
@@ -321,7 +315,7 @@ value_at-advised st user subtree path file =
     all_held : (limit : Limit)
         → hold subtree path file (mends st user subtree) limit ≡ cond (same_path subtree path) (raised st subtree file limit) limit
     all_held limit =
-        hold-append subtree path file (flat_map (entry_mends user) (reached st user subtree)) (limit_mends st subtree) limit
+        through-append (hold_one subtree path file) (flat_map (entry_mends user) (reached st user subtree)) (limit_mends st subtree) limit
         ∙ ap (hold subtree path file (limit_mends st subtree)) (hold-entries subtree path file user (reached st user subtree) limit)
         ∙ hold-limits st subtree path file limit
 

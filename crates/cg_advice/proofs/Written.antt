@@ -1,5 +1,5 @@
 -- What is written of the entries and of the limits, one after another.
-use Rattle.std.proofs.Common.{◌≡◌, ℕ, ◌+◌, ◌/◌, ◌%◌, ◌≤◌, true, false, not, cond, ◌&&◌, List, [], ◌∷◌, ◌++◌, append_assoc, length, take, take_all, drop, Some, None, option_and_then, refl, sym, ap, ◌∙◌, arith}
+use Rattle.std.proofs.Common.{◌≡◌, ℕ, ◌+◌, ◌/◌, ◌%◌, ◌≤◌, Bool, true, not, cond, ◌&&◌, List, [], ◌++◌, append_assoc, length, take, take_all, drop, Some, None, option_and_then, refl, sym, ap, ◌∙◌, arith}
 use Rattle.std.specs.Prelude.{slice_get}
 use Rattle.std.specs.List.{flat_map}
 use Rattle.std.specs.Fmt.{decimal}
@@ -9,8 +9,8 @@ use Rattle.std.proofs.lemmas.List.Concat.{flat_map-append}
 use Rattle.cg_cgroup.specs.Paths.{Names}
 use Rattle.cg_cgroup.specs.Identity.{Identity}
 use Rattle.cg_cgroup.specs.declared.files.Limit.TheVariants.{At}
-use Rattle.cg_cgroup.specs.declared.files.LimitFile.TheVariants.{MaxDescendants}
-use Rattle.cg_model.specs.States.{State, count_below}
+use Rattle.cg_cgroup.specs.declared.files.LimitFile.{LimitFile}
+use Rattle.cg_model.specs.States.{State}
 use Rattle.cg_model.specs.Clauses.{unless}
 use Rattle.cg_lines.specs.OperationLines.{mode_word}
 use Rattle.cg_model.specs.Limits.{fits_descendants, fits_depth}
@@ -52,13 +52,12 @@ module _ (st : State) (user : Identity) (subtree : Names) (place : ℕ) where
 
 -- ---- limits
 
-pub descendants_set : (st : State) (subtree : Names) (len count : ℕ) → len ≡ length subtree → count ≡ count_below st (take len subtree)
-    → fits_descendants st subtree ≡ false
-    → Set len MaxDescendants (At count) ∷ [] ≡ descendants_of st subtree
-descendants_set st subtree len count level counted over =
-    let whole = counted ∙ ap (count_below st) (take_all len subtree (omega (arith, level))) in
-    (λ i. Set (level i) MaxDescendants (At (whole i)) ∷ [])
-    ∙ ap (λ fits. unless fits (Set (length subtree) MaxDescendants (At (count_below st subtree)))) (sym over)
+-- a limit raised by what was asked of the tree
+pub raised_by : (subtree : Names) (file : LimitFile) (below : Names → ℕ) (fits now : Bool) (len there : ℕ) → len ≡ length subtree → fits ≡ now
+    → there ≡ below (take len subtree) → unless fits (Set (length subtree) file (At there)) ≡ unless now (Set (length subtree) file (At (below subtree)))
+raised_by subtree file below fits now len there level same counted =
+    (λ i. unless (same i) (Set (length subtree) file (At (counted i))))
+    ∙ ap (λ path. unless now (Set (length subtree) file (At (below path)))) (take_all len subtree (omega (arith, level)))
 
 pub over_written : (st : State) (subtree : Names) (text told one all : List ℕ) (descendants depth : List Mend)
     → not (fits_descendants st subtree && fits_depth st subtree) ≡ true

@@ -6,7 +6,10 @@ ghost use Rattle.cg_cgroup.specs.Paths.{is_root};
 ghost use Rattle.cg_model.specs.WellFormed.{has_row};
 ghost use Rattle.cg_model.specs.Guards.{IsSubtree, is_guarded};
 ghost use Rattle.cg_lines.specs.OperationLines.{mode_word};
-ghost use Rattle.cg_model.specs.Mends.{if_reached, reached, descendants_of, depth_of};
+ghost use Rattle.cg_cgroup.specs.declared.files.Limit.TheVariants.{At};
+ghost use Rattle.cg_model.specs.Clauses.{unless};
+ghost use Rattle.cg_model.specs.Mends.{if_reached, reached};
+ghost use Rattle.cg_model.specs.declared.mend.Mend.TheVariants.{Set};
 ghost use Rattle.cg_advice.specs.AdviceLines.{owner_word, mend_line, mend_lines, fails_line, reached_lines, over_line, over_lines, advice_lines, IsShown, len_of};
 
 use crate::mend::{chmod_of, chown_of, class_name, class_of};
@@ -62,29 +65,29 @@ fn push_entries<H: Hierarchy>(
         let Some(at) = guarded_entry(tree, subtree, place) else {
             continue;
         };
-        push_entry(alloc, text, user, subtree, &at)?;
+        let lines = entry_lines(alloc, user, subtree, &at)?;
+        text.extend_from_slice(lines.as_slice())?;
     }
     Ok(())
 }
 
 /// The lines of an entry, where the user reaches it.
-fn push_entry(
+fn entry_lines(
     alloc: Global,
-    text: &mut Vec<u8>,
     user: &User,
     subtree: &Path,
     at: &GuardedEntry,
-) -> Result<(), NoMemory>
+) -> Result<Vec<u8>, NoMemory>
     requires { IsShown subtree.now at.now }
-    ensures { OnOk result (text.new.items ≡ text.old.items ++ flat_map (reached_lines user.now subtree.now) (if_reached user.now at.now)) }
+    ensures { IfOk result (λ lines. lines.items ≡ flat_map (reached_lines user.now subtree.now) (if_reached user.now at.now)) }
 {
     if !user.reaches(&at.entry) {
-        return Ok(());
+        return Ok(Vec::new(alloc));
     }
-    let line = fails_line(alloc, user, subtree, at)?.into_bytes();
-    text.extend_from_slice(line.as_slice())?;
-    push_mend(alloc, text, subtree, chown_of(user, at))?;
-    push_mend(alloc, text, subtree, chmod_of(user, at))
+    let mut lines = fails_line(alloc, user, subtree, at)?.into_bytes();
+    push_mend(alloc, &mut lines, subtree, chown_of(user, at))?;
+    push_mend(alloc, &mut lines, subtree, chmod_of(user, at))?;
+    Ok(lines)
 }
 
 /// The lines of the limits of the subtree, where it is over one.
@@ -102,8 +105,26 @@ fn push_limits<H: Hierarchy>(
     }
     let line = over_line(alloc, subtree)?.into_bytes();
     text.extend_from_slice(line.as_slice())?;
-    push_mend(alloc, text, subtree, descendants_raised(tree, subtree))?;
-    push_mend(alloc, text, subtree, depth_raised(tree, subtree))?;
+    let len = subtree.depth();
+    let Some(cgroup) = tree.get(subtree, len) else {
+        unreachable!()
+    };
+    let fits = fits_descendants(tree, subtree, cgroup);
+    let count = tree.count_below(subtree, len);
+    push_mend(
+        alloc,
+        text,
+        subtree,
+        raised(subtree, LimitFile::MaxDescendants, fits, count),
+    )?;
+    let fits = fits_depth(tree, subtree, cgroup);
+    let levels = tree.depth_below(subtree, len);
+    push_mend(
+        alloc,
+        text,
+        subtree,
+        raised(subtree, LimitFile::MaxDepth, fits, levels),
+    )?;
     Ok(())
 }
 
@@ -116,37 +137,18 @@ fn over_line(alloc: Global, subtree: &Path) -> Result<String, AllocError>
     format!(in alloc; "fails {guard} {place}\n")
 }
 
-/// The limit of descendants raised to what is there, where the subtree is over it.
-fn descendants_raised<H: Hierarchy>(tree: &H, subtree: &Path) -> Option<Mend>
-    ensures mend { option_to_list result ≡ descendants_of (H.state tree.now) subtree.now }
+/// A limit of the subtree raised to what is there, where that doesn't fit.
+fn raised(subtree: &Path, file: LimitFile, fits: bool, there: u64) -> Option<Mend>
+    ensures mend { option_to_list result ≡ unless fits (Set (length subtree.now) file (At there)) }
     ensures within { IfSome result (λ mend. len_of mend ≤ length subtree.now) }
 {
-    let len = subtree.depth();
-    let cgroup = tree.get(subtree, len)?;
-    if fits_descendants(tree, subtree, cgroup) {
+    if fits {
         return None;
     }
     Some(Mend::Set {
-        len,
-        file: LimitFile::MaxDescendants,
-        value: Limit::At(tree.count_below(subtree, len)),
-    })
-}
-
-/// The limit of depth raised to what is there, where the subtree is over it.
-fn depth_raised<H: Hierarchy>(tree: &H, subtree: &Path) -> Option<Mend>
-    ensures mend { option_to_list result ≡ depth_of (H.state tree.now) subtree.now }
-    ensures within { IfSome result (λ mend. len_of mend ≤ length subtree.now) }
-{
-    let len = subtree.depth();
-    let cgroup = tree.get(subtree, len)?;
-    if fits_depth(tree, subtree, cgroup) {
-        return None;
-    }
-    Some(Mend::Set {
-        len,
-        file: LimitFile::MaxDepth,
-        value: Limit::At(tree.depth_below(subtree, len)),
+        len: subtree.depth(),
+        file,
+        value: Limit::At(there),
     })
 }
 

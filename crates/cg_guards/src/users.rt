@@ -1,10 +1,9 @@
 //! For which users of a list the guards of a subtree hold. Nothing is allocated, and what doesn't depend on the user is
 //! asked of the tree once for all of them.
-ghost use Rattle.std.specs.Prelude.{◌≡◌, false, Some, option_copied};
+ghost use Rattle.std.specs.Prelude.{◌≡◌, Some, option_copied};
 ghost use Rattle.std.specs.List.{take_while};
-ghost use Rattle.cg_cgroup.specs.Paths.{is_root};
-ghost use Rattle.cg_model.specs.Guards.{guarded_entries, IsSubtree, is_guarded};
-ghost use Rattle.cg_guards.specs.GuardedUsers.{is_spared, is_alike, is_asked, AreSpared, kept_off};
+ghost use Rattle.cg_model.specs.Guards.{IsSubtree, is_guarded};
+ghost use Rattle.cg_guards.specs.GuardedUsers.{is_spared, is_alike, is_asked, AreSpared};
 ghost use Rattle.cg_guards.specs.Reach.{is_out_of_reach, AreCovered};
 
 use crate::failed::is_over;
@@ -16,7 +15,8 @@ use cg_tree::hierarchy::Hierarchy;
 
 /// The users before the first for whom a guard of the subtree fails. `asked` holds an entry that none of them reaches, the
 /// last that was asked, so that it isn't asked of them again with the next subtree. Where their `identities` are known, an
-/// entry that these say nobody reaches isn't asked of them at all.
+/// entry that these say nobody reaches isn't asked of them at all. Most entries have one owner, so one that is like the last is
+/// passed over, too.
 pub fn guarded_users<'a, H: Hierarchy>(
     tree: &H,
     users: &'a [User],
@@ -36,24 +36,6 @@ pub fn guarded_users<'a, H: Hierarchy>(
     if is_over(tree, subtree) {
         return &users[..0];
     }
-    off_entries(tree, users, identities, asked, subtree)
-}
-
-/// Those before the first who reaches a guarded entry. Most entries have one owner, so one that is like the last is passed
-/// over, and so is one that is out of reach.
-fn off_entries<'a, H: Hierarchy>(
-    tree: &H,
-    users: &'a [User],
-    identities: Option<&Identities>,
-    asked: &mut Option<Entry>,
-    subtree: &Path,
-) -> &'a [User]
-    requires subtree { is_root subtree.now ≡ false }
-    requires covered { AreCovered (option_copied identities) users.now }
-    requires asked { AreSpared asked.old users.now }
-    ensures users { result.now ≡ kept_off (H.state tree.now) subtree.now (guarded_entries subtree.now) users.now }
-    ensures asked { AreSpared asked.new result.now }
-{
     let mut left = users;
     for place in 0..guarded_count(subtree) {
         let Some(at) = guarded_entry(tree, subtree, place) else {

@@ -12,9 +12,6 @@ use Rattle.std.proofs.lemmas.Str.{IsUtf8-from_ascii}
 use Rattle.cg_cgroup.specs.Paths.{Names, same_name, path_text, path_at, IsPath}
 use Rattle.cg_cgroup.specs.Numbers.{is_pid, is_mode}
 use Rattle.cg_cgroup.specs.Files.{file_name, file_named, entry_text, entry_named}
-use Rattle.cg_cgroup.specs.declared.files.Limit.{Limit}
-use Rattle.cg_cgroup.specs.declared.files.LimitFile.{LimitFile}
-use Rattle.cg_cgroup.specs.declared.files.EntryName.{EntryName}
 use Rattle.cg_cgroup.proofs.PathAt.{path_at-is, path_at-text}
 use Rattle.cg_cgroup.proofs.NameLaws.{file_names, entry_names}
 use Rattle.cg_model.specs.declared.changes.Change.{Change}
@@ -52,16 +49,124 @@ behind name text rest e = ap (λ (t : List ℕ). name ++ (32 ∷ t)) e
 taken : (name text : List ℕ) (made op : Op) → made ≡ op → Takes name text made → Takes name text op
 taken name text made op e h = subst (Takes name text) e h
 
+-- a kind of word: what is read of one, how a value is written, and which values there are
+record Spelled {A : Type 0} (read : List ℕ → Option A) (write : A → List ℕ) (IsHeld : A → Type 0) : Type 0 where
+  takes : (word : List ℕ) (value : A) → read word ≡ Some value → IsHeld value × (word ≡ write value)
+  again : (value : A) → IsHeld value → read (write value) ≡ Some value
+  one : (value : A) → IsHeld value → is_word (write value) ≡ true
+
+pids : Spelled pid_at decimal (λ pid. is_pid pid ≡ true)
+pids = record { takes = pid_takes; again = pid_again; one = λ pid h. decimal_word pid (small_pid pid h) }
+
+paths : Spelled path_at path_text IsPath
+paths = record { takes = λ word path h. let p = path_at-is word path h in (p.0, sym p.1); again = path_at-text; one = path_word }
+
+files : Spelled file_named file_name (λ _. Unit {0})
+files = record { takes = λ word file h. (tt, file_names.named word file h); again = λ file _. file_names.found file; one = λ file _. file_word file }
+
+entries : Spelled entry_named entry_text (λ _. Unit {0})
+entries = record { takes = λ word entry h. (tt, entry_names.named word entry h); again = λ entry _. entry_names.found entry; one = λ entry _. entry_word entry }
+
+limits : Spelled limit_at limit_word IsLimitInRange
+limits = record { takes = limit_takes; again = limit_again; one = limit_is_word }
+
+modes : Spelled mode_at mode_word (λ mode. is_mode mode ≡ true)
+modes = record { takes = mode_takes; again = mode_again; one = mode_is_word }
+
+-- what is read of one word, of two and of three
+abbrev one_word : {A : Type 0} → (List ℕ → Option A) → (A → Op) → List ℕ → Option Op
+one_word read made text = read text >>= λ a. Some (made a)
+
+abbrev two_words : {A B : Type 0} → (List ℕ → Option A) → (List ℕ → Option B) → (A → B → Op) → List ℕ → Option Op
+two_words first second made text = do
+  words ← cut text
+  a ← first words.0
+  b ← second words.1
+  Some (made a b)
+
+abbrev three_words : {A B C : Type 0} → (List ℕ → Option A) → (List ℕ → Option B) → (List ℕ → Option C)
+    → (A → B → C → Op) → List ℕ → Option Op
+three_words first second third made text = do
+  words ← cut text
+  others ← cut words.1
+  a ← first words.0
+  b ← second others.0
+  c ← third others.1
+  Some (made a b c)
+
+from_text : (name text other : List ℕ) (made op : Op) → text ≡ other → Some made ≡ Some op → Takes name other made → Takes name text op
+from_text name text other made op e f h = subst (λ t. Takes name t op) (sym e) (subst (Takes name other) (same_Some made op f) h)
+
+module _ {A : Type 0} {read : List ℕ → Option A} {write : A → List ℕ} {IsHeld : A → Type 0} (x : Spelled read write IsHeld) (made : A → Op) where
+  one_takes : (name text : List ℕ) (op : Op) → ((a : A) → IsHeld a → Takes name (write a) (made a))
+      → one_word read made text ≡ Some op → Takes name text op
+  one_takes name text op held h =
+      let a = bind_some (read text) (λ a. Some (made a)) op h in
+      let p = x.takes text a.0 a.1 in
+      from_text name text (write a.0) (made a.0) op p.1 a.2 (held a.0 p.0)
+
+  one_again : (a : A) → IsHeld a → one_word read made (write a) ≡ Some (made a)
+  one_again a h = ap (λ (o : Option A). o >>= λ a. Some (made a)) (x.again a h)
+
+module _ {A B : Type 0} {first : List ℕ → Option A} {second : List ℕ → Option B} {write : A → List ℕ} {also : B → List ℕ}
+    {IsHeld : A → Type 0} {IsAlso : B → Type 0} (x : Spelled first write IsHeld) (y : Spelled second also IsAlso) (made : A → B → Op) where
+  two_takes : (name text : List ℕ) (op : Op) → ((a : A) (b : B) → IsHeld a → IsAlso b → Takes name (write a ++ (32 ∷ also b)) (made a b))
+      → two_words first second made text ≡ Some op → Takes name text op
+  two_takes name text op held h =
+      let w = bind_some (cut text) (λ words. first words.0 >>= λ a. second words.1 >>= λ b. Some (made a b)) op h in
+      let a = bind_some (first w.0.0) (λ a. second w.0.1 >>= λ b. Some (made a b)) op w.2 in
+      let b = bind_some (second w.0.1) (λ b. Some (made a.0 b)) op a.2 in
+      let p = x.takes w.0.0 a.0 a.1 in
+      let q = y.takes w.0.1 b.0 b.1 in
+      from_text name text (write a.0 ++ (32 ∷ also b.0)) (made a.0 b.0) op (joined text w.0 (write a.0) (also b.0) w.1 p.1 q.1) b.2
+      (held a.0 b.0 p.0 q.0)
+
+  two_again : (a : A) (b : B) → IsHeld a → IsAlso b → two_words first second made (write a ++ (32 ∷ also b)) ≡ Some (made a b)
+  two_again a b h k =
+      bind_at (cut (write a ++ (32 ∷ also b))) (write a, also b) (λ words. first words.0 >>= λ a. second words.1 >>= λ b. Some (made a b))
+      (Some (made a b)) (cut_word (write a) (also b) (x.one a h))
+      (bind_at (first (write a)) a (λ a. second (also b) >>= λ b. Some (made a b)) (Some (made a b)) (x.again a h)
+      (ap (λ (o : Option B). o >>= λ b. Some (made a b)) (y.again b k)))
+
+module _ {A B C : Type 0} {first : List ℕ → Option A} {second : List ℕ → Option B} {third : List ℕ → Option C}
+    {write : A → List ℕ} {also : B → List ℕ} {last : C → List ℕ} {IsHeld : A → Type 0} {IsAlso : B → Type 0} {IsLast : C → Type 0}
+    (x : Spelled first write IsHeld) (y : Spelled second also IsAlso) (z : Spelled third last IsLast) (made : A → B → C → Op) where
+  abbrev three : A → B → C → List ℕ
+  three a b c = write a ++ (32 ∷ (also b ++ (32 ∷ last c)))
+
+  three_takes : (name text : List ℕ) (op : Op)
+      → ((a : A) (b : B) (c : C) → IsHeld a → IsAlso b → IsLast c → Takes name (three a b c) (made a b c))
+      → three_words first second third made text ≡ Some op → Takes name text op
+  three_takes name text op held h =
+      let w = bind_some (cut text) (λ words. cut words.1 >>= λ others. first words.0 >>= λ a. second others.0 >>= λ b. third others.1 >>= λ c. Some (made a b c)) op h in
+      let v = bind_some (cut w.0.1) (λ others. first w.0.0 >>= λ a. second others.0 >>= λ b. third others.1 >>= λ c. Some (made a b c)) op w.2 in
+      let a = bind_some (first w.0.0) (λ a. second v.0.0 >>= λ b. third v.0.1 >>= λ c. Some (made a b c)) op v.2 in
+      let b = bind_some (second v.0.0) (λ b. third v.0.1 >>= λ c. Some (made a.0 b c)) op a.2 in
+      let c = bind_some (third v.0.1) (λ c. Some (made a.0 b.0 c)) op b.2 in
+      let p = x.takes w.0.0 a.0 a.1 in
+      let q = y.takes v.0.0 b.0 b.1 in
+      let r = z.takes v.0.1 c.0 c.1 in
+      from_text name text (three a.0 b.0 c.0) (made a.0 b.0 c.0) op
+      (joined_three text w.0 v.0 (write a.0) (also b.0) (last c.0) w.1 v.1 p.1 q.1 r.1) c.2 (held a.0 b.0 c.0 p.0 q.0 r.0)
+
+  three_again : (a : A) (b : B) (c : C) → IsHeld a → IsAlso b → IsLast c → three_words first second third made (three a b c) ≡ Some (made a b c)
+  three_again a b c h k l =
+      let rest = also b ++ (32 ∷ last c) in
+      bind_at (cut (three a b c)) (write a, rest) (λ words. cut words.1 >>= λ others. first words.0 >>= λ a. second others.0 >>= λ b. third others.1 >>= λ c. Some (made a b c))
+      (Some (made a b c)) (cut_word (write a) rest (x.one a h))
+      (bind_at (cut rest) (also b, last c) (λ others. first (write a) >>= λ a. second others.0 >>= λ b. third others.1 >>= λ c. Some (made a b c))
+      (Some (made a b c)) (cut_word (also b) (last c) (y.one b k))
+      (bind_at (first (write a)) a (λ a. second (also b) >>= λ b. third (last c) >>= λ c. Some (made a b c)) (Some (made a b c)) (x.again a h)
+      (bind_at (second (also b)) b (λ b. third (last c) >>= λ c. Some (made a b c)) (Some (made a b c)) (y.again b k)
+      (ap (λ (o : Option C). o >>= λ c. Some (made a b c)) (z.again c l)))))
+
 move_takes : (text : List ℕ) (op : Op) → move_at text ≡ Some op → Takes (codes "move") text op
 unfolding move_at
-move_takes text op h =
-    let w = bind_some (cut text) (λ words. pid_at words.0 >>= λ pid. path_at words.1 >>= λ to. Some (Move pid to)) op h in
-    let pid = bind_some (pid_at w.0.0) (λ pid. path_at w.0.1 >>= λ to. Some (Move pid to)) op w.2 in
-    let to = bind_some (path_at w.0.1) (λ to. Some (Move pid.0 to)) op pid.2 in
-    let p = pid_takes w.0.0 pid.0 pid.1 in
-    let q = path_at-is w.0.1 to.0 to.1 in
-    taken (codes "move") text (Move pid.0 to.0) op (same_Some (Move pid.0 to.0) op to.2)
-    ((p.0, q.0), behind (codes "move") text (decimal pid.0 ++ (32 ∷ path_text to.0)) (joined text w.0 (decimal pid.0) (path_text to.0) w.1 p.1 (sym q.1)))
+move_takes text op h = two_takes pids paths Move (codes "move") text op (λ pid to p q. ((p, q), refl)) h
+
+fork_takes : (text : List ℕ) (op : Op) → fork_at text ≡ Some op → Takes (codes "fork") text op
+unfolding fork_at
+fork_takes text op h = two_takes pids pids Fork (codes "fork") text op (λ parent child p q. ((p, q), refl)) h
 
 -- the words of one change or more are joined to the text that was split
 control_text : (at : Names) (words : List ℕ × List ℕ) (changes : List Change) → path_text at ≡ words.0
@@ -93,69 +198,25 @@ control_takes : (text : List ℕ) (op : Op) → control_at text ≡ Some op → 
 unfolding control_at
 control_takes text op h = control_from_takes text (cut text) op refl h
 
+exit_takes : (text : List ℕ) (op : Op) → exit_at text ≡ Some op → Takes (codes "exit") text op
+unfolding exit_at
+exit_takes text op h = one_takes pids Exit (codes "exit") text op (λ pid p. (p, refl)) h
+
 mkdir_takes : (text : List ℕ) (op : Op) → mkdir_at text ≡ Some op → Takes (codes "mkdir") text op
 unfolding mkdir_at
-mkdir_takes text op h =
-    let path = bind_some (path_at text) (λ path. Some (Mkdir path)) op h in
-    let q = path_at-is text path.0 path.1 in
-    taken (codes "mkdir") text (Mkdir path.0) op (same_Some (Mkdir path.0) op path.2) (q.0, behind (codes "mkdir") text (path_text path.0) (sym q.1))
+mkdir_takes text op h = one_takes paths Mkdir (codes "mkdir") text op (λ path p. (p, refl)) h
 
 rmdir_takes : (text : List ℕ) (op : Op) → rmdir_at text ≡ Some op → Takes (codes "rmdir") text op
 unfolding rmdir_at
-rmdir_takes text op h =
-    let path = bind_some (path_at text) (λ path. Some (Rmdir path)) op h in
-    let q = path_at-is text path.0 path.1 in
-    taken (codes "rmdir") text (Rmdir path.0) op (same_Some (Rmdir path.0) op path.2) (q.0, behind (codes "rmdir") text (path_text path.0) (sym q.1))
+rmdir_takes text op h = one_takes paths Rmdir (codes "rmdir") text op (λ path p. (p, refl)) h
 
 set_takes : (text : List ℕ) (op : Op) → set_at text ≡ Some op → Takes (codes "set") text op
 unfolding set_at
-set_takes text op h =
-    let w = bind_some (cut text) (λ words. cut words.1 >>= λ others. path_at words.0 >>= λ at. file_named others.0 >>= λ file. limit_at others.1 >>= λ value. Some (Set at file value)) op h in
-    let v = bind_some (cut w.0.1) (λ others. path_at w.0.0 >>= λ at. file_named others.0 >>= λ file. limit_at others.1 >>= λ value. Some (Set at file value)) op w.2 in
-    let at = bind_some (path_at w.0.0) (λ at. file_named v.0.0 >>= λ file. limit_at v.0.1 >>= λ value. Some (Set at file value)) op v.2 in
-    let file = bind_some (file_named v.0.0) (λ file. limit_at v.0.1 >>= λ value. Some (Set at.0 file value)) op at.2 in
-    let value = bind_some (limit_at v.0.1) (λ value. Some (Set at.0 file.0 value)) op file.2 in
-    let p = path_at-is w.0.0 at.0 at.1 in
-    let q = limit_takes v.0.1 value.0 value.1 in
-    taken (codes "set") text (Set at.0 file.0 value.0) op (same_Some (Set at.0 file.0 value.0) op value.2) (
-      (p.0, q.0),
-      behind (codes "set") text (path_text at.0 ++ (32 ∷ (file_name file.0 ++ (32 ∷ limit_word value.0))))
-          (joined_three text w.0 v.0 (path_text at.0) (file_name file.0) (limit_word value.0) w.1 v.1 (sym p.1) (file_names.named v.0.0 file.0 file.1) q.1),
-    )
-
-fork_takes : (text : List ℕ) (op : Op) → fork_at text ≡ Some op → Takes (codes "fork") text op
-unfolding fork_at
-fork_takes text op h =
-    let w = bind_some (cut text) (λ words. pid_at words.0 >>= λ parent. pid_at words.1 >>= λ child. Some (Fork parent child)) op h in
-    let parent = bind_some (pid_at w.0.0) (λ parent. pid_at w.0.1 >>= λ child. Some (Fork parent child)) op w.2 in
-    let child = bind_some (pid_at w.0.1) (λ child. Some (Fork parent.0 child)) op parent.2 in
-    let p = pid_takes w.0.0 parent.0 parent.1 in
-    let q = pid_takes w.0.1 child.0 child.1 in
-    taken (codes "fork") text (Fork parent.0 child.0) op (same_Some (Fork parent.0 child.0) op child.2)
-    ((p.0, q.0), behind (codes "fork") text (decimal parent.0 ++ (32 ∷ decimal child.0)) (joined text w.0 (decimal parent.0) (decimal child.0) w.1 p.1 q.1))
-
-exit_takes : (text : List ℕ) (op : Op) → exit_at text ≡ Some op → Takes (codes "exit") text op
-unfolding exit_at
-exit_takes text op h =
-    let pid = bind_some (pid_at text) (λ pid. Some (Exit pid)) op h in
-    let p = pid_takes text pid.0 pid.1 in
-    taken (codes "exit") text (Exit pid.0) op (same_Some (Exit pid.0) op pid.2) (p.0, behind (codes "exit") text (decimal pid.0) p.1)
+set_takes text op h = three_takes paths files limits Set (codes "set") text op (λ at file value p _ q. ((p, q), refl)) h
 
 chmod_takes : (text : List ℕ) (op : Op) → chmod_at text ≡ Some op → Takes (codes "chmod") text op
 unfolding chmod_at
-chmod_takes text op h =
-    let w = bind_some (cut text) (λ words. cut words.1 >>= λ others. path_at words.0 >>= λ at. entry_named others.0 >>= λ entry. mode_at others.1 >>= λ mode. Some (Chmod at entry mode)) op h in
-    let v = bind_some (cut w.0.1) (λ others. path_at w.0.0 >>= λ at. entry_named others.0 >>= λ entry. mode_at others.1 >>= λ mode. Some (Chmod at entry mode)) op w.2 in
-    let at = bind_some (path_at w.0.0) (λ at. entry_named v.0.0 >>= λ entry. mode_at v.0.1 >>= λ mode. Some (Chmod at entry mode)) op v.2 in
-    let entry = bind_some (entry_named v.0.0) (λ entry. mode_at v.0.1 >>= λ mode. Some (Chmod at.0 entry mode)) op at.2 in
-    let mode = bind_some (mode_at v.0.1) (λ mode. Some (Chmod at.0 entry.0 mode)) op entry.2 in
-    let p = path_at-is w.0.0 at.0 at.1 in
-    let q = mode_takes v.0.1 mode.0 mode.1 in
-    taken (codes "chmod") text (Chmod at.0 entry.0 mode.0) op (same_Some (Chmod at.0 entry.0 mode.0) op mode.2) (
-      (p.0, q.0),
-      behind (codes "chmod") text (path_text at.0 ++ (32 ∷ (entry_text entry.0 ++ (32 ∷ mode_word mode.0))))
-          (joined_three text w.0 v.0 (path_text at.0) (entry_text entry.0) (mode_word mode.0) w.1 v.1 (sym p.1) (entry_names.named v.0.0 entry.0 entry.1) q.1),
-    )
+chmod_takes text op h = three_takes paths entries modes Chmod (codes "chmod") text op (λ at entry mode p _ q. ((p, q), refl)) h
 
 -- the operation of one name, or that of the others
 takes_named : (name word text : List ℕ) (op : Op) (read others : Option Op) → cond (same_name name word) read others ≡ Some op
@@ -203,13 +264,6 @@ line_words (Chmod at entry mode) h = and_from (is_word (path_text at)) _ (path_w
 pub line_utf8 : (op : Op) → IsInRange op → IsUtf8 (spelling op)
 line_utf8 op h = IsUtf8-from_ascii (spelling op) (IsAscii-joined (words op) (line_words op h))
 
-move_again : (pid : ℕ) (to : Names) → is_pid pid ≡ true → IsPath to → move_at (decimal pid ++ (32 ∷ path_text to)) ≡ Some (Move pid to)
-unfolding move_at
-move_again pid to h k =
-    bind_at (cut (decimal pid ++ (32 ∷ path_text to))) (decimal pid, path_text to) (λ words. pid_at words.0 >>= λ pid. path_at words.1 >>= λ to. Some (Move pid to)) (Some (Move pid to)) (cut_word (decimal pid) (path_text to) (decimal_word pid (small_pid pid h)))
-    (bind_at (pid_at (decimal pid)) pid (λ pid. path_at (path_text to) >>= λ to. Some (Move pid to)) (Some (Move pid to)) (pid_again pid h)
-    (ap (λ (o : Option Names). o >>= λ to. Some (Move pid to)) (path_at-text to k)))
-
 control_again : (at : Names) (changes : List Change) → IsPath at
     → control_at (join_with_byte 32 (path_text at ∷ map change_word changes)) ≡ Some (Control at changes)
 unfolding control_at
@@ -223,50 +277,6 @@ control_again at (change ∷ changes) h =
     ∙ ap (λ (ws : List (List ℕ)). changes_at ws >>= λ changes. Some (Control at changes)) (split_joined (change_word change) (map change_word changes) (changes_words (change ∷ changes)))
     ∙ ap (λ (o : Option (List Change)). o >>= λ changes. Some (Control at changes)) (changes_again (change ∷ changes))
 
-mkdir_again : (path : Names) → IsPath path → mkdir_at (path_text path) ≡ Some (Mkdir path)
-unfolding mkdir_at
-mkdir_again path h = ap (λ (o : Option Names). o >>= λ path. Some (Mkdir path)) (path_at-text path h)
-
-rmdir_again : (path : Names) → IsPath path → rmdir_at (path_text path) ≡ Some (Rmdir path)
-unfolding rmdir_at
-rmdir_again path h = ap (λ (o : Option Names). o >>= λ path. Some (Rmdir path)) (path_at-text path h)
-
-set_again : (at : Names) (file : LimitFile) (value : Limit) → IsPath at → IsLimitInRange value
-    → set_at (path_text at ++ (32 ∷ (file_name file ++ (32 ∷ limit_word value)))) ≡ Some (Set at file value)
-unfolding set_at
-set_again at file value h k =
-    let rest = file_name file ++ (32 ∷ limit_word value) in
-    let made = Some (Set at file value) in
-    bind_at (cut (path_text at ++ (32 ∷ rest))) (path_text at, rest) (λ words. cut words.1 >>= λ others. path_at words.0 >>= λ at. file_named others.0 >>= λ file. limit_at others.1 >>= λ value. Some (Set at file value)) made (cut_word (path_text at) rest (path_word at h))
-    (bind_at (cut rest) (file_name file, limit_word value) (λ others. path_at (path_text at) >>= λ at. file_named others.0 >>= λ file. limit_at others.1 >>= λ value. Some (Set at file value)) made (cut_word (file_name file) (limit_word value) (file_word file))
-    (bind_at (path_at (path_text at)) at (λ at. file_named (file_name file) >>= λ file. limit_at (limit_word value) >>= λ value. Some (Set at file value)) made (path_at-text at h)
-    (bind_at (file_named (file_name file)) file (λ file. limit_at (limit_word value) >>= λ value. Some (Set at file value)) made (file_names.found file)
-    (ap (λ (o : Option Limit). o >>= λ value. Some (Set at file value)) (limit_again value k)))))
-
-fork_again : (parent child : ℕ) → is_pid parent ≡ true → is_pid child ≡ true
-    → fork_at (decimal parent ++ (32 ∷ decimal child)) ≡ Some (Fork parent child)
-unfolding fork_at
-fork_again parent child h k =
-    bind_at (cut (decimal parent ++ (32 ∷ decimal child))) (decimal parent, decimal child) (λ words. pid_at words.0 >>= λ parent. pid_at words.1 >>= λ child. Some (Fork parent child)) (Some (Fork parent child)) (cut_word (decimal parent) (decimal child) (decimal_word parent (small_pid parent h)))
-    (bind_at (pid_at (decimal parent)) parent (λ parent. pid_at (decimal child) >>= λ child. Some (Fork parent child)) (Some (Fork parent child)) (pid_again parent h)
-    (ap (λ (o : Option ℕ). o >>= λ child. Some (Fork parent child)) (pid_again child k)))
-
-exit_again : (pid : ℕ) → is_pid pid ≡ true → exit_at (decimal pid) ≡ Some (Exit pid)
-unfolding exit_at
-exit_again pid h = ap (λ (o : Option ℕ). o >>= λ pid. Some (Exit pid)) (pid_again pid h)
-
-chmod_again : (at : Names) (entry : EntryName) (mode : ℕ) → IsPath at → is_mode mode ≡ true
-    → chmod_at (path_text at ++ (32 ∷ (entry_text entry ++ (32 ∷ mode_word mode)))) ≡ Some (Chmod at entry mode)
-unfolding chmod_at
-chmod_again at entry mode h k =
-    let rest = entry_text entry ++ (32 ∷ mode_word mode) in
-    let made = Some (Chmod at entry mode) in
-    bind_at (cut (path_text at ++ (32 ∷ rest))) (path_text at, rest) (λ words. cut words.1 >>= λ others. path_at words.0 >>= λ at. entry_named others.0 >>= λ entry. mode_at others.1 >>= λ mode. Some (Chmod at entry mode)) made (cut_word (path_text at) rest (path_word at h))
-    (bind_at (cut rest) (entry_text entry, mode_word mode) (λ others. path_at (path_text at) >>= λ at. entry_named others.0 >>= λ entry. mode_at others.1 >>= λ mode. Some (Chmod at entry mode)) made (cut_word (entry_text entry) (mode_word mode) (entry_word entry))
-    (bind_at (path_at (path_text at)) at (λ at. entry_named (entry_text entry) >>= λ entry. mode_at (mode_word mode) >>= λ mode. Some (Chmod at entry mode)) made (path_at-text at h)
-    (bind_at (entry_named (entry_text entry)) entry (λ entry. mode_at (mode_word mode) >>= λ mode. Some (Chmod at entry mode)) made (entry_names.found entry)
-    (ap (λ (o : Option ℕ). o >>= λ mode. Some (Chmod at entry mode)) (mode_again mode k)))))
-
 -- a name, a space and what the operation of that name reads
 named_again : (name text : List ℕ) (op : Op) → is_word name ≡ true → operation_named name text ≡ Some op
     → operation_at (name ++ (32 ∷ text)) ≡ Some op
@@ -276,15 +286,15 @@ named_again name text op w h =
 
 -- The line of an operation that can be held is read as that operation.
 pub line_again : (op : Op) → IsInRange op → operation_at (spelling op) ≡ Some op
-unfolding operation_named
-line_again (Move pid to) h = named_again (codes "move") (decimal pid ++ (32 ∷ path_text to)) (Move pid to) refl (move_again pid to h.0 h.1)
-line_again (Control at changes) h = named_again (codes "control") (join_with_byte 32 (path_text at ∷ map change_word changes)) (Control at changes) refl (control_again at changes h)
-line_again (Mkdir path) h = named_again (codes "mkdir") (path_text path) (Mkdir path) refl (mkdir_again path h)
-line_again (Rmdir path) h = named_again (codes "rmdir") (path_text path) (Rmdir path) refl (rmdir_again path h)
-line_again (Set at file value) h = named_again (codes "set") (path_text at ++ (32 ∷ (file_name file ++ (32 ∷ limit_word value)))) (Set at file value) refl (set_again at file value h.0 h.1)
-line_again (Fork parent child) h = named_again (codes "fork") (decimal parent ++ (32 ∷ decimal child)) (Fork parent child) refl (fork_again parent child h.0 h.1)
-line_again (Exit pid) h = named_again (codes "exit") (decimal pid) (Exit pid) refl (exit_again pid h)
-line_again (Chmod at entry mode) h = named_again (codes "chmod") (path_text at ++ (32 ∷ (entry_text entry ++ (32 ∷ mode_word mode)))) (Chmod at entry mode) refl (chmod_again at entry mode h.0 h.1)
+unfolding operation_named move_at mkdir_at rmdir_at set_at fork_at exit_at chmod_at
+line_again (Move pid to) h = named_again (codes "move") _ (Move pid to) refl (two_again pids paths Move pid to h.0 h.1)
+line_again (Control at changes) h = named_again (codes "control") _ (Control at changes) refl (control_again at changes h)
+line_again (Mkdir path) h = named_again (codes "mkdir") _ (Mkdir path) refl (one_again paths Mkdir path h)
+line_again (Rmdir path) h = named_again (codes "rmdir") _ (Rmdir path) refl (one_again paths Rmdir path h)
+line_again (Set at file value) h = named_again (codes "set") _ (Set at file value) refl (three_again paths files limits Set at file value h.0 tt h.1)
+line_again (Fork parent child) h = named_again (codes "fork") _ (Fork parent child) refl (two_again pids pids Fork parent child h.0 h.1)
+line_again (Exit pid) h = named_again (codes "exit") _ (Exit pid) refl (one_again pids Exit pid h)
+line_again (Chmod at entry mode) h = named_again (codes "chmod") _ (Chmod at entry mode) refl (three_again paths entries modes Chmod at entry mode h.0 tt h.1)
 
 -- ---- both
 

@@ -61,6 +61,16 @@ controller_length controller = omega arith
 between : (first second : List ℕ) → length (first ++ (32 ∷ second)) ≡ length first + 1 + length second
 between first second = let l = length-append first (32 ∷ second) in omega (arith, l)
 
+two : (name first second : List ℕ) → length (name ++ (32 ∷ (first ++ (32 ∷ second)))) ≡ length name + length first + length second + 2
+two name first second = let l = between first second in let m = between name (first ++ (32 ∷ second)) in omega (arith, l, m)
+
+three : (name first second third : List ℕ)
+    → length (name ++ (32 ∷ (first ++ (32 ∷ (second ++ (32 ∷ third)))))) ≡ length name + length first + length second + length third + 3
+three name first second third =
+    let l = two first second third in
+    let m = between name (first ++ (32 ∷ (second ++ (32 ∷ third)))) in
+    omega (arith, l, m)
+
 changes_length : (word : List ℕ) (changes : List Change)
     → length (join_with_byte 32 (word ∷ map change_word changes)) ≤ length word + 8 * length changes
 changes_length word [] = omega arith
@@ -72,50 +82,22 @@ changes_length word (change ∷ changes) =
 
 -- The line of an operation that can be held isn't too long.
 pub line_length : (op : Op) → IsInRange op → HasFewChanges op → length (spelling op) ≤ 8192
-line_length (Move pid to) h few =
-    let a = pid_length pid h.0 in
-    let b = path_length to h.1 in
-    let l = between (decimal pid) (path_text to) in
-    let m = between (codes "move") (decimal pid ++ (32 ∷ path_text to)) in
-    omega (arith, a, b, l, m)
+line_length (Move pid to) h few = omega (arith, pid_length pid h.0, path_length to h.1, two (codes "move") (decimal pid) (path_text to))
 line_length (Control at changes) h few =
     let a = path_length at h in
     let l = changes_length (path_text at) changes in
     let m = between (codes "control") (join_with_byte 32 (path_text at ∷ map change_word changes)) in
     omega (arith, a, few, l, m)
-line_length (Mkdir path) h few =
-    let a = path_length path h in
-    let l = between (codes "mkdir") (path_text path) in
-    omega (arith, a, l)
-line_length (Rmdir path) h few =
-    let a = path_length path h in
-    let l = between (codes "rmdir") (path_text path) in
-    omega (arith, a, l)
+line_length (Mkdir path) h few = omega (arith, path_length path h, between (codes "mkdir") (path_text path))
+line_length (Rmdir path) h few = omega (arith, path_length path h, between (codes "rmdir") (path_text path))
 line_length (Set at file value) h few =
-    let a = path_length at h.0 in
-    let b = file_length file in
-    let c = limit_length value h.1 in
-    let l = between (file_name file) (limit_word value) in
-    let m = between (path_text at) (file_name file ++ (32 ∷ limit_word value)) in
-    let n = between (codes "set") (path_text at ++ (32 ∷ (file_name file ++ (32 ∷ limit_word value)))) in
-    omega (arith, a, b, c, l, m, n)
+    let words = three (codes "set") (path_text at) (file_name file) (limit_word value) in
+    omega (arith, path_length at h.0, file_length file, limit_length value h.1, words)
 line_length (Fork parent child) h few =
-    let a = pid_length parent h.0 in
-    let b = pid_length child h.1 in
-    let l = between (decimal parent) (decimal child) in
-    let m = between (codes "fork") (decimal parent ++ (32 ∷ decimal child)) in
-    omega (arith, a, b, l, m)
-line_length (Exit pid) h few =
-    let a = pid_length pid h in
-    let l = between (codes "exit") (decimal pid) in
-    omega (arith, a, l)
+    omega (arith, pid_length parent h.0, pid_length child h.1, two (codes "fork") (decimal parent) (decimal child))
+line_length (Exit pid) h few = omega (arith, pid_length pid h, between (codes "exit") (decimal pid))
 line_length (Chmod at entry mode) h few =
-    let a = path_length at h.0 in
-    let b = entry_length entry in
-    let l = between (entry_text entry) (mode_word mode) in
-    let m = between (path_text at) (entry_text entry ++ (32 ∷ mode_word mode)) in
-    let n = between (codes "chmod") (path_text at ++ (32 ∷ (entry_text entry ++ (32 ∷ mode_word mode)))) in
-    omega (arith, a, b, l, m, n)
+    omega (arith, path_length at h.0, entry_length entry, three (codes "chmod") (path_text at) (entry_text entry) (mode_word mode))
 
 -- ---- one line
 

@@ -1,9 +1,10 @@
 -- What a replay keeps at each step, and that it comes to the verdict of the definition.
-use Rattle.std.proofs.Common.{◌≡◌, ℕ, suc, ◌+◌, ◌<◌, true, false, List, [], ◌∷◌, ◌++◌, length, take, Option, Some, option_and_then, refl, sym, ap, ◌∙◌, subst, true≢false, arith, add-one, length-append}
+use Rattle.std.proofs.Common.{◌≡◌, ℕ, suc, ◌+◌, ◌<◌, true, false, List, [], ◌∷◌, ◌++◌, length, take, Option, Some, Result, Ok, option_and_then, refl, sym, ap, ◌∙◌, subst, true≢false, arith, add-one, length-append}
 use Rattle.cg_cgroup.specs.Paths.{Names, is_root}
 use Rattle.cg_cgroup.specs.Identity.{Identity}
 use Rattle.cg_cgroup.specs.Cgroups.{value_in}
 use Rattle.cg_cgroup.specs.declared.cgroup.Cgroup.{Cgroup}
+use Rattle.cg_cgroup.specs.declared.memory.NoMemory.{NoMemory}
 use Rattle.cg_model.specs.States.{State, row_at}
 use Rattle.cg_model.specs.WellFormed.{IsWellFormed}
 use Rattle.cg_model.specs.Steps.{after, after_all, Deed}
@@ -93,6 +94,11 @@ pub record IsApplied (st : State) (user : Identity) (op : Op) (new : State) (out
   pub done : outcome ≡ Done → (bars st user op ≡ []) × (new ≡ next st user op)
   pub refused : RefusedBy outcome (first (bars st user op))
   pub unchanged : IsRefused outcome → new ≡ st
+
+pub applied : (st : State) (user : Identity) (op : Op) (new : State) (outcome : Outcome)
+    → ((let ended : Result Outcome NoMemory = Ok outcome in ended ≡ Ok Done) → (bars st user op ≡ []) × (new ≡ next st user op))
+    → RefusedBy outcome (first (bars st user op)) → (IsRefused outcome → new ≡ st) → IsApplied st user op new outcome
+applied st user op new outcome done refused unchanged = record { done = λ is. done (ap Ok is); refused = refused; unchanged = unchanged }
 
 module _ (st : State) (user : Identity) (op : Op) (new : State) where
   after-refused : (refusal : Refusal) → first (bars st user op) ≡ Some refusal → after st user op ≡ st

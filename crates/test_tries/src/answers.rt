@@ -1,6 +1,6 @@
 //! The whole answer of a check, and the plain one: the table of guards walked, and each try carried out.
 use crate::judge::{breaks, is_over, plain_tries};
-use crate::random::{tree, users};
+use crate::random::Trees;
 use cg_cgroup::files::{EntryName, LimitFile};
 use cg_cgroup::memory::NoMemory;
 use cg_cgroup::path::{Path, PathFault};
@@ -15,7 +15,6 @@ use cg_tree::hierarchy::Hierarchy;
 use std::alloc::Global;
 use std::process::Abort;
 use std::test::Fail;
-use test_trees::random::Random;
 
 /// An entry on which a guard stands.
 #[derive(Drop)]
@@ -226,39 +225,40 @@ fn count(counts: &mut [u64; 6], at: usize) {
     }
 }
 
-/// Asks for one subtree, and counts what the answer is.
-fn ask(
-    rt: &impl Abort,
-    alloc: Global,
-    tree: &Rows,
-    user: &User,
-    subtree: &Path,
-    counts: &mut Counts,
-) -> Result<(), Fail> {
-    match check(alloc, tree, user, subtree) {
-        Ok(answer) => {
-            let judged = judge(alloc, tree, user, subtree)?;
-            assert!(rt; agrees(&answer, &judged), "{answer:?}");
-            count(&mut counts.kinds, kind(&answer));
-            count(&mut counts.guards, place(judged.failed));
+impl Counts {
+    /// Asks for one subtree, and counts what the answer is.
+    fn ask(
+        &mut self,
+        rt: &impl Abort,
+        alloc: Global,
+        tree: &Rows,
+        user: &User,
+        subtree: &Path,
+    ) -> Result<(), Fail> {
+        match check(alloc, tree, user, subtree) {
+            Ok(answer) => {
+                let judged = judge(alloc, tree, user, subtree)?;
+                assert!(rt; agrees(&answer, &judged), "{answer:?}");
+                count(&mut self.kinds, kind(&answer));
+                count(&mut self.guards, place(judged.failed));
+            }
+            Err(fault) => assert_eq!(rt; (fault, subtree.depth()), (CheckFault::RootSubtree, 0)),
         }
-        Err(fault) => assert_eq!(rt; (fault, subtree.depth()), (CheckFault::RootSubtree, 0)),
+        Ok(())
     }
-    Ok(())
 }
 
 /// The same for each subtree of a random tree.
 fn ask_all(
     rt: &impl Abort,
     alloc: Global,
-    random: &mut Random,
-    users: &[User],
+    trees: &mut Trees,
     counts: &mut Counts,
 ) -> Result<(), Fail> {
-    let tree = tree(alloc, random, users)?;
+    let tree = trees.tree(alloc)?;
     for subtree in &tree.paths(alloc)? {
-        for user in users.iter().skip(1) {
-            ask(rt, alloc, &tree, user, subtree, counts)?;
+        for user in trees.users.iter().skip(1) {
+            counts.ask(rt, alloc, &tree, user, subtree)?;
         }
     }
     Ok(())
@@ -267,14 +267,13 @@ fn ask_all(
 #[test]
 fn answers_are_the_judges(rt: HostRuntime) -> Result<(), Fail> {
     let alloc = rt.alloc();
-    let users = users().ok_or("users")?;
-    let mut random = Random::new(20231124);
+    let mut trees = Trees::new(20231124).ok_or("users")?;
     let mut counts = Counts {
         kinds: [0; 6],
         guards: [0; 6],
     };
     for _tree in 0..8000 {
-        ask_all(&rt, alloc, &mut random, &users, &mut counts)?;
+        ask_all(&rt, alloc, &mut trees, &mut counts)?;
     }
     for count in counts.kinds {
         assert!(rt; count > 0, "{counts:?}");

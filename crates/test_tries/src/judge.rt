@@ -130,14 +130,22 @@ fn only(alloc: Global, op: Op) -> Result<Vec<Op>, NoMemory> {
 pub fn plain_tries(alloc: Global, tree: &Rows, subtree: &Path) -> Result<Vec<Vec<Op>>, PathFault> {
     let mut tries = Vec::new(alloc);
     tries.push(Vec::new(alloc))?;
-    add_writes(alloc, tree, subtree, &mut tries)?;
+    add(&mut tries, writes(alloc, tree, subtree)?)?;
     let path = subtree.try_clone(alloc)?;
     tries.push(only(alloc, Op::Rmdir { path })?)?;
-    add_moves(alloc, tree, subtree, &mut tries)?;
+    add(&mut tries, moves(alloc, tree, subtree)?)?;
     for len in (0..subtree.depth()).rev() {
-        add_probes(alloc, tree, subtree, len, &mut tries)?;
+        add(&mut tries, probes(alloc, tree, subtree, len)?)?;
     }
     Ok(tries)
+}
+
+/// These tries behind others.
+fn add(tries: &mut Vec<Vec<Op>>, more: Vec<Vec<Op>>) -> Result<(), NoMemory> {
+    for ops in more {
+        tries.push(ops)?;
+    }
+    Ok(())
 }
 
 /// Another value that the file accepts.
@@ -155,12 +163,8 @@ fn other_value(file: LimitFile, value: Limit) -> Limit {
 }
 
 /// The sets of the subtree's limits, and the controls at its parent.
-fn add_writes(
-    alloc: Global,
-    tree: &Rows,
-    subtree: &Path,
-    tries: &mut Vec<Vec<Op>>,
-) -> Result<(), NoMemory> {
+fn writes(alloc: Global, tree: &Rows, subtree: &Path) -> Result<Vec<Vec<Op>>, NoMemory> {
+    let mut tries = Vec::new(alloc);
     for file in LimitFile::ALL {
         let held = tree
             .get(subtree, subtree.depth())
@@ -179,16 +183,12 @@ fn add_writes(
             tries.push(only(alloc, Op::Control { at, changes })?)?;
         }
     }
-    Ok(())
+    Ok(tries)
 }
 
 /// Each process to each cgroup on the other side of the edge.
-fn add_moves(
-    alloc: Global,
-    tree: &Rows,
-    subtree: &Path,
-    tries: &mut Vec<Vec<Op>>,
-) -> Result<(), NoMemory> {
+fn moves(alloc: Global, tree: &Rows, subtree: &Path) -> Result<Vec<Vec<Op>>, NoMemory> {
+    let mut tries = Vec::new(alloc);
     let paths = tree.paths(alloc)?;
     for pid in tree.pids(alloc)? {
         if let Some(place) = tree.place(pid) {
@@ -200,21 +200,16 @@ fn add_moves(
             }
         }
     }
-    Ok(())
+    Ok(tries)
 }
 
 /// A new child of the ancestor of `len` names, and each process from inside moved there.
-fn add_probes(
-    alloc: Global,
-    tree: &Rows,
-    subtree: &Path,
-    len: usize,
-    tries: &mut Vec<Vec<Op>>,
-) -> Result<(), PathFault>
+fn probes(alloc: Global, tree: &Rows, subtree: &Path, len: usize) -> Result<Vec<Vec<Op>>, PathFault>
     requires { len ≤ length subtree.now }
 {
+    let mut tries = Vec::new(alloc);
     let Some(path) = free_probe(alloc, tree, subtree, len)? else {
-        return Ok(());
+        return Ok(tries);
     };
     for pid in tree.pids(alloc)? {
         if let Some(place) = tree.place(pid) {
@@ -231,7 +226,7 @@ fn add_probes(
             }
         }
     }
-    Ok(())
+    Ok(tries)
 }
 
 /// The path of the first probe that isn't there, where it isn't too long.

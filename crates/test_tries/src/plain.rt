@@ -1,13 +1,12 @@
 //! The first plain try and the judge's are the same on random trees.
 ghost use Rattle.std.specs.Prelude.{◌≡◌};
 ghost use Rattle.cg_model.specs.WellFormed.{has_row};
-ghost use Rattle.cg_model.specs.Limits.{is_within_limit, fits_descendants, fits_depth};
 
 use crate::judge;
-use crate::random::{tree, users};
-use cg_cgroup::files::Limit;
+use crate::random::Trees;
 use cg_cgroup::path::Path;
 use cg_cgroup::user::User;
+use cg_guards::failed::is_over;
 use cg_model::operation::Op;
 use cg_rows::rows::Rows;
 use cg_tree::hierarchy::Hierarchy;
@@ -15,17 +14,6 @@ use cg_tries::plain::first_plain_try;
 use std::alloc::Global;
 use std::process::Abort;
 use std::test::Fail;
-use test_trees::random::Random;
-
-/// Whether so many are within a limit.
-fn is_within(count: u64, limit: Limit) -> bool
-    ensures { result ≡ is_within_limit count limit }
-{
-    match limit {
-        Limit::Max => true,
-        Limit::At(most) => count <= most,
-    }
-}
 
 /// Whether there is a cgroup of a path.
 #[tactic(auto, using(cg_steps::proofs::Prefixes::take_whole))]
@@ -33,30 +21,6 @@ fn is_there<H: Hierarchy>(tree: &H, path: &Path) -> bool
     ensures { result ≡ has_row (H.state tree.now) path.now }
 {
     tree.get(path, path.depth()).is_some()
-}
-
-/// Whether a cgroup is within its limit of descendants.
-#[tactic(auto, using(cg_steps::proofs::Prefixes::take_whole))]
-fn fits_descendants<H: Hierarchy>(tree: &H, path: &Path) -> bool
-    ensures { result ≡ fits_descendants (H.state tree.now) path.now }
-{
-    let len = path.depth();
-    match tree.get(path, len) {
-        Some(cgroup) => is_within(tree.count_below(path, len), cgroup.max_descendants.value),
-        None => true,
-    }
-}
-
-/// Whether a cgroup is within its limit of depth.
-#[tactic(auto, using(cg_steps::proofs::Prefixes::take_whole))]
-fn fits_depth<H: Hierarchy>(tree: &H, path: &Path) -> bool
-    ensures { result ≡ fits_depth (H.state tree.now) path.now }
-{
-    let len = path.depth();
-    match tree.get(path, len) {
-        Some(cgroup) => is_within(tree.depth_below(path, len), cgroup.max_depth.value),
-        None => true,
-    }
 }
 
 /// The kind of a try: 0 for none, and then sets, controls, removals, moves and probes.
@@ -80,10 +44,7 @@ fn ask(
     user: &User,
     subtree: &Path,
 ) -> Result<Option<usize>, Fail> {
-    if subtree.depth() == 0 || !is_there(tree, subtree) {
-        return Ok(None);
-    }
-    if !fits_descendants(tree, subtree) || !fits_depth(tree, subtree) {
+    if subtree.depth() == 0 || !is_there(tree, subtree) || is_over(tree, subtree) {
         return Ok(None);
     }
     let found = first_plain_try(alloc, tree, user, subtree)?;
@@ -116,12 +77,11 @@ fn ask_all(
 #[test]
 fn judge_agrees(rt: HostRuntime) -> Result<(), Fail> {
     let alloc = rt.alloc();
-    let users = users().ok_or("users")?;
-    let mut random = Random::new(20231123);
+    let mut trees = Trees::new(20231123).ok_or("users")?;
     let mut kinds = [0_u64; 6];
     for _tree in 0..1000 {
-        let tree = tree(alloc, &mut random, &users)?;
-        ask_all(&rt, alloc, &tree, &users, &mut kinds)?;
+        let tree = trees.tree(alloc)?;
+        ask_all(&rt, alloc, &tree, &trees.users, &mut kinds)?;
     }
     for count in kinds {
         assert!(rt; count > 20, "{kinds:?}");

@@ -136,8 +136,30 @@ fn beginning(alloc: Global, random: &mut Random, place: u32) -> Result<Op, PathF
     }
 }
 
+/// Random trees, and the users who act in them.
+#[derive(Drop)]
+pub struct Trees {
+    random: Random,
+    pub users: [User; 3],
+}
+
+impl Trees {
+    /// The trees of a seed other than 0.
+    pub fn new(seed: u64) -> Option<Trees> {
+        Some(Trees {
+            random: Random::new(seed),
+            users: users()?,
+        })
+    }
+
+    /// The next tree.
+    pub fn tree(&mut self, alloc: Global) -> Result<Rows, PathFault> {
+        tree(alloc, &mut self.random, &self.users)
+    }
+}
+
 /// Three users, of whom each shares a group with another.
-pub fn users() -> Option<[User; 3]> {
+fn users() -> Option<[User; 3]> {
     Some([
         User::with_groups(1, &[5])?,
         User::with_groups(1000, &[6, 5])?,
@@ -146,7 +168,7 @@ pub fn users() -> Option<[User; 3]> {
 }
 
 /// A random tree: what some random steps of these users leave of a root that is the first user's, with three processes.
-pub fn tree(alloc: Global, random: &mut Random, users: &[User]) -> Result<Rows, PathFault> {
+fn tree(alloc: Global, random: &mut Random, users: &[User]) -> Result<Rows, PathFault> {
     let all = ControllerSet {
         cpu: true,
         memory: true,

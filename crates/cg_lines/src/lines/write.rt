@@ -79,8 +79,7 @@ fn set_line(alloc: Global, at: &Path, file: LimitFile, value: Limit) -> Result<S
     ensures text { IfOk result (λ line. string_bytes line ≡ spelling (Set at.now file value) ++ 10 ∷ []) }
     ensures held { IsInRange (Set at.now file value) }
 {
-    let at = whole(at);
-    let file = file.name();
+    let (at, file) = (whole(at), file.name());
     match value {
         Limit::Max => Ok(format!(in alloc; "set {at} {file} max\n")?),
         Limit::At(number) => Ok(format!(in alloc; "set {at} {file} {number}\n")?),

@@ -1,47 +1,66 @@
-use Rattle.std.proofs.Common.{◌<◌, Ok, ap, sym, ◌∙◌, arith}
+use Rattle.std.proofs.Common.{ap, sym, ◌∙◌, arith}
 use Rattle.cg_cgroup.specs.Cgroups.{value_in}
 use Rattle.cg_model.specs.Clauses.{first}
 use Rattle.cg_model.specs.Replays.{Progress, stepped}
 use Rattle.cg_runs.specs.Shortcuts.{broken_by}
-use Rattle.cg_runs.proofs.ReplayLaws.{IsApplied, step-still, step-done, replay-still, replay-done}
+use Rattle.cg_runs.proofs.ReplayLaws.{applied, step-still, step-done, replay-still, replay-done}
 use Rattle.cg_runs.proofs.replay.Replay.step.Goals as goal
 use Rattle.cg_runs.proofs.replay.Replay.step.Goals.{then-may_break, else-may_break}
 
 pub invariant_of-self-then-may_break : goal.invariant_of-self-then-may_break
 invariant_of-self-then-may_break g c =
-    let run : Progress = record { subtree = c.self.inside.subtree; original = c.self.inside.original; state = g.H.Hierarchy.state c.self.inside.tree; steps = c.self.inside.steps; verdict = c.self.inside.verdict } in
-    let new = g.H.Hierarchy.state c.apply.new.tree in
+    let run : Progress = record {
+      subtree = c.self.inside.subtree;
+      original = c.self.inside.original;
+      state = g.H.Hierarchy.state c.self.inside.tree;
+      steps = c.self.inside.steps;
+      verdict = c.self.inside.verdict;
+    } in
+    let by = ap (λ moves. first (broken_by (value_in run.original) moves (g.H.Hierarchy.state c.apply.new.tree) run.subtree c.args.op.now))
+    c.moves_over-moves.ensures in
     let promised = c.in_ok-outcome.ensures in
-    let is : IsApplied run.state c.args.user.now c.args.op.now new c.in_ok-outcome.outcome =
-    record { done = λ done. promised.done (ap Ok done); refused = promised.refused; unchanged = promised.unchanged } in
-    let few : run.steps < 65536 = omega (arith, c.self.invariant.bound) in
-    let by = ap (λ moves. first (broken_by (value_in run.original) moves new run.subtree c.args.op.now)) c.moves_over-moves.ensures in
-    replay-done run c.args.user.now c.args.op.now c.self.invariant new c.in_ok-outcome.outcome is few (sym c.may_break.ensures ∙ c.if-may_break.true)
-    c.broken_by-broken.result (c.broken_by-broken.ensures ∙ by) c.verdict_by-self-inside.result c.verdict_by-self-inside.ensures
+    let is = applied run.state c.args.user.now c.args.op.now (g.H.Hierarchy.state c.apply.new.tree) c.in_ok-outcome.outcome
+    promised.done promised.refused promised.unchanged in
+    replay-done run c.args.user.now c.args.op.now c.self.invariant _ _ is (omega (arith, c.self.invariant.bound))
+    (sym c.may_break.ensures ∙ c.if-may_break.true) c.broken_by-broken.result (c.broken_by-broken.ensures ∙ by)
+    c.verdict_by-self-inside.result c.verdict_by-self-inside.ensures
 
 pub invariant_of-self-else-may_break : goal.invariant_of-self-else-may_break
 invariant_of-self-else-may_break g c =
-    let run : Progress = record { subtree = c.self.inside.subtree; original = c.self.inside.original; state = g.H.Hierarchy.state c.self.inside.tree; steps = c.self.inside.steps; verdict = c.self.inside.verdict } in
-    let new = g.H.Hierarchy.state c.apply.new.tree in
+    let run : Progress = record {
+      subtree = c.self.inside.subtree;
+      original = c.self.inside.original;
+      state = g.H.Hierarchy.state c.self.inside.tree;
+      steps = c.self.inside.steps;
+      verdict = c.self.inside.verdict;
+    } in
     let promised = c.in_ok-outcome.ensures in
-    let is : IsApplied run.state c.args.user.now c.args.op.now new c.in_ok-outcome.outcome =
-    record { done = λ done. promised.done (ap Ok done); refused = promised.refused; unchanged = promised.unchanged } in
-    let few : run.steps < 65536 = omega (arith, c.self.invariant.bound) in
-    replay-still run c.args.user.now c.args.op.now c.self.invariant new c.in_ok-outcome.outcome is few (sym c.may_break.ensures ∙ c.if-may_break.false)
+    let is = applied run.state c.args.user.now c.args.op.now (g.H.Hierarchy.state c.apply.new.tree) c.in_ok-outcome.outcome
+    promised.done promised.refused promised.unchanged in
+    replay-still run c.args.user.now c.args.op.now c.self.invariant _ _ is (omega (arith, c.self.invariant.bound))
+    (sym c.may_break.ensures ∙ c.if-may_break.false)
 
 pub returns-clause-ok : goal.returns-clause-ok
 returns-clause-ok g c =
-    let run : Progress = record { subtree = c.self.inside.subtree; original = c.self.inside.original; state = g.H.Hierarchy.state c.self.inside.tree; steps = c.self.inside.steps; verdict = c.self.inside.verdict } in
-    let new = g.H.Hierarchy.state c.apply.new.tree in
     let promised = c.in_ok-outcome.ensures in
-    let is : IsApplied run.state c.args.user.now c.args.op.now new c.in_ok-outcome.outcome =
-    record { done = λ done. promised.done (ap Ok done); refused = promised.refused; unchanged = promised.unchanged } in
-    let by = ap (λ moves. first (broken_by (value_in run.original) moves new run.subtree c.args.op.now)) c.moves_over-moves.ensures in
+    let is = applied (g.H.Hierarchy.state c.self.inside.tree) c.args.user.now c.args.op.now (g.H.Hierarchy.state c.apply.new.tree) c.in_ok-outcome.outcome
+    promised.done promised.refused promised.unchanged in
+    let run : Progress = record {
+      subtree = c.self.inside.subtree;
+      original = c.self.inside.original;
+      state = g.H.Hierarchy.state c.self.inside.tree;
+      steps = c.self.inside.steps;
+      verdict = c.self.inside.verdict;
+    } in
+    let by = ap (λ moves. first (broken_by (value_in run.original) moves (g.H.Hierarchy.state c.apply.new.tree) run.subtree c.args.op.now))
+    c.moves_over-moves.ensures in
     let old = ap (λ r. stepped r c.args.user.now c.args.op.now) c.self.view_is in
     elim c.if-may_break.branch [
       | then-may_break w ↦ w.self-is
-          ∙ step-done run c.args.user.now c.args.op.now c.self.invariant new c.in_ok-outcome.outcome is (sym c.may_break.ensures ∙ w.if-may_break.true)
+          ∙ step-done run c.args.user.now c.args.op.now c.self.invariant _ _ is (sym c.may_break.ensures ∙ w.if-may_break.true)
           w.broken_by-broken.result (w.broken_by-broken.ensures ∙ by) w.verdict_by-self-inside.result w.verdict_by-self-inside.ensures
           ∙ old
-      | else-may_break w ↦ w.self-is ∙ step-still run c.args.user.now c.args.op.now c.self.invariant new c.in_ok-outcome.outcome is (sym c.may_break.ensures ∙ w.if-may_break.false) ∙ old
+      | else-may_break w ↦ w.self-is
+          ∙ step-still run c.args.user.now c.args.op.now c.self.invariant _ _ is (sym c.may_break.ensures ∙ w.if-may_break.false)
+          ∙ old
     ]

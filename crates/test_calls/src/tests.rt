@@ -1,0 +1,19 @@
+//! The tests, by what they are of.
+mod advise;
+mod answers_written;
+mod audit;
+mod audit_all;
+mod calls;
+mod changed;
+mod check;
+mod input;
+mod may;
+mod readers;
+mod replay;
+mod replay_ends;
+mod strangers;
+mod upgrade;
+mod users;
+mod vectors;
+mod writers;
+mod written;

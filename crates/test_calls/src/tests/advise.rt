@@ -1,0 +1,215 @@
+//! `advise_bytes` on rows worked out by hand, and at writers that fail and dawdle; `check` has its faults.
+use super::answers_written::Written;
+use super::calls::{Call, expect};
+use crate::tests::users::{USER, user};
+use std::alloc::Global;
+use std::process::Abort;
+use std::test::Fail;
+
+/// What is said of user 1000 and `/a/b`, below which are `/a/b/c` and `/a/b/c/d`. What isn't named is root's.
+struct Row {
+    pub root: &'static str,
+    pub parent: &'static str,
+    pub subtree: &'static str,
+    pub gids: &'static [u32],
+    pub report: &'static str,
+}
+
+impl Row {
+    fn text(&self, alloc: Global) -> Result<String, Fail> {
+        let mut text = String::from_str(
+            alloc,
+            "format = 2\ncontrollers = [\"memory\"]\n[[cgroup]]\npath = \"/\"\nenabled = [\"memory\"]\n",
+        )?;
+        text.push_str(self.root)?;
+        text.push_str("[[cgroup]]\npath = \"/a\"\nenabled = [\"memory\"]\n")?;
+        text.push_str(self.parent)?;
+        text.push_str("[[cgroup]]\npath = \"/a/b\"\n")?;
+        text.push_str(self.subtree)?;
+        text.push_str("[[cgroup]]\npath = \"/a/b/c\"\n[[cgroup]]\npath = \"/a/b/c/d\"\n")?;
+        Ok(text)
+    }
+}
+
+const NO_REASON: Row = Row {
+    root: "",
+    parent: "",
+    subtree: "",
+    gids: &[5],
+    report: "contained\n",
+};
+
+const OF_ANCESTORS: [Row; 8] = [
+    Row {
+        root: "[cgroup.files]\n\"cgroup.procs\" = { uid = 1000, gid = 5 }\n",
+        gids: &[],
+        report: "fails common-ancestor / cgroup.procs 1000:5 644 owner\nchown / cgroup.procs 0:5\n",
+        ..NO_REASON
+    },
+    Row {
+        root: "[cgroup.files]\n\"cgroup.procs\" = { uid = 1000, gid = 5 }\n",
+        report: "fails common-ancestor / cgroup.procs 1000:5 644 owner\nchown / cgroup.procs 0:5\n",
+        ..NO_REASON
+    },
+    Row {
+        root: "[cgroup.files]\n\"cgroup.procs\" = { uid = 1000, gid = 5, mode = 0o664 }\n",
+        report: "fails common-ancestor / cgroup.procs 1000:5 664 owner\nchown / cgroup.procs 0:5\nchmod / cgroup.procs 644\n",
+        ..NO_REASON
+    },
+    Row {
+        root: "[cgroup.files]\n\"cgroup.procs\" = { uid = 1000, gid = 7, mode = 0o646 }\n",
+        report: "fails common-ancestor / cgroup.procs 1000:7 646 owner\nchown / cgroup.procs 0:7\nchmod / cgroup.procs 644\n",
+        ..NO_REASON
+    },
+    Row {
+        parent: "[cgroup.files]\n\"cgroup.procs\" = { uid = 1000, mode = 0o400 }\n",
+        report: "fails common-ancestor /a cgroup.procs 1000:0 400 owner\nchown /a cgroup.procs 0:0\n",
+        ..NO_REASON
+    },
+    Row {
+        parent: "[cgroup.files]\n\"cgroup.procs\" = { uid = 9, gid = 5, mode = 0o666 }\n",
+        report: "fails common-ancestor /a cgroup.procs 9:5 666 group\nchmod /a cgroup.procs 646\n",
+        ..NO_REASON
+    },
+    Row {
+        parent: "[cgroup.files]\n\"cgroup.procs\" = { gid = 7, mode = 0o666 }\n",
+        report: "fails common-ancestor /a cgroup.procs 0:7 666 others\nchmod /a cgroup.procs 664\n",
+        ..NO_REASON
+    },
+    Row {
+        root: "[cgroup.files]\n\"cgroup.procs\" = { mode = 0o646 }\n",
+        parent: "[cgroup.files]\n\"cgroup.procs\" = { uid = 1000 }\n",
+        report: "fails common-ancestor /a cgroup.procs 1000:0 644 owner\nchown /a cgroup.procs 0:0\nfails common-ancestor / cgroup.procs 0:0 646 others\nchmod / cgroup.procs 644\n",
+        ..NO_REASON
+    },
+];
+
+const OF_FILES: [Row; 4] = [
+    Row {
+        subtree: "[cgroup.files]\n\"memory.max\" = { gid = 50, mode = 0o664 }\n",
+        gids: &[5, 50],
+        report: "fails limit-file /a/b memory.max 0:50 664 group\nchmod /a/b memory.max 644\n",
+        ..NO_REASON
+    },
+    Row {
+        subtree: "[cgroup.files]\n\"memory.max\" = { uid = 1000, mode = 0o444 }\n",
+        report: "fails limit-file /a/b memory.max 1000:0 444 owner\nchown /a/b memory.max 0:0\n",
+        ..NO_REASON
+    },
+    Row {
+        subtree: "[cgroup.files]\n\"memory.low\" = { mode = 0o606 }\n",
+        report: "fails limit-file /a/b memory.low 0:0 606 others\nchmod /a/b memory.low 604\n",
+        ..NO_REASON
+    },
+    Row {
+        subtree: "[cgroup.files]\n\"cgroup.max.depth\" = { uid = 1000 }\n\"cgroup.max.descendants\" = { gid = 5, mode = 0o060 }\n",
+        report: "fails limit-file /a/b cgroup.max.descendants 0:5 060 group\nchmod /a/b cgroup.max.descendants 040\nfails limit-file /a/b cgroup.max.depth 1000:0 644 owner\nchown /a/b cgroup.max.depth 0:0\n",
+        ..NO_REASON
+    },
+];
+
+const OF_THE_PARENT: [Row; 7] = [
+    Row {
+        parent: "[cgroup.files]\n\"cgroup.subtree_control\" = { uid = 1000 }\n",
+        report: "fails parent-control /a cgroup.subtree_control 1000:0 644 owner\nchown /a cgroup.subtree_control 0:0\n",
+        ..NO_REASON
+    },
+    Row {
+        parent: "[cgroup.files]\n\"cgroup.subtree_control\" = { gid = 5, mode = 0o664 }\n",
+        report: "fails parent-control /a cgroup.subtree_control 0:5 664 group\nchmod /a cgroup.subtree_control 644\n",
+        ..NO_REASON
+    },
+    Row {
+        parent: "[cgroup.files]\n\"cgroup.subtree_control\" = { mode = 0o002 }\n",
+        report: "fails parent-control /a cgroup.subtree_control 0:0 002 others\nchmod /a cgroup.subtree_control 000\n",
+        ..NO_REASON
+    },
+    Row {
+        parent: "dir = { uid = 1000 }\n",
+        report: "fails parent-dir /a dir 1000:0 755 owner\nchown /a dir 0:0\n",
+        ..NO_REASON
+    },
+    Row {
+        parent: "dir = { gid = 5, mode = 0o775 }\n",
+        report: "fails parent-dir /a dir 0:5 775 group\nchmod /a dir 755\n",
+        ..NO_REASON
+    },
+    Row {
+        parent: "dir = { mode = 0o777 }\n",
+        gids: &[],
+        report: "fails parent-dir /a dir 0:0 777 others\nchmod /a dir 775\n",
+        ..NO_REASON
+    },
+    // who writes what is further up, and isn't a common ancestor's, isn't asked about
+    Row {
+        root: "dir = { uid = 1000 }\n[cgroup.files]\n\"cgroup.subtree_control\" = { uid = 1000 }\n",
+        ..NO_REASON
+    },
+];
+
+const OF_LIMITS: [Row; 5] = [
+    Row {
+        subtree: "[cgroup.files]\n\"cgroup.max.descendants\" = { value = 1 }\n",
+        report: "fails already-over /a/b\nset /a/b cgroup.max.descendants 2\n",
+        ..NO_REASON
+    },
+    Row {
+        subtree: "[cgroup.files]\n\"cgroup.max.depth\" = { value = 0 }\n",
+        report: "fails already-over /a/b\nset /a/b cgroup.max.depth 2\n",
+        ..NO_REASON
+    },
+    Row {
+        subtree: "[cgroup.files]\n\"cgroup.max.depth\" = { value = 1 }\n\"cgroup.max.descendants\" = { value = 0 }\n",
+        report: "fails already-over /a/b\nset /a/b cgroup.max.descendants 2\nset /a/b cgroup.max.depth 2\n",
+        ..NO_REASON
+    },
+    Row {
+        subtree: "[cgroup.files]\n\"cgroup.max.depth\" = { value = 2 }\n\"cgroup.max.descendants\" = { value = 2 }\n",
+        ..NO_REASON
+    },
+    Row {
+        root: "[cgroup.files]\n\"cgroup.procs\" = { uid = 1000, mode = 0o666 }\n",
+        parent: "dir = { mode = 0o757 }\n[cgroup.files]\n\"cgroup.subtree_control\" = { gid = 5, mode = 0o664 }\n",
+        subtree: "[cgroup.files]\n\"memory.min\" = { uid = 1000 }\n\"cgroup.max.depth\" = { value = 1 }\n",
+        report: "fails common-ancestor / cgroup.procs 1000:0 666 owner\nchown / cgroup.procs 0:0\nchmod / cgroup.procs 664\nfails limit-file /a/b memory.min 1000:0 644 owner\nchown /a/b memory.min 0:0\nfails parent-control /a cgroup.subtree_control 0:5 664 group\nchmod /a cgroup.subtree_control 644\nfails parent-dir /a dir 0:0 757 others\nchmod /a dir 755\nfails already-over /a/b\nset /a/b cgroup.max.depth 2\n",
+        ..NO_REASON
+    },
+];
+
+fn expect_report(rt: &impl Abort, alloc: Global, row: &Row) -> Result<(), Fail> {
+    let text = row.text(alloc)?;
+    let status = if row.report == "contained\n" { 0 } else { 1 };
+    let call = Call::Advise(user(1000, row.gids), "/a/b");
+    expect(rt, alloc, text.as_bytes(), call, row.report, status);
+    Ok(())
+}
+
+#[test]
+fn what_he_reaches_is_taken_from_him(rt: HostRuntime) -> Result<(), Fail> {
+    expect_report(&rt, rt.alloc(), &NO_REASON)?;
+    for rows in [
+        OF_ANCESTORS.as_slice(),
+        &OF_FILES,
+        &OF_THE_PARENT,
+        &OF_LIMITS,
+    ] {
+        for row in rows {
+            expect_report(&rt, rt.alloc(), row)?;
+        }
+    }
+    Ok(())
+}
+
+#[test]
+fn a_failed_write_leaves_the_front_of_the_report(rt: HostRuntime) -> Result<(), Fail> {
+    let row = &OF_ANCESTORS[0];
+    let text = row.text(rt.alloc())?;
+    let written = Written {
+        tree: text.as_bytes(),
+        call: Call::Advise(USER, "/a/b"),
+        report: row.report.as_bytes(),
+        status: 1,
+    };
+    written.expect(&rt, rt.alloc());
+    Ok(())
+}
