@@ -66,9 +66,15 @@ module _ (subtree : Names) where
 
   rest-made : (mends : List Mend) (st : State) → SameRest st (made subtree mends st)
   rest-made [] st = record { live = refl; used = refl; controllers = refl }
-  rest-made (Chown len name uid gid ∷ mends) st = let rest = rest-made mends (made_one subtree (Chown len name uid gid) st) in record { live = rest.live; used = rest.used; controllers = rest.controllers }
-  rest-made (Chmod len name mode ∷ mends) st = let rest = rest-made mends (made_one subtree (Chmod len name mode) st) in record { live = rest.live; used = rest.used; controllers = rest.controllers }
-  rest-made (Set len file value ∷ mends) st = let rest = rest-made mends (made_one subtree (Set len file value) st) in record { live = rest.live; used = rest.used; controllers = rest.controllers }
+  rest-made (Chown len name uid gid ∷ mends) st =
+      let rest = rest-made mends (made_one subtree (Chown len name uid gid) st) in
+      record { live = rest.live; used = rest.used; controllers = rest.controllers }
+  rest-made (Chmod len name mode ∷ mends) st =
+      let rest = rest-made mends (made_one subtree (Chmod len name mode) st) in
+      record { live = rest.live; used = rest.used; controllers = rest.controllers }
+  rest-made (Set len file value ∷ mends) st =
+      let rest = rest-made mends (made_one subtree (Set len file value) st) in
+      record { live = rest.live; used = rest.used; controllers = rest.controllers }
 
 pub is_advised : (st : State) (user : Identity) (subtree : Names) → IsAdvised st (advised st user subtree) user subtree
 is_advised st user subtree =
@@ -91,11 +97,14 @@ fits_in count (Some limit) = is_within_limit count limit
 
 descendants-limit : (st : State) (path : Names) → fits_descendants st path ≡ fits_in (count_below st path) (value_at st path MaxDescendants)
 descendants-limit st path =
-    elim (row_at st path) as (λ found. elim found [ None ↦ true | Some row ↦ is_within_limit (count_below st path) row.max_descendants.value ] ≡ fits_in (count_below st path) (option_and_then (λ row. value_in row MaxDescendants) found)) [ None ↦ refl | Some row ↦ refl ]
+    elim (row_at st path) as (λ found.
+    elim found [ None ↦ true | Some row ↦ is_within_limit (count_below st path) row.max_descendants.value ]
+    ≡ fits_in (count_below st path) (option_and_then (λ row. value_in row MaxDescendants) found)) [ None ↦ refl | Some row ↦ refl ]
 
 depth-limit : (st : State) (path : Names) → fits_depth st path ≡ fits_in (depth_below st path) (value_at st path MaxDepth)
 depth-limit st path =
-    elim (row_at st path) as (λ found. elim found [ None ↦ true | Some row ↦ is_within_limit (depth_below st path) row.max_depth.value ] ≡ fits_in (depth_below st path) (option_and_then (λ row. value_in row MaxDepth) found)) [ None ↦ refl | Some row ↦ refl ]
+    elim (row_at st path) as (λ found. elim found [ None ↦ true | Some row ↦ is_within_limit (depth_below st path) row.max_depth.value ]
+    ≡ fits_in (depth_below st path) (option_and_then (λ row. value_in row MaxDepth) found)) [ None ↦ refl | Some row ↦ refl ]
 
 itself : (n : ℕ) → is_within_limit n (At n) ≡ true
 itself n = le-leb n n (omega arith)
@@ -104,7 +113,8 @@ itself n = le-leb n n (omega arith)
 raised_fits : (count : ℕ) (limit : Option Limit) → fits_in count (option_map (λ l. cond (fits_in count limit) l (At count)) limit) ≡ true
 raised_fits count None = refl
 raised_fits count (Some l) =
-    elim (is_within_limit count l) as (λ b. is_within_limit count l ≡ b → is_within_limit count (cond b l (At count)) ≡ true) [ true ↦ λ e. e | false ↦ λ _. itself count ] refl
+    elim (is_within_limit count l) as (λ b. is_within_limit count l ≡ b → is_within_limit count (cond b l (At count)) ≡ true)
+    [ true ↦ λ e. e | false ↦ λ _. itself count ] refl
 
 module _ (st : State) (user : Identity) (subtree : Names) where
   abbrev new : State
@@ -124,14 +134,16 @@ module _ (st : State) (user : Identity) (subtree : Names) where
     fits-by fits below file bound raise same b is kept =
         bound new path
         ∙ ap (λ n. fits_in n (value_at new path file)) same
-        ∙ ap (fits_in (below st path)) (value_at-advised st user subtree path file ∙ ap (λ s. cond s (option_map (raised st subtree file) (value_at st path file)) (value_at st path file)) is)
+        ∙ ap (fits_in (below st path)) (value_at-advised st user subtree path file
+        ∙ ap (λ s. cond s (option_map (raised st subtree file) (value_at st path file)) (value_at st path file)) is)
         ∙ by_path b is kept
       where
         by_path : (b : Bool) → same_path subtree path ≡ b → (b ≡ false → fits st path ≡ true)
             → fits_in (below st path) (cond b (option_map (raised st subtree file) (value_at st path file)) (value_at st path file)) ≡ true
         by_path true here kept =
             ap (λ f. fits_in (below st path) (option_map f (value_at st path file))) (λ i limit. raise limit i)
-            ∙ ap (λ p. fits_in (below st path) (option_map (λ l. cond (fits st p) l (At (below st p))) (value_at st path file))) (same_path-is subtree path here)
+            ∙ ap (λ p. fits_in (below st path) (option_map (λ l. cond (fits st p) l (At (below st p))) (value_at st path file)))
+            (same_path-is subtree path here)
             ∙ ap (λ b. fits_in (below st path) (option_map (λ l. cond b l (At (below st path))) (value_at st path file))) (bound st path)
             ∙ raised_fits (below st path) (value_at st path file)
         by_path false other kept = sym (bound st path) ∙ kept refl
@@ -140,7 +152,8 @@ module _ (st : State) (user : Identity) (subtree : Names) where
     not_over kept =
         ap (λ fits. unless fits (record { guard = AlreadyOver; len = length path }))
         (and_from _ _
-        (fits-by fits_descendants count_below MaxDescendants descendants-limit (λ limit. refl) (count_below-same_paths st new same_paths path)
+        (fits-by fits_descendants count_below MaxDescendants descendants-limit (λ limit. refl)
+        (count_below-same_paths st new same_paths path)
         (same_path subtree path) refl (λ other. (and_parts _ _ (kept other)).0))
         (fits-by fits_depth depth_below MaxDepth depth-limit (λ limit. refl) (depth_below-same_paths st new same_paths path)
         (same_path subtree path) refl (λ other. (and_parts _ _ (kept other)).1)))
@@ -153,7 +166,8 @@ spared_off : (user other : Identity) (failed : Failed) (is_on : Bool) (entry : O
     → present (cond is_on (option_map (spared user) entry) entry) (λ e. unless (not (reaches other e)) failed) ≡ []
 spared_off user other failed true None is_user off = refl
 spared_off user other failed true (Some e) is_user off =
-    ap (λ b. unless (not b) failed) (less-spared user other e is_user (not-true (reaches other e) (no_unless (not (reaches other e)) failed off)))
+    ap (λ b. unless (not b) failed)
+    (less-spared user other e is_user (not-true (reaches other e) (no_unless (not (reaches other e)) failed off)))
 spared_off user other failed false entry is_user off = off
 
 -- and the user isn't left in
@@ -172,9 +186,12 @@ listed : (subtree : Names) (front back : List Guarded)
 listed subtree front [] = tt
 listed subtree front (guarded ∷ back) = (
   list_any-append (is_on subtree (take guarded.len subtree) guarded.name) front (guarded ∷ back)
-      ∙ ap (λ b. list_any (is_on subtree (take guarded.len subtree) guarded.name) front || (b || list_any (is_on subtree (take guarded.len subtree) guarded.name) back)) (and_from _ _ (same_path_refl (take guarded.len subtree)) (same_entry-refl guarded.name))
+      ∙ ap (λ b. list_any (is_on subtree (take guarded.len subtree) guarded.name) front
+      || (b || list_any (is_on subtree (take guarded.len subtree) guarded.name) back))
+      (and_from _ _ (same_path_refl (take guarded.len subtree)) (same_entry-refl guarded.name))
       ∙ either_true (list_any (is_on subtree (take guarded.len subtree) guarded.name) front),
-  subst (λ all. AllByRecursion (λ g. list_any (is_on subtree (take g.len subtree) g.name) all ≡ true) back) (append_assoc front (guarded ∷ []) back) (listed subtree (front ++ guarded ∷ []) back),
+  subst (λ all. AllByRecursion (λ g. list_any (is_on subtree (take g.len subtree) g.name) all ≡ true) back)
+      (append_assoc front (guarded ∷ []) back) (listed subtree (front ++ guarded ∷ []) back),
 )
   where
     either_true : (b : Bool) → b || true ≡ true
@@ -187,8 +204,10 @@ mends-all st user subtree is_user = λ i.
     each_none (entry_failures (advised st user subtree) user subtree) (guarded_entries subtree)
     (all_each _ (λ guarded. entry_failures (advised st user subtree) user subtree guarded ≡ []) (λ guarded here.
     ap (λ o. present o (λ e. unless (not (reaches user e)) (record { guard = guarded.guard; len = guarded.len })))
-    (entry_at-advised st user subtree (take guarded.len subtree) guarded.name ∙ ap (λ b. cond b (option_map (spared user) (guarded_entry st subtree guarded)) (guarded_entry st subtree guarded)) here)
-    ∙ user_off user (record { guard = guarded.guard; len = guarded.len }) (guarded_entry st subtree guarded) is_user) (guarded_entries subtree) (listed subtree [] (guarded_entries subtree))) i
+    (entry_at-advised st user subtree (take guarded.len subtree) guarded.name
+    ∙ ap (λ b. cond b (option_map (spared user) (guarded_entry st subtree guarded)) (guarded_entry st subtree guarded)) here)
+    ∙ user_off user (record { guard = guarded.guard; len = guarded.len }) (guarded_entry st subtree guarded) is_user)
+    (guarded_entries subtree) (listed subtree [] (guarded_entries subtree))) i
     ++ not_over st user subtree subtree (λ other. let never : ⊥ = cc (same_path_refl subtree, other) in absurd never) i
 
 -- The guards that held for anyone and any subtree hold.
@@ -198,9 +217,12 @@ opens-nothing st user subtree other path is_user hold =
     let parts = no_parts (flat_map (entry_failures st other path) (guarded_entries path)) (over_failures st path) hold in
     λ i.
     each_none (entry_failures (advised st user subtree) other path) (guarded_entries path)
-    (all_each (λ guarded. entry_failures st other path guarded ≡ []) (λ guarded. entry_failures (advised st user subtree) other path guarded ≡ []) (λ guarded off.
-    ap (λ o. present o (λ e. unless (not (reaches other e)) (record { guard = guarded.guard; len = guarded.len }))) (entry_at-advised st user subtree (take guarded.len path) guarded.name)
-    ∙ spared_off user other (record { guard = guarded.guard; len = guarded.len }) (is_guarded_entry subtree (take guarded.len path) guarded.name) (guarded_entry st path guarded) is_user off) (guarded_entries path)
+    (all_each (λ guarded. entry_failures st other path guarded ≡ [])
+    (λ guarded. entry_failures (advised st user subtree) other path guarded ≡ []) (λ guarded off.
+    ap (λ o. present o (λ e. unless (not (reaches other e)) (record { guard = guarded.guard; len = guarded.len })))
+    (entry_at-advised st user subtree (take guarded.len path) guarded.name)
+    ∙ spared_off user other (record { guard = guarded.guard; len = guarded.len })
+    (is_guarded_entry subtree (take guarded.len path) guarded.name) (guarded_entry st path guarded) is_user off) (guarded_entries path)
     (none_each (entry_failures st other path) (guarded_entries path) parts.0)) i
     ++ not_over st user subtree path (λ _. no_unless _ _ parts.1) i
 
@@ -221,10 +243,13 @@ entry_at-all_but st user subtree at =
     let path = take at.len subtree in
     let others = filter (is_other subtree at) (reached st user subtree) in
     entry_at-made subtree path at.name (flat_map (entry_mends user) others ++ limit_mends st subtree) st
-    ∙ ap (λ f. option_map f (entry_at st path at.name)) (λ i entry. (through-append (run_one subtree path at.name) (flat_map (entry_mends user) others) (limit_mends st subtree) entry
+    ∙ ap (λ f. option_map f (entry_at st path at.name)) (λ i entry. (through-append (run_one subtree path at.name)
+    (flat_map (entry_mends user) others) (limit_mends st subtree) entry
     ∙ run-limits subtree path at.name st (run subtree path at.name (flat_map (entry_mends user) others) entry)
     ∙ leaves-all subtree path at.name user others
-    (all_each (λ other. is_other subtree at other ≡ true) (λ other. (same_path (take other.len subtree) path && same_entry other.name at.name) ≡ false) (λ other apart. not-true _ apart) others (all_filtered (is_other subtree at) (reached st user subtree)))
+    (all_each (λ other. is_other subtree at other ≡ true)
+    (λ other. (same_path (take other.len subtree) path && same_entry other.name at.name) ≡ false) (λ other apart. not-true _ apart) others
+    (all_filtered (is_other subtree at) (reached st user subtree)))
     entry) i)
     ∙ same (entry_at st path at.name)
   where
@@ -237,11 +262,13 @@ pub entry-needed : (st : State) (user : Identity) (subtree : Names) (guarded : G
     → entry_failures (all_but st user subtree at) user subtree guarded ≡ entry_failures st user subtree guarded
 entry-needed st user subtree guarded at is =
     ap (λ o. present o (λ e. unless (not (reaches user e)) (record { guard = guarded.guard; len = guarded.len })))
-    ((λ i. entry_at (all_but st user subtree at) (take (len_is i) subtree) (name_is i)) ∙ entry_at-all_but st user subtree at ∙ (λ i. entry_at st (take (sym len_is i) subtree) (sym name_is i)))
+    ((λ i. entry_at (all_but st user subtree at) (take (len_is i) subtree) (name_is i)) ∙ entry_at-all_but st user subtree at
+    ∙ (λ i. entry_at st (take (sym len_is i) subtree) (sym name_is i)))
   where
     placed : (o : Option Entry) → option_map (found guarded) o ≡ Some at → (guarded.len ≡ at.len) × (guarded.name ≡ at.name)
     placed None none = let never : ⊥ = cc in absurd never
-    placed (Some e) some = let same : found guarded e ≡ at = cc in (ap (λ (x : GuardedEntry). x.len) same, ap (λ (x : GuardedEntry). x.name) same)
+    placed (Some e) some =
+        let same : found guarded e ≡ at = cc in (ap (λ (x : GuardedEntry). x.len) same, ap (λ (x : GuardedEntry). x.name) same)
 
     len_is : guarded.len ≡ at.len
     len_is = (placed (guarded_entry st subtree guarded) is).0
@@ -255,8 +282,12 @@ limits-needed st user subtree =
     let left = all_but_limits st user subtree in
     let same = paths_of-made subtree (flat_map (entry_mends user) (reached st user subtree)) st in
     λ i. unless (
-    (descendants-limit left subtree ∙ (λ j. fits_in (count_below-same_paths st left same subtree j) (value_at-entries st user subtree subtree MaxDescendants j)) ∙ sym (descendants-limit st subtree)) i
-    && (depth-limit left subtree ∙ (λ j. fits_in (depth_below-same_paths st left same subtree j) (value_at-entries st user subtree subtree MaxDepth j)) ∙ sym (depth-limit st subtree)) i)
+    (descendants-limit left subtree
+    ∙ (λ j. fits_in (count_below-same_paths st left same subtree j) (value_at-entries st user subtree subtree MaxDescendants j))
+    ∙ sym (descendants-limit st subtree)) i
+    && (depth-limit left subtree
+    ∙ (λ j. fits_in (depth_below-same_paths st left same subtree j) (value_at-entries st user subtree subtree MaxDepth j))
+    ∙ sym (depth-limit st subtree)) i)
     (record { guard = AlreadyOver; len = length subtree })
 
 -- ---- a well-formed tree
@@ -274,7 +305,8 @@ formed-made_one subtree (Set len file value) st can = formed-with_value st (take
 formed-made : (subtree : Names) (mends : List Mend) (st : State) → AllByRecursion CanBeMade mends → IsWellFormed st
     → IsWellFormed (made subtree mends st)
 formed-made subtree [] st can formed = formed
-formed-made subtree (mend ∷ mends) st can formed = formed-made subtree mends (made_one subtree mend st) can.1 (formed-made_one subtree mend st can.0 formed)
+formed-made subtree (mend ∷ mends) st can formed =
+    formed-made subtree mends (made_one subtree mend st) can.1 (formed-made_one subtree mend st can.0 formed)
 
 all_both : {A : Type 0} (P : A → Type 0) (xs ys : List A) → AllByRecursion P xs → AllByRecursion P ys → AllByRecursion P (xs ++ ys)
 all_both P [] ys here there = there
@@ -299,7 +331,8 @@ HasMode at = at.entry.mode ≤ 511
 module _ (st : State) (user : Identity) (subtree : Names) (formed : IsWellFormed st) where
   entry_mode : (path : Names) (name : EntryName) (entry : Entry) → entry_at st path name ≡ Some entry → entry.mode ≤ 511
   entry_mode path name entry is =
-      elim (row_at st path) as (λ found. row_at st path ≡ found → option_and_then (λ row. entry_in row name) found ≡ Some entry → entry.mode ≤ 511) [
+      elim (row_at st path) as
+      (λ found. row_at st path ≡ found → option_and_then (λ row. entry_in row name) found ≡ Some entry → entry.mode ≤ 511) [
         | None ↦ λ _ none. let never : ⊥ = cc in absurd never
         | Some row ↦ λ here some. (formed.rows path row here).modes name entry some
       ] refl is
@@ -307,9 +340,12 @@ module _ (st : State) (user : Identity) (subtree : Names) (formed : IsWellFormed
   reached_modes : AllByRecursion HasMode (reached st user subtree)
   reached_modes =
       all_flat HasMode (λ _. Unit {0}) (reached_of st user subtree) (λ guarded _.
-      elim (guarded_entry st subtree guarded) as (λ o. guarded_entry st subtree guarded ≡ o → AllByRecursion HasMode (present (option_map (found guarded) o) (if_reached user))) [
+      elim (guarded_entry st subtree guarded) as
+      (λ o. guarded_entry st subtree guarded ≡ o → AllByRecursion HasMode (present (option_map (found guarded) o) (if_reached user))) [
         | None ↦ λ _. tt
-        | Some entry ↦ λ is. all_unless HasMode (not (reaches user entry)) (found guarded entry) (entry_mode (take guarded.len subtree) guarded.name entry is)
+        | Some entry ↦
+            λ is. all_unless HasMode (not (reaches user entry)) (found guarded entry)
+            (entry_mode (take guarded.len subtree) guarded.name entry is)
       ] refl) (guarded_entries subtree) (all_any (guarded_entries subtree))
 
   pub formed-advised : AreCountable st subtree → IsWellFormed (advised st user subtree)
@@ -317,7 +353,9 @@ module _ (st : State) (user : Identity) (subtree : Names) (formed : IsWellFormed
       formed-made subtree (mends st user subtree) st
       (all_both CanBeMade (flat_map (entry_mends user) (reached st user subtree)) (limit_mends st subtree)
       (all_flat CanBeMade HasMode (entry_mends user) (λ at small.
-      all_both CanBeMade (chown_of user at) (chmod_of user at) (all_unless CanBeMade _ _ tt) (all_unless CanBeMade _ _ (shut-le user at.entry small))) (reached st user subtree) reached_modes)
+      all_both CanBeMade (chown_of user at) (chmod_of user at) (all_unless CanBeMade _ _ tt)
+      (all_unless CanBeMade _ _ (shut-le user at.entry small))) (reached st user subtree) reached_modes)
       (all_both CanBeMade (descendants_of st subtree) (depth_of st subtree)
-      (all_unless CanBeMade _ _ (le-leb (count_below st subtree) 9223372036854775807 few.0)) (all_unless CanBeMade _ _ (le-leb (depth_below st subtree) 9223372036854775807 few.1))))
+      (all_unless CanBeMade _ _ (le-leb (count_below st subtree) 9223372036854775807 few.0))
+      (all_unless CanBeMade _ _ (le-leb (depth_below st subtree) 9223372036854775807 few.1))))
       formed

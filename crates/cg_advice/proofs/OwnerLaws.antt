@@ -83,10 +83,12 @@ formed_row-with_owner_in above name uid gid row formed = record {
   files = λ file. ap is_some (file_of-with_owner_in uid gid row name file)
       ∙ is_some-changed (same_entry name (File file)) (with_file_owned_by uid gid) (file_of row file) ∙ formed.files file;
   values = λ file held is.
-      of_changed (λ (x : LimitEntry). accepts file x.value ≡ true) (same_entry name (File file)) (with_file_owned_by uid gid) (file_of row file)
+      of_changed (λ (x : LimitEntry). accepts file x.value ≡ true) (same_entry name (File file)) (with_file_owned_by uid gid)
+      (file_of row file)
       (λ x accepted. accepted) (formed.values file) held (sym (file_of-with_owner_in uid gid row name file) ∙ is);
   modes = λ other entry is.
-      of_changed (λ (e : Entry). e.mode ≤ 511) (same_entry name other) (owned_by uid gid) (entry_in row other) (λ e small. small) (formed.modes other) entry (sym (entry_in-with_owner_in uid gid row name other) ∙ is);
+      of_changed (λ (e : Entry). e.mode ≤ 511) (same_entry name other) (owned_by uid gid) (entry_in row other) (λ e small. small)
+      (formed.modes other) entry (sym (entry_in-with_owner_in uid gid row name other) ∙ is);
 }
 
 -- ---- of a tree
@@ -97,12 +99,14 @@ module _ (st : State) (p : Names) (name : EntryName) (uid gid : ℕ) (q : Names)
       ≡ cond (same_path p q && same_entry name other) (option_map (owned_by uid gid) (entry_at st q other)) (entry_at st q other)
   entry_at-with_owner other =
       ap (option_and_then (λ row. entry_in row other)) (row_at-change_at p (with_owner_in name uid gid) st q)
-      ∙ read_changed (λ row. entry_in row other) (with_owner_in name uid gid) (same_entry name other) (owned_by uid gid) (λ row. entry_in-with_owner_in uid gid row name other) (same_path p q) (row_at st q)
+      ∙ read_changed (λ row. entry_in row other) (with_owner_in name uid gid) (same_entry name other) (owned_by uid gid)
+      (λ row. entry_in-with_owner_in uid gid row name other) (same_path p q) (row_at st q)
 
   pub value_at-with_owner : (file : LimitFile) → value_at (with_owner st p name uid gid) q file ≡ value_at st q file
   value_at-with_owner file =
       ap (option_and_then (λ row. value_in row file)) (row_at-change_at p (with_owner_in name uid gid) st q)
-      ∙ read_same (λ row. value_in row file) (with_owner_in name uid gid) (λ row. value_in-with_owner_in uid gid row name file) (same_path p q) (row_at st q)
+      ∙ read_same (λ row. value_in row file) (with_owner_in name uid gid) (λ row. value_in-with_owner_in uid gid row name file)
+      (same_path p q) (row_at st q)
 
   pub enabled_at-with_owner : enabled_at (with_owner st p name uid gid) q ≡ enabled_at st q
   enabled_at-with_owner =

@@ -103,14 +103,16 @@ module _ (subtree path : Names) (name : EntryName) where
   pub run-limits : (st : State) (entry : Entry) → run (limit_mends st subtree) entry ≡ entry
   run-limits st entry =
       through-append run_one (descendants_of st subtree) (depth_of st subtree) entry
-      ∙ ap (run (depth_of st subtree)) (through-unless run_one (fits_descendants st subtree) _ entry ∙ same_either (fits_descendants st subtree) entry)
+      ∙ ap (run (depth_of st subtree))
+      (through-unless run_one (fits_descendants st subtree) _ entry ∙ same_either (fits_descendants st subtree) entry)
       ∙ through-unless run_one (fits_depth st subtree) _ entry ∙ same_either (fits_depth st subtree) entry
 
   -- changes of another entry leave it
   leaves : (user : Identity) (at : GuardedEntry) → is_it at.len at.name ≡ false → (entry : Entry) → run (entry_mends user at) entry ≡ entry
   leaves user at other entry =
       through-append run_one (chown_of user at) (chmod_of user at) entry
-      ∙ ap (run (chmod_of user at)) (through-unless run_one (not (owns user at.entry)) _ entry ∙ skipped (not (owns user at.entry)) (owned_by (given_uid user at.entry) at.entry.gid entry) entry)
+      ∙ ap (run (chmod_of user at)) (through-unless run_one (not (owns user at.entry)) _ entry
+      ∙ skipped (not (owns user at.entry)) (owned_by (given_uid user at.entry) at.entry.gid entry) entry)
       ∙ through-unless run_one (nat_eq (shut_mode user at.entry) at.entry.mode) _ entry
       ∙ skipped (nat_eq (shut_mode user at.entry) at.entry.mode) (with_mode_of (shut_mode user at.entry) entry) entry
     where
@@ -139,83 +141,110 @@ settled false true false uid gid mode shut e = refl
 settled false false true uid gid mode shut e = ap (λ m. record { uid = uid; gid = gid; mode = m }) (sym (e refl))
 settled false false false uid gid mode shut e = refl
 
-module _ (st : State) (user : Identity) (subtree path : Names) (name : EntryName) (entry : Entry) (is : entry_at st path name ≡ Some entry) where
-  -- the entry as it was, or as it is given
-  abbrev either : Bool → Entry
-  either given = cond given (spared user entry) entry
+module _ (st : State) (user : Identity) (subtree path : Names) (name : EntryName) (entry : Entry) (is : entry_at st path name ≡ Some entry)
+  where
+    -- the entry as it was, or as it is given
+    abbrev either : Bool → Entry
+    either given = cond given (spared user entry) entry
 
-  -- the entry before its own changes, and what they do to it
-  abbrev before : Bool → Entry
-  before given = cond given (mended user entry) entry
+    -- the entry before its own changes, and what they do to it
+    abbrev before : Bool → Entry
+    before given = cond given (mended user entry) entry
 
-  abbrev step : Bool → Bool → Entry → Entry
-  step given b e =
-      let chowned : Entry = cond (not (owns user e)) (before given) (cond b (owned_by (given_uid user e) e.gid (before given)) (before given)) in
-      cond (nat_eq (shut_mode user e) e.mode) chowned (cond b (with_mode_of (shut_mode user e) chowned) chowned)
+    abbrev step : Bool → Bool → Entry → Entry
+    step given b e =
+        let chowned : Entry =
+        cond (not (owns user e)) (before given) (cond b (owned_by (given_uid user e) e.gid (before given)) (before given)) in
+        cond (nat_eq (shut_mode user e) e.mode) chowned (cond b (with_mode_of (shut_mode user e) chowned) chowned)
 
-  -- the changes of the entry itself give it
-  gives : (at : GuardedEntry) → is_it subtree path name at.len at.name ≡ true → at.entry ≡ entry → (given : Bool)
-      → run subtree path name (entry_mends user at) (before given) ≡ mended user entry
-  gives at here same given =
-      through-append (run_one subtree path name) (chown_of user at) (chmod_of user at) (before given)
-      ∙ ap (run subtree path name (chmod_of user at)) (through-unless (run_one subtree path name) (not (owns user at.entry)) (Chown at.len at.name (given_uid user at.entry) at.entry.gid) (before given))
-      ∙ through-unless (run_one subtree path name) (nat_eq (shut_mode user at.entry) at.entry.mode) (Chmod at.len at.name (shut_mode user at.entry)) _
-      ∙ ap (λ b. step given b at.entry) here
-      ∙ ap (step given true) same
-      ∙ settled (owns user entry) given (nat_eq (shut_mode user entry) entry.mode) entry.uid entry.gid entry.mode (shut_mode user entry) (eqb-true (shut_mode user entry) entry.mode)
+    -- the changes of the entry itself give it
+    gives : (at : GuardedEntry) → is_it subtree path name at.len at.name ≡ true → at.entry ≡ entry → (given : Bool)
+        → run subtree path name (entry_mends user at) (before given) ≡ mended user entry
+    gives at here same given =
+        through-append (run_one subtree path name) (chown_of user at) (chmod_of user at) (before given)
+        ∙ ap (run subtree path name (chmod_of user at)) (through-unless (run_one subtree path name) (not (owns user at.entry))
+        (Chown at.len at.name (given_uid user at.entry) at.entry.gid) (before given))
+        ∙ through-unless (run_one subtree path name) (nat_eq (shut_mode user at.entry) at.entry.mode)
+        (Chmod at.len at.name (shut_mode user at.entry)) _
+        ∙ ap (λ b. step given b at.entry) here
+        ∙ ap (step given true) same
+        ∙ settled (owns user entry) given (nat_eq (shut_mode user entry) entry.mode) entry.uid entry.gid entry.mode (shut_mode user entry)
+        (eqb-true (shut_mode user entry) entry.mode)
 
-  turn : (guarded : Guarded) (given : Bool)
-      → run subtree path name (flat_map (entry_mends user) (reached_of st user subtree guarded)) (either given)
-      ≡ cond (is_on subtree path name guarded) (spared user entry) (either given)
-  turn guarded given =
-      elim (is_on subtree path name guarded) as (λ b. is_on subtree path name guarded ≡ b → run subtree path name (flat_map (entry_mends user) (reached_of st user subtree guarded)) (either given) ≡ cond b (spared user entry) (either given)) [
-        | true ↦ λ here.
-            let parts = and_parts (same_path (take guarded.len subtree) path) (same_entry guarded.name name) here in
-            let place = same_path-is (take guarded.len subtree) path parts.0 in
-            let named = same_entry-true guarded.name name parts.1 in
-            ap (λ o. run subtree path name (flat_map (entry_mends user) (present (option_map (found guarded) o) (if_reached user))) (either given)) ((λ i. entry_at st (place i) (named i)) ∙ is)
-            ∙ elim (reaches user entry) as (λ r. run subtree path name (flat_map (entry_mends user) (unless (not r) (found guarded entry))) (cond given (cond r (mended user entry) entry) entry) ≡ cond r (mended user entry) entry) [
-              | true ↦ through-append (run_one subtree path name) (entry_mends user (found guarded entry)) [] (cond given (mended user entry) entry) ∙ gives (found guarded entry) here refl given
-              | false ↦ same_either given entry
-            ]
-        | false ↦ λ other.
-            elim (guarded_entry st subtree guarded) as (λ o. run subtree path name (flat_map (entry_mends user) (present (option_map (found guarded) o) (if_reached user))) (either given) ≡ either given) [
-              | None ↦ refl
-              | Some x ↦ elim (reaches user x) as (λ r. run subtree path name (flat_map (entry_mends user) (unless (not r) (found guarded x))) (either given) ≡ either given) [
-                | true ↦ through-append (run_one subtree path name) (entry_mends user (found guarded x)) [] (either given) ∙ leaves subtree path name user (found guarded x) other (either given)
-                | false ↦ refl
+    turn : (guarded : Guarded) (given : Bool)
+        → run subtree path name (flat_map (entry_mends user) (reached_of st user subtree guarded)) (either given)
+        ≡ cond (is_on subtree path name guarded) (spared user entry) (either given)
+    turn guarded given =
+        elim (is_on subtree path name guarded) as (λ b. is_on subtree path name guarded ≡ b
+        → run subtree path name (flat_map (entry_mends user) (reached_of st user subtree guarded)) (either given)
+        ≡ cond b (spared user entry) (either given)) [
+          | true ↦ λ here.
+              let parts = and_parts (same_path (take guarded.len subtree) path) (same_entry guarded.name name) here in
+              let place = same_path-is (take guarded.len subtree) path parts.0 in
+              let named = same_entry-true guarded.name name parts.1 in
+              ap (λ o.
+              run subtree path name (flat_map (entry_mends user) (present (option_map (found guarded) o) (if_reached user))) (either given))
+              ((λ i. entry_at st (place i) (named i)) ∙ is)
+              ∙ elim (reaches user entry) as (λ r. run subtree path name
+              (flat_map (entry_mends user) (unless (not r) (found guarded entry)))
+              (cond given (cond r (mended user entry) entry) entry) ≡ cond r (mended user entry) entry) [
+                | true ↦
+                    through-append (run_one subtree path name) (entry_mends user (found guarded entry)) []
+                    (cond given (mended user entry) entry) ∙ gives (found guarded entry) here refl given
+                | false ↦ same_either given entry
               ]
-            ]
-      ] refl
+          | false ↦ λ other.
+              elim (guarded_entry st subtree guarded) as (λ o.
+              run subtree path name (flat_map (entry_mends user) (present (option_map (found guarded) o) (if_reached user))) (either given)
+              ≡ either given) [
+                | None ↦ refl
+                | Some x ↦
+                    elim (reaches user x) as (λ r.
+                    run subtree path name (flat_map (entry_mends user) (unless (not r) (found guarded x)))
+                    (either given) ≡ either given) [
+                      | true ↦
+                          through-append (run_one subtree path name) (entry_mends user (found guarded x)) [] (either given)
+                          ∙ leaves subtree path name user (found guarded x) other (either given)
+                      | false ↦ refl
+                    ]
+              ]
+        ] refl
 
-  walk : (gs : List Guarded) (given : Bool)
-      → run subtree path name (flat_map (entry_mends user) (flat_map (reached_of st user subtree) gs)) (either given)
-      ≡ cond (list_any (is_on subtree path name) gs) (spared user entry) (either given)
-  walk [] given = refl
-  walk (guarded ∷ gs) given =
-      ap (λ mends. run subtree path name mends (either given)) (flat_map-append (entry_mends user) (reached_of st user subtree guarded) (flat_map (reached_of st user subtree) gs))
-      ∙ through-append (run_one subtree path name) (flat_map (entry_mends user) (reached_of st user subtree guarded)) (flat_map (entry_mends user) (flat_map (reached_of st user subtree) gs)) (either given)
-      ∙ ap (run subtree path name (flat_map (entry_mends user) (flat_map (reached_of st user subtree) gs))) (turn guarded given)
-      ∙ elim (is_on subtree path name guarded) as (λ b. run subtree path name (flat_map (entry_mends user) (flat_map (reached_of st user subtree) gs)) (cond b (spared user entry) (either given))
-      ≡ cond (b || list_any (is_on subtree path name) gs) (spared user entry) (either given)) [
-        | true ↦ walk gs true ∙ same_either (list_any (is_on subtree path name) gs) (spared user entry)
-        | false ↦ walk gs given
-      ]
+    walk : (gs : List Guarded) (given : Bool)
+        → run subtree path name (flat_map (entry_mends user) (flat_map (reached_of st user subtree) gs)) (either given)
+        ≡ cond (list_any (is_on subtree path name) gs) (spared user entry) (either given)
+    walk [] given = refl
+    walk (guarded ∷ gs) given =
+        ap (λ mends. run subtree path name mends (either given))
+        (flat_map-append (entry_mends user) (reached_of st user subtree guarded) (flat_map (reached_of st user subtree) gs))
+        ∙ through-append (run_one subtree path name) (flat_map (entry_mends user) (reached_of st user subtree guarded))
+        (flat_map (entry_mends user) (flat_map (reached_of st user subtree) gs)) (either given)
+        ∙ ap (run subtree path name (flat_map (entry_mends user) (flat_map (reached_of st user subtree) gs))) (turn guarded given)
+        ∙ elim (is_on subtree path name guarded) as (λ b. run subtree path name
+        (flat_map (entry_mends user) (flat_map (reached_of st user subtree) gs)) (cond b (spared user entry) (either given))
+        ≡ cond (b || list_any (is_on subtree path name) gs) (spared user entry) (either given)) [
+          | true ↦ walk gs true ∙ same_either (list_any (is_on subtree path name) gs) (spared user entry)
+          | false ↦ walk gs given
+        ]
 
-  all_run : run subtree path name (mends st user subtree) entry ≡ cond (is_guarded_entry subtree path name) (spared user entry) entry
-  all_run =
-      through-append (run_one subtree path name) (flat_map (entry_mends user) (reached st user subtree)) (limit_mends st subtree) entry
-      ∙ run-limits subtree path name st (run subtree path name (flat_map (entry_mends user) (reached st user subtree)) entry)
-      ∙ walk (guarded_entries subtree) false
+    all_run : run subtree path name (mends st user subtree) entry ≡ cond (is_guarded_entry subtree path name) (spared user entry) entry
+    all_run =
+        through-append (run_one subtree path name) (flat_map (entry_mends user) (reached st user subtree)) (limit_mends st subtree) entry
+        ∙ run-limits subtree path name st (run subtree path name (flat_map (entry_mends user) (reached st user subtree)) entry)
+        ∙ walk (guarded_entries subtree) false
 
 -- each entry afterwards
 pub entry_at-advised : (st : State) (user : Identity) (subtree path : Names) (name : EntryName)
-    → entry_at (advised st user subtree) path name ≡ cond (is_guarded_entry subtree path name) (option_map (spared user) (entry_at st path name)) (entry_at st path name)
+    → entry_at (advised st user subtree) path name
+    ≡ cond (is_guarded_entry subtree path name) (option_map (spared user) (entry_at st path name)) (entry_at st path name)
 entry_at-advised st user subtree path name =
     entry_at-made subtree path name (mends st user subtree) st
-    ∙ elim (entry_at st path name) as (λ o. entry_at st path name ≡ o → option_map (run subtree path name (mends st user subtree)) o ≡ cond (is_guarded_entry subtree path name) (option_map (spared user) o) o) [
+    ∙ elim (entry_at st path name) as (λ o. entry_at st path name ≡ o
+    → option_map (run subtree path name (mends st user subtree)) o
+    ≡ cond (is_guarded_entry subtree path name) (option_map (spared user) o) o) [
       | None ↦ λ _. neither (is_guarded_entry subtree path name)
-      | Some entry ↦ λ is. ap Some (all_run st user subtree path name entry is) ∙ inner (is_guarded_entry subtree path name) (spared user entry) entry
+      | Some entry ↦
+          λ is. ap Some (all_run st user subtree path name entry is) ∙ inner (is_guarded_entry subtree path name) (spared user entry) entry
     ] refl
   where
     neither : (b : Bool) → let none : Option Entry = None in none ≡ cond b None None
@@ -255,7 +284,8 @@ module _ (subtree path : Names) (file : LimitFile) where
   hold-entry : (user : Identity) (at : GuardedEntry) (limit : Limit) → hold (entry_mends user at) limit ≡ limit
   hold-entry user at limit =
       through-append hold_one (chown_of user at) (chmod_of user at) limit
-      ∙ ap (hold (chmod_of user at)) (through-unless hold_one (not (owns user at.entry)) _ limit ∙ same_either (not (owns user at.entry)) limit)
+      ∙ ap (hold (chmod_of user at))
+      (through-unless hold_one (not (owns user at.entry)) _ limit ∙ same_either (not (owns user at.entry)) limit)
       ∙ through-unless hold_one (nat_eq (shut_mode user at.entry) at.entry.mode) _ limit
       ∙ same_either (nat_eq (shut_mode user at.entry) at.entry.mode) limit
 
@@ -280,7 +310,8 @@ raise-is st subtree file = refl
 -- both limits are set, each where it is exceeded
 both_set : (here fits_d fits_h : Bool) (count depth : ℕ) (file : LimitFile) (limit : Limit)
     → let first : Limit = cond fits_d limit (cond (here && same_file MaxDescendants file) (At count) limit) in
-    cond fits_h first (cond (here && same_file MaxDepth file) (At depth) first) ≡ cond here (raise fits_d fits_h count depth file limit) limit
+    cond fits_h first (cond (here && same_file MaxDepth file) (At depth) first)
+    ≡ cond here (raise fits_d fits_h count depth file limit) limit
 both_set false true true count depth file limit = refl
 both_set false true false count depth file limit = refl
 both_set false false true count depth file limit = refl
@@ -298,15 +329,21 @@ hold-limits st subtree path file limit =
     let whole : take (length subtree) subtree ≡ subtree = take_all (length subtree) subtree (omega arith) in
     through-append (hold_one subtree path file) (descendants_of st subtree) (depth_of st subtree) limit
     ∙ through-unless (hold_one subtree path file) (fits_depth st subtree) _ (hold subtree path file (descendants_of st subtree) limit)
-    ∙ ap (λ first. cond (fits_depth st subtree) first (cond (same_path (take (length subtree) subtree) path && same_file MaxDepth file) (At (depth_below st subtree)) first)) (through-unless (hold_one subtree path file) (fits_descendants st subtree) _ limit)
-    ∙ ap (λ p. let first : Limit = cond (fits_descendants st subtree) limit (cond (same_path p path && same_file MaxDescendants file) (At (count_below st subtree)) limit) in
+    ∙ ap (λ first. cond (fits_depth st subtree) first
+    (cond (same_path (take (length subtree) subtree) path && same_file MaxDepth file) (At (depth_below st subtree)) first))
+    (through-unless (hold_one subtree path file) (fits_descendants st subtree) _ limit)
+    ∙ ap (λ p. let first : Limit =
+    cond (fits_descendants st subtree) limit
+    (cond (same_path p path && same_file MaxDescendants file) (At (count_below st subtree)) limit) in
     cond (fits_depth st subtree) first (cond (same_path p path && same_file MaxDepth file) (At (depth_below st subtree)) first)) whole
-    ∙ both_set (same_path subtree path) (fits_descendants st subtree) (fits_depth st subtree) (count_below st subtree) (depth_below st subtree) file limit
+    ∙ both_set (same_path subtree path) (fits_descendants st subtree) (fits_depth st subtree) (count_below st subtree)
+    (depth_below st subtree) file limit
     ∙ ap (λ f. cond (same_path subtree path) (f limit) limit) (raise-is st subtree file)
 
 -- each value afterwards
 pub value_at-advised : (st : State) (user : Identity) (subtree path : Names) (file : LimitFile)
-    → value_at (advised st user subtree) path file ≡ cond (same_path subtree path) (option_map (raised st subtree file) (value_at st path file)) (value_at st path file)
+    → value_at (advised st user subtree) path file
+    ≡ cond (same_path subtree path) (option_map (raised st subtree file) (value_at st path file)) (value_at st path file)
 value_at-advised st user subtree path file =
     value_at-made subtree path file (mends st user subtree) st
     ∙ ap (λ f. option_map f (value_at st path file)) (λ i limit. all_held limit i)

@@ -49,7 +49,8 @@ module _ (user : Identity) (entry : Entry) where
 
   shut_to_user : cond (in_group user entry.gid) (has_bit (shut_mode user entry) 16) (has_bit (shut_mode user entry) 2) ≡ false
   shut_to_user =
-      elim (in_group user entry.gid) as (λ b. cond b (has_bit (bit_and entry.mode (cond b 495 509)) 16) (has_bit (bit_and entry.mode (cond b 495 509)) 2) ≡ false) [
+      elim (in_group user entry.gid) as
+      (λ b. cond b (has_bit (bit_and entry.mode (cond b 495 509)) 16) (has_bit (bit_and entry.mode (cond b 495 509)) 2) ≡ false) [
         | true ↦ group_off entry.mode
         | false ↦ others_off entry.mode
       ]
@@ -58,9 +59,11 @@ module _ (user : Identity) (entry : Entry) where
   shut_stays : (member : Bool) → cond member (has_bit entry.mode 16) (has_bit entry.mode 2) ≡ false
       → cond member (has_bit (shut_mode user entry) 16) (has_bit (shut_mode user entry) 2) ≡ false
   shut_stays true off =
-      elim (in_group user entry.gid) as (λ b. has_bit (bit_and entry.mode (cond b 495 509)) 16 ≡ false) [ true ↦ group_off entry.mode | false ↦ group_kept entry.mode ∙ off ]
+      elim (in_group user entry.gid) as (λ b. has_bit (bit_and entry.mode (cond b 495 509)) 16 ≡ false)
+      [ true ↦ group_off entry.mode | false ↦ group_kept entry.mode ∙ off ]
   shut_stays false off =
-      elim (in_group user entry.gid) as (λ b. has_bit (bit_and entry.mode (cond b 495 509)) 2 ≡ false) [ true ↦ others_kept entry.mode ∙ off | false ↦ others_off entry.mode ]
+      elim (in_group user entry.gid) as (λ b. has_bit (bit_and entry.mode (cond b 495 509)) 2 ≡ false)
+      [ true ↦ others_kept entry.mode ∙ off | false ↦ others_off entry.mode ]
 
 -- who doesn't own it and whose class doesn't write doesn't reach it
 not_reaching : (user : Identity) (entry : Entry) → owns user entry ≡ false
@@ -78,13 +81,15 @@ not_writing user entry off stranger =
     ∙ off
 
 off-mended : (user : Identity) (entry : Entry) → IsUser user → reaches user (mended user entry) ≡ false
-off-mended user entry is = not_reaching user (mended user entry) (not_owned user entry user is (λ stranger. stranger)) (shut_to_user user entry)
+off-mended user entry is =
+    not_reaching user (mended user entry) (not_owned user entry user is (λ stranger. stranger)) (shut_to_user user entry)
 
 less-mended : (user other : Identity) (entry : Entry) → IsUser other → reaches other entry ≡ false
     → reaches other (mended user entry) ≡ false
 less-mended user other entry is off =
     let parts = or_parts (writes other entry) (owns other entry) off in
-    not_reaching other (mended user entry) (not_owned user entry other is (λ _. parts.1)) (shut_stays user entry (in_group other entry.gid) (not_writing other entry parts.0 parts.1))
+    not_reaching other (mended user entry) (not_owned user entry other is (λ _. parts.1))
+    (shut_stays user entry (in_group other entry.gid) (not_writing other entry parts.0 parts.1))
 
 -- the user doesn't reach what was taken from him
 pub off-spared : (user : Identity) (entry : Entry) → IsUser user → reaches user (spared user entry) ≡ false

@@ -38,7 +38,9 @@ module _ (st : State) (user : Identity) (subtree : Names) (place : ℕ) where
 
   pub none_turn : (text : List ℕ) → None ≡ option_and_then (standing st subtree) (slice_get (guarded_entries subtree) place)
       → text ++ flat_map (reached_lines user subtree) (left (place + 1)) ≡ text ++ flat_map (reached_lines user subtree) (left place)
-  none_turn text is = ap (λ rest. text ++ flat_map (reached_lines user subtree) rest) (sym (walk_turn st subtree (if_reached user) (guarded_entries subtree) place None is))
+  none_turn text is =
+      ap (λ rest. text ++ flat_map (reached_lines user subtree) rest)
+      (sym (walk_turn st subtree (if_reached user) (guarded_entries subtree) place None is))
 
   pub entry_turn : (at : GuardedEntry) (text new : List ℕ)
       → Some at ≡ option_and_then (standing st subtree) (slice_get (guarded_entries subtree) place)
@@ -46,15 +48,19 @@ module _ (st : State) (user : Identity) (subtree : Names) (place : ℕ) where
       → new ++ flat_map (reached_lines user subtree) (left (place + 1)) ≡ text ++ flat_map (reached_lines user subtree) (left place)
   entry_turn at text new is written =
       ap (λ t. t ++ flat_map (reached_lines user subtree) (left (place + 1))) written
-      ∙ append_assoc text (flat_map (reached_lines user subtree) (if_reached user at)) (flat_map (reached_lines user subtree) (left (place + 1)))
+      ∙ append_assoc text (flat_map (reached_lines user subtree) (if_reached user at))
+      (flat_map (reached_lines user subtree) (left (place + 1)))
       ∙ ap (λ rest. text ++ rest) (sym (flat_map-append (reached_lines user subtree) (if_reached user at) (left (place + 1))))
-      ∙ ap (λ rest. text ++ flat_map (reached_lines user subtree) rest) (sym (walk_turn st subtree (if_reached user) (guarded_entries subtree) place (Some at) is))
+      ∙ ap (λ rest. text ++ flat_map (reached_lines user subtree) rest)
+      (sym (walk_turn st subtree (if_reached user) (guarded_entries subtree) place (Some at) is))
 
 -- ---- limits
 
 -- a limit raised by what was asked of the tree
-pub raised_by : (subtree : Names) (file : LimitFile) (below : Names → ℕ) (fits now : Bool) (len there : ℕ) → len ≡ length subtree → fits ≡ now
-    → there ≡ below (take len subtree) → unless fits (Set (length subtree) file (At there)) ≡ unless now (Set (length subtree) file (At (below subtree)))
+pub raised_by : (subtree : Names) (file : LimitFile) (below : Names → ℕ) (fits now : Bool) (len there : ℕ) → len ≡ length subtree
+    → fits ≡ now
+    → there ≡ below (take len subtree)
+    → unless fits (Set (length subtree) file (At there)) ≡ unless now (Set (length subtree) file (At (below subtree)))
 raised_by subtree file below fits now len there level same counted =
     (λ i. unless (same i) (Set (length subtree) file (At (counted i))))
     ∙ ap (λ path. unless now (Set (length subtree) file (At (below path)))) (take_all len subtree (omega (arith, level)))
@@ -68,5 +74,6 @@ over_written st subtree text told one all descendants depth over is_told is_one 
     ∙ (λ i. (is_told i ++ mend_lines subtree (d i)) ++ mend_lines subtree (depth_of st subtree))
     ∙ append_assoc (text ++ over_line subtree) (mend_lines subtree (descendants_of st subtree)) (mend_lines subtree (depth_of st subtree))
     ∙ append_assoc text (over_line subtree) (mend_lines subtree (descendants_of st subtree) ++ mend_lines subtree (depth_of st subtree))
-    ∙ ap (λ lines. text ++ (over_line subtree ++ lines)) (sym (flat_map-append (mend_line subtree) (descendants_of st subtree) (depth_of st subtree)))
+    ∙ ap (λ lines. text ++ (over_line subtree ++ lines))
+    (sym (flat_map-append (mend_line subtree) (descendants_of st subtree) (depth_of st subtree)))
     ∙ ap (λ fits. text ++ cond fits [] (over_line subtree ++ mend_lines subtree (limit_mends st subtree))) (sym (not-true _ over))

@@ -33,26 +33,34 @@ module _ (st : State) (user : Identity) (subtree : Names) where
   abbrev pub failures_from : ℕ → List Failed
   failures_from place = flat_map (entry_failures st user subtree) (drop place (guarded_entries subtree))
 
-  module _ (place : ℕ) (here : Option GuardedEntry) (is : here ≡ option_and_then (standing st subtree) (slice_get (guarded_entries subtree) place)) where
+  module _ (place : ℕ) (here : Option GuardedEntry)
+      (is : here ≡ option_and_then (standing st subtree) (slice_get (guarded_entries subtree) place)) where
     pub failures_turn : failures_from place ≡ present here failing ++ failures_from (place + 1)
     failures_turn =
         ap (λ each. flat_map each (drop place (guarded_entries subtree))) (λ i guarded. of_standing guarded i)
         ∙ walk_turn st subtree failing (guarded_entries subtree) place here is
-        ∙ ap (λ each. present here failing ++ flat_map each (drop (place + 1) (guarded_entries subtree))) (λ i guarded. sym (of_standing guarded) i)
+        ∙ ap (λ each. present here failing ++ flat_map each (drop (place + 1) (guarded_entries subtree)))
+        (λ i guarded. sym (of_standing guarded) i)
 
   pub none_fails : (place : ℕ) → None ≡ option_and_then (standing st subtree) (slice_get (guarded_entries subtree) place)
       → first (failures_from (place + 1)) ≡ first (failures_from place)
   none_fails place is = ap first (sym (failures_turn place None is))
 
-  module _ (place : ℕ) (at : GuardedEntry) (is : Some at ≡ option_and_then (standing st subtree) (slice_get (guarded_entries subtree) place)) where
+  module _ (place : ℕ) (at : GuardedEntry)
+      (is : Some at ≡ option_and_then (standing st subtree) (slice_get (guarded_entries subtree) place)) where
     pub here_fails : reaches user at.entry ≡ true → Some (record { guard = at.guard; len = at.len }) ≡ first (failures_from place)
-    here_fails reached = sym (ap first (failures_turn place (Some at) is) ∙ ap (λ b. first (unless (not b) (record { guard = at.guard; len = at.len }) ++ failures_from (place + 1))) reached)
+    here_fails reached =
+        sym (ap first (failures_turn place (Some at) is)
+        ∙ ap (λ b. first (unless (not b) (record { guard = at.guard; len = at.len }) ++ failures_from (place + 1))) reached)
 
     pub here_holds : reaches user at.entry ≡ false → first (failures_from (place + 1)) ≡ first (failures_from place)
-    here_holds spared = sym (ap first (failures_turn place (Some at) is) ∙ ap (λ b. first (unless (not b) (record { guard = at.guard; len = at.len }) ++ failures_from (place + 1))) spared)
+    here_holds spared =
+        sym (ap first (failures_turn place (Some at) is)
+        ∙ ap (λ b. first (unless (not b) (record { guard = at.guard; len = at.len }) ++ failures_from (place + 1))) spared)
 
   pub none_left : (place : ℕ) → length (guarded_entries subtree) ≤ place → None ≡ first (failures_from place)
-  none_left place all = sym (ap (λ rest. first (flat_map (entry_failures st user subtree) rest)) (drop_all (guarded_entries subtree) place all))
+  none_left place all =
+      sym (ap (λ rest. first (flat_map (entry_failures st user subtree) rest)) (drop_all (guarded_entries subtree) place all))
 
 -- ---- counts, of a cgroup that is there
 

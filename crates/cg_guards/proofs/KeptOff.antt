@@ -79,10 +79,14 @@ both_true false b h = let never : ⊥ = cc in absurd never
 pub alike-reached : (user : Identity) (entry other : Entry) → is_alike entry other ≡ true → reaches user entry ≡ reaches user other
 unfolding writes
 alike-reached user entry other is =
-    any_owner (nat_eq entry.uid user.uid) (in_group user entry.gid) (has_bit entry.mode 128) (has_bit other.mode 128) (has_bit entry.mode 16) (has_bit entry.mode 2)
-    ∙ (λ i. reach (nat_eq (uids i) user.uid) (in_group user (gids i)) (has_bit other.mode 128) (same_bit 16 (and_assoc 16 entry.mode 18) (and_assoc 16 other.mode 18) i) (same_bit 2 (and_assoc 2 entry.mode 18) (and_assoc 2 other.mode 18) i))
+    any_owner (nat_eq entry.uid user.uid) (in_group user entry.gid) (has_bit entry.mode 128) (has_bit other.mode 128)
+    (has_bit entry.mode 16) (has_bit entry.mode 2)
+    ∙ (λ i. reach (nat_eq (uids i) user.uid) (in_group user (gids i)) (has_bit other.mode 128)
+    (same_bit 16 (and_assoc 16 entry.mode 18) (and_assoc 16 other.mode 18) i)
+    (same_bit 2 (and_assoc 2 entry.mode 18) (and_assoc 2 other.mode 18) i))
   where
-    parts : ((nat_eq entry.uid other.uid && nat_eq entry.gid other.gid) ≡ true) × (nat_eq (bit_and entry.mode 18) (bit_and other.mode 18) ≡ true)
+    parts : ((nat_eq entry.uid other.uid && nat_eq entry.gid other.gid) ≡ true)
+        × (nat_eq (bit_and entry.mode 18) (bit_and other.mode 18) ≡ true)
     parts = both_true (nat_eq entry.uid other.uid && nat_eq entry.gid other.gid) (nat_eq (bit_and entry.mode 18) (bit_and other.mode 18)) is
 
     owners : (nat_eq entry.uid other.uid ≡ true) × (nat_eq entry.gid other.gid ≡ true)
@@ -133,16 +137,19 @@ module _ (st : State) (subtree : Names) where
   pub absent_turn : (place : ℕ) (users : List Identity)
       → None ≡ option_and_then (standing st subtree) (slice_get (guarded_entries subtree) place)
       → kept_from (place + 1) users ≡ kept_from place users
-  absent_turn place users is = ap (λ p. take_while p users) (λ i user. is_none (first (sym (failures_turn st user subtree place None is) i)))
+  absent_turn place users is =
+      ap (λ p. take_while p users) (λ i user. is_none (first (sym (failures_turn st user subtree place None is) i)))
 
-  module _ (place : ℕ) (at : GuardedEntry) (is : Some at ≡ option_and_then (standing st subtree) (slice_get (guarded_entries subtree) place)) where
+  module _ (place : ℕ) (at : GuardedEntry)
+      (is : Some at ≡ option_and_then (standing st subtree) (slice_get (guarded_entries subtree) place)) where
     one_more : (user : Identity)
         → is_kept_off st subtree (drop place (guarded_entries subtree)) user
         ≡ is_spared (Some at.entry) user && is_kept_off st subtree (drop (place + 1) (guarded_entries subtree)) user
     one_more user =
         ap (λ failed. is_none (first failed)) (failures_turn st user subtree place (Some at) is)
         ∙ none_of_both (failing st user subtree at) (failures_from st user subtree (place + 1))
-        ∙ ap (λ b. b && is_kept_off st subtree (drop (place + 1) (guarded_entries subtree)) user) (by_reach (record { guard = at.guard; len = at.len }) (reaches user at.entry))
+        ∙ ap (λ b. b && is_kept_off st subtree (drop (place + 1) (guarded_entries subtree)) user)
+        (by_reach (record { guard = at.guard; len = at.len }) (reaches user at.entry))
       where
         by_reach : (failed : Failed) (b : Bool) → is_none (first (unless (not b) failed)) ≡ not b
         by_reach failed true = refl
@@ -157,7 +164,8 @@ module _ (st : State) (subtree : Names) where
 
   pub walk_end : (place : ℕ) (users : List Identity) → length (guarded_entries subtree) ≤ place → users ≡ kept_from place users
   walk_end place users all =
-      sym (ap (λ rest. kept_off st subtree rest users) (drop_all (guarded_entries subtree) place all) ∙ while_all (is_kept_off st subtree []) users (λ user. refl))
+      sym (ap (λ rest. kept_off st subtree rest users) (drop_all (guarded_entries subtree) place all)
+      ∙ while_all (is_kept_off st subtree []) users (λ user. refl))
 
   -- ---- and the limits
 
@@ -165,7 +173,9 @@ module _ (st : State) (subtree : Names) where
   fits = fits_descendants st subtree && fits_depth st subtree
 
   by_fit : (user : Identity) → is_guarded st subtree user ≡ is_kept_off st subtree (guarded_entries subtree) user && fits
-  by_fit user = counted (record { guard = AlreadyOver; len = length subtree }) (flat_map (entry_failures st user subtree) (guarded_entries subtree)) fits
+  by_fit user =
+      counted (record { guard = AlreadyOver; len = length subtree }) (flat_map (entry_failures st user subtree) (guarded_entries subtree))
+      fits
     where
       counted : (failed : Failed) (xs : List Failed) (b : Bool) → is_none (first (xs ++ unless b failed)) ≡ is_none (first xs) && b
       counted failed xs true = none_of_both xs []
@@ -173,7 +183,8 @@ module _ (st : State) (subtree : Names) where
 
   pub over_guards : (users : List Identity) → not fits ≡ true → [] ≡ take_while (is_guarded st subtree) users
   over_guards users over =
-      sym (while_none (is_guarded st subtree) users (λ user. by_fit user ∙ ap (λ b. is_kept_off st subtree (guarded_entries subtree) user && b) (is_false fits over) ∙ and_false _))
+      sym (while_none (is_guarded st subtree) users
+      (λ user. by_fit user ∙ ap (λ b. is_kept_off st subtree (guarded_entries subtree) user && b) (is_false fits over) ∙ and_false _))
     where
       is_false : (b : Bool) → not b ≡ true → b ≡ false
       is_false true h = sym h
@@ -185,7 +196,9 @@ module _ (st : State) (subtree : Names) where
 
   pub within_guards : (users : List Identity) → not fits ≡ false
       → kept_off st subtree (guarded_entries subtree) users ≡ take_while (is_guarded st subtree) users
-  within_guards users within = ap (λ p. take_while p users) (λ i user. sym (by_fit user ∙ ap (λ b. is_kept_off st subtree (guarded_entries subtree) user && b) (is_true fits within) ∙ and_true _) i)
+  within_guards users within =
+      ap (λ p. take_while p users) (λ i user.
+      sym (by_fit user ∙ ap (λ b. is_kept_off st subtree (guarded_entries subtree) user && b) (is_true fits within) ∙ and_true _) i)
     where
       is_true : (b : Bool) → not b ≡ false → b ≡ true
       is_true true h = refl

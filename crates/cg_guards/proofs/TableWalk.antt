@@ -48,7 +48,8 @@ get-ancestors (suc len) (suc k) h = let e : suc len - 1 - suc k ≡ len - 1 - k 
 pub guarded_length : (subtree : Names) → length (guarded_entries subtree) ≡ length subtree + length all_files + 2
 guarded_length subtree =
     length-append (ancestors (length subtree) ++ limit_files (length subtree)) (parent_control subtree ∷ parent_dir subtree ∷ [])
-    ∙ ap (λ n. n + 2) (length-append (ancestors (length subtree)) (limit_files (length subtree)) ∙ ap (λ n. n + length all_files) (length-ancestors (length subtree)))
+    ∙ ap (λ n. n + 2) (length-append (ancestors (length subtree)) (limit_files (length subtree))
+    ∙ ap (λ n. n + length all_files) (length-ancestors (length subtree)))
 
 module _ (subtree : Names) (place : ℕ) where
   abbrev above : List Guarded
@@ -81,7 +82,8 @@ module _ (subtree : Names) (place : ℕ) where
         ∙ get_back (ancestors (length subtree)) (limit_files (length subtree)) place (omega (arith, e, level, low))
         ∙ ap (λ n. slice_get (limit_files (length subtree)) (place - n)) e
         ∙ slice_get-map (limit_file (length subtree)) all_files (place - length subtree)
-        ∙ ap (option_map (limit_file (length subtree))) (slice_get-get_or all_files (place - length subtree) d (omega (arith, level, low, high))))
+        ∙ ap (option_map (limit_file (length subtree)))
+        (slice_get-get_or all_files (place - length subtree) d (omega (arith, level, low, high))))
 
     pub parent_at : depth ≤ place → length all_files ≤ place - depth
         → slice_get (parent_guards (depth - 1)) (place - depth - length all_files) ≡ slice_get (guarded_entries subtree) place

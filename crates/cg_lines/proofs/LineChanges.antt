@@ -46,11 +46,14 @@ pub changes_more : (front : List Change) (text : List ℕ) (words : List ℕ × 
     → cut text ≡ Some words → change_at words.0 ≡ Some change → with_front front (changes_at (slice_split is_space text)) ≡ read
     → with_front (front ++ (change ∷ [])) (changes_at (slice_split is_space words.1)) ≡ read
 changes_more front text words change read e f h =
-    elim (changes_at (slice_split is_space words.1)) as (λ rest. with_front (front ++ (change ∷ [])) rest ≡ with_front front (rest >>= λ others. Some (change ∷ others))) [
+    elim (changes_at (slice_split is_space words.1)) as
+    (λ rest. with_front (front ++ (change ∷ [])) rest ≡ with_front front (rest >>= λ others. Some (change ∷ others))) [
       | None ↦ refl
       | Some others ↦ ap (λ (xs : List Change). Some xs) (append_assoc front (change ∷ []) others)
     ]
-    ∙ ap (λ (first : Option Change). with_front front (first >>= λ c. changes_at (slice_split is_space words.1) >>= λ others. Some (c ∷ others))) (sym f)
+    ∙ ap
+    (λ (first : Option Change). with_front front (first >>= λ c. changes_at (slice_split is_space words.1) >>= λ others. Some (c ∷ others)))
+    (sym f)
     ∙ ap (λ (ws : List (List ℕ)). with_front front (changes_at ws)) (sym (split_cut text words e))
     ∙ h
 
@@ -68,7 +71,9 @@ pub changes_bad : (front : List Change) (text : List ℕ) (words : List ℕ × L
 changes_bad front text words read e f h =
     sym h
     ∙ ap (λ (ws : List (List ℕ)). with_front front (changes_at ws)) (split_cut text words e)
-    ∙ ap (λ (first : Option Change). with_front front (first >>= λ c. changes_at (slice_split is_space words.1) >>= λ others. Some (c ∷ others))) f
+    ∙ ap
+    (λ (first : Option Change). with_front front (first >>= λ c. changes_at (slice_split is_space words.1) >>= λ others. Some (c ∷ others)))
+    f
 
 pub changes_last_bad : (front : List Change) (text : List ℕ) (read : Option (List Change)) → cut text ≡ None → change_at text ≡ None
     → with_front front (changes_at (slice_split is_space text)) ≡ read → read ≡ None

@@ -62,10 +62,17 @@ paths : Spelled path_at path_text IsPath
 paths = record { takes = λ word path h. let p = path_at-is word path h in (p.0, sym p.1); again = path_at-text; one = path_word }
 
 files : Spelled file_named file_name (λ _. Unit {0})
-files = record { takes = λ word file h. (tt, file_names.named word file h); again = λ file _. file_names.found file; one = λ file _. file_word file }
+files =
+    record
+    { takes = λ word file h. (tt, file_names.named word file h); again = λ file _. file_names.found file; one = λ file _. file_word file }
 
 entries : Spelled entry_named entry_text (λ _. Unit {0})
-entries = record { takes = λ word entry h. (tt, entry_names.named word entry h); again = λ entry _. entry_names.found entry; one = λ entry _. entry_word entry }
+entries =
+    record {
+      takes = λ word entry h. (tt, entry_names.named word entry h);
+      again = λ entry _. entry_names.found entry;
+      one = λ entry _. entry_word entry;
+    }
 
 limits : Spelled limit_at limit_word IsLimitInRange
 limits = record { takes = limit_takes; again = limit_again; one = limit_is_word }
@@ -97,16 +104,17 @@ three_words first second third made text = do
 from_text : (name text other : List ℕ) (made op : Op) → text ≡ other → Some made ≡ Some op → Takes name other made → Takes name text op
 from_text name text other made op e f h = subst (λ t. Takes name t op) (sym e) (subst (Takes name other) (same_Some made op f) h)
 
-module _ {A : Type 0} {read : List ℕ → Option A} {write : A → List ℕ} {IsHeld : A → Type 0} (x : Spelled read write IsHeld) (made : A → Op) where
-  one_takes : (name text : List ℕ) (op : Op) → ((a : A) → IsHeld a → Takes name (write a) (made a))
-      → one_word read made text ≡ Some op → Takes name text op
-  one_takes name text op held h =
-      let a = bind_some (read text) (λ a. Some (made a)) op h in
-      let p = x.takes text a.0 a.1 in
-      from_text name text (write a.0) (made a.0) op p.1 a.2 (held a.0 p.0)
+module _ {A : Type 0} {read : List ℕ → Option A} {write : A → List ℕ} {IsHeld : A → Type 0} (x : Spelled read write IsHeld) (made : A → Op)
+  where
+    one_takes : (name text : List ℕ) (op : Op) → ((a : A) → IsHeld a → Takes name (write a) (made a))
+        → one_word read made text ≡ Some op → Takes name text op
+    one_takes name text op held h =
+        let a = bind_some (read text) (λ a. Some (made a)) op h in
+        let p = x.takes text a.0 a.1 in
+        from_text name text (write a.0) (made a.0) op p.1 a.2 (held a.0 p.0)
 
-  one_again : (a : A) → IsHeld a → one_word read made (write a) ≡ Some (made a)
-  one_again a h = ap (λ (o : Option A). o >>= λ a. Some (made a)) (x.again a h)
+    one_again : (a : A) → IsHeld a → one_word read made (write a) ≡ Some (made a)
+    one_again a h = ap (λ (o : Option A). o >>= λ a. Some (made a)) (x.again a h)
 
 module _ {A B : Type 0} {first : List ℕ → Option A} {second : List ℕ → Option B} {write : A → List ℕ} {also : B → List ℕ}
     {IsHeld : A → Type 0} {IsAlso : B → Type 0} (x : Spelled first write IsHeld) (y : Spelled second also IsAlso) (made : A → B → Op) where
@@ -138,8 +146,13 @@ module _ {A B C : Type 0} {first : List ℕ → Option A} {second : List ℕ →
       → ((a : A) (b : B) (c : C) → IsHeld a → IsAlso b → IsLast c → Takes name (three a b c) (made a b c))
       → three_words first second third made text ≡ Some op → Takes name text op
   three_takes name text op held h =
-      let w = bind_some (cut text) (λ words. cut words.1 >>= λ others. first words.0 >>= λ a. second others.0 >>= λ b. third others.1 >>= λ c. Some (made a b c)) op h in
-      let v = bind_some (cut w.0.1) (λ others. first w.0.0 >>= λ a. second others.0 >>= λ b. third others.1 >>= λ c. Some (made a b c)) op w.2 in
+      let w =
+      bind_some (cut text)
+      (λ words. cut words.1 >>= λ others. first words.0 >>= λ a. second others.0 >>= λ b. third others.1 >>= λ c. Some (made a b c)) op
+      h in
+      let v =
+      bind_some (cut w.0.1) (λ others. first w.0.0 >>= λ a. second others.0 >>= λ b. third others.1 >>= λ c. Some (made a b c)) op w.2
+      in
       let a = bind_some (first w.0.0) (λ a. second v.0.0 >>= λ b. third v.0.1 >>= λ c. Some (made a b c)) op v.2 in
       let b = bind_some (second v.0.0) (λ b. third v.0.1 >>= λ c. Some (made a.0 b c)) op a.2 in
       let c = bind_some (third v.0.1) (λ c. Some (made a.0 b.0 c)) op b.2 in
@@ -149,14 +162,18 @@ module _ {A B C : Type 0} {first : List ℕ → Option A} {second : List ℕ →
       from_text name text (three a.0 b.0 c.0) (made a.0 b.0 c.0) op
       (joined_three text w.0 v.0 (write a.0) (also b.0) (last c.0) w.1 v.1 p.1 q.1 r.1) c.2 (held a.0 b.0 c.0 p.0 q.0 r.0)
 
-  three_again : (a : A) (b : B) (c : C) → IsHeld a → IsAlso b → IsLast c → three_words first second third made (three a b c) ≡ Some (made a b c)
+  three_again : (a : A) (b : B) (c : C) → IsHeld a → IsAlso b → IsLast c
+      → three_words first second third made (three a b c) ≡ Some (made a b c)
   three_again a b c h k l =
       let rest = also b ++ (32 ∷ last c) in
-      bind_at (cut (three a b c)) (write a, rest) (λ words. cut words.1 >>= λ others. first words.0 >>= λ a. second others.0 >>= λ b. third others.1 >>= λ c. Some (made a b c))
+      bind_at (cut (three a b c)) (write a, rest)
+      (λ words. cut words.1 >>= λ others. first words.0 >>= λ a. second others.0 >>= λ b. third others.1 >>= λ c. Some (made a b c))
       (Some (made a b c)) (cut_word (write a) rest (x.one a h))
-      (bind_at (cut rest) (also b, last c) (λ others. first (write a) >>= λ a. second others.0 >>= λ b. third others.1 >>= λ c. Some (made a b c))
+      (bind_at (cut rest) (also b, last c)
+      (λ others. first (write a) >>= λ a. second others.0 >>= λ b. third others.1 >>= λ c. Some (made a b c))
       (Some (made a b c)) (cut_word (also b) (last c) (y.one b k))
-      (bind_at (first (write a)) a (λ a. second (also b) >>= λ b. third (last c) >>= λ c. Some (made a b c)) (Some (made a b c)) (x.again a h)
+      (bind_at (first (write a)) a (λ a. second (also b) >>= λ b. third (last c) >>= λ c. Some (made a b c)) (Some (made a b c))
+      (x.again a h)
       (bind_at (second (also b)) b (λ b. third (last c) >>= λ c. Some (made a b c)) (Some (made a b c)) (y.again b k)
       (ap (λ (o : Option C). o >>= λ c. Some (made a b c)) (z.again c l)))))
 
@@ -186,13 +203,17 @@ control_from_takes : (text : List ℕ) (parts : Option (List ℕ × List ℕ)) (
 control_from_takes text None op e h =
     let at = bind_some (path_at text) (λ at. Some (Control at [])) op h in
     let q = path_at-is text at.0 at.1 in
-    taken (codes "control") text (Control at.0 []) op (same_Some (Control at.0 []) op at.2) (q.0, behind (codes "control") text (path_text at.0) (sym q.1))
+    taken (codes "control") text (Control at.0 []) op (same_Some (Control at.0 []) op at.2)
+    (q.0, behind (codes "control") text (path_text at.0) (sym q.1))
 control_from_takes text (Some words) op e h =
     let at = bind_some (path_at words.0) (λ at. changes_at (slice_split is_space words.1) >>= λ changes. Some (Control at changes)) op h in
     let changes = bind_some (changes_at (slice_split is_space words.1)) (λ changes. Some (Control at.0 changes)) op at.2 in
     let q = path_at-is words.0 at.0 at.1 in
-    taken (codes "control") text (Control at.0 changes.0) op (same_Some (Control at.0 changes.0) op changes.2)
-    (q.0, behind (codes "control") text (join_with_byte 32 (path_text at.0 ∷ map change_word changes.0)) (cut_parts text words e ∙ control_text at.0 words changes.0 q.1 changes.1))
+    taken (codes "control") text (Control at.0 changes.0) op (same_Some (Control at.0 changes.0) op changes.2) (
+      q.0,
+      behind (codes "control") text (join_with_byte 32 (path_text at.0 ∷ map change_word changes.0))
+          (cut_parts text words e ∙ control_text at.0 words changes.0 q.1 changes.1),
+    )
 
 control_takes : (text : List ℕ) (op : Op) → control_at text ≡ Some op → Takes (codes "control") text op
 unfolding control_at
@@ -251,14 +272,23 @@ line_takes line op h =
 
 -- Its words are printable and hold no space.
 pub line_words : (op : Op) → IsInRange op → are_words (words op) ≡ true
-line_words (Move pid to) h = and_from (is_word (decimal pid)) _ (decimal_word pid (small_pid pid h.0)) (and_from (is_word (path_text to)) true (path_word to h.1) refl)
-line_words (Control at changes) h = and_from (is_word (path_text at)) (are_words (map change_word changes)) (path_word at h) (changes_words changes)
+line_words (Move pid to) h =
+    and_from (is_word (decimal pid)) _ (decimal_word pid (small_pid pid h.0))
+    (and_from (is_word (path_text to)) true (path_word to h.1) refl)
+line_words (Control at changes) h =
+    and_from (is_word (path_text at)) (are_words (map change_word changes)) (path_word at h) (changes_words changes)
 line_words (Mkdir path) h = and_from (is_word (path_text path)) true (path_word path h) refl
 line_words (Rmdir path) h = and_from (is_word (path_text path)) true (path_word path h) refl
-line_words (Set at file value) h = and_from (is_word (path_text at)) _ (path_word at h.0) (and_from (is_word (file_name file)) _ (file_word file) (and_from (is_word (limit_word value)) true (limit_is_word value h.1) refl))
-line_words (Fork parent child) h = and_from (is_word (decimal parent)) _ (decimal_word parent (small_pid parent h.0)) (and_from (is_word (decimal child)) true (decimal_word child (small_pid child h.1)) refl)
+line_words (Set at file value) h =
+    and_from (is_word (path_text at)) _ (path_word at h.0)
+    (and_from (is_word (file_name file)) _ (file_word file) (and_from (is_word (limit_word value)) true (limit_is_word value h.1) refl))
+line_words (Fork parent child) h =
+    and_from (is_word (decimal parent)) _ (decimal_word parent (small_pid parent h.0))
+    (and_from (is_word (decimal child)) true (decimal_word child (small_pid child h.1)) refl)
 line_words (Exit pid) h = and_from (is_word (decimal pid)) true (decimal_word pid (small_pid pid h)) refl
-line_words (Chmod at entry mode) h = and_from (is_word (path_text at)) _ (path_word at h.0) (and_from (is_word (entry_text entry)) _ (entry_word entry) (and_from (is_word (mode_word mode)) true (mode_is_word mode h.1) refl))
+line_words (Chmod at entry mode) h =
+    and_from (is_word (path_text at)) _ (path_word at h.0)
+    (and_from (is_word (entry_text entry)) _ (entry_word entry) (and_from (is_word (mode_word mode)) true (mode_is_word mode h.1) refl))
 
 -- so its line is text
 pub line_utf8 : (op : Op) → IsInRange op → IsUtf8 (spelling op)
@@ -273,8 +303,10 @@ control_again at [] h =
 control_again at (change ∷ changes) h =
     let rest = join_with_byte 32 (map change_word (change ∷ changes)) in
     ap (control_from (path_text at ++ (32 ∷ rest))) (cut_word (path_text at) rest (path_word at h))
-    ∙ ap (λ (o : Option Names). o >>= λ at. changes_at (slice_split is_space rest) >>= λ changes. Some (Control at changes)) (path_at-text at h)
-    ∙ ap (λ (ws : List (List ℕ)). changes_at ws >>= λ changes. Some (Control at changes)) (split_joined (change_word change) (map change_word changes) (changes_words (change ∷ changes)))
+    ∙ ap (λ (o : Option Names). o >>= λ at. changes_at (slice_split is_space rest) >>= λ changes. Some (Control at changes))
+    (path_at-text at h)
+    ∙ ap (λ (ws : List (List ℕ)). changes_at ws >>= λ changes. Some (Control at changes))
+    (split_joined (change_word change) (map change_word changes) (changes_words (change ∷ changes)))
     ∙ ap (λ (o : Option (List Change)). o >>= λ changes. Some (Control at changes)) (changes_again (change ∷ changes))
 
 -- a name, a space and what the operation of that name reads
@@ -291,10 +323,12 @@ line_again (Move pid to) h = named_again (codes "move") _ (Move pid to) refl (tw
 line_again (Control at changes) h = named_again (codes "control") _ (Control at changes) refl (control_again at changes h)
 line_again (Mkdir path) h = named_again (codes "mkdir") _ (Mkdir path) refl (one_again paths Mkdir path h)
 line_again (Rmdir path) h = named_again (codes "rmdir") _ (Rmdir path) refl (one_again paths Rmdir path h)
-line_again (Set at file value) h = named_again (codes "set") _ (Set at file value) refl (three_again paths files limits Set at file value h.0 tt h.1)
+line_again (Set at file value) h =
+    named_again (codes "set") _ (Set at file value) refl (three_again paths files limits Set at file value h.0 tt h.1)
 line_again (Fork parent child) h = named_again (codes "fork") _ (Fork parent child) refl (two_again pids pids Fork parent child h.0 h.1)
 line_again (Exit pid) h = named_again (codes "exit") _ (Exit pid) refl (one_again pids Exit pid h)
-line_again (Chmod at entry mode) h = named_again (codes "chmod") _ (Chmod at entry mode) refl (three_again paths entries modes Chmod at entry mode h.0 tt h.1)
+line_again (Chmod at entry mode) h =
+    named_again (codes "chmod") _ (Chmod at entry mode) refl (three_again paths entries modes Chmod at entry mode h.0 tt h.1)
 
 -- ---- both
 

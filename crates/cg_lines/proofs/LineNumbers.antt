@@ -43,9 +43,12 @@ number_none word none =
 pub number_is : (word : List ℕ) (n : ℕ) → digits_value 10 word ≡ n → n < 2 ^ 64 → word ≡ decimal n → number_at word ≡ Some n
 unfolding number_at
 number_is word n v l e =
-    let small : nat_lt (digits_value 10 word) (2 ^ 64) ≡ true = lt-ltb (digits_value 10 word) (2 ^ 64) (subst (λ (m : ℕ). m < 2 ^ 64) (sym v) l) in
-    let spelled : same_name word (decimal (digits_value 10 word)) ≡ true = (bytes_decides word (decimal (digits_value 10 word))).1 (e ∙ ap decimal (sym v)) in
-    ap (λ (b : Bool). cond b (Some (digits_value 10 word)) None) (and_from (nat_lt (digits_value 10 word) (2 ^ 64)) (same_name word (decimal (digits_value 10 word))) small spelled)
+    let small : nat_lt (digits_value 10 word) (2 ^ 64) ≡ true =
+    lt-ltb (digits_value 10 word) (2 ^ 64) (subst (λ (m : ℕ). m < 2 ^ 64) (sym v) l) in
+    let spelled : same_name word (decimal (digits_value 10 word)) ≡ true =
+    (bytes_decides word (decimal (digits_value 10 word))).1 (e ∙ ap decimal (sym v)) in
+    ap (λ (b : Bool). cond b (Some (digits_value 10 word)) None)
+    (and_from (nat_lt (digits_value 10 word) (2 ^ 64)) (same_name word (decimal (digits_value 10 word))) small spelled)
     ∙ ap (λ (m : ℕ). Some m) v
 
 -- what is spelled so is read
@@ -82,11 +85,13 @@ number_parsed word (Ok n) plus zero h =
     let digits : IsNumeral 10 word = subst (IsNumeral 10) same h.0.0 in
     let value : n ≡ digits_value 10 word = h.1 ∙ ap (digits_value 10) same in
     let small : digits_value 10 word < 2 ^ 64 = subst (λ (w : List ℕ). digits_value 10 w < 2 ^ 64) same h.0.1 in
-    sym (number_is word n (sym value) (subst (λ (m : ℕ). m < 2 ^ 64) (sym value) small) (sym (decimal-digits_value own word digits.1 digits.0 (λ z. omega (arith, zero z, digits.0)) small) ∙ ap decimal (sym value)))
+    sym (number_is word n (sym value) (subst (λ (m : ℕ). m < 2 ^ 64) (sym value) small)
+    (sym (decimal-digits_value own word digits.1 digits.0 (λ z. omega (arith, zero z, digits.0)) small) ∙ ap decimal (sym value)))
 number_parsed word (Err e) plus zero h =
     let same = without_leading_plus_none word plus in
     sym (number_none word (λ n l spelled.
     let d = decimal_is_IsNumeral n l in
     let numeral : IsNumeral 10 word = subst (IsNumeral 10) (sym spelled) d.0 in
     let value : digits_value 10 word ≡ n = ap (digits_value 10) spelled ∙ d.1 in
-    h (subst (λ (w : List ℕ). IsNumeral 10 w × (digits_value 10 w < 2 ^ 64)) (sym same) (numeral, subst (λ (m : ℕ). m < 2 ^ 64) (sym value) l))))
+    h (subst (λ (w : List ℕ). IsNumeral 10 w × (digits_value 10 w < 2 ^ 64)) (sym same)
+    (numeral, subst (λ (m : ℕ). m < 2 ^ 64) (sym value) l))))

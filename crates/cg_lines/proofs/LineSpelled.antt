@@ -61,7 +61,8 @@ names_word [] h = refl
 names_word (name ∷ path) h =
     let p = and_parts (is_name name) (list_all is_name path) h in
     list_all-append is_graphic (47 ∷ name) (flat_map (λ (n : Name). 47 ∷ n) path)
-    ∙ and_from (is_word (47 ∷ name)) (is_word (flat_map (λ (n : Name). 47 ∷ n) path)) (name_word name (is_name-bytes name p.0)) (names_word path p.1)
+    ∙ and_from (is_word (47 ∷ name)) (is_word (flat_map (λ (n : Name). 47 ∷ n) path)) (name_word name (is_name-bytes name p.0))
+    (names_word path p.1)
 
 pub path_word : (path : Names) → IsPath path → is_word (path_text path) ≡ true
 path_word [] h = refl
@@ -86,7 +87,8 @@ sign_word false controller = refl
 pub changes_words : (changes : List Change) → are_words (map change_word changes) ≡ true
 changes_words [] = refl
 changes_words (change ∷ changes) =
-    and_from (is_word (change_word change)) (are_words (map change_word changes)) (sign_word change.on change.controller) (changes_words changes)
+    and_from (is_word (change_word change)) (are_words (map change_word changes)) (sign_word change.on change.controller)
+    (changes_words changes)
 
 pub limit_is_word : (value : Limit) → IsLimitInRange value → is_word (limit_word value) ≡ true
 limit_is_word Max h = refl
@@ -143,7 +145,8 @@ pid_takes word pid h =
 pub pid_again : (pid : ℕ) → is_pid pid ≡ true → pid_at (decimal pid) ≡ Some pid
 unfolding pid_at
 pid_again pid h =
-    bind_at (number_at (decimal pid)) pid pid_of (Some pid) (number_again pid (small_pid pid h)) (ap (λ (b : Bool). cond b (Some pid) None) h)
+    bind_at (number_at (decimal pid)) pid pid_of (Some pid) (number_again pid (small_pid pid h))
+    (ap (λ (b : Bool). cond b (Some pid) None) h)
 
 -- ---- values of limits
 
@@ -158,7 +161,9 @@ pub limit_takes : (word : List ℕ) (value : Limit) → limit_at word ≡ Some v
 unfolding limit_at
 limit_takes word value h =
     elim (chosen (same_name word (codes "max")) (Some Max) (option_map At (number_at word)) (Some value) h) [
-      | inl p ↦ subst (λ (v : Limit). IsLimitInRange v × (word ≡ limit_word v)) (same_Some Max value p.1) (tt, (bytes_decides word (codes "max")).0 p.0)
+      | inl p ↦
+          subst (λ (v : Limit). IsLimitInRange v × (word ≡ limit_word v)) (same_Some Max value p.1)
+          (tt, (bytes_decides word (codes "max")).0 p.0)
       | inr p ↦
           let n = map_some At (number_at word) value p.1 in
           subst (λ (v : Limit). IsLimitInRange v × (word ≡ limit_word v)) n.2 (number_takes word n.0 n.1)
@@ -184,7 +189,8 @@ octal_takes b n h =
 
 octal_again : (n : ℕ) → n ≤ 7 → octal_at (48 + n) ≡ Some n
 octal_again n h =
-    let test = and_from (nat_le 48 (48 + n)) (nat_le (48 + n) 55) (le-leb 48 (48 + n) (omega arith)) (le-leb (48 + n) 55 (omega (arith, h))) in
+    let test =
+    and_from (nat_le 48 (48 + n)) (nat_le (48 + n) 55) (le-leb 48 (48 + n) (omega arith)) (le-leb (48 + n) 55 (omega (arith, h))) in
     let value : 48 + n - 48 ≡ n = omega arith in
     ap (λ (b : Bool). cond b (Some (48 + n - 48)) None) test ∙ ap (λ (m : ℕ). Some m) value
 
@@ -199,7 +205,9 @@ spelled_mode a b c x y z h k l =
 pub mode_takes : (word : List ℕ) (mode : ℕ) → mode_at word ≡ Some mode → (is_mode mode ≡ true) × (word ≡ mode_word mode)
 unfolding mode_at
 mode_takes (a ∷ b ∷ c ∷ []) mode h =
-    let x = bind_some (octal_at a) (λ owner. octal_at b >>= λ group. octal_at c >>= λ others. mode_of (owner * 64 + group * 8 + others)) mode h in
+    let x =
+    bind_some (octal_at a) (λ owner. octal_at b >>= λ group. octal_at c >>= λ others. mode_of (owner * 64 + group * 8 + others)) mode h
+    in
     let y = bind_some (octal_at b) (λ group. octal_at c >>= λ others. mode_of (x.0 * 64 + group * 8 + others)) mode x.2 in
     let z = bind_some (octal_at c) (λ others. mode_of (x.0 * 64 + y.0 * 8 + others)) mode y.2 in
     let p = cond_some (is_mode (x.0 * 64 + y.0 * 8 + z.0)) (x.0 * 64 + y.0 * 8 + z.0) mode z.2 in (
@@ -212,9 +220,14 @@ pub mode_again : (mode : ℕ) → is_mode mode ≡ true → mode_at (mode_word m
 unfolding mode_at
 mode_again mode h =
     let p = mode_parts mode h in
-    bind_at (octal_at (48 + mode / 64)) (mode / 64) (λ owner. octal_at (48 + mode / 8 % 8) >>= λ group. octal_at (48 + mode % 8) >>= λ others. mode_of (owner * 64 + group * 8 + others)) (Some mode) (octal_again (mode / 64) p.0)
-    (bind_at (octal_at (48 + mode / 8 % 8)) (mode / 8 % 8) (λ group. octal_at (48 + mode % 8) >>= λ others. mode_of (mode / 64 * 64 + group * 8 + others)) (Some mode) (octal_again (mode / 8 % 8) p.1)
-    (bind_at (octal_at (48 + mode % 8)) (mode % 8) (λ others. mode_of (mode / 64 * 64 + mode / 8 % 8 * 8 + others)) (Some mode) (octal_again (mode % 8) p.2)
+    bind_at (octal_at (48 + mode / 64)) (mode / 64)
+    (λ owner. octal_at (48 + mode / 8 % 8) >>= λ group. octal_at (48 + mode % 8) >>= λ others. mode_of (owner * 64 + group * 8 + others))
+    (Some mode) (octal_again (mode / 64) p.0)
+    (bind_at (octal_at (48 + mode / 8 % 8)) (mode / 8 % 8)
+    (λ group. octal_at (48 + mode % 8) >>= λ others. mode_of (mode / 64 * 64 + group * 8 + others)) (Some mode)
+    (octal_again (mode / 8 % 8) p.1)
+    (bind_at (octal_at (48 + mode % 8)) (mode % 8) (λ others. mode_of (mode / 64 * 64 + mode / 8 % 8 * 8 + others)) (Some mode)
+    (octal_again (mode % 8) p.2)
     (ap mode_of p.3 ∙ ap (λ (b : Bool). cond b (Some mode) None) h)))
 
 -- ---- changes
@@ -230,7 +243,9 @@ change_takes : (word : List ℕ) (change : Change) → change_at word ≡ Some c
 unfolding change_at
 change_takes [] change h = absurd (none-some change h)
 change_takes (sign ∷ name) change h =
-    let on = bind_some (sign_at sign) (λ on. controller_named name >>= λ controller. Some (record { on = on; controller = controller })) change h in
+    let on =
+    bind_some (sign_at sign) (λ on. controller_named name >>= λ controller. Some (record { on = on; controller = controller })) change h
+    in
     let controller = bind_some (controller_named name) (λ controller. Some (record { on = on.0; controller = controller })) change on.2 in
     let same = same_Some (record { on = on.0; controller = controller.0 }) change controller.2 in
     ap (λ (b : ℕ). b ∷ name) (sign_takes sign on.0 on.1)
@@ -257,12 +272,14 @@ changes_takes (word ∷ words) changes h =
 pub changes_again : (changes : List Change) → changes_at (map change_word changes) ≡ Some changes
 changes_again [] = refl
 changes_again (change ∷ changes) =
-    bind_at (change_at (change_word change)) change (λ first. changes_at (map change_word changes) >>= λ others. Some (first ∷ others)) (Some (change ∷ changes)) (change_again change.on change.controller)
+    bind_at (change_at (change_word change)) change (λ first. changes_at (map change_word changes) >>= λ others. Some (first ∷ others))
+    (Some (change ∷ changes)) (change_again change.on change.controller)
     (ap (λ (o : Option (List Change)). o >>= λ others. Some (change ∷ others)) (changes_again changes))
 
 -- three digits that are written one by one, behind two words and before a newline
 pub written_mode : (at entry : List ℕ) (mode : ℕ) → mode ≤ 511
-    → at ++ (32 ∷ (entry ++ (32 ∷ (decimal (mode / 64) ++ (decimal (mode / 8 % 8) ++ (decimal (mode % 8) ++ (10 ∷ []))))))) ≡ (at ++ (32 ∷ (entry ++ (32 ∷ mode_word mode)))) ++ (10 ∷ [])
+    → at ++ (32 ∷ (entry ++ (32 ∷ (decimal (mode / 64) ++ (decimal (mode / 8 % 8) ++ (decimal (mode % 8) ++ (10 ∷ [])))))))
+    ≡ (at ++ (32 ∷ (entry ++ (32 ∷ mode_word mode)))) ++ (10 ∷ [])
 written_mode at entry mode l =
     let owner = decimal_digit (mode / 64) (omega (arith, l)) in
     let group = decimal_digit (mode / 8 % 8) (omega arith) in

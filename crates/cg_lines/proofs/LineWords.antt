@@ -49,7 +49,8 @@ pub cut_word : (word rest : List ℕ) → is_word word ≡ true → cut (word ++
 cut_word word rest h =
     let text = word ++ (32 ∷ rest) in
     let e = first_space word rest h in
-    let l : nat_lt (length word) (length text) ≡ true = lt-ltb (length word) (length text) (omega (arith, length-append word (32 ∷ rest))) in
+    let l : nat_lt (length word) (length text) ≡ true =
+    lt-ltb (length word) (length text) (omega (arith, length-append word (32 ∷ rest))) in
     let front : take (length word) text ≡ word = take_at word (32 ∷ rest) (length word) refl in
     let back : drop (length word + 1) text ≡ rest =
     ap (drop (length word + 1)) (sym (append_assoc word (32 ∷ []) rest))
@@ -62,7 +63,8 @@ cut_word word rest h =
 pub cut_none : (word : List ℕ) → is_word word ≡ true → cut word ≡ None
 cut_none word h =
     let e = all_word word h in
-    let l : nat_lt (position_or_len is_space word) (length word) ≡ false = le-ltb (position_or_len is_space word) (length word) (omega (arith, e)) in
+    let l : nat_lt (position_or_len is_space word) (length word) ≡ false =
+    le-ltb (position_or_len is_space word) (length word) (omega (arith, e)) in
     ap (λ (b : Bool). cond b (Some (before_first is_space word, after_first is_space word)) None) l
 
 -- what a text is cut into

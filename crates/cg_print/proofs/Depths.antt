@@ -39,7 +39,8 @@ file_depth (Some held) other is =
     let low : depth (table (limit_table held)) ≤ 1 = omega (arith, limit_depth held) in
     subst (λ (d : Data). depth d ≤ 1) same low
 
-with_files_depth : (row : Cgroup) (files : List LimitFile) (keys : Members) → members_depth keys ≤ 1 → members_depth (fold (with_file row) keys files) ≤ 1
+with_files_depth : (row : Cgroup) (files : List LimitFile) (keys : Members) → members_depth keys ≤ 1
+    → members_depth (fold (with_file row) keys files) ≤ 1
 with_files_depth row [] keys low = low
 with_files_depth row (file ∷ files) keys low =
     with_files_depth row files (with_file row keys file) (depth-with_optional 1 (file_name file) _ keys (file_depth (file_of row file)) low)
@@ -49,7 +50,8 @@ unfolding files_table
 files_depth row =
     let procs : depth (table (entry_table row.procs)) ≤ 1 = omega (arith, entry_depth row.procs) in
     let control : depth (table (entry_table row.subtree_control)) ≤ 1 = omega (arith, entry_depth row.subtree_control) in
-    with_files_depth row all_files _ (depth-with_key 1 texts.cgroup_subtree_control _ _ control (depth-with_key 1 texts.cgroup_procs _ _ procs (omega arith)))
+    with_files_depth row all_files _
+    (depth-with_key 1 texts.cgroup_subtree_control _ _ control (depth-with_key 1 texts.cgroup_procs _ _ procs (omega arith)))
 
 texts_depth : (names : List (List ℕ)) → items_depth (items_of (map_list string names)) ≤ 0
 texts_depth [] = omega arith
@@ -64,26 +66,34 @@ cgroup_depth path row =
     let files : depth (table (files_table row)) ≤ 2 = omega (arith, files_depth row) in
     let dir : depth (table (entry_table row.dir)) ≤ 2 = omega (arith, entry_depth row.dir) in
     let enabled : depth (texts_array (names_in row.enabled)) ≤ 2 = omega (arith, names_depth (names_in row.enabled)) in
-    depth-with_key 2 _ _ _ files (depth-with_key 2 _ _ _ dir (depth-with_key 2 _ _ _ enabled (depth-with_key 2 _ _ _ (omega arith) (omega arith))))
+    depth-with_key 2 _ _ _ files
+    (depth-with_key 2 _ _ _ dir (depth-with_key 2 _ _ _ enabled (depth-with_key 2 _ _ _ (omega arith) (omega arith))))
 
 process_depth : (pid : ℕ) (process : Process) → members_depth (process_table pid process) ≤ 2
 unfolding process_table with_key
 process_depth pid process = omega arith
 
-rows_depth : {E : Type 0} (write : E → Data) → ((e : E) → depth (write e) ≤ 3) → (es : List E) → items_depth (items_of (map_list write es)) ≤ 3
+rows_depth : {E : Type 0} (write : E → Data) → ((e : E) → depth (write e) ≤ 3) → (es : List E)
+    → items_depth (items_of (map_list write es)) ≤ 3
 rows_depth write each [] = omega arith
 rows_depth write each (e ∷ es) = omega (arith, each e, rows_depth write each es)
 
-cgroups_depth : (es : List (Names × Cgroup)) → depth (array (items_of (map_list (λ (e : Names × Cgroup). table (cgroup_table e.0 e.1)) es))) ≤ 4
-cgroups_depth es = omega (arith, rows_depth (λ (e : Names × Cgroup). table (cgroup_table e.0 e.1)) (λ e. omega (arith, cgroup_depth e.0 e.1)) es)
+cgroups_depth : (es : List (Names × Cgroup))
+    → depth (array (items_of (map_list (λ (e : Names × Cgroup). table (cgroup_table e.0 e.1)) es))) ≤ 4
+cgroups_depth es =
+    omega (arith, rows_depth (λ (e : Names × Cgroup). table (cgroup_table e.0 e.1)) (λ e. omega (arith, cgroup_depth e.0 e.1)) es)
 
-processes_depth : (es : List (ℕ × Process)) → depth (array (items_of (map_list (λ (e : ℕ × Process). table (process_table e.0 e.1)) es))) ≤ 4
-processes_depth es = omega (arith, rows_depth (λ (e : ℕ × Process). table (process_table e.0 e.1)) (λ e. omega (arith, process_depth e.0 e.1)) es)
+processes_depth : (es : List (ℕ × Process))
+    → depth (array (items_of (map_list (λ (e : ℕ × Process). table (process_table e.0 e.1)) es))) ≤ 4
+processes_depth es =
+    omega (arith, rows_depth (λ (e : ℕ × Process). table (process_table e.0 e.1)) (λ e. omega (arith, process_depth e.0 e.1)) es)
 
 pub tree_depth : (st : State) → members_depth (tree_document st) ≤ 80
 unfolding tree_document
 tree_depth st =
     let names : depth (texts_array (names_in st.controllers)) ≤ 4 = omega (arith, names_depth (names_in st.controllers)) in
     let low : members_depth (tree_document st) ≤ 4 =
-    depth-with_key 4 _ _ _ (processes_depth (finite.entries st.live)) (depth-with_key 4 _ _ _ (cgroups_depth (finite.entries st.rows)) (depth-with_key 4 _ _ _ names (depth-with_key 4 _ _ _ (omega arith) (omega arith)))) in
+    depth-with_key 4 _ _ _ (processes_depth (finite.entries st.live))
+    (depth-with_key 4 _ _ _ (cgroups_depth (finite.entries st.rows))
+    (depth-with_key 4 _ _ _ names (depth-with_key 4 _ _ _ (omega arith) (omega arith)))) in
     omega (arith, low)

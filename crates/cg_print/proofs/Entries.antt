@@ -17,25 +17,31 @@ module _ {K X : Type 0} (R : K → K → Ordering) (o : IsTotalOrder R) where
   -- a key that is below all is none of them
   above : (k : K) (es : List (K × X)) → T (below_all R k es) → (i : ℕ) (d : K × X) → i < length es → R (get_or es i d).0 k ≡ Greater
   above k [] below i d inside = absurd (omega arith)
-  above k (e ∷ es) below zero d inside = o.antisymm e.0 k ∙ ap ordering_reverse (is_less (R k e.0) (first_of_both (is_lt (R k e.0)) (below_all R k es) below))
+  above k (e ∷ es) below zero d inside =
+      o.antisymm e.0 k ∙ ap ordering_reverse (is_less (R k e.0) (first_of_both (is_lt (R k e.0)) (below_all R k es) below))
   above k (e ∷ es) below (suc i) d inside = above k es (second_of_both (is_lt (R k e.0)) (below_all R k es) below) i d (omega arith)
 
-  found_at : (es : List (K × X)) → T (is_sorted R es) → (i : ℕ) (d : K × X) → i < length es → find R (get_or es i d).0 es ≡ Some (get_or es i d).1
+  found_at : (es : List (K × X)) → T (is_sorted R es) → (i : ℕ) (d : K × X) → i < length es
+      → find R (get_or es i d).0 es ≡ Some (get_or es i d).1
   found_at [] sorted i d inside = absurd (omega arith)
   found_at (e ∷ es) sorted zero d inside = ap (λ r. cond (is_eq r) (Some e.1) (find R e.0 es)) (tied_itself o e.0)
   found_at (e ∷ es) sorted (suc i) d inside =
-      ap (λ r. cond (is_eq r) (Some e.1) (find R (get_or es i d).0 es)) (above e.0 es (first_of_both (below_all R e.0 es) (is_sorted R es) sorted) i d (omega arith))
+      ap (λ r. cond (is_eq r) (Some e.1) (find R (get_or es i d).0 es))
+      (above e.0 es (first_of_both (below_all R e.0 es) (is_sorted R es) sorted) i d (omega arith))
       ∙ found_at es (second_of_both (below_all R e.0 es) (is_sorted R es) sorted) i d (omega arith)
 
-  pub none_before : (es : List (K × X)) → T (is_sorted R es) → (i : ℕ) (d : K × X) → i < length es → find R (get_or es i d).0 (take i es) ≡ None
+  pub none_before : (es : List (K × X)) → T (is_sorted R es) → (i : ℕ) (d : K × X) → i < length es
+      → find R (get_or es i d).0 (take i es) ≡ None
   none_before [] sorted i d inside = absurd (omega arith)
   none_before (e ∷ es) sorted zero d inside = refl
   none_before (e ∷ es) sorted (suc i) d inside =
-      ap (λ r. cond (is_eq r) (Some e.1) (find R (get_or es i d).0 (take i es))) (above e.0 es (first_of_both (below_all R e.0 es) (is_sorted R es) sorted) i d (omega arith))
+      ap (λ r. cond (is_eq r) (Some e.1) (find R (get_or es i d).0 (take i es)))
+      (above e.0 es (first_of_both (below_all R e.0 es) (is_sorted R es) sorted) i d (omega arith))
       ∙ none_before es (second_of_both (below_all R e.0 es) (is_sorted R es) sorted) i d (omega arith)
 
   -- the entry at a place is found by its key
-  pub entry_found : (m : FinMap R X) (i : ℕ) (d : K × X) → i < length (entries m) → get m (get_or (entries m) i d).0 ≡ Some (get_or (entries m) i d).1
+  pub entry_found : (m : FinMap R X) (i : ℕ) (d : K × X) → i < length (entries m)
+      → get m (get_or (entries m) i d).0 ≡ Some (get_or (entries m) i d).1
   entry_found m i d inside = finite.get-entries m _ ∙ found_at (entries m) (finite.entries_sorted m) i d inside
 
   all_there : (m : FinMap R X) (es : List (K × X))
@@ -76,44 +82,63 @@ all_push P [] x all here = (here, tt)
 all_push P (y ∷ xs) x all here = (all.0, all_push P xs x all.1 here)
 
 -- what holds of the first items and of the next holds of these together
-pub all_more : {A : Type 0} (P : A → Type 0) (xs : List A) (i : ℕ) (d : A) → i < length xs → AllByRecursion P (take i xs) → P (get_or xs i d) → AllByRecursion P (take (i + 1) xs)
-all_more P xs i d inside kept next = subst (AllByRecursion P) (sym (take_more xs i d inside)) (all_push P (take i xs) (get_or xs i d) kept next)
+pub all_more : {A : Type 0} (P : A → Type 0) (xs : List A) (i : ℕ) (d : A) → i < length xs → AllByRecursion P (take i xs)
+    → P (get_or xs i d) → AllByRecursion P (take (i + 1) xs)
+all_more P xs i d inside kept next =
+    subst (AllByRecursion P) (sym (take_more xs i d inside)) (all_push P (take i xs) (get_or xs i d) kept next)
 
-module _ {K X : Type 0} {R : K → K → Ordering} (o : IsTotalOrder R) (m : FinMap R X) (keys : List K) (same : keys ≡ finite.keys m) (i : ℕ) (key : K) (inside : i < length keys) (is : key ≡ get_or keys i key) where
+module _ {K X : Type 0} {R : K → K → Ordering} (o : IsTotalOrder R) (m : FinMap R X) (keys : List K) (same : keys ≡ finite.keys m) (i : ℕ)
+    (key : K) (inside : i < length keys) (is : key ≡ get_or keys i key) where
   within : i < length (entries m)
   within = omega (arith, ap length same, length-map (entries m) (λ (e : K × X). e.0))
 
   pub entry : (x : X) × (get m key ≡ Some x) × ((d : K × X) → get_or (entries m) i d ≡ (key, x))
   entry =
       let found = nth (entries m) i within in
-      let keyed : key ≡ found.0.0 = is ∙ ap (λ ks. get_or ks i key) same ∙ get_or-map (λ (e : K × X). e.0) (entries m) i found.0 key within ∙ ap (λ (e : K × X). e.0) (found.1 found.0) in
-      let there : get m found.0.0 ≡ Some found.0.1 = ap (λ (e : K × X). get m e.0) (sym (found.1 found.0)) ∙ entry_found R o m i found.0 within ∙ ap (λ (e : K × X). Some e.1) (found.1 found.0) in
+      let keyed : key ≡ found.0.0 =
+      is ∙ ap (λ ks. get_or ks i key) same ∙ get_or-map (λ (e : K × X). e.0) (entries m) i found.0 key within
+      ∙ ap (λ (e : K × X). e.0) (found.1 found.0) in
+      let there : get m found.0.0 ≡ Some found.0.1 =
+      ap (λ (e : K × X). get m e.0) (sym (found.1 found.0)) ∙ entry_found R o m i found.0 within
+      ∙ ap (λ (e : K × X). Some e.1) (found.1 found.0) in
       (found.0.1, ap (get m) keyed ∙ there, λ d. found.1 d ∙ (λ k. (sym keyed k, found.0.1)))
 
   pub there : is_some (get m key) ≡ true
   there = ap is_some entry.1
 
-  pub more_written : (write : K → X → Data) (values after : List Value) (value : Value) → after ≡ values ++ value ∷ [] → map_list view values ≡ take i (map_list (λ (e : K × X). write e.0 e.1) (entries m))
-      → Some (view value) ≡ option_map (write key) (get m key) → map_list view after ≡ take (i + 1) (map_list (λ (e : K × X). write e.0 e.1) (entries m))
+  pub more_written : (write : K → X → Data) (values after : List Value) (value : Value) → after ≡ values ++ value ∷ []
+      → map_list view values ≡ take i (map_list (λ (e : K × X). write e.0 e.1) (entries m))
+      → Some (view value) ≡ option_map (write key) (get m key)
+      → map_list view after ≡ take (i + 1) (map_list (λ (e : K × X). write e.0 e.1) (entries m))
   more_written write values after value grown kept seen =
       let all : List Data = map_list (λ (e : K × X). write e.0 e.1) (entries m) in
       let long : i < length all = omega (arith, within, length-map (entries m) (λ (e : K × X). write e.0 e.1)) in
       let shown : view value ≡ get_or all i (view value) =
       same_some (view value) (write key entry.0) (seen ∙ ap (option_map (write key)) entry.1)
-      ∙ sym (get_or-map (λ (e : K × X). write e.0 e.1) (entries m) i (key, entry.0) (view value) within ∙ ap (λ (e : K × X). write e.0 e.1) (entry.2 (key, entry.0))) in
-      ap (map_list view) grown ∙ map-append view values (value ∷ []) ∙ (λ k. kept k ++ shown k ∷ []) ∙ sym (take_more all i (view value) long)
+      ∙ sym (get_or-map (λ (e : K × X). write e.0 e.1) (entries m) i (key, entry.0) (view value) within
+      ∙ ap (λ (e : K × X). write e.0 e.1) (entry.2 (key, entry.0))) in
+      ap (map_list view) grown ∙ map-append view values (value ∷ []) ∙ (λ k. kept k ++ shown k ∷ [])
+      ∙ sym (take_more all i (view value) long)
 
-  pub more_named : (P : K → X → Type 0) → AllByRecursion (λ (e : K × X). P e.0 e.1) (take i (entries m)) → ((x : X) → get m key ≡ Some x → P key x) → AllByRecursion (λ (e : K × X). P e.0 e.1) (take (i + 1) (entries m))
+  pub more_named : (P : K → X → Type 0) → AllByRecursion (λ (e : K × X). P e.0 e.1) (take i (entries m))
+      → ((x : X) → get m key ≡ Some x → P key x) → AllByRecursion (λ (e : K × X). P e.0 e.1) (take (i + 1) (entries m))
   more_named P kept named =
-      let one : take (i + 1) (entries m) ≡ take i (entries m) ++ (key, entry.0) ∷ [] = take_more (entries m) i (key, entry.0) within ∙ ap (λ (e : K × X). take i (entries m) ++ e ∷ []) (entry.2 (key, entry.0)) in
-      subst (AllByRecursion (λ (e : K × X). P e.0 e.1)) (sym one) (all_push (λ (e : K × X). P e.0 e.1) (take i (entries m)) (key, entry.0) kept (named entry.0 entry.1))
+      let one : take (i + 1) (entries m) ≡ take i (entries m) ++ (key, entry.0) ∷ [] =
+      take_more (entries m) i (key, entry.0) within ∙ ap (λ (e : K × X). take i (entries m) ++ e ∷ []) (entry.2 (key, entry.0)) in
+      subst (AllByRecursion (λ (e : K × X). P e.0 e.1)) (sym one)
+      (all_push (λ (e : K × X). P e.0 e.1) (take i (entries m)) (key, entry.0) kept (named entry.0 entry.1))
 
-module _ {K X : Type 0} {R : K → K → Ordering} (m : FinMap R X) (keys : List K) (same : keys ≡ finite.keys m) (i : ℕ) (ended : length keys ≤ i) where
+module _ {K X : Type 0} {R : K → K → Ordering} (m : FinMap R X) (keys : List K) (same : keys ≡ finite.keys m) (i : ℕ)
+    (ended : length keys ≤ i) where
   past : length (entries m) ≤ i
   past = omega (arith, ap length same, length-map (entries m) (λ (e : K × X). e.0))
 
-  pub all_written : (write : K → X → Data) → take i (map_list (λ (e : K × X). write e.0 e.1) (entries m)) ≡ map_list (λ (e : K × X). write e.0 e.1) (entries m)
-  all_written write = take_all i (map_list (λ (e : K × X). write e.0 e.1) (entries m)) (omega (arith, past, length-map (entries m) (λ (e : K × X). write e.0 e.1)))
+  pub all_written : (write : K → X → Data)
+      → take i (map_list (λ (e : K × X). write e.0 e.1) (entries m)) ≡ map_list (λ (e : K × X). write e.0 e.1) (entries m)
+  all_written write =
+      take_all i (map_list (λ (e : K × X). write e.0 e.1) (entries m))
+      (omega (arith, past, length-map (entries m) (λ (e : K × X). write e.0 e.1)))
 
-  pub all_named : (P : K → X → Type 0) → AllByRecursion (λ (e : K × X). P e.0 e.1) (take i (entries m)) → AllByRecursion (λ (e : K × X). P e.0 e.1) (entries m)
+  pub all_named : (P : K → X → Type 0) → AllByRecursion (λ (e : K × X). P e.0 e.1) (take i (entries m))
+      → AllByRecursion (λ (e : K × X). P e.0 e.1) (entries m)
   all_named P named = subst (AllByRecursion (λ (e : K × X). P e.0 e.1)) (take_all i (entries m) past) named

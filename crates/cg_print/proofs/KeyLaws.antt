@@ -16,30 +16,36 @@ use Rattle.cg_print.specs.Keys.{with_key, with_optional}
 
 -- ---- in the map that holds a table
 
-match_members : (o : Ordering) (a b c : List Entry) → members_view (match_ordering o a b c) ≡ match_ordering o (members_view a) (members_view b) (members_view c)
+match_members : (o : Ordering) (a b c : List Entry)
+    → members_view (match_ordering o a b c) ≡ match_ordering o (members_view a) (members_view b) (members_view c)
 match_members Less a b c = refl
 match_members Equal a b c = refl
 match_members Greater a b c = refl
 
-pub members_view-insert : (es : List Entry) (k : String Global) (v : Value) → members_view (insert_entry string_cmp es k v) ≡ with_key (string_bytes k) (view v) (members_view es)
+pub members_view-insert : (es : List Entry) (k : String Global) (v : Value)
+    → members_view (insert_entry string_cmp es k v) ≡ with_key (string_bytes k) (view v) (members_view es)
 unfolding with_key
 members_view-insert [] k v = refl
 members_view-insert (e ∷ es) k v = match_members (string_cmp k e.0) _ _ _ ∙ rw (members_view-insert es k v)
 
 -- ---- how deep a table is
 
-pub depth-with_key : (n : ℕ) (key : List ℕ) (held : Data) (keys : Members) → depth held ≤ n → members_depth keys ≤ n → members_depth (with_key key held keys) ≤ n
+pub depth-with_key : (n : ℕ) (key : List ℕ) (held : Data) (keys : Members) → depth held ≤ n → members_depth keys ≤ n
+    → members_depth (with_key key held keys) ≤ n
 unfolding with_key
 depth-with_key n key held no_members value rest = omega arith
 depth-with_key n key held (member other was keys) value rest =
     let later : members_depth (with_key key held keys) ≤ n = depth-with_key n key held keys value (omega arith) in
-    elim (slice_cmp nat_cmp key other) as (λ o. members_depth (match_ordering o (member key held (member other was keys)) (member other held keys) (member other was (with_key key held keys))) ≤ n) [
+    elim (slice_cmp nat_cmp key other) as (λ o. members_depth
+    (match_ordering o (member key held (member other was keys)) (member other held keys) (member other was (with_key key held keys))) ≤
+    n) [
       | Less ↦ omega arith
       | Equal ↦ omega arith
       | Greater ↦ omega arith
     ]
 
-pub depth-with_optional : (n : ℕ) (key : List ℕ) (found : Option Data) (keys : Members) → ((held : Data) → found ≡ Some held → depth held ≤ n) → members_depth keys ≤ n → members_depth (with_optional key found keys) ≤ n
+pub depth-with_optional : (n : ℕ) (key : List ℕ) (found : Option Data) (keys : Members)
+    → ((held : Data) → found ≡ Some held → depth held ≤ n) → members_depth keys ≤ n → members_depth (with_optional key found keys) ≤ n
 unfolding with_optional
 depth-with_optional n key None keys value rest = rest
 depth-with_optional n key (Some held) keys value rest = depth-with_key n key held keys (value held refl) rest
@@ -52,19 +58,23 @@ pub record AsksEach (test : List ℕ → Bool) (only : Members → Bool) : Type 
   pub one : (key : List ℕ) (held : Data) (keys : Members) → only (member key held keys) ≡ (test key && only keys)
 
 module _ (test : List ℕ → Bool) (only : Members → Bool) (asks : AsksEach test only) where
-  pub only-with_key : (key : List ℕ) (held : Data) (keys : Members) → test key ≡ true → only keys ≡ true → only (with_key key held keys) ≡ true
+  pub only-with_key : (key : List ℕ) (held : Data) (keys : Members) → test key ≡ true → only keys ≡ true
+      → only (with_key key held keys) ≡ true
   unfolding with_key
   only-with_key key held no_members is all = asks.one key held no_members ∙ and_from (test key) (only no_members) is all
   only-with_key key held (member other was keys) is all =
       let parts = and_parts (test other) (only keys) (sym (asks.one other was keys) ∙ all) in
       let later : only (with_key key held keys) ≡ true = only-with_key key held keys is parts.1 in
-      elim (slice_cmp nat_cmp key other) as (λ o. only (match_ordering o (member key held (member other was keys)) (member other held keys) (member other was (with_key key held keys))) ≡ true) [
+      elim (slice_cmp nat_cmp key other) as (λ o. only
+      (match_ordering o (member key held (member other was keys)) (member other held keys) (member other was (with_key key held keys)))
+      ≡ true) [
         | Less ↦ asks.one key held (member other was keys) ∙ and_from (test key) (only (member other was keys)) is all
         | Equal ↦ asks.one other held keys ∙ and_from (test other) (only keys) parts.0 parts.1
         | Greater ↦ asks.one other was (with_key key held keys) ∙ and_from (test other) (only (with_key key held keys)) parts.0 later
       ]
 
-  pub only-with_optional : (key : List ℕ) (found : Option Data) (keys : Members) → test key ≡ true → only keys ≡ true → only (with_optional key found keys) ≡ true
+  pub only-with_optional : (key : List ℕ) (found : Option Data) (keys : Members) → test key ≡ true → only keys ≡ true
+      → only (with_optional key found keys) ≡ true
   unfolding with_optional
   only-with_optional key None keys is all = all
   only-with_optional key (Some held) keys is all = only-with_key key held keys is all
@@ -92,35 +102,48 @@ found_as Less found other = refl
 found_as Equal found other = refl
 found_as Greater found other = refl
 
-put_over : (o : Ordering) (new old other : Option Data) → match_ordering o other new other ≡ cond (is_eq o) new (match_ordering o other old other)
+put_over : (o : Ordering) (new old other : Option Data)
+    → match_ordering o other new other ≡ cond (is_eq o) new (match_ordering o other old other)
 put_over Less new old other = refl
 put_over Equal new old other = refl
 put_over Greater new old other = refl
 
 -- a look-up past a key that isn't the one that was put
-past : (q key other : List ℕ) → slice_cmp nat_cmp key other ≡ Greater → (held was : Data) (rest new : Option Data) → new ≡ cond (is_eq (slice_cmp nat_cmp q key)) (Some held) rest
-    → (o : Ordering) → slice_cmp nat_cmp q other ≡ o → match_ordering o new (Some was) new ≡ cond (is_eq (slice_cmp nat_cmp q key)) (Some held) (match_ordering o rest (Some was) rest)
+past : (q key other : List ℕ) → slice_cmp nat_cmp key other ≡ Greater → (held was : Data) (rest new : Option Data)
+    → new ≡ cond (is_eq (slice_cmp nat_cmp q key)) (Some held) rest
+    → (o : Ordering) → slice_cmp nat_cmp q other ≡ o
+    → match_ordering o new (Some was) new ≡ cond (is_eq (slice_cmp nat_cmp q key)) (Some held) (match_ordering o rest (Some was) rest)
 past q key other after held was rest new is Less ties = is
 past q key other after held was rest new is Equal ties =
     let apart : slice_cmp nat_cmp q key ≡ Less =
-    ap (λ (x : List ℕ). slice_cmp nat_cmp x key) (same_text q other ties) ∙ nat_list_cmp_total.antisymm other key ∙ ap ordering_reverse after in
+    ap (λ (x : List ℕ). slice_cmp nat_cmp x key) (same_text q other ties) ∙ nat_list_cmp_total.antisymm other key
+    ∙ ap ordering_reverse after in
     sym (ap (λ o. cond (is_eq o) (Some held) (Some was)) apart)
 past q key other after held was rest new is Greater ties = is
 
-pub get-with_key : (q key : List ℕ) (held : Data) (keys : Members) → get_member q (with_key key held keys) ≡ cond (is_eq (slice_cmp nat_cmp q key)) (Some held) (get_member q keys)
+pub get-with_key : (q key : List ℕ) (held : Data) (keys : Members)
+    → get_member q (with_key key held keys) ≡ cond (is_eq (slice_cmp nat_cmp q key)) (Some held) (get_member q keys)
 unfolding with_key
 get-with_key q key held no_members = found_as (slice_cmp nat_cmp q key) (Some held) None
 get-with_key q key held (member other was keys) =
-    let later : get_member q (with_key key held keys) ≡ cond (is_eq (slice_cmp nat_cmp q key)) (Some held) (get_member q keys) = get-with_key q key held keys in
-    elim (slice_cmp nat_cmp key other) as (λ o. slice_cmp nat_cmp key other ≡ o → get_member q (match_ordering o (member key held (member other was keys)) (member other held keys) (member other was (with_key key held keys))) ≡ cond (is_eq (slice_cmp nat_cmp q key)) (Some held) (get_member q (member other was keys))) [
+    let later : get_member q (with_key key held keys) ≡ cond (is_eq (slice_cmp nat_cmp q key)) (Some held) (get_member q keys) =
+    get-with_key q key held keys in
+    elim (slice_cmp nat_cmp key other) as (λ o. slice_cmp nat_cmp key other ≡ o
+    → get_member q
+    (match_ordering o (member key held (member other was keys)) (member other held keys) (member other was (with_key key held keys)))
+    ≡ cond (is_eq (slice_cmp nat_cmp q key)) (Some held) (get_member q (member other was keys))) [
       | Less ↦ λ _. found_as (slice_cmp nat_cmp q key) (Some held) (get_member q (member other was keys))
       | Equal ↦ λ ties.
           put_over (slice_cmp nat_cmp q other) (Some held) (Some was) (get_member q keys)
-          ∙ ap (λ (x : List ℕ). cond (is_eq (slice_cmp nat_cmp q x)) (Some held) (get_member q (member other was keys))) (sym (same_text key other ties))
-      | Greater ↦ λ after. past q key other after held was (get_member q keys) (get_member q (with_key key held keys)) later (slice_cmp nat_cmp q other) refl
+          ∙ ap (λ (x : List ℕ). cond (is_eq (slice_cmp nat_cmp q x)) (Some held) (get_member q (member other was keys)))
+          (sym (same_text key other ties))
+      | Greater ↦
+          λ after.
+          past q key other after held was (get_member q keys) (get_member q (with_key key held keys)) later (slice_cmp nat_cmp q other) refl
     ] refl
 
-pub get-with_optional : (q key : List ℕ) (found : Option Data) (keys : Members) → get_member q (with_optional key found keys) ≡ look q key found (get_member q keys)
+pub get-with_optional : (q key : List ℕ) (found : Option Data) (keys : Members)
+    → get_member q (with_optional key found keys) ≡ look q key found (get_member q keys)
 unfolding with_optional
 get-with_optional q key None keys = same_either (is_eq (slice_cmp nat_cmp q key)) (get_member q keys)
   where

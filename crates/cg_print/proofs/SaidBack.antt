@@ -47,7 +47,8 @@ joined_owner uid gid mode = do
 
 module _ (missing : ℕ) (entry : Entry) (ids : HasIds entry) (small : entry.mode ≤ 511) where
   numbers_again :
-      joined_owner (id_read (Some (pos entry.uid))) (id_read (Some (pos entry.gid))) (mode_read Two missing (Some (pos entry.mode))) ≡ Some entry
+      joined_owner (id_read (Some (pos entry.uid))) (id_read (Some (pos entry.gid))) (mode_read Two missing (Some (pos entry.mode)))
+      ≡ Some entry
   numbers_again =
       let uid = id_again entry.uid ids.0 in
       let gid = id_again entry.gid ids.1 in

@@ -56,14 +56,16 @@ module _ (pretty : Bool) where
     value_once (table ms) one other plain a b =
         a.1 ∙ ap (λ rest. codes "{" ++ rest) (members_once ms true a.0 b.0 plain a.2 b.2) ∙ sym b.1
 
-    items_once : (ds : Items) (lines is_first : Bool) (one other : List ℕ) → ArePlain ds → IsItemsText pretty lines is_first ds one → IsItemsText pretty lines is_first ds other → one ≡ other
+    items_once : (ds : Items) (lines is_first : Bool) (one other : List ℕ) → ArePlain ds → IsItemsText pretty lines is_first ds one
+        → IsItemsText pretty lines is_first ds other → one ≡ other
     items_once no_items lines is_first one other plain a b = a ∙ sym b
     items_once (item d ds) lines is_first one other plain a b =
         let value = value_once d a.0 b.0 plain.0 a.3 b.3 in
         let more = items_once ds lines false a.1 b.1 plain.1 a.4 b.4 in
         cc (a.2, b.2, value, more)
 
-    members_once : (ms : Members) (is_first : Bool) (one other : List ℕ) → HasPlain ms → IsMembersText pretty is_first ms one → IsMembersText pretty is_first ms other → one ≡ other
+    members_once : (ms : Members) (is_first : Bool) (one other : List ℕ) → HasPlain ms → IsMembersText pretty is_first ms one
+        → IsMembersText pretty is_first ms other → one ≡ other
     members_once no_members is_first one other plain a b = a ∙ sym b
     members_once (member key d ms) is_first one other plain a b =
         let value = value_once d a.0 b.0 plain.0 a.3 b.3 in
@@ -81,14 +83,16 @@ abbrev ArePlainLines : List Expression → Type 0
 ArePlainLines [] = Unit {0}
 ArePlainLines (e ∷ es) = IsPlainLine e.1 × ArePlainLines es
 
-line_once : (pretty started : Bool) (key : List (List ℕ) × List ℕ) (d : Definition) (one other : List ℕ) → IsPlainLine d → IsLineText pretty started key d one → IsLineText pretty started key d other → one ≡ other
+line_once : (pretty started : Bool) (key : List (List ℕ) × List ℕ) (d : Definition) (one other : List ℕ) → IsPlainLine d
+    → IsLineText pretty started key d one → IsLineText pretty started key d other → one ≡ other
 line_once pretty started key (key_value d) one other plain a b =
     let value = value_once pretty d a.0 b.0 plain a.2 b.2 in
     cc (a.1, b.1, value)
 line_once pretty started key std_table one other plain a b = a ∙ sym b
 line_once pretty started key array_table one other plain a b = a ∙ sym b
 
-lines_once : (pretty started : Bool) (es : List Expression) (one other : List ℕ) → ArePlainLines es → IsLinesText pretty started es one → IsLinesText pretty started es other → one ≡ other
+lines_once : (pretty started : Bool) (es : List Expression) (one other : List ℕ) → ArePlainLines es → IsLinesText pretty started es one
+    → IsLinesText pretty started es other → one ≡ other
 lines_once pretty started [] one other plain a b = a ∙ sym b
 lines_once pretty started (e ∷ es) one other plain a b =
     let line = line_once pretty started e.0 e.1 a.0 b.0 plain.0 a.3 b.3 in
@@ -125,7 +129,8 @@ mutual
   plain_section (datetime dt) key plain = tt
   plain_section (array ds) key plain = plain_either (are_tables ds) (elements key ds) [] (plain_elements ds key plain) tt
   plain_section (table ms) key plain =
-      plain_both (header_of key ms) _ (plain_header key ms) (plain_both (pairs ms) (sections (key.0 ++ key.1 ∷ []) ms) (plain_pairs ms plain) (plain_sections ms (key.0 ++ key.1 ∷ []) plain))
+      plain_both (header_of key ms) _ (plain_header key ms)
+      (plain_both (pairs ms) (sections (key.0 ++ key.1 ∷ []) ms) (plain_pairs ms plain) (plain_sections ms (key.0 ++ key.1 ∷ []) plain))
 
   plain_elements : (ds : Items) (key : List (List ℕ) × List ℕ) → ArePlain ds → ArePlainLines (elements key ds)
   plain_elements no_items key plain = tt
@@ -138,7 +143,8 @@ mutual
   plain_elements (item (table ms) ds) key plain = (
     tt,
     plain_both (pairs ms ++ sections (key.0 ++ key.1 ∷ []) ms) (elements key ds)
-        (plain_both (pairs ms) (sections (key.0 ++ key.1 ∷ []) ms) (plain_pairs ms plain.0) (plain_sections ms (key.0 ++ key.1 ∷ []) plain.0))
+        (plain_both (pairs ms) (sections (key.0 ++ key.1 ∷ []) ms) (plain_pairs ms plain.0)
+        (plain_sections ms (key.0 ++ key.1 ∷ []) plain.0))
         (plain_elements ds key plain.1),
   )
 
@@ -153,10 +159,12 @@ plain_key : (key : List ℕ) (held : Data) (keys : Members) → IsPlain held →
 unfolding with_key
 plain_key key held no_members value rest = (value, tt)
 plain_key key held (member other was keys) value rest =
-    plain_ordered (slice_cmp nat_cmp key other) (member key held (member other was keys)) (member other held keys) (member other was (with_key key held keys))
+    plain_ordered (slice_cmp nat_cmp key other) (member key held (member other was keys)) (member other held keys)
+    (member other was (with_key key held keys))
     (value, rest) (value, rest.1) (rest.0, plain_key key held keys value rest.1)
 
-plain_optional : (key : List ℕ) (found : Option Data) (keys : Members) → ((held : Data) → found ≡ Some held → IsPlain held) → HasPlain keys → HasPlain (with_optional key found keys)
+plain_optional : (key : List ℕ) (found : Option Data) (keys : Members) → ((held : Data) → found ≡ Some held → IsPlain held) → HasPlain keys
+    → HasPlain (with_optional key found keys)
 unfolding with_optional
 plain_optional key None keys value rest = rest
 plain_optional key (Some held) keys value rest = plain_key key held keys (value held refl) rest
@@ -180,11 +188,14 @@ plain_file (Some held) other is = let same : table (limit_table held) ≡ other 
 plain_fold : (row : Cgroup) (files : List LimitFile) (keys : Members) → HasPlain keys → HasPlain (fold (with_file row) keys files)
 plain_fold row [] keys plain = plain
 plain_fold row (file ∷ files) keys plain =
-    plain_fold row files (with_file row keys file) (plain_optional (file_name file) (table_of_file (file_of row file)) keys (plain_file (file_of row file)) plain)
+    plain_fold row files (with_file row keys file)
+    (plain_optional (file_name file) (table_of_file (file_of row file)) keys (plain_file (file_of row file)) plain)
 
 plain_files : (row : Cgroup) → HasPlain (files_table row)
 unfolding files_table
-plain_files row = plain_fold row all_files _ (plain_key texts.cgroup_subtree_control (table (entry_table row.subtree_control)) _ (plain_entry row.subtree_control)
+plain_files row =
+    plain_fold row all_files _ (plain_key texts.cgroup_subtree_control (table (entry_table row.subtree_control)) _
+    (plain_entry row.subtree_control)
     (plain_key texts.cgroup_procs (table (entry_table row.procs)) no_members (plain_entry row.procs) tt))
 
 plain_texts : (names : List (List ℕ)) → ArePlain (items_of (map_list string names))
@@ -202,7 +213,8 @@ plain_process : (e : ℕ × Process) → HasPlain (process_table e.0 e.1)
 unfolding process_table
 plain_process e = plain_key _ _ _ tt (plain_key _ _ _ tt (plain_key _ _ no_members tt tt))
 
-plain_rows : {E : Type 0} (write : E → Members) → ((e : E) → HasPlain (write e)) → (es : List E) → ArePlain (items_of (map_list (λ e. table (write e)) es))
+plain_rows : {E : Type 0} (write : E → Members) → ((e : E) → HasPlain (write e)) → (es : List E)
+    → ArePlain (items_of (map_list (λ e. table (write e)) es))
 plain_rows write each [] = tt
 plain_rows write each (e ∷ es) = (each e, plain_rows write each es)
 
@@ -218,5 +230,6 @@ plain_tree st =
 pub spelled_once : (st : State) (one other : List ℕ) → IsSpelled st one → IsSpelled st other → one ≡ other
 spelled_once st one other a b =
     lines_once false false (expressions (tree_document st)) one other
-    (plain_both (pairs (tree_document st)) (sections [] (tree_document st)) (plain_pairs (tree_document st) (plain_tree st)) (plain_sections (tree_document st) [] (plain_tree st)))
+    (plain_both (pairs (tree_document st)) (sections [] (tree_document st)) (plain_pairs (tree_document st) (plain_tree st))
+    (plain_sections (tree_document st) [] (plain_tree st)))
     a b

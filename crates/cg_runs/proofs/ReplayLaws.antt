@@ -38,10 +38,23 @@ limits-row : (st : State) (subtree : Names) (row : Cgroup) → row_at st subtree
 limits-row st subtree row is = λ i file. option_and_then (λ r. value_in r file) (is i)
 
 intact-whole : (had : LimitMap) (st new : State) (subtree : Names) → IsWhole had st new subtree → IsIntact had new subtree
-intact-whole had st new subtree whole = record { there = whole.there; limits = ap (same_limits had) whole.limits ∙ same_limits-itself had; descendants = whole.descendants; depth = whole.depth }
+intact-whole had st new subtree whole =
+    record {
+      there = whole.there;
+      limits = ap (same_limits had) whole.limits ∙ same_limits-itself had;
+      descendants = whole.descendants;
+      depth = whole.depth;
+    }
 
 whole-intact : (had : LimitMap) (st : State) (subtree : Names) → IsIntact had st subtree → IsWhole had st st subtree
-whole-intact had st subtree intact = record { there = intact.there; edge = none-crosses-same st subtree; limits = sym (same_limits-is _ _ intact.limits); descendants = intact.descendants; depth = intact.depth }
+whole-intact had st subtree intact =
+    record {
+      there = intact.there;
+      edge = none-crosses-same st subtree;
+      limits = sym (same_limits-is _ _ intact.limits);
+      descendants = intact.descendants;
+      depth = intact.depth;
+    }
 
 -- ---- verdicts
 
@@ -49,20 +62,23 @@ none_later : (clauses : List Clause) (steps : ℕ) → or_later clauses steps Ke
 none_later [] steps h = refl
 none_later (clause ∷ clauses) steps h = cc
 
-still_kept : (before : Verdict) (clauses : List Clause) (steps : ℕ) → or_broken before clauses steps ≡ Kept → (before ≡ Kept) × (clauses ≡ [])
+still_kept : (before : Verdict) (clauses : List Clause) (steps : ℕ) → or_broken before clauses steps ≡ Kept
+    → (before ≡ Kept) × (clauses ≡ [])
 still_kept Kept clauses steps h = (refl, none_later clauses steps h)
 still_kept (Broken earlier clause) clauses steps h = cc
 
 -- ---- the start
 
 -- what is asked of the subtree, by its depth
-pub row-asked : (st : State) (subtree : Names) (len : ℕ) (row : Cgroup) → len ≡ length subtree → Some row ≡ row_at st (take len subtree) → row_at st subtree ≡ Some row
+pub row-asked : (st : State) (subtree : Names) (len : ℕ) (row : Cgroup) → len ≡ length subtree → Some row ≡ row_at st (take len subtree)
+    → row_at st subtree ≡ Some row
 row-asked st subtree len row whole is = ap (row_at st) (sym (take_whole subtree len whole)) ∙ sym is
 
 pub not_root-asked : (subtree : Names) (len : ℕ) → len ≡ length subtree → (len ≡ 0 → ⊥) → is_root subtree ≡ false
 not_root-asked subtree len whole some = no_root_of_length subtree (omega (arith, some))
 
-module _ (st : State) (subtree : Names) (row : Cgroup) (start : Verdict) (formed : IsWellFormed st) (is : row_at st subtree ≡ Some row) (found : start ≡ or_later (broken st st st subtree) 0 Kept) where
+module _ (st : State) (subtree : Names) (row : Cgroup) (start : Verdict) (formed : IsWellFormed st) (is : row_at st subtree ≡ Some row)
+    (found : start ≡ or_later (broken st st st subtree) 0 Kept) where
   abbrev begun : Progress
   begun = record { subtree = subtree; original = row; state = st; steps = 0; verdict = start }
 
@@ -71,7 +87,8 @@ module _ (st : State) (subtree : Names) (row : Cgroup) (start : Verdict) (formed
     bound = omega arith;
     sound = sound-formed st formed;
     intact = λ kept. subst (λ had. IsIntact had st subtree) (limits-row st subtree row is)
-        (intact-whole (limits st subtree) st st subtree (broken-whole (limits st subtree) st st subtree (none_later _ 0 (sym found ∙ kept))));
+        (intact-whole (limits st subtree) st st subtree
+        (broken-whole (limits st subtree) st st subtree (none_later _ 0 (sym found ∙ kept))));
   }
 
   pub run-start : IsRunOf begun st []
@@ -113,7 +130,8 @@ module _ (st : State) (user : Identity) (op : Op) (new : State) where
   applied-after (Refused refusal) is = is.unchanged tt ∙ sym (after-refused refusal is.refused)
 
 -- where a step can't have broken anything, the verdict stays
-verdict-still : (before : Verdict) (outcome : Outcome) (clauses : List Clause) (steps : ℕ) → may_break before outcome ≡ false → ((refusal : Refusal) → before ≡ Kept → outcome ≡ Refused refusal → clauses ≡ []) → before ≡ or_broken before clauses steps
+verdict-still : (before : Verdict) (outcome : Outcome) (clauses : List Clause) (steps : ℕ) → may_break before outcome ≡ false
+    → ((refusal : Refusal) → before ≡ Kept → outcome ≡ Refused refusal → clauses ≡ []) → before ≡ or_broken before clauses steps
 verdict-still (Broken earlier clause) outcome clauses steps h none = refl
 verdict-still Kept Done clauses steps h none = absurd (true≢false h)
 verdict-still Kept (Refused refusal) clauses steps h none = sym (ap (λ these. or_later these steps Kept) (none refusal refl refl))
@@ -131,58 +149,78 @@ module _ (run : Progress) (user : Identity) (op : Op) where
   abbrev broke : List Clause
   broke = broken_since (value_in run.original) run.state (after run.state user op) run.subtree
 
-  come_to-stepped : (new : State) (now : Verdict) → new ≡ after run.state user op → now ≡ or_broken run.verdict broke (suc run.steps) → come_to new now ≡ stepped run user op
-  come_to-stepped new now is_state is_verdict = let more : run.steps + 1 ≡ suc run.steps = add-one run.steps in λ i. record { subtree = run.subtree; original = run.original; state = is_state i; steps = more i; verdict = is_verdict i }
+  come_to-stepped : (new : State) (now : Verdict) → new ≡ after run.state user op → now ≡ or_broken run.verdict broke (suc run.steps)
+      → come_to new now ≡ stepped run user op
+  come_to-stepped new now is_state is_verdict =
+      let more : run.steps + 1 ≡ suc run.steps = add-one run.steps in
+      λ i. record { subtree = run.subtree; original = run.original; state = is_state i; steps = more i; verdict = is_verdict i }
 
   module _ (at : IsReplay run) (new : State) (outcome : Outcome) (is : IsApplied run.state user op new outcome) where
     pub step-still : may_break run.verdict outcome ≡ false → come_to new run.verdict ≡ stepped run user op
     step-still h =
-        come_to-stepped new run.verdict (applied-after run.state user op new outcome is) (verdict-still run.verdict outcome broke (suc run.steps) h (λ refusal kept refused.
+        come_to-stepped new run.verdict (applied-after run.state user op new outcome is) (verdict-still run.verdict outcome broke
+        (suc run.steps) h (λ refusal kept refused.
         let had = value_in run.original in
-        let same = after-refused run.state user op new refusal (subst (λ found. RefusedBy found (first (bars run.state user op))) refused is.refused) in
-        ap (λ st. broken_since had run.state st run.subtree) same ∙ whole-broken had run.state run.state run.subtree (whole-intact had run.state run.subtree (at.intact kept))))
+        let same =
+        after-refused run.state user op new refusal
+        (subst (λ found. RefusedBy found (first (bars run.state user op))) refused is.refused) in
+        ap (λ st. broken_since had run.state st run.subtree) same
+        ∙ whole-broken had run.state run.state run.subtree (whole-intact had run.state run.subtree (at.intact kept))))
 
-    pub step-done : may_break run.verdict outcome ≡ true → (broken : Option Clause) → broken ≡ first (broken_by (value_in run.original) (moves_over run.state run.subtree op) new run.subtree op)
-        → (now : Verdict) → ((clauses : List Clause) → broken ≡ first clauses → now ≡ or_later clauses (run.steps + 1) Kept) → come_to new now ≡ stepped run user op
+    pub step-done : may_break run.verdict outcome ≡ true → (broken : Option Clause)
+        → broken ≡ first (broken_by (value_in run.original) (moves_over run.state run.subtree op) new run.subtree op)
+        → (now : Verdict) → ((clauses : List Clause) → broken ≡ first clauses → now ≡ or_later clauses (run.steps + 1) Kept)
+        → come_to new now ≡ stepped run user op
     step-done h broken by now found =
         let both = may-parts run.verdict outcome h in
         let free = (is.done both.1).0 in
         let had = value_in run.original in
         let moves = moves_over run.state run.subtree op in
         let is_after = applied-after run.state user op new outcome is in
-        let first_broken = by ∙ ap (λ st. first (broken_by had moves st run.subtree op)) is_after ∙ first-broken_by had run.state user run.subtree at.sound (at.intact both.0) op free in
+        let first_broken =
+        by ∙ ap (λ st. first (broken_by had moves st run.subtree op)) is_after
+        ∙ first-broken_by had run.state user run.subtree at.sound (at.intact both.0) op free in
         let before = sym (ap (λ verdict. or_broken verdict broke (suc run.steps)) both.0) in
         come_to-stepped new now is_after (found broke first_broken ∙ ap (λ n. or_later broke n Kept) (add-one run.steps) ∙ before)
 
     pub replay-still : run.steps < 65536 → may_break run.verdict outcome ≡ false → IsReplay (come_to new run.verdict)
     replay-still few h = subst IsReplay (sym (step-still h)) (replay-stepped run user op at few)
 
-    pub replay-done : run.steps < 65536 → may_break run.verdict outcome ≡ true → (broken : Option Clause) → broken ≡ first (broken_by (value_in run.original) (moves_over run.state run.subtree op) new run.subtree op)
-        → (now : Verdict) → ((clauses : List Clause) → broken ≡ first clauses → now ≡ or_later clauses (run.steps + 1) Kept) → IsReplay (come_to new now)
+    pub replay-done : run.steps < 65536 → may_break run.verdict outcome ≡ true → (broken : Option Clause)
+        → broken ≡ first (broken_by (value_in run.original) (moves_over run.state run.subtree op) new run.subtree op)
+        → (now : Verdict) → ((clauses : List Clause) → broken ≡ first clauses → now ≡ or_later clauses (run.steps + 1) Kept)
+        → IsReplay (come_to new now)
     replay-done few h broken by now found = subst IsReplay (sym (step-done h broken by now found)) (replay-stepped run user op at few)
 
 -- ---- runs
 
-after_all-last : (st : State) (deeds : List Deed) (user : Identity) (op : Op) → after_all st (deeds ++ (user, op) ∷ []) ≡ after (after_all st deeds) user op
+after_all-last : (st : State) (deeds : List Deed) (user : Identity) (op : Op)
+    → after_all st (deeds ++ (user, op) ∷ []) ≡ after (after_all st deeds) user op
 after_all-last st [] user op = refl
 after_all-last st (deed ∷ deeds) user op = after_all-last (after st deed.0 deed.1) deeds user op
 
-broken-earlier : (clauses more : List Clause) (steps other : ℕ) (later : Verdict) → or_broken (or_later clauses steps later) more other ≡ or_later clauses steps (or_broken later more other)
+broken-earlier : (clauses more : List Clause) (steps other : ℕ) (later : Verdict)
+    → or_broken (or_later clauses steps later) more other ≡ or_later clauses steps (or_broken later more other)
 broken-earlier [] more steps other later = refl
 broken-earlier (clause ∷ clauses) more steps other later = refl
 
-verdict-last : (start : State) (steps : ℕ) (st : State) (deeds : List Deed) (user : Identity) (op : Op) (subtree : Names) → verdict_from start steps st (deeds ++ (user, op) ∷ []) subtree
-    ≡ or_broken (verdict_from start steps st deeds subtree) (broken start (after_all st deeds) (after (after_all st deeds) user op) subtree) (suc (steps + length deeds))
-verdict-last start steps st [] user op subtree = let none : steps ≡ steps + 0 = omega arith in ap (λ n. or_later (broken start st (after st user op) subtree) (suc n) Kept) none
+verdict-last : (start : State) (steps : ℕ) (st : State) (deeds : List Deed) (user : Identity) (op : Op) (subtree : Names)
+    → verdict_from start steps st (deeds ++ (user, op) ∷ []) subtree
+    ≡ or_broken (verdict_from start steps st deeds subtree) (broken start (after_all st deeds) (after (after_all st deeds) user op) subtree)
+    (suc (steps + length deeds))
+verdict-last start steps st [] user op subtree =
+    let none : steps ≡ steps + 0 = omega arith in ap (λ n. or_later (broken start st (after st user op) subtree) (suc n) Kept) none
 verdict-last start steps st (deed ∷ deeds) user op subtree =
     let next = after st deed.0 deed.1 in
     let one = broken start st next subtree in
     let last = broken start (after_all next deeds) (after (after_all next deeds) user op) subtree in
     let more : suc steps + length deeds ≡ steps + length (deed ∷ deeds) = omega arith in
-    ap (or_later one (suc steps)) (verdict-last start (suc steps) next deeds user op subtree ∙ ap (λ n. or_broken (verdict_from start (suc steps) next deeds subtree) last (suc n)) more)
+    ap (or_later one (suc steps)) (verdict-last start (suc steps) next deeds user op subtree
+    ∙ ap (λ n. or_broken (verdict_from start (suc steps) next deeds subtree) last (suc n)) more)
     ∙ sym (broken-earlier one last (suc steps) (suc (steps + length (deed ∷ deeds))) (verdict_from start (suc steps) next deeds subtree))
 
-pub run-stepped : (run : Progress) (start : State) (deeds : List Deed) (user : Identity) (op : Op) → IsRunOf run start deeds → IsRunOf (stepped run user op) start (deeds ++ (user, op) ∷ [])
+pub run-stepped : (run : Progress) (start : State) (deeds : List Deed) (user : Identity) (op : Op) → IsRunOf run start deeds
+    → IsRunOf (stepped run user op) start (deeds ++ (user, op) ∷ [])
 run-stepped run start deeds user op is =
     let last = after_all start deeds in
     let first_broken = broken start start start run.subtree in
@@ -190,7 +228,13 @@ run-stepped run start deeds user op is =
       original = is.original;
       state = ap (λ st. after st user op) is.state ∙ sym (after_all-last start deeds user op);
       steps = omega (arith, is.steps, length-append deeds ((user, op) ∷ []));
-      verdict = (λ i. or_broken (is.verdict i) (broken_since (sym (limits-row start run.subtree run.original is.original) i) (is.state i) (after (is.state i) user op) run.subtree) (suc (is.steps i)))
-          ∙ broken-earlier first_broken (broken start last (after last user op) run.subtree) 0 (suc (length deeds)) (verdict_from start 0 start deeds run.subtree)
-          ∙ ap (or_later first_broken 0) (sym (verdict-last start 0 start deeds user op run.subtree ∙ ap (λ n. or_broken (verdict_from start 0 start deeds run.subtree) (broken start last (after last user op) run.subtree) (suc n)) front));
+      verdict =
+          (λ i. or_broken (is.verdict i) (broken_since (sym (limits-row start run.subtree run.original is.original) i) (is.state i)
+          (after (is.state i) user op) run.subtree) (suc (is.steps i)))
+          ∙ broken-earlier first_broken (broken start last (after last user op) run.subtree) 0 (suc (length deeds))
+          (verdict_from start 0 start deeds run.subtree)
+          ∙ ap (or_later first_broken 0) (sym (verdict-last start 0 start deeds user op run.subtree
+          ∙ ap
+          (λ n. or_broken (verdict_from start 0 start deeds run.subtree) (broken start last (after last user op) run.subtree) (suc n))
+          front));
     }

@@ -26,12 +26,14 @@ opened g c =
 pub first_plain_try-requires-2-clause-subtree : goal.first_plain_try-requires-2-clause-subtree
 first_plain_try-requires-2-clause-subtree g c =
     opened-subtree (g.H.Hierarchy.state c.args.tree.now) c.args.user.now c.args.subtree.now c.requires.unbroken c.requires.formed
-    c.requires.subtree (g.H.Hierarchy.state c.carry_out.new.tree) (opened g (goal.at.first_plain_try-requires-2-clause-subtree g c).In_ok-carry_out)
+    c.requires.subtree (g.H.Hierarchy.state c.carry_out.new.tree)
+    (opened g (goal.at.first_plain_try-requires-2-clause-subtree g c).In_ok-carry_out)
 
 pub first_plain_try-requires-2-clause-unbroken : goal.first_plain_try-requires-2-clause-unbroken
 first_plain_try-requires-2-clause-unbroken g c =
     opened-unbroken (g.H.Hierarchy.state c.args.tree.now) c.args.user.now c.args.subtree.now c.requires.unbroken c.requires.formed
-    c.requires.subtree (g.H.Hierarchy.state c.carry_out.new.tree) (opened g (goal.at.first_plain_try-requires-2-clause-unbroken g c).In_ok-carry_out)
+    c.requires.subtree (g.H.Hierarchy.state c.carry_out.new.tree)
+    (opened g (goal.at.first_plain_try-requires-2-clause-unbroken g c).In_ok-carry_out)
 
 pub returns-in_default : goal.returns-in_default
 returns-in_default g c =

@@ -10,7 +10,9 @@ use Rattle.cg_print.proofs.cgroups.cgroups_array.Goals as goal
 
 pub cgroup_value-requires : goal.cgroup_value-requires
 cgroup_value-requires g c =
-    there path_cmp_total (g.H.Hierarchy.state c.args.tree.now).rows c.deref-path-items.result.now (c.deref-path-items.ensures.value ∙ c.in_ok-paths.ensures) c.loop-path.path-index c.path-item.result c.loop-path-test.true c.path-item.is
+    there path_cmp_total (g.H.Hierarchy.state c.args.tree.now).rows c.deref-path-items.result.now
+    (c.deref-path-items.ensures.value ∙ c.in_ok-paths.ensures) c.loop-path.path-index c.path-item.result c.loop-path-test.true
+    c.path-item.is
 
 pub loop-path-preserved : goal.loop-path-preserved
 loop-path-preserved g c =
@@ -19,8 +21,11 @@ loop-path-preserved g c =
     let same = c.deref-path-items.ensures.value ∙ c.in_ok-paths.ensures in
     record {
       written = more_written path_cmp_total rows paths same c.loop-path.path-index c.path-item.result c.loop-path-test.true c.path-item.is
-          (λ path row. table (cgroup_table path row)) c.loop-path.values.items c.push.new.self.items c.in_ok-cgroup_value.field-0 c.in_ok-push.ensures.items c.loop-path.invariant.written c.in_ok-cgroup_value.ensures.written;
-      named = more_named path_cmp_total rows paths same c.loop-path.path-index c.path-item.result c.loop-path-test.true c.path-item.is IsNamedRow c.loop-path.invariant.named c.in_ok-cgroup_value.ensures.named;
+          (λ path row. table (cgroup_table path row)) c.loop-path.values.items c.push.new.self.items c.in_ok-cgroup_value.field-0
+          c.in_ok-push.ensures.items c.loop-path.invariant.written c.in_ok-cgroup_value.ensures.written;
+      named =
+          more_named path_cmp_total rows paths same c.loop-path.path-index c.path-item.result c.loop-path-test.true c.path-item.is
+          IsNamedRow c.loop-path.invariant.named c.in_ok-cgroup_value.ensures.named;
     }
 
 pub returns : goal.returns
@@ -30,6 +35,7 @@ returns g c =
     let same = c.deref-path-items.ensures.value ∙ c.in_ok-paths.ensures in
     record {
       written = view-Array c.loop-path.values
-          ∙ ap (λ ds. array (items_of ds)) (c.loop-path.invariant.written ∙ all_written rows paths same c.loop-path.path-index c.loop-path-test.false (λ path row. table (cgroup_table path row)));
+          ∙ ap (λ ds. array (items_of ds)) (c.loop-path.invariant.written
+          ∙ all_written rows paths same c.loop-path.path-index c.loop-path-test.false (λ path row. table (cgroup_table path row)));
       named = all_named rows paths same c.loop-path.path-index c.loop-path-test.false IsNamedRow c.loop-path.invariant.named;
     }

@@ -17,7 +17,8 @@ use Rattle.cg_print.proofs.cgroups.files_table.Goals as goal
 
 pub loop-file-init : goal.loop-file-init
 loop-file-init c =
-    let procs : view (Table c.in_ok-procs.procs) ≡ table (entry_table c.args.cgroup.now.procs) = view-Table c.in_ok-procs.procs ∙ ap table c.in_ok-procs.ensures.written in
+    let procs : view (Table c.in_ok-procs.procs) ≡ table (entry_table c.args.cgroup.now.procs) =
+    view-Table c.in_ok-procs.procs ∙ ap table c.in_ok-procs.ensures.written in
     let control : view (Table c.in_ok-subtree_control.subtree_control) ≡ table (entry_table c.args.cgroup.now.subtree_control) =
     view-Table c.in_ok-subtree_control.subtree_control ∙ ap table c.in_ok-subtree_control.ensures.written in
     let none : table_view c.new-keys.result ≡ no_members = ap members_view c.new-keys.ensures.empty in
@@ -31,21 +32,26 @@ pub loop-file-preserved : goal.loop-file-preserved
 loop-file-preserved c =
     let row = c.args.cgroup.now in
     let i = c.loop-file.file-index in
-    let first = with_key cgroup_subtree_control (table (entry_table row.subtree_control)) (with_key cgroup_procs (table (entry_table row.procs)) no_members) in
+    let first =
+    with_key cgroup_subtree_control (table (entry_table row.subtree_control))
+    (with_key cgroup_procs (table (entry_table row.procs)) no_members) in
     record {
       written = c.in_ok-put_file.ensures.written
           ∙ ap (λ keys. with_file row keys (get_or all_files i MaxDescendants)) c.loop-file.invariant.written
           ∙ sym (fold_more (with_file row) first all_files i MaxDescendants c.loop-file-test.true);
-      ids = all_more (FileHasIds row) all_files i MaxDescendants c.loop-file-test.true c.loop-file.invariant.ids c.in_ok-put_file.ensures.ids;
+      ids =
+          all_more (FileHasIds row) all_files i MaxDescendants c.loop-file-test.true c.loop-file.invariant.ids c.in_ok-put_file.ensures.ids;
     }
 
 pub returns-clause-written : goal.returns-clause-written
 unfolding files_table
 returns-clause-written c =
     let row = c.args.cgroup.now in
-    let all : take c.loop-file.file-index all_files ≡ all_files = take_all c.loop-file.file-index all_files (omega (arith, c.loop-file-test.false)) in
+    let all : take c.loop-file.file-index all_files ≡ all_files =
+    take_all c.loop-file.file-index all_files (omega (arith, c.loop-file-test.false)) in
     c.loop-file.invariant.written
-    ∙ ap (fold (with_file row) (with_key cgroup_subtree_control (table (entry_table row.subtree_control)) (with_key cgroup_procs (table (entry_table row.procs)) no_members))) all
+    ∙ ap (fold (with_file row) (with_key cgroup_subtree_control (table (entry_table row.subtree_control))
+    (with_key cgroup_procs (table (entry_table row.procs)) no_members))) all
 
 pub returns-clause-procs : goal.returns-clause-procs
 returns-clause-procs c = c.in_ok-procs.ensures.ids
@@ -55,5 +61,6 @@ returns-clause-subtree_control c = c.in_ok-subtree_control.ensures.ids
 
 pub returns-clause-files : goal.returns-clause-files
 returns-clause-files c =
-    let all : take c.loop-file.file-index all_files ≡ all_files = take_all c.loop-file.file-index all_files (omega (arith, c.loop-file-test.false)) in
+    let all : take c.loop-file.file-index all_files ≡ all_files =
+    take_all c.loop-file.file-index all_files (omega (arith, c.loop-file-test.false)) in
     subst (AllByRecursion (FileHasIds c.args.cgroup.now)) all c.loop-file.invariant.ids

@@ -12,6 +12,7 @@ use Rattle.cg_print.proofs.cgroups.files_table.Given as goal
 abbrev pub invariant-loop-file : goal.invariant-loop-file
 invariant-loop-file l = record {
   written : table_view l.keys
-      ≡ fold (with_file l.cgroup) (with_key cgroup_subtree_control (table (entry_table l.cgroup.subtree_control)) (with_key cgroup_procs (table (entry_table l.cgroup.procs)) no_members)) (take l.file-index all_files);
+      ≡ fold (with_file l.cgroup) (with_key cgroup_subtree_control (table (entry_table l.cgroup.subtree_control))
+      (with_key cgroup_procs (table (entry_table l.cgroup.procs)) no_members)) (take l.file-index all_files);
   ids : AllByRecursion (FileHasIds l.cgroup) (take l.file-index all_files);
 }

@@ -6,4 +6,6 @@ use Rattle.cg_cgroup.specs.Files.{all_controllers, controller_name, enables}
 use Rattle.cg_print.proofs.keys.names_array.Given as goal
 
 abbrev pub invariant-loop-controller : goal.invariant-loop-controller
-invariant-loop-controller l = map view l.names.items ≡ map (λ controller. string (controller_name controller)) (filter (enables l.set) (take l.controller-index all_controllers))
+invariant-loop-controller l =
+    map view l.names.items
+    ≡ map (λ controller. string (controller_name controller)) (filter (enables l.set) (take l.controller-index all_controllers))

@@ -11,8 +11,11 @@ returns-in-Ok g c =
     let same = c.as_slice.ensures.value in
     let laws = c.texts_are_of_states.ensures in
     record {
-      again = λ carried. read_again c.as_slice.result.now st (laws.one c.as_slice.result.now) (laws.fault c.as_slice.result.now st) c.read_tree.result
+      again =
+          λ carried.
+          read_again c.as_slice.result.now st (laws.one c.as_slice.result.now) (laws.fault c.as_slice.result.now st) c.read_tree.result
           (subst (IsSpelled st) (sym same) c.in-Ok.ensures.spelled)
-          (λ short. subst (λ (bytes : List ℕ). IsTextOf st bytes) (sym same) (c.in-Ok.ensures.state carried (subst (λ (bytes : List ℕ). length bytes ≤ longest_text) same short)))
+          (λ short. subst (λ (bytes : List ℕ). IsTextOf st bytes) (sym same)
+          (c.in-Ok.ensures.state carried (subst (λ (bytes : List ℕ). length bytes ≤ longest_text) same short)))
           c.read_tree.ensures.too_long c.read_tree.ensures.read;
     }

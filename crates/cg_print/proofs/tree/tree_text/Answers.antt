@@ -15,10 +15,12 @@ returns-in-Ok g c =
     let text = string_bytes c.in-Ok.text in
     let written = c.in_ok-document.ensures.written in
     let low : members_depth (tree_document st) ≤ 80 = tree_depth st in
-    let read : parse_document text ≡ Some (tree_document st) = c.in-Ok.ensures.reads_back (subst (λ (keys : Members). members_depth keys ≤ 80) (sym written) low) ∙ ap Some written in
+    let read : parse_document text ≡ Some (tree_document st) =
+    c.in-Ok.ensures.reads_back (subst (λ (keys : Members). members_depth keys ≤ 80) (sym written) low) ∙ ap Some written in
     let same = ap (λ bytes. bytes.items) c.into_bytes.ensures.value in
     let parsed : document_of c.into_bytes.result.items ≡ Some (tree_document st) =
-    ap document_of same ∙ ap (λ b. cond b (parse_document text) None) (is_utf8-from_IsUtf8 text (IsUtf8-string_bytes c.in-Ok.text)) ∙ read in
+    ap document_of same ∙ ap (λ b. cond b (parse_document text) None) (is_utf8-from_IsUtf8 text (IsUtf8-string_bytes c.in-Ok.text))
+    ∙ read in
     let spelled : IsSpelled st text = subst (λ (keys : Members). IsDocumentText false keys text) written c.in-Ok.ensures.text in
     record {
       document = parsed;

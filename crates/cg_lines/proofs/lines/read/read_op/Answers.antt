@@ -6,11 +6,13 @@ use Rattle.cg_lines.proofs.lines.read.read_op.Goals as goal
 
 pub returns-clause-ok : goal.returns-clause-ok
 returns-clause-ok c =
-    read_ok c.args.line.now c.operation_of.result 8192 (subst (λ (t : List ℕ). ReadsAs c.operation_of.result (operation_at t)) c.in-Ok.ensures.cases.0 c.operation_of.ensures) (omega arith)
+    read_ok c.args.line.now c.operation_of.result 8192
+    (subst (λ (t : List ℕ). ReadsAs c.operation_of.result (operation_at t)) c.in-Ok.ensures.cases.0 c.operation_of.ensures) (omega arith)
 
 pub returns-clause-bad_word : goal.returns-clause-bad_word
 returns-clause-bad_word c =
-    read_bad c.args.line.now c.operation_of.result (subst (λ (t : List ℕ). ReadsAs c.operation_of.result (operation_at t)) c.in-Ok.ensures.cases.0 c.operation_of.ensures)
+    read_bad c.args.line.now c.operation_of.result
+    (subst (λ (t : List ℕ). ReadsAs c.operation_of.result (operation_at t)) c.in-Ok.ensures.cases.0 c.operation_of.ensures)
 
 pub returns-in_default-clause-bad_word : goal.returns-in_default-clause-bad_word
 returns-in_default-clause-bad_word c e op h spelled = c.in_default.ensures.cases.0 (subst IsUtf8 (sym spelled) (line_utf8 op h))

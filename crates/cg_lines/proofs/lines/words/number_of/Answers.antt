@@ -13,7 +13,8 @@ returns-then-starts_with c =
 
 pub returns-then-starts_with-2 : goal.returns-then-starts_with-2
 returns-then-starts_with-2 c =
-    let first = starts_char 48 c.args.word.now c.starts_with-then-word-gt1.result c.starts_with-then-word-gt1.ensures.cases (lit< tt) (lit< tt) in
+    let first =
+    starts_char 48 c.args.word.now c.starts_with-then-word-gt1.result c.starts_with-then-word-gt1.ensures.cases (lit< tt) (lit< tt) in
     sym (number_zero c.args.word.now (first.0 c.if-starts_with-2.true) (omega arith))
 
 pub returns : goal.returns
@@ -23,7 +24,9 @@ returns c =
     ∙ number_parsed c.args.word.now c.parse.result (λ e. both_ways c.starts_with.result c.if-starts_with.false (first.1 e))
     (λ e. elim c.else-word-gt1.branch [
       | else-word-gt1-via-then-word-gt1+else-starts_with-2 w ↦
-          let zero = starts_char 48 c.args.word.now w.starts_with-then-word-gt1.result w.starts_with-then-word-gt1.ensures.cases (lit< tt) (lit< tt) in
+          let zero =
+          starts_char 48 c.args.word.now w.starts_with-then-word-gt1.result w.starts_with-then-word-gt1.ensures.cases (lit< tt)
+          (lit< tt) in
           absurd (both_ways w.starts_with-then-word-gt1.result w.if-starts_with-2.false (zero.1 e))
       | else-word-gt1-via-else-word-gt1 w ↦ omega arith
     ]) c.parse.ensures.value.0

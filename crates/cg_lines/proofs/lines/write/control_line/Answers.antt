@@ -7,4 +7,5 @@ use Rattle.cg_lines.proofs.lines.write.control_line.Goals as goal
 pub returns-clause-text : goal.returns-clause-text
 returns-clause-text c =
     c.in_ok-push_str.ensures.bytes
-    ∙ rw (c.in_ok-push_changes.ensures, c.in_ok-line.ensures.ok, c.whole-at.ensures.text, c.as_slice.ensures) (ap (λ (text : List ℕ). codes "control " ++ (text ++ (10 ∷ []))) (sym (written_changes (path_text c.args.at.now) c.args.changes.now)))
+    ∙ rw (c.in_ok-push_changes.ensures, c.in_ok-line.ensures.ok, c.whole-at.ensures.text, c.as_slice.ensures)
+    (ap (λ (text : List ℕ). codes "control " ++ (text ++ (10 ∷ []))) (sym (written_changes (path_text c.args.at.now) c.args.changes.now)))

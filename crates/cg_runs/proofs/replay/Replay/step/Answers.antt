@@ -43,7 +43,9 @@ invariant_of-self-else-may_break g c =
 pub returns-clause-ok : goal.returns-clause-ok
 returns-clause-ok g c =
     let promised = c.in_ok-outcome.ensures in
-    let is = applied (g.H.Hierarchy.state c.self.inside.tree) c.args.user.now c.args.op.now (g.H.Hierarchy.state c.apply.new.tree) c.in_ok-outcome.outcome
+    let is =
+    applied (g.H.Hierarchy.state c.self.inside.tree) c.args.user.now c.args.op.now (g.H.Hierarchy.state c.apply.new.tree)
+    c.in_ok-outcome.outcome
     promised.done promised.refused promised.unchanged in
     let run : Progress = record {
       subtree = c.self.inside.subtree;
