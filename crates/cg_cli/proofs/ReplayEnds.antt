@@ -4,7 +4,6 @@ use Rattle.std.proofs.Common.{refl, ap, sym, ◌∙◌, subst, append_assoc, app
 use Rattle.std.proofs.Math.Seq.{take-append-add}
 use Rattle.std.proofs.lemmas.Bool.Decides.{nat_tests}
 use Rattle.std.proofs.lemmas.List.{nil_from_length}
-use Rattle.std.proofs.lemmas.Result.{err_from_is_err_and}
 use Rattle.std.specs.Io.KnownBytes.{Appends}
 use Rattle.std.proofs.KnownBytes.{Appends-nil, Appends-trans, Appends-kept}
 use Rattle.cg_cgroup.specs.Identity.{Identity}
@@ -17,6 +16,7 @@ use Rattle.cg_cli.specs.Replaying.{Reporting, whole, Replays, coming, IsWaiting,
 use Rattle.cg_cli.specs.declared.fault.CliFault.{CliFault}
 use Rattle.cg_cli.specs.declared.fault.CliFault.TheVariants.{Line, Write, Read, NoMemory}
 use Rattle.cg_cli.proofs.ReplayReports.{report_of_end}
+use Rattle.cg_cli.proofs.ReportLaws.{handed_on}
 
 -- ---- one way after another
 
@@ -62,13 +62,6 @@ replays_end before after given old new course done (b ∷ bs) waiting way none =
     subst (Replays whole before given old new) (sym {A = Result Course CliFault} e) (whole_text before after given old new ending way (none ∙ ap end_said e))
 
 -- ---- at a fault
-
--- what is known of a fault is known of the call that hands it on
-pub handed_on : {T : Type 0} (Q : Result T CliFault → Type 0) (fault : CliFault) (result : Result T CliFault)
-    → IsErrAnd result (λ found. found ≡ fault) → Q (Err fault) → Q result
-handed_on {T} Q fault result is known =
-    let met = err_from_is_err_and result is in
-    subst Q (sym (met.1 ∙ ap (λ (found : CliFault). let r : Result T CliFault = Err found in r) met.2)) known
 
 -- a text that was written, and a part of the next
 pub part_behind : (old mid new : Option (List ℕ)) (front text : List ℕ) → Appends old mid front → AppendsPart mid new text → AppendsPart old new (front ++ text)

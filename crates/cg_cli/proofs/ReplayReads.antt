@@ -15,7 +15,8 @@ use Rattle.cg_cli.specs.Replays.{end_read}
 use Rattle.cg_cli.specs.Replaying.{Reporting, whole, AreOf, Replays, ReplaysFrom, coming, goes_on, IsWaiting, Leads, Fed, ReadOn}
 use Rattle.cg_cli.specs.declared.fault.CliFault.{CliFault}
 use Rattle.cg_cli.specs.declared.fault.CliFault.TheVariants.{Read, NoMemory}
-use Rattle.cg_cli.proofs.ReplayEnds.{handed_on, leads_nowhere, leads_on, quiet, whole_text, replays_end, replays_fault}
+use Rattle.cg_cli.proofs.ReplayEnds.{leads_nowhere, leads_on, quiet, whole_text, replays_end, replays_fault}
+use Rattle.cg_cli.proofs.ReportLaws.{handed_on}
 
 no_piece : (had : Option (List ℕ)) → IfSome had (λ xs. StartsWith xs [])
 no_piece None = tt

@@ -14,7 +14,7 @@ use Rattle.cg_cli.specs.Replays.{is_newline, outcome_of, operation_read, with_fr
 use Rattle.cg_cli.specs.Replaying.{Reporting, coming, Leads, Fed, Answered}
 use Rattle.cg_cli.specs.declared.fault.CliFault.{CliFault}
 use Rattle.cg_cli.specs.declared.fault.CliFault.TheVariants.{Line, TooManySteps, Write, Read, NoMemory}
-use Rattle.cg_cli.proofs.ReplayEnds.{handed_on}
+use Rattle.cg_cli.proofs.ReportLaws.{handed_on}
 use Rattle.cg_cli.proofs.ReplayReports.{report_of_line, report_of_long, report_of_many}
 
 -- ---- what was written

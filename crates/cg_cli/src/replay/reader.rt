@@ -7,12 +7,11 @@ ghost use Rattle.cg_cli.specs.Courses.{HasMade, came_to};
 ghost use Rattle.cg_cli.specs.Replays.{closed, lines_report, lines_said};
 ghost use Rattle.cg_cli.specs.Replaying.{coming, most_taken, whole, IsWaiting, ReplaysFrom, ReadOn};
 
-use super::{unwatched, watched};
+use super::course_of;
 use crate::arguments::{UserIds, read_user};
 use crate::fault::CliFault;
-use crate::replay::course::OnCourse;
+use crate::replay::course::{OnCourse, write_closing};
 use crate::replay::run::Run;
-use crate::write::write_whole;
 use cg_cgroup::user::User;
 use std::alloc::Global;
 use std::io::{BufRead, Write};
@@ -39,10 +38,8 @@ pub fn replay_from<R: BufRead, W: Write>(
     ensures user { IfErr (user_read user.entry.uid user.entry.gids.now) (λ fault. result ≡ Err fault) }
 {
     let user = read_user(user)?;
-    match subtree {
-        None => reader_closed(alloc, unwatched(alloc, tree)?, user, ops, out),
-        Some(subtree) => reader_closed(alloc, watched(alloc, tree, subtree)?, user, ops, out),
-    }
+    let course = course_of(alloc, tree, subtree)?;
+    reader_closed(alloc, course, user, ops, out)
 }
 
 /// A whole replay over the bytes of a reader, and what is said at its end.
@@ -58,9 +55,7 @@ fn reader_closed<C: OnCourse, R: BufRead, W: Write>(
         (R.remaining ops.old) (R.remaining ops.new) (W.contents out.old) (W.contents out.new) result }
 {
     let course = replay_reader(alloc, Run::new(alloc, course, user), ops, out)?;
-    let (text, status) = course.closing(alloc)?;
-    write_whole(out, text.as_slice())?;
-    Ok(status)
+    write_closing(alloc, &course, out)
 }
 
 /// Goes on with a replay over the bytes of a reader.

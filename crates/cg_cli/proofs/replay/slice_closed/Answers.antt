@@ -1,4 +1,4 @@
-use Rattle.cg_cli.proofs.Closings.{begun, made_none, close_fault, close_whole, close_part, close_memory}
+use Rattle.cg_cli.proofs.Closings.{begun, made_none, close_fault, close_said}
 use Rattle.cg_cli.proofs.replay.slice_closed.Goals as goal
 
 pub replay_slice-requires-clause-made : goal.replay_slice-requires-clause-made
@@ -11,24 +11,9 @@ returns-in_err-course g c =
     (g.W.Write.contents c.replay_slice.new.out) c.in_err-course.field-0.0 c.in_err-course.ensures c.from_residual.result
     c.from_residual.ensures.1
 
-pub returns-in_err-text : goal.returns-in_err-text
-returns-in_err-text g c =
-    let run = c.new.ensures in
-    close_memory (begun run.course run.done run.user run.line) c.args.ops.now (g.W.Write.contents c.args.out.now)
-    (g.W.Write.contents c.replay_slice.new.out) (g.C.OnCourse.course c.in_ok-course.course) c.in_ok-course.ensures
-    c.from_residual-in_err-text.result c.from_residual-in_err-text.ensures.1
-
-pub returns-in_err-write_whole : goal.returns-in_err-write_whole
-returns-in_err-write_whole g c =
-    let run = c.new.ensures in
-    close_part (begun run.course run.done run.user run.line) c.args.ops.now (g.W.Write.contents c.args.out.now)
-    (g.W.Write.contents c.replay_slice.new.out) (g.C.OnCourse.course c.in_ok-course.course) c.in_ok-course.ensures
-    (g.W.Write.contents c.write_whole.new.out) c.in_ok-text.ensures c.as_slice.ensures.value c.in_err-write_whole.ensures.err
-    c.from_residual-in_err-write_whole.result c.from_residual-in_err-write_whole.ensures.1
-
 pub returns : goal.returns
 returns g c =
     let run = c.new.ensures in
-    close_whole (begun run.course run.done run.user run.line) c.args.ops.now (g.W.Write.contents c.args.out.now)
+    close_said (begun run.course run.done run.user run.line) c.args.ops.now (g.W.Write.contents c.args.out.now)
     (g.W.Write.contents c.replay_slice.new.out) (g.C.OnCourse.course c.in_ok-course.course) c.in_ok-course.ensures
-    (g.W.Write.contents c.write_whole.new.out) c.in_ok-text.ensures c.as_slice.ensures.value c.in_ok-write_whole.ensures.ok
+    (g.W.Write.contents c.write_closing.new.out) c.write_closing.result c.write_closing.ensures

@@ -1,4 +1,4 @@
-use Rattle.cg_cli.proofs.Closings.{begun, made_none, from_close_fault, from_close_whole, from_close_part, from_close_memory}
+use Rattle.cg_cli.proofs.Closings.{begun, made_none, from_close_fault, from_close_said}
 use Rattle.cg_cli.proofs.replay.reader.reader_closed.Goals as goal
 
 pub replay_reader-requires-clause-made : goal.replay_reader-requires-clause-made
@@ -11,27 +11,10 @@ returns-in_err-course g c =
     (g.R.Read.remaining c.replay_reader.new.ops) (g.W.Write.contents c.args.out.now) (g.W.Write.contents c.replay_reader.new.out)
     c.in_err-course.field-0.0 c.in_err-course.ensures c.from_residual.result c.from_residual.ensures.1
 
-pub returns-in_err-text : goal.returns-in_err-text
-returns-in_err-text g c =
-    let run = c.new.ensures in
-    from_close_memory (begun run.course run.done run.user run.line) (g.R.Read.remaining c.args.ops.now)
-    (g.R.Read.remaining c.replay_reader.new.ops) (g.W.Write.contents c.args.out.now) (g.W.Write.contents c.replay_reader.new.out)
-    (g.C.OnCourse.course c.in_ok-course.course) c.in_ok-course.ensures c.from_residual-in_err-text.result
-    c.from_residual-in_err-text.ensures.1
-
-pub returns-in_err-write_whole : goal.returns-in_err-write_whole
-returns-in_err-write_whole g c =
-    let run = c.new.ensures in
-    from_close_part (begun run.course run.done run.user run.line) (g.R.Read.remaining c.args.ops.now)
-    (g.R.Read.remaining c.replay_reader.new.ops) (g.W.Write.contents c.args.out.now) (g.W.Write.contents c.replay_reader.new.out)
-    (g.C.OnCourse.course c.in_ok-course.course) c.in_ok-course.ensures (g.W.Write.contents c.write_whole.new.out) c.in_ok-text.ensures
-    c.as_slice.ensures.value c.in_err-write_whole.ensures.err c.from_residual-in_err-write_whole.result
-    c.from_residual-in_err-write_whole.ensures.1
-
 pub returns : goal.returns
 returns g c =
     let run = c.new.ensures in
-    from_close_whole (begun run.course run.done run.user run.line) (g.R.Read.remaining c.args.ops.now)
+    from_close_said (begun run.course run.done run.user run.line) (g.R.Read.remaining c.args.ops.now)
     (g.R.Read.remaining c.replay_reader.new.ops) (g.W.Write.contents c.args.out.now) (g.W.Write.contents c.replay_reader.new.out)
-    (g.C.OnCourse.course c.in_ok-course.course) c.in_ok-course.ensures (g.W.Write.contents c.write_whole.new.out) c.in_ok-text.ensures
-    c.as_slice.ensures.value c.in_ok-write_whole.ensures.ok
+    (g.C.OnCourse.course c.in_ok-course.course) c.in_ok-course.ensures (g.W.Write.contents c.write_closing.new.out)
+    c.write_closing.result c.write_closing.ensures

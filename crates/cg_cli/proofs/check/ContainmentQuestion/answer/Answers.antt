@@ -1,5 +1,5 @@
 use Rattle.cg_report.proofs.Shown.{answers_are_shown}
-use Rattle.cg_cli.proofs.check.answered.Goals as goal
+use Rattle.cg_cli.proofs.check.ContainmentQuestion.answer.Goals as goal
 
 pub answer_text-requires : goal.answer_text-requires
 answer_text-requires g c =
