@@ -1,5 +1,7 @@
 -- Pairs written one after another, and what the report on them is where it ends early.
-use Rattle.std.proofs.Common.{◌≡◌, ◌≢◌, ℕ, ◌+◌, ◌<◌, ◌||◌, Bool, true, false, cond, List, [], ◌∷◌, ◌++◌, length, get_or, drop, drop-cons, add-one, Option, Some, None, Result, Ok, Err, IfOk, IsErrAnd, refl, sym, ap, ◌∙◌, subst, append_assoc, append-nil, length-append, arith}
+use Rattle.std.proofs.Common.{◌≡◌, ◌≢◌, ℕ, ◌+◌, ◌<◌, ◌||◌, Bool, true, false, cond, List, [], ◌∷◌, ◌++◌, length, get_or, drop}
+use Rattle.std.proofs.Common.{drop-cons, add-one, Option, Some, None, Result, Ok, Err, IfOk, IsErrAnd, refl, sym, ap, ◌∙◌, subst}
+use Rattle.std.proofs.Common.{append_assoc, append-nil, length-append, arith}
 use Rattle.std.specs.List.{list_any, flat_map}
 use Rattle.std.specs.Io.KnownBytes.{Appends}
 use Rattle.std.proofs.KnownBytes.{Appends-nil, Appends-trans, Keeps-refl}
@@ -21,7 +23,7 @@ use Rattle.cg_model.specs.declared.answer.Answer.{Answer}
 use Rattle.cg_model.specs.declared.answer.Answer.TheVariants.{Contained, Escapes, Unsettled}
 use Rattle.cg_check.proofs.Checking.{checked-answer}
 use Rattle.cg_report.specs.PairLines.{pair_text, pairs_text}
-use Rattle.cg_cli.specs.Asking.{read_in_turn, read_takes_memory, IsMet, IsKeptOnce}
+use Rattle.cg_cli.specs.Asking.{read_in_turn, named_read, read_takes_memory, IsMet, IsKeptOnce}
 use Rattle.cg_cli.specs.Faults.{lifted_check}
 use Rattle.cg_cli.specs.Audits.{users_read, paths_read}
 use Rattle.cg_cli.specs.Containment.{in_call, answer_status}
@@ -247,11 +249,13 @@ module _ (st : State) (users : List Identity) (subtrees : List Names) where
 
 -- ---- what is read before
 
-wanted : (report : Result (List Listed) CliFault) (known : Option (List ℕ)) → read_takes_memory report ≡ true → ReportsPairs report known known (Err NoMemory)
+wanted : (report : Result (List Listed) CliFault) (known : Option (List ℕ)) → read_takes_memory report ≡ true
+    → ReportsPairs report known known (Err NoMemory)
 wanted (Ok found) known some = wants found known
 wanted (Err fault) known some = (some, Keeps-refl known)
 
-met_pairs : {A : Type 0} (read : Result A CliFault) (next : A → Result (List Listed) CliFault) → ((x : A) → read_takes_memory (next x) ≡ true)
+met_pairs : {A : Type 0} (read : Result A CliFault) (next : A → Result (List Listed) CliFault)
+    → ((x : A) → read_takes_memory (next x) ≡ true)
     → (fault : CliFault) → IsMet read fault → (known : Option (List ℕ)) → ReportsPairs (read_then read next) known known (Err fault)
 met_pairs read next needs Write met known = absurd met
 met_pairs (Ok x) next needs NoMemory met known = wanted (next x) known (needs x)
@@ -261,32 +265,40 @@ met_pairs read next needs fault met known =
 
 module _ (tree : Reading) (given : List (ℕ × List ℕ)) (texts : List (List ℕ)) where
   abbrev read : Result (List Identity × List Names × State) CliFault
-  read = read_in_turn (users_read given) (paths_read texts) (tree_read tree)
+  read = named_read given texts tree
 
   abbrev next : List Identity × List Names × State → Result (List Listed) CliFault
   next all = pairs_found all.2 (once same_user all.0) (once same_path all.1)
 
   by_all : all_report tree given texts ≡ read_then read next
   by_all =
-      read_together (λ users subtrees st. pairs_found st (once same_user users) (once same_path subtrees)) (users_read given) (paths_read texts) (tree_read tree)
+      read_together (λ users subtrees st. pairs_found st (once same_user users) (once same_path subtrees)) (users_read given)
+      (paths_read texts) (tree_read tree)
 
   pub fault_reports : (fault : CliFault) → IsMet read fault → (known : Option (List ℕ)) (result : Result ℕ CliFault)
       → IsErrAnd result (λ found. found ≡ fault) → ReportsPairs (all_report tree given texts) known known result
   fault_reports fault met known result is =
       handed_on (ReportsPairs (all_report tree given texts) known known) fault result is
       (subst (λ report. ReportsPairs report known known (Err fault)) (sym by_all)
-      (met_pairs read next (λ all. call_takes (unless_fault (first (flat_map (subtree_faults all.2) (once same_path all.1))) (listed all.2 (once same_user all.0) (once same_path all.1))))
+      (met_pairs read next
+      (λ all. call_takes
+      (unless_fault (first (flat_map (subtree_faults all.2) (once same_path all.1)))
+      (listed all.2 (once same_user all.0) (once same_path all.1))))
       fault met known))
 
   module _ (users : List Identity) (subtrees : List Names) (st : State) (kept : IsKeptOnce read users subtrees st) where
-    pub listing_reports : (old new : Option (List ℕ)) (result : Result ℕ CliFault) → ReportsPairs (pairs_found st users subtrees) old new result → ReportsPairs (all_report tree given texts) old new result
+    pub listing_reports : (old new : Option (List ℕ)) (result : Result ℕ CliFault)
+        → ReportsPairs (pairs_found st users subtrees) old new result → ReportsPairs (all_report tree given texts) old new result
     listing_reports old new result =
         subst (λ report. ReportsPairs report old new result)
         (sym (by_all ∙ ap (λ found. read_then found next) kept.is ∙ sym (λ i. pairs_found st (kept.of_users i) (kept.of_subtrees i))))
 
     pub unlisted_said : (bytes : List ℕ) → ((start : State) → IsTextOf start bytes → tree ≡ Ok start) → (result : Result ℕ CliFault)
         → IfOk result (λ status. UnlistedAreContained st users subtrees)
-        → IfOk result (λ status. (start : State) (who : List Identity) (paths : List Names) → IsTextOf start bytes → users_read given ≡ Ok who → paths_read texts ≡ Ok paths → UnlistedAreContained start (once same_user who) (once same_path paths))
+        → IfOk result
+        (λ status. (start : State) (who : List Identity) (paths : List Names)
+        → IsTextOf start bytes → users_read given ≡ Ok who → paths_read texts ≡ Ok paths
+        → UnlistedAreContained start (once same_user who) (once same_path paths))
     unlisted_said bytes means (Err fault) said = tt
     unlisted_said bytes means (Ok status) said = λ start who paths is_start is_who are_paths.
         subst (λ (all : List Identity × List Names × State). UnlistedAreContained all.2 (once same_user all.0) (once same_path all.1))

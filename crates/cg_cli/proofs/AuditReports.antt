@@ -6,7 +6,7 @@ use Rattle.cg_model.specs.States.{State}
 use Rattle.cg_model.specs.Checks.{all_checked}
 use Rattle.cg_model.specs.Several.{AreContained}
 use Rattle.cg_text.specs.Readings.{Reading}
-use Rattle.cg_cli.specs.Asking.{read_in_turn, IsMet, IsKeptOnce}
+use Rattle.cg_cli.specs.Asking.{read_in_turn, named_read, IsMet, IsKeptOnce}
 use Rattle.cg_cli.specs.Audits.{users_read, paths_read, audit_answer_report, pairs_report, audit_report}
 use Rattle.cg_cli.specs.Containment.{in_call}
 use Rattle.cg_cli.specs.May.{tree_read}
@@ -19,11 +19,12 @@ use Rattle.cg_cli.proofs.ReportLaws.{handed_on, same_Ok, call_takes, report_take
 
 pub pairs_take : (st : State) (users : List Identity) (subtrees : List Names) → takes_memory (pairs_report st users subtrees).ending ≡ true
 pairs_take st users subtrees =
-    report_takes (in_call (all_checked st users subtrees)) (audit_answer_report users subtrees) (λ found. refl) (call_takes (all_checked st users subtrees))
+    report_takes (in_call (all_checked st users subtrees)) (audit_answer_report users subtrees) (λ found. refl)
+    (call_takes (all_checked st users subtrees))
 
 module _ (tree : Reading) (given : List (ℕ × List ℕ)) (texts : List (List ℕ)) where
   abbrev read : Result (List Identity × List Names × State) CliFault
-  read = read_in_turn (users_read given) (paths_read texts) (tree_read tree)
+  read = named_read given texts tree
 
   by_all : audit_report tree given texts ≡ report_on read (λ all. pairs_report all.2 all.0 all.1)
   by_all = regrouped (λ users subtrees st. pairs_report st users subtrees) (users_read given) (paths_read texts) (tree_read tree)
@@ -51,7 +52,8 @@ module _ (tree : Reading) (given : List (ℕ × List ℕ)) (texts : List (List �
         (law (λ none. some_once same_user same_user-is kept.all_users some (sym kept.of_users ∙ none)))))
 
     pub contained_means : (users ≢ [] → AreContained st users subtrees)
-        → (start : State) (who : List Identity) (paths : List Names) → tree ≡ Ok start → users_read given ≡ Ok who → paths_read texts ≡ Ok paths
+        → (start : State) (who : List Identity) (paths : List Names) → tree ≡ Ok start → users_read given ≡ Ok who
+        → paths_read texts ≡ Ok paths
         → who ≢ [] → AreContained start who paths
     contained_means law start who paths is_text is_who are_paths =
         subst (λ (all : List Identity × List Names × State). all.0 ≢ [] → AreContained all.2 all.0 all.1)

@@ -1,5 +1,6 @@
 -- What is said over bytes of a user and a subtree, by what was read.
-use Rattle.std.proofs.Common.{◌≡◌, ◌≢◌, ℕ, Bool, true, false, cond, nat_eq, List, Option, Some, None, Result, Ok, Err, IsErrAnd, refl, ap, sym, ◌∙◌, subst}
+use Rattle.std.proofs.Common.{◌≡◌, ◌≢◌, ℕ, Bool, true, false, cond, nat_eq, List, Option, Some, None, Result, Ok, Err, IsErrAnd, refl}
+use Rattle.std.proofs.Common.{ap, sym, ◌∙◌, subst}
 use Rattle.cg_cgroup.specs.Paths.{Names, path_at}
 use Rattle.cg_cgroup.specs.Users.{user_of}
 use Rattle.cg_cgroup.specs.Identity.{Identity}
@@ -48,7 +49,8 @@ module _ (tree : Reading) (uid : ℕ) (gids subtree : List ℕ) (user : Identity
   of_words : user_read uid gids ≡ Ok user → path_read subtree ≡ Ok path → (report : State → Identity → Names → Report)
       → asked_report report tree uid gids subtree ≡ report_on (tree_read tree) (λ st. report st user path)
   of_words of_user of_path report =
-      ap (λ u. report_by report u (path_read subtree) (tree_read tree)) of_user ∙ ap (λ p. report_by report (Ok user) p (tree_read tree)) of_path
+      ap (λ u. report_by report u (path_read subtree) (tree_read tree)) of_user
+      ∙ ap (λ p. report_by report (Ok user) p (tree_read tree)) of_path
 
   -- a fault of the path
   pub path_fault_said : user_read uid gids ≡ Ok user → (report : State → Identity → Names → Report)

@@ -1,13 +1,13 @@
 -- What is said behind all lines.
-use Rattle.std.proofs.Common.{◌≡◌, ℕ, true, ◌++◌, List, [], Option, Result, Ok, Err, IsErrAnd, refl, ap, sym, ◌∙◌, subst, append-nil}
+use Rattle.std.proofs.Common.{◌≡◌, ℕ, true, ◌++◌, List, [], Option, Result, Ok, Err, IsErrAnd, refl, ap, sym, ◌∙◌, subst, append-nil, arith}
 use Rattle.std.specs.Io.KnownBytes.{Appends}
 use Rattle.std.proofs.KnownBytes.{Appends-trans, Appends-kept}
 use Rattle.cg_cli.specs.Written.{AppendsPart}
 use Rattle.cg_cli.specs.Reports.{Said, Report, Reports, takes_memory}
 use Rattle.cg_cgroup.specs.Identity.{Identity}
 use Rattle.cg_cli.specs.Courses.{Course, Unwatched, Watched, HasMade, closing}
-use Rattle.cg_cli.specs.Replays.{with_front, closed, lines_said}
-use Rattle.cg_cli.specs.Replaying.{Reporting, coming, whole, Replays, ReplaysFrom}
+use Rattle.cg_cli.specs.Replays.{with_front, closed}
+use Rattle.cg_cli.specs.Replaying.{Reporting, Standing, from_start, whole, IsWaiting, Replays, ReplaysFrom}
 use Rattle.cg_cli.specs.declared.fault.CliFault.{CliFault}
 use Rattle.cg_cli.specs.declared.fault.CliFault.TheVariants.{Write, Read, NoMemory}
 use Rattle.cg_cli.proofs.ReplayRuns.{part_of_front}
@@ -66,10 +66,12 @@ module _ {first lines : Reporting} (same : first ≡ lines) (ops : List ℕ) (ol
         subst (Appends old new) (sym (ap (λ (r : Report). r.text) said_is))
         (Appends-trans old mid new (lines ops).text (closing course).text there.1 wrote)
 
-    pub close_said : (new : Option (List ℕ)) (result : Result ℕ CliFault) → Reports (closing course) mid new result → Replays closed lines ops old new result
+    pub close_said : (new : Option (List ℕ)) (result : Result ℕ CliFault) → Reports (closing course) mid new result
+        → Replays closed lines ops old new result
     close_said new (Ok status) said = (ends said.0, appends new said.1)
     close_said new (Err Write) part =
-        subst (AppendsPart old new) (sym (ap (λ (r : Report). r.text) said_is)) (part_behind old mid new (lines ops).text (closing course).text there.1 part)
+        subst (AppendsPart old new) (sym (ap (λ (r : Report). r.text) said_is))
+        (part_behind old mid new (lines ops).text (closing course).text there.1 part)
     close_said new (Err NoMemory) kept = (ops, [], sym (append-nil ops), Appends-kept old mid new (lines ops).text there.1 kept.1)
     close_said new (Err fault) said = absurd (never_closing course fault said.0)
 
@@ -88,18 +90,19 @@ module _ {first lines : Reporting} (same : first ≡ lines) (before left old : O
       (fault_from new fault (subst (λ report. ReplaysFrom whole report before left old new (Err fault)) same came))
 
   pub from_close_said : (mid : Option (List ℕ)) (course : Course) → ReplaysFrom whole first before left old mid (Ok course)
-      → (new : Option (List ℕ)) (result : Result ℕ CliFault) → Reports (closing course) mid new result → ReplaysFrom closed lines before left old new result
+      → (new : Option (List ℕ)) (result : Result ℕ CliFault) → Reports (closing course) mid new result
+      → ReplaysFrom closed lines before left old new result
   from_close_said mid course came new result said =
       from_replays closed lines before left old new came.0 result came.1 (close_said same came.0 old mid course came.2 new result said)
 
 -- a run that has only begun
-module _ {course other : Course} {done : ℕ} (of_course : other ≡ course) (of_done : done ≡ 0) where
-  -- what comes of it is said from the start
-  pub begun : {user who : Identity} {line : List ℕ} → who ≡ user → line ≡ []
-      → coming other who done line ≡ (λ bytes. lines_said course user 0 bytes)
-  begun {user} {who} {line} of_user of_line =
-      ap (λ c. coming c who done line) of_course ∙ ap (λ u. coming course u done line) of_user
-      ∙ ap (λ (n : ℕ). coming course user n line) of_done ∙ ap (coming course user 0) of_line
+start_waits : (course : Course) (user : Identity) → HasMade 0 course → IsWaiting (from_start course user)
+start_waits course user made = record {
+  made = made;
+  one_line = λ k d within. absurd (omega (arith, within));
+  short = omega arith;
+  few = omega arith;
+}
 
-  pub made_none : HasMade 0 course → HasMade done other
-  made_none made = subst (λ (n : ℕ). HasMade n other) (sym of_done) (subst (HasMade 0) (sym of_course) made)
+pub begun_waits : {at : Standing} {course : Course} {user : Identity} → at ≡ from_start course user → HasMade 0 course → IsWaiting at
+begun_waits {at} {course} {user} is made = subst IsWaiting (sym is) (start_waits course user made)

@@ -119,7 +119,8 @@ module _ (tree : Reading) (uid : ℕ) (gids : List ℕ) (subtree : Option (List 
     course_known ops known fault is =
         said_fault ops known fault (ap (λ (report : Reporting). report ops) (lines_by_course (Err fault) (is (λ same. cc))))
 
-    pub course_fault : (ops : List ℕ) (known : Option (List ℕ)) (fault : CliFault) → (fault ≢ NoMemory → course_read subtree tree ≡ Err fault)
+    pub course_fault : (ops : List ℕ) (known : Option (List ℕ)) (fault : CliFault)
+        → (fault ≢ NoMemory → course_read subtree tree ≡ Err fault)
         → (result : Result ℕ CliFault) → IsErrAnd result (λ found. found ≡ fault) → Replays closed lines ops known known result
     course_fault ops known fault is result handed =
         handed_on (Replays closed lines ops known known) fault result handed (course_known ops known fault is)

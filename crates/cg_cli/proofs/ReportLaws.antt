@@ -63,7 +63,8 @@ pub subtree_fault : (report : Report) → takes_memory report.ending ≡ true �
 subtree_fault report takes fault is known result handed =
     handed_on (Reports report known known) (lifted_check fault) result handed (by_fault fault is)
   where
-    by_fault : (found : CheckFault) → (found ≢ CheckNoMemory → report ≡ fault_report (lifted_check found)) → Reports report known known (Err (lifted_check found))
+    by_fault : (found : CheckFault) → (found ≢ CheckNoMemory → report ≡ fault_report (lifted_check found))
+        → Reports report known known (Err (lifted_check found))
     by_fault RootSubtree said = (ap (λ (r : Report). r.ending) (said (λ other. cc)), Keeps-refl known)
     by_fault NoSuchSubtree said = (ap (λ (r : Report). r.ending) (said (λ other. cc)), Keeps-refl known)
     by_fault CheckNoMemory said = (takes, Keeps-refl known)

@@ -24,7 +24,8 @@ written_anew read text st is_read carried written old new result reports = recor
 
 -- ---- a fault of the text
 
-no_state : (read : Reading) (fault : TreeFault) → (fault ≢ TreeNoMemory → read ≡ Err fault) → (st : State) → read ≡ Ok st → lifted fault ≢ NoMemory → ⊥
+no_state : (read : Reading) (fault : TreeFault) → (fault ≢ TreeNoMemory → read ≡ Err fault) → (st : State) → read ≡ Ok st
+    → lifted fault ≢ NoMemory → ⊥
 no_state read TreeNoMemory is st ok other = other refl
 no_state read fault is st ok other = let found = is (λ same. cc) in cc
 
@@ -34,5 +35,6 @@ nothing_written read fault known is result handed =
     handed_on (λ given. Upgrades known known given read) (lifted fault) result handed (record {
       text = [];
       written = λ st ok other. absurd (no_state read fault is st ok (λ same. other (ap Err same)));
-      reports = met_reports (tree_read read) (λ st. record { text = []; ending = Ok 0 }) (λ st. refl) (lifted fault) (tree_met read fault is) known;
+      reports = met_reports (tree_read read) (λ st. record { text = []; ending = Ok 0 }) (λ st. refl) (lifted fault)
+      (tree_met read fault is) known;
     })

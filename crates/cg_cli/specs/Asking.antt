@@ -7,6 +7,7 @@ use Rattle.cg_model.specs.States.{State}
 use Rattle.cg_text.specs.Readings.{Reading}
 use Rattle.cg_cli.specs.AllPairs.{read_then}
 use Rattle.cg_cli.specs.Arguments.{user_read, path_read}
+use Rattle.cg_cli.specs.Audits.{users_read, paths_read}
 use Rattle.cg_cli.specs.May.{tree_read}
 use Rattle.cg_cli.specs.Once.{once, same_user}
 use Rattle.cg_cli.specs.Reports.{Report, report_on, takes_memory}
@@ -22,6 +23,10 @@ asked_report report tree uid gids subtree =
 abbrev pub read_in_turn : {A B C : Type 0} → Result A CliFault → Result B CliFault → Result C CliFault → Result (A × B × C) CliFault
 read_in_turn first second third = read_then first (λ x. read_then second (λ y. read_then third (λ z. Ok (x, y, z))))
 
+-- users, subtrees and a tree
+abbrev pub named_read : List (ℕ × List ℕ) → List (List ℕ) → Reading → Result (List Identity × List Names × State) CliFault
+named_read given texts tree = read_in_turn (users_read given) (paths_read texts) (tree_read tree)
+
 abbrev pub read_takes_memory : {A : Type 0} → Result A CliFault → Bool
 read_takes_memory (Ok x) = true
 read_takes_memory (Err fault) = takes_memory (Err fault)
@@ -33,7 +38,8 @@ IsMet read NoMemory = read_takes_memory read ≡ true
 IsMet read fault = read ≡ Err fault
 
 -- What was read of users, subtrees and a tree: of who and what is named again, only the first is kept.
-pub record IsKeptOnce (read : Result (List Identity × List Names × State) CliFault) (users : List Identity) (subtrees : List Names) (st : State) : Type 0 where
+pub record IsKeptOnce (read : Result (List Identity × List Names × State) CliFault) (users : List Identity) (subtrees : List Names)
+    (st : State) : Type 0 where
   pub all_users : List Identity
   pub all_subtrees : List Names
   pub is : read ≡ Ok (all_users, all_subtrees, st)

@@ -4,8 +4,8 @@ ghost use Rattle.std.specs.Option.{option_map};
 ghost use Rattle.cg_text.specs.Readings.{Reading, IsReading, OnText};
 ghost use Rattle.cg_cli.specs.Arguments.{user_read};
 ghost use Rattle.cg_cli.specs.Courses.{HasMade, Unwatched as Plain, Watched, came_to};
-ghost use Rattle.cg_cli.specs.Replays.{closed, course_read, lines_report, lines_said};
-ghost use Rattle.cg_cli.specs.Replaying.{coming, whole, IsWaiting, Replays};
+ghost use Rattle.cg_cli.specs.Replays.{closed, course_read, lines_report};
+ghost use Rattle.cg_cli.specs.Replaying.{standing_of, from_start, coming, whole, IsWaiting, Replays};
 
 use crate::arguments::{UserIds, read_path, read_user};
 use crate::fault::CliFault;
@@ -98,7 +98,7 @@ fn slice_closed<C: OnCourse, W: Write>(
     out: &mut W,
 ) -> Result<u8, CliFault>
     requires { HasMade 0 (C.course course) }
-    ensures { Replays closed (λ bytes. lines_said (C.course course) user 0 bytes) ops.now
+    ensures { Replays closed (coming (from_start (C.course course) user)) ops.now
         (W.contents out.old) (W.contents out.new) result }
 {
     let course = replay_slice(alloc, Run::new(alloc, course, user), ops, out)?;
@@ -112,9 +112,8 @@ fn replay_slice<C: OnCourse, W: Write>(
     ops: &[u8],
     out: &mut W,
 ) -> Result<C, CliFault>
-    requires waiting { IsWaiting run.done run.line.items }
-    requires made { HasMade run.done (C.course run.course) }
-    ensures { Replays whole (coming (C.course run.course) run.user run.done run.line.items) ops.now
+    requires { IsWaiting (standing_of C.course run) }
+    ensures { Replays whole (coming (standing_of C.course run)) ops.now
         (W.contents out.old) (W.contents out.new) (came_to C.course result) }
 {
     let mut rest = ops;

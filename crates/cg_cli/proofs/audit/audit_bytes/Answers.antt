@@ -40,7 +40,8 @@ pub returns-clause-contained : goal.returns-clause-contained
 returns-clause-contained g c none st who paths of_text =
     let bytes = c.args.tree.now in
     let named = c.in_ok-named.ensures (reading_of bytes) (is_reading bytes) in
-    contained_means (reading_of bytes) (map (λ user. (user.uid, user.gids.now)) c.args.users.now) (map (λ subtree. subtree.now) c.args.subtrees.now)
+    contained_means (reading_of bytes) (map (λ user. (user.uid, user.gids.now)) c.args.users.now)
+    (map (λ subtree. subtree.now) c.args.subtrees.now)
     c.as_slice.result.now c.as_slice-2.result.now c.in_ok-named.named.tree
     (kept_as named c.as_slice.ensures.value c.as_slice-2.ensures.value)
     (c.in_ok-said.ensures.contained (said_status _ _ _ _ _ 0 c.write_said.ensures none)) st who paths (reading_is bytes (Ok st) of_text)

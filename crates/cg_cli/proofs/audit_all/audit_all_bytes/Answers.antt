@@ -21,7 +21,8 @@ pub returns-clause-unlisted : goal.returns-clause-unlisted
 returns-clause-unlisted g c =
     let bytes = c.args.tree.now in
     let named = c.in_ok-named.ensures (reading_of bytes) (is_reading bytes) in
-    unlisted_said (reading_of bytes) (map (λ user. (user.uid, user.gids.now)) c.args.users.now) (map (λ subtree. subtree.now) c.args.subtrees.now)
+    unlisted_said (reading_of bytes) (map (λ user. (user.uid, user.gids.now)) c.args.users.now)
+    (map (λ subtree. subtree.now) c.args.subtrees.now)
     c.as_slice.result.now c.as_slice-2.result.now c.in_ok-named.named.tree
     (kept_as named c.as_slice.ensures.value c.as_slice-2.ensures.value) bytes (λ st of_text. reading_is bytes (Ok st) of_text)
     c.write_listing.result c.write_listing.ensures.unlisted

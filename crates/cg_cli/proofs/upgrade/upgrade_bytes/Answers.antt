@@ -13,7 +13,8 @@ returns-in_err-rows g c = record {
 }
 
 pub returns-in_err-text : goal.returns-in_err-text
-returns-in_err-text g c = record { report = on_text c.args.tree.now (λ read is. let found = c.in_ok-rows.ensures.read read is in search rules) }
+returns-in_err-text g c =
+    record { report = on_text c.args.tree.now (λ read is. let found = c.in_ok-rows.ensures.read read is in search rules) }
 
 pub returns : goal.returns
 returns g c =
