@@ -96,7 +96,7 @@ module _ {before : Reporting} {at : Standing} (waiting : IsWaiting at) {given : 
       let e = way.whole (piece ++ rest) ∙ ap (with_front way.written) (fed.0 rest) in (
         ap (λ (r : Said Course). r.ending) e,
         subst (Appends old new) (sym (ap (λ (r : Said Course). r.text) e ∙ append-nil way.written))
-        (Appends-kept old mid new way.written way.appended fed.1),
+            (Appends-kept old mid new way.written way.appended fed.1),
       )
 
   -- over bytes that are all there, of which some are left

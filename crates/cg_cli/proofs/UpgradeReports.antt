@@ -36,5 +36,5 @@ nothing_written read fault known is result handed =
       text = [];
       written = λ st ok other. absurd (no_state read fault is st ok (λ same. other (ap Err same)));
       reports = met_reports (tree_read read) (λ st. record { text = []; ending = Ok 0 }) (λ st. refl) (lifted fault)
-      (tree_met read fault is) known;
+          (tree_met read fault is) known;
     })

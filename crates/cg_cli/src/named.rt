@@ -2,9 +2,8 @@
 ghost use Rattle.std.specs.Prelude.{◌≡◌, ◌≢◌, map, Err, IfErr, MatchResult};
 ghost use Rattle.cg_cgroup.specs.Paths.{same_path};
 ghost use Rattle.cg_text.specs.Readings.{Reading, IsReading};
-ghost use Rattle.cg_cli.specs.Asking.{read_in_turn, IsMet, IsKeptOnce};
+ghost use Rattle.cg_cli.specs.Asking.{named_read, IsMet, IsKeptOnce};
 ghost use Rattle.cg_cli.specs.Audits.{users_read, paths_read};
-ghost use Rattle.cg_cli.specs.May.{tree_read};
 ghost use Rattle.cg_cli.specs.Once.{same_user, IsReadOnce};
 ghost use Rattle.cg_cli.specs.declared.fault.CliFault.{CliFault};
 
@@ -33,12 +32,9 @@ pub fn read_named(
     subtrees: &[&str],
 ) -> Result<Named, CliFault>
     ensures { (read : Reading) → IsReading tree.now read → MatchResult result
-        (λ named. IsKeptOnce
-        (read_in_turn (users_read (map (λ user. (user.uid, user.gids.now)) users.now)) (paths_read (map (λ text. text.now) subtrees.now)) (tree_read read))
+        (λ named. IsKeptOnce (named_read (map (λ user. (user.uid, user.gids.now)) users.now) (map (λ text. text.now) subtrees.now) read)
         named.users.items named.subtrees.items named.tree)
-        (λ fault. IsMet
-        (read_in_turn (users_read (map (λ user. (user.uid, user.gids.now)) users.now)) (paths_read (map (λ text. text.now) subtrees.now)) (tree_read read))
-        fault) }
+        (λ fault. IsMet (named_read (map (λ user. (user.uid, user.gids.now)) users.now) (map (λ text. text.now) subtrees.now) read) fault) }
 {
     let users = users_once(alloc, users)?;
     let subtrees = paths_once(alloc, subtrees)?;

@@ -58,7 +58,8 @@ fn course_of(
 ) -> Result<MaybeWatched<Indexed>, CliFault>
     ensures made { IfOk result (λ course. HasMade 0 (⟦<MaybeWatched<Indexed> as OnCourse>⟧.course course)) }
     ensures read { (read : Reading) → IsReading tree.now read → MatchResult result
-        (λ course. course_read (option_map (λ text. text.now) subtree.entry) read ≡ Ok (⟦<MaybeWatched<Indexed> as OnCourse>⟧.course course))
+        (λ course. course_read (option_map (λ text. text.now) subtree.entry) read
+        ≡ Ok (⟦<MaybeWatched<Indexed> as OnCourse>⟧.course course))
         (λ fault. fault ≢ CliFault.NoMemory → course_read (option_map (λ text. text.now) subtree.entry) read ≡ Err fault) }
 {
     match subtree {

@@ -50,7 +50,8 @@ impl<C: OnCourse> Run<C> {
             (W.contents out.old) (W.contents out.new) result }
         ensures waiting { OnOk result (IsWaiting (standing_of C.course self.new)) }
         ensures some { IfOk result (λ taken. 0 < taken) }
-        ensures taken { IfOk result (λ taken. most_taken (standing_of C.course self.old) + taken ≤ most_taken (standing_of C.course self.new)) }
+        ensures taken { IfOk result (λ taken. most_taken (standing_of C.course self.old) + taken
+            ≤ most_taken (standing_of C.course self.new)) }
     {
         if self.done >= MOST_OPERATIONS {
             return Err(CliFault::TooManySteps);
