@@ -1,8 +1,10 @@
 -- Pairs written one after another, and what the report on them is where it ends early.
-use Rattle.std.proofs.Common.{◌≡◌, ◌≢◌, ℕ, ◌+◌, ◌<◌, ◌||◌, Bool, true, false, cond, List, [], ◌∷◌, ◌++◌, length, get_or, drop, drop-cons, add-one, Option, Some, None, Result, Ok, Err, IfOk, refl, sym, ap, ◌∙◌, subst, append_assoc, append-nil, length-append, arith}
+use Rattle.std.proofs.Common.{◌≡◌, ◌≢◌, ℕ, ◌+◌, ◌<◌, ◌||◌, Bool, true, false, cond, List, [], ◌∷◌, ◌++◌, length, get_or, drop}
+use Rattle.std.proofs.Common.{drop-cons, add-one, Option, Some, None, Result, Ok, Err, IfOk, IsErrAnd, refl, sym, ap, ◌∙◌, subst}
+use Rattle.std.proofs.Common.{append_assoc, append-nil, length-append, arith}
 use Rattle.std.specs.List.{list_any, flat_map}
 use Rattle.std.specs.Io.KnownBytes.{Appends}
-use Rattle.std.proofs.KnownBytes.{Appends-nil, Appends-trans}
+use Rattle.std.proofs.KnownBytes.{Appends-nil, Appends-trans, Keeps-refl}
 use Rattle.std.proofs.lemmas.List.{take-append-le}
 use Rattle.std.proofs.lemmas.List.Concat.{flat_map-append}
 use Rattle.cg_cgroup.specs.Paths.{Names, same_path}
@@ -10,8 +12,7 @@ use Rattle.cg_cgroup.specs.Identity.{Identity}
 use Rattle.cg_model.specs.States.{State}
 use Rattle.cg_model.specs.Clauses.{first}
 use Rattle.cg_text.specs.Readings.{Reading}
-use Rattle.cg_text.specs.declared.tree.fault.TreeFault.{TreeFault}
-use Rattle.cg_text.specs.declared.tree.fault.TreeFault.TheVariants.{NoMemory as TreeNoMemory}
+use Rattle.cg_text.specs.TextOf.{IsTextOf}
 use Rattle.cg_model.specs.declared.fault.CheckFault.{CheckFault}
 use Rattle.cg_model.specs.declared.fault.CheckFault.TheVariants.{RootSubtree, NoSuchSubtree, NoMemory as CheckNoMemory}
 use Rattle.cg_model.specs.Answers.{answer}
@@ -22,18 +23,19 @@ use Rattle.cg_model.specs.declared.answer.Answer.{Answer}
 use Rattle.cg_model.specs.declared.answer.Answer.TheVariants.{Contained, Escapes, Unsettled}
 use Rattle.cg_check.proofs.Checking.{checked-answer}
 use Rattle.cg_report.specs.PairLines.{pair_text, pairs_text}
-use Rattle.cg_cli.specs.Faults.{lifted, lifted_check}
+use Rattle.cg_cli.specs.Asking.{read_in_turn, named_read, read_takes_memory, IsMet, IsKeptOnce}
+use Rattle.cg_cli.specs.Faults.{lifted_check}
 use Rattle.cg_cli.specs.Audits.{users_read, paths_read}
 use Rattle.cg_cli.specs.Containment.{in_call, answer_status}
+use Rattle.cg_cli.specs.May.{tree_read}
 use Rattle.cg_cli.specs.Once.{once, same_user}
-use Rattle.cg_cli.specs.Reports.{takes_memory}
 use Rattle.cg_cli.specs.Written.{AppendsPart}
 use Rattle.cg_cli.specs.AllPairs.{is_escape, pairs_status, worse, listing_text, WritesPairs, read_then, pairs_found, all_report, ReportsPairs, UnlistedAreContained}
 use Rattle.cg_cli.specs.declared.fault.CliFault.{CliFault}
-use Rattle.cg_cli.specs.declared.fault.CliFault.TheVariants.{BadPath, Write, NoMemory}
-use Rattle.cg_cli.proofs.AuditReports.{lifted_takes, paths_fault}
-use Rattle.cg_cli.proofs.CheckReports.{keeps}
+use Rattle.cg_cli.specs.declared.fault.CliFault.TheVariants.{Write, NoMemory}
+use Rattle.cg_cli.proofs.NamedReads.{read_together}
 use Rattle.cg_cli.proofs.ReplayEnds.{part_behind}
+use Rattle.cg_cli.proofs.ReportLaws.{handed_on, same_Ok, call_takes}
 
 -- ---- statuses
 
@@ -195,8 +197,8 @@ wants pairs known = ([], pairs, refl, Appends-nil known)
 -- ---- all pairs
 
 pub fault_said : (fault : CliFault) (known : Option (List ℕ)) → ReportsPairs (Err fault) known known (Err fault)
-fault_said NoMemory known = (refl, keeps known)
-fault_said fault known = (refl, keeps known)
+fault_said NoMemory known = (refl, Keeps-refl known)
+fault_said fault known = (refl, Keeps-refl known)
 
 module _ (st : State) (users : List Identity) (subtrees : List Names) where
   pub subtree_said : (fault : CheckFault) (known : Option (List ℕ)) → Some fault ≡ first (flat_map (subtree_faults st) subtrees) → ReportsPairs (pairs_found st users subtrees) known known (Err (lifted_check fault))
@@ -247,82 +249,60 @@ module _ (st : State) (users : List Identity) (subtrees : List Names) where
 
 -- ---- what is read before
 
-same_Ok : {A : Type 0} (x y : A) → let r : Result A CliFault = Ok x in let s : Result A CliFault = Ok y in r ≡ s → x ≡ y
-same_Ok x y same = cc
+wanted : (report : Result (List Listed) CliFault) (known : Option (List ℕ)) → read_takes_memory report ≡ true
+    → ReportsPairs report known known (Err NoMemory)
+wanted (Ok found) known some = wants found known
+wanted (Err fault) known some = (some, Keeps-refl known)
 
-abbrev chain : Result (List Identity) CliFault → Result (List Names) CliFault → Result State TreeFault → Result (List Listed) CliFault
-chain users subtrees tree =
-    read_then users (λ users. read_then subtrees (λ subtrees. read_then (elim tree [ Ok st ↦ Ok st | Err fault ↦ Err (lifted fault) ]) (λ st. pairs_found st (once same_user users) (once same_path subtrees))))
+met_pairs : {A : Type 0} (read : Result A CliFault) (next : A → Result (List Listed) CliFault)
+    → ((x : A) → read_takes_memory (next x) ≡ true)
+    → (fault : CliFault) → IsMet read fault → (known : Option (List ℕ)) → ReportsPairs (read_then read next) known known (Err fault)
+met_pairs read next needs Write met known = absurd met
+met_pairs (Ok x) next needs NoMemory met known = wanted (next x) known (needs x)
+met_pairs (Err fault) next needs NoMemory met known = (met, Keeps-refl known)
+met_pairs read next needs fault met known =
+    subst (λ found. ReportsPairs (read_then found next) known known (Err fault)) (sym met) (refl, Keeps-refl known)
 
-abbrev takes : Result (List Listed) CliFault → Bool
-takes (Ok found) = true
-takes (Err fault) = takes_memory (Err fault)
+module _ (tree : Reading) (given : List (ℕ × List ℕ)) (texts : List (List ℕ)) where
+  abbrev read : Result (List Identity × List Names × State) CliFault
+  read = named_read given texts tree
 
-wanted : (report : Result (List Listed) CliFault) (known : Option (List ℕ)) → takes report ≡ true → ReportsPairs report known known (Err NoMemory)
-wanted (Ok found) known some = ([], found, refl, Appends-nil known)
-wanted (Err fault) known some = (some, keeps known)
+  abbrev next : List Identity × List Names × State → Result (List Listed) CliFault
+  next all = pairs_found all.2 (once same_user all.0) (once same_path all.1)
 
-fault_reports : (report : Result (List Listed) CliFault) (fault : CliFault) (known : Option (List ℕ)) → (fault ≢ NoMemory → report ≡ Err fault) → (fault ≡ NoMemory → takes report ≡ true) → ReportsPairs report known known (Err fault)
-fault_reports report NoMemory known stated memory = wanted report known (memory refl)
-fault_reports report fault known stated memory = subst (λ r. ReportsPairs r known known (Err fault)) (sym (stated (λ same. cc))) (refl, keeps known)
+  by_all : all_report tree given texts ≡ read_then read next
+  by_all =
+      read_together (λ users subtrees st. pairs_found st (once same_user users) (once same_path subtrees)) (users_read given)
+      (paths_read texts) (tree_read tree)
 
-pairs_take : (fault : Option CheckFault) (found : List Listed) → takes (in_call (unless_fault fault found)) ≡ true
-pairs_take None found = refl
-pairs_take (Some RootSubtree) found = refl
-pairs_take (Some NoSuchSubtree) found = refl
-pairs_take (Some CheckNoMemory) found = refl
+  pub fault_reports : (fault : CliFault) → IsMet read fault → (known : Option (List ℕ)) (result : Result ℕ CliFault)
+      → IsErrAnd result (λ found. found ≡ fault) → ReportsPairs (all_report tree given texts) known known result
+  fault_reports fault met known result is =
+      handed_on (ReportsPairs (all_report tree given texts) known known) fault result is
+      (subst (λ report. ReportsPairs report known known (Err fault)) (sym by_all)
+      (met_pairs read next
+      (λ all. call_takes
+      (unless_fault (first (flat_map (subtree_faults all.2) (once same_path all.1)))
+      (listed all.2 (once same_user all.0) (once same_path all.1))))
+      fault met known))
 
-tree_takes : (users : List Identity) (subtrees : List Names) (tree : Result State TreeFault) → takes (chain (Ok users) (Ok subtrees) tree) ≡ true
-tree_takes users subtrees (Ok st) = pairs_take (first (flat_map (subtree_faults st) (once same_path subtrees))) (listed st (once same_user users) (once same_path subtrees))
-tree_takes users subtrees (Err fault) = lifted_takes fault
+  module _ (users : List Identity) (subtrees : List Names) (st : State) (kept : IsKeptOnce read users subtrees st) where
+    pub listing_reports : (old new : Option (List ℕ)) (result : Result ℕ CliFault)
+        → ReportsPairs (pairs_found st users subtrees) old new result → ReportsPairs (all_report tree given texts) old new result
+    listing_reports old new result =
+        subst (λ report. ReportsPairs report old new result)
+        (sym (by_all ∙ ap (λ found. read_then found next) kept.is ∙ sym (λ i. pairs_found st (kept.of_users i) (kept.of_subtrees i))))
 
-paths_take : (users : List Identity) (subtrees : Result (List Names) CliFault) (tree : Result State TreeFault) → ((fault : CliFault) → subtrees ≡ Err fault → fault ≡ BadPath) → takes (chain (Ok users) subtrees tree) ≡ true
-paths_take users (Ok subtrees) tree of_paths = tree_takes users subtrees tree
-paths_take users (Err fault) tree of_paths = ap (λ f. takes_memory (Err f)) (of_paths fault refl)
-
-users_take : (users : Result (List Identity) CliFault) (subtrees : Result (List Names) CliFault) (tree : Result State TreeFault) → ((fault : CliFault) → users ≡ Err fault → NoMemory ≡ fault) → ((fault : CliFault) → subtrees ≡ Err fault → fault ≡ BadPath) → takes (chain users subtrees tree) ≡ true
-users_take (Ok users) subtrees tree of_users of_paths = paths_take users subtrees tree of_paths
-users_take (Err fault) subtrees tree of_users of_paths = ap (λ f. takes_memory (Err f)) (sym (of_users fault refl))
-
-module _ (tree : Reading) (given : List (ℕ × List ℕ)) (texts : List (List ℕ)) (known : Option (List ℕ)) where
-  pub users_fault_said : (fault : CliFault) → (fault ≢ NoMemory → users_read given ≡ Err fault) → ((other : CliFault) → users_read given ≡ Err other → fault ≡ other) → ReportsPairs (all_report tree given texts) known known (Err fault)
-  users_fault_said fault stated first =
-      fault_reports (all_report tree given texts) fault known (λ other. ap (λ u. chain u (paths_read texts) tree) (stated other))
-      (λ same. users_take (users_read given) (paths_read texts) tree (λ f is. sym same ∙ first f is) (paths_fault texts))
-
-  module _ (users : List Identity) (of_users : users_read given ≡ Ok users) where
-    pub paths_fault_said : (fault : CliFault) → (fault ≢ NoMemory → paths_read texts ≡ Err fault) → ReportsPairs (all_report tree given texts) known known (Err fault)
-    paths_fault_said fault stated =
-        fault_reports (all_report tree given texts) fault known
-        (λ other. ap (λ u. chain u (paths_read texts) tree) of_users ∙ ap (λ p. chain (Ok users) p tree) (stated other))
-        (λ same. ap (λ u. takes (chain u (paths_read texts) tree)) of_users ∙ paths_take users (paths_read texts) tree (paths_fault texts))
-
-    module _ (subtrees : List Names) (of_paths : paths_read texts ≡ Ok subtrees) where
-      by_tree : all_report tree given texts ≡ chain (Ok users) (Ok subtrees) tree
-      by_tree = ap (λ u. chain u (paths_read texts) tree) of_users ∙ ap (λ p. chain (Ok users) p tree) of_paths
-
-      pub tree_fault_said : (fault : TreeFault) → (fault ≢ TreeNoMemory → tree ≡ Err fault) → ReportsPairs (all_report tree given texts) known known (Err (lifted fault))
-      tree_fault_said TreeNoMemory stated = wanted (all_report tree given texts) known (ap takes by_tree ∙ tree_takes users subtrees tree)
-      tree_fault_said fault stated =
-          subst (λ r. ReportsPairs r known known (Err (lifted fault))) (sym (by_tree ∙ ap (chain (Ok users) (Ok subtrees)) (stated (λ same. cc)))) (refl, keeps known)
-
-      module _ (kept_users : List Identity) (kept_subtrees : List Names) (users_once : kept_users ≡ once same_user users) (subtrees_once : kept_subtrees ≡ once same_path subtrees) (st : State) (of_text : tree ≡ Ok st) where
-        pub tree_said : (new : Option (List ℕ)) (result : Result ℕ CliFault) → ReportsPairs (pairs_found st kept_users kept_subtrees) known new result → ReportsPairs (all_report tree given texts) known new result
-        tree_said new result said =
-            subst (λ r. ReportsPairs r known new result) (sym (by_tree ∙ ap (chain (Ok users) (Ok subtrees)) of_text))
-            (subst (λ r. ReportsPairs r known new result) (λ i. pairs_found st (users_once i) (subtrees_once i)) said)
-
-        pub unlisted_said : (P : State → Type 0) → ((start : State) → P start → tree ≡ Ok start) → (result : Result ℕ CliFault)
-            → IfOk result (λ status. UnlistedAreContained st kept_users kept_subtrees)
-            → IfOk result (λ status. (start : State) (who : List Identity) (paths : List Names) → P start → users_read given ≡ Ok who → paths_read texts ≡ Ok paths → UnlistedAreContained start (once same_user who) (once same_path paths))
-        unlisted_said P means (Err fault) said = tt
-        unlisted_said P means (Ok status) said = λ start who paths is_start is_who are_paths.
-            let e : st ≡ start = same_start (sym of_text ∙ means start is_start) in
-            let f : users ≡ who = same_Ok users who (sym of_users ∙ is_who) in
-            let h : subtrees ≡ paths = same_Ok subtrees paths (sym of_paths ∙ are_paths) in
-            subst (λ (s : State). UnlistedAreContained s (once same_user who) (once same_path paths)) e
-            (subst (λ l. UnlistedAreContained st l (once same_path paths)) (users_once ∙ ap (once same_user) f)
-            (subst (λ l. UnlistedAreContained st kept_users l) (subtrees_once ∙ ap (once same_path) h) said))
-          where
-            same_start : {start : State} → let r : Result State TreeFault = Ok st in let s : Result State TreeFault = Ok start in r ≡ s → st ≡ start
-            same_start same = cc
+    pub unlisted_said : (bytes : List ℕ) → ((start : State) → IsTextOf start bytes → tree ≡ Ok start) → (result : Result ℕ CliFault)
+        → IfOk result (λ status. UnlistedAreContained st users subtrees)
+        → IfOk result
+        (λ status. (start : State) (who : List Identity) (paths : List Names)
+        → IsTextOf start bytes → users_read given ≡ Ok who → paths_read texts ≡ Ok paths
+        → UnlistedAreContained start (once same_user who) (once same_path paths))
+    unlisted_said bytes means (Err fault) said = tt
+    unlisted_said bytes means (Ok status) said = λ start who paths is_start is_who are_paths.
+        subst (λ (all : List Identity × List Names × State). UnlistedAreContained all.2 (once same_user all.0) (once same_path all.1))
+        (same_Ok (kept.all_users, kept.all_subtrees, st) (who, paths, start)
+        (sym kept.is ∙ (λ i. read_in_turn (is_who i) (are_paths i) (tree_read (means start is_start i)))))
+        (subst (λ l. UnlistedAreContained st l (once same_path kept.all_subtrees)) kept.of_users
+        (subst (λ l. UnlistedAreContained st users l) kept.of_subtrees said))

@@ -1,18 +1,19 @@
 -- What is said behind all lines.
-use Rattle.std.proofs.Common.{◌≡◌, ℕ, ◌++◌, List, [], Option, Result, Ok, Err, IsErrAnd, refl, ap, sym, ◌∙◌, subst, append-nil}
+use Rattle.std.proofs.Common.{◌≡◌, ℕ, true, ◌++◌, List, [], Option, Result, Ok, Err, IsErrAnd, refl, ap, sym, ◌∙◌, subst, append-nil, arith}
 use Rattle.std.specs.Io.KnownBytes.{Appends}
-use Rattle.std.proofs.KnownBytes.{Appends-trans}
+use Rattle.std.proofs.KnownBytes.{Appends-trans, Appends-kept}
 use Rattle.cg_cli.specs.Written.{AppendsPart}
-use Rattle.cg_cli.specs.Reports.{Said, Report}
+use Rattle.cg_cli.specs.Reports.{Said, Report, Reports, takes_memory}
 use Rattle.cg_cgroup.specs.Identity.{Identity}
-use Rattle.cg_cli.specs.Courses.{Course, HasMade, closing}
-use Rattle.cg_cli.specs.Replays.{with_front, closed, lines_said}
-use Rattle.cg_cli.specs.Replaying.{Reporting, coming, whole, Replays, ReplaysFrom}
+use Rattle.cg_cli.specs.Courses.{Course, Unwatched, Watched, HasMade, closing}
+use Rattle.cg_cli.specs.Replays.{with_front, closed}
+use Rattle.cg_cli.specs.Replaying.{Reporting, Standing, from_start, whole, IsWaiting, Replays, ReplaysFrom}
 use Rattle.cg_cli.specs.declared.fault.CliFault.{CliFault}
 use Rattle.cg_cli.specs.declared.fault.CliFault.TheVariants.{Write, Read, NoMemory}
 use Rattle.cg_cli.proofs.ReplayRuns.{part_of_front}
-use Rattle.cg_cli.proofs.ReplayEnds.{handed_on, part_behind}
+use Rattle.cg_cli.proofs.ReplayEnds.{part_behind}
 use Rattle.cg_cli.proofs.ReplayReads.{from_replays}
+use Rattle.cg_cli.proofs.ReportLaws.{handed_on}
 
 -- the text of the lines stands in front
 closed_by : (text : List ℕ) (ending : Result Course CliFault) → (more : List ℕ) × ((closed (record { text = text; ending = ending })).text ≡ text ++ more)
@@ -34,9 +35,13 @@ module _ (lines : Reporting) (ops : List ℕ) (old new : Option (List ℕ)) wher
       let is = behind (lines ops) (Err fault) said.0 in
       (ap (λ (r : Report). r.ending) is, subst (Appends old new) (sym (ap (λ (r : Report). r.text) is)) said.1)
 
--- the status and the text of what is said at the end
-abbrev Says : Course → List ℕ → ℕ → Type 0
-Says course text status = closing course ≡ record { text = text; ending = Ok status }
+pub closing_takes : (course : Course) → takes_memory (closing course).ending ≡ true
+closing_takes (Unwatched st) = refl
+closing_takes (Watched run) = refl
+
+never_closing : (course : Course) (fault : CliFault) → (closing course).ending ≡ Err fault → ⊥
+never_closing (Unwatched st) fault is = cc
+never_closing (Watched run) fault is = cc
 
 -- over bytes that are all there, of a run that is at `first`, where `lines` are said
 module _ {first lines : Reporting} (same : first ≡ lines) (ops : List ℕ) (old : Option (List ℕ)) where
@@ -50,29 +55,25 @@ module _ {first lines : Reporting} (same : first ≡ lines) (ops : List ℕ) (ol
     there : Replays whole lines ops old mid (Ok course)
     there = subst (λ report. Replays whole report ops old mid (Ok course)) same came
 
-    said_is : (text : List ℕ) (status : ℕ) → Says course text status
-        → closed (lines ops) ≡ with_front (lines ops).text (record { text = text; ending = Ok status })
-    said_is text status said = behind (lines ops) (Ok course) there.0 ∙ ap (with_front (lines ops).text) said
+    said_is : closed (lines ops) ≡ with_front (lines ops).text (closing course)
+    said_is = behind (lines ops) (Ok course) there.0
 
-    pub close_whole : (new : Option (List ℕ)) {text shown : List ℕ} {status : ℕ} → Says course text status → shown ≡ text
-        → Appends mid new shown → Replays closed lines ops old new (Ok status)
-    close_whole new {text} {shown} {status} said is_shown wrote =
-        let is = said_is text status said in (
-          ap (λ (r : Report). r.ending) is,
-          subst (Appends old new) (sym (ap (λ (r : Report). r.text) is))
-              (Appends-trans old mid new (lines ops).text text there.1 (subst (Appends mid new) is_shown wrote)),
-        )
+    ends : {ended : Result ℕ CliFault} → (closing course).ending ≡ ended → (closed (lines ops)).ending ≡ ended
+    ends is = ap (λ (r : Report). r.ending) said_is ∙ is
 
-    pub close_part : (new : Option (List ℕ)) {text shown : List ℕ} {status : ℕ} → Says course text status → shown ≡ text
-        → AppendsPart mid new shown → (result : Result ℕ CliFault) → IsErrAnd result (λ found. found ≡ Write)
+    appends : (new : Option (List ℕ)) → Appends mid new (closing course).text → Appends old new (closed (lines ops)).text
+    appends new wrote =
+        subst (Appends old new) (sym (ap (λ (r : Report). r.text) said_is))
+        (Appends-trans old mid new (lines ops).text (closing course).text there.1 wrote)
+
+    pub close_said : (new : Option (List ℕ)) (result : Result ℕ CliFault) → Reports (closing course) mid new result
         → Replays closed lines ops old new result
-    close_part new {text} {shown} {status} said is_shown part result is =
-        handed_on (Replays closed lines ops old new) Write result is
-        (subst (AppendsPart old new) (sym (ap (λ (r : Report). r.text) (said_is text status said)))
-        (part_behind old mid new (lines ops).text text there.1 (subst (AppendsPart mid new) is_shown part)))
-
-    pub close_memory : (result : Result ℕ CliFault) → IsErrAnd result (λ found. found ≡ NoMemory) → Replays closed lines ops old mid result
-    close_memory result is = handed_on (Replays closed lines ops old mid) NoMemory result is (ops, [], sym (append-nil ops), there.1)
+    close_said new (Ok status) said = (ends said.0, appends new said.1)
+    close_said new (Err Write) part =
+        subst (AppendsPart old new) (sym (ap (λ (r : Report). r.text) said_is))
+        (part_behind old mid new (lines ops).text (closing course).text there.1 part)
+    close_said new (Err NoMemory) kept = (ops, [], sym (append-nil ops), Appends-kept old mid new (lines ops).text there.1 kept.1)
+    close_said new (Err fault) said = absurd (never_closing course fault said.0)
 
 -- over a reader
 module _ {first lines : Reporting} (same : first ≡ lines) (before left old : Option (List ℕ)) where
@@ -88,32 +89,20 @@ module _ {first lines : Reporting} (same : first ≡ lines) (before left old : O
       handed_on (ReplaysFrom closed lines before left old new) fault result is
       (fault_from new fault (subst (λ report. ReplaysFrom whole report before left old new (Err fault)) same came))
 
-  module _ (mid : Option (List ℕ)) (course : Course) (came : ReplaysFrom whole first before left old mid (Ok course)) where
-    pub from_close_whole : (new : Option (List ℕ)) {text shown : List ℕ} {status : ℕ} → Says course text status → shown ≡ text
-        → Appends mid new shown → ReplaysFrom closed lines before left old new (Ok status)
-    from_close_whole new said is_shown wrote = (came.0, came.1, close_whole same came.0 old mid course came.2 new said is_shown wrote)
-
-    pub from_close_part : (new : Option (List ℕ)) {text shown : List ℕ} {status : ℕ} → Says course text status → shown ≡ text
-        → AppendsPart mid new shown → (result : Result ℕ CliFault) → IsErrAnd result (λ found. found ≡ Write)
-        → ReplaysFrom closed lines before left old new result
-    from_close_part new said is_shown part result is =
-        handed_on (ReplaysFrom closed lines before left old new) Write result is
-        (came.0, came.1, close_part same came.0 old mid course came.2 new said is_shown part (Err Write) refl)
-
-    pub from_close_memory : (result : Result ℕ CliFault) → IsErrAnd result (λ found. found ≡ NoMemory)
-        → ReplaysFrom closed lines before left old mid result
-    from_close_memory result is =
-        handed_on (ReplaysFrom closed lines before left old mid) NoMemory result is
-        (came.0, came.1, close_memory same came.0 old mid course came.2 (Err NoMemory) refl)
+  pub from_close_said : (mid : Option (List ℕ)) (course : Course) → ReplaysFrom whole first before left old mid (Ok course)
+      → (new : Option (List ℕ)) (result : Result ℕ CliFault) → Reports (closing course) mid new result
+      → ReplaysFrom closed lines before left old new result
+  from_close_said mid course came new result said =
+      from_replays closed lines before left old new came.0 result came.1 (close_said same came.0 old mid course came.2 new result said)
 
 -- a run that has only begun
-module _ {course other : Course} {done : ℕ} (of_course : other ≡ course) (of_done : done ≡ 0) where
-  -- what comes of it is said from the start
-  pub begun : {user who : Identity} {line : List ℕ} → who ≡ user → line ≡ []
-      → coming other who done line ≡ (λ bytes. lines_said course user 0 bytes)
-  begun {user} {who} {line} of_user of_line =
-      ap (λ c. coming c who done line) of_course ∙ ap (λ u. coming course u done line) of_user
-      ∙ ap (λ (n : ℕ). coming course user n line) of_done ∙ ap (coming course user 0) of_line
+start_waits : (course : Course) (user : Identity) → HasMade 0 course → IsWaiting (from_start course user)
+start_waits course user made = record {
+  made = made;
+  one_line = λ k d within. absurd (omega (arith, within));
+  short = omega arith;
+  few = omega arith;
+}
 
-  pub made_none : HasMade 0 course → HasMade done other
-  made_none made = subst (λ (n : ℕ). HasMade n other) (sym of_done) (subst (HasMade 0) (sym of_course) made)
+pub begun_waits : {at : Standing} {course : Course} {user : Identity} → at ≡ from_start course user → HasMade 0 course → IsWaiting at
+begun_waits {at} {course} {user} is made = subst IsWaiting (sym is) (start_waits course user made)

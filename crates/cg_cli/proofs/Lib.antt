@@ -9,6 +9,7 @@ mod AdvisedTrees
 mod EachRead
 mod AuditStatus
 mod AuditOnce
+mod NamedReads
 mod AuditReports
 mod Once
 mod AllPairs
@@ -17,5 +18,4 @@ mod ReplayCalls
 mod UpgradeReports
 pub mod ReadingOf
 mod ReportLaws
-mod MayReports
 mod CourseReads

@@ -1,9 +1,9 @@
 -- What the bytes of a tree text are read as.
-use Rattle.std.proofs.Common.{◌≡◌, ◌≢◌, ℕ, List, Some, Result, Ok, Err, MatchResult, subst}
+use Rattle.std.proofs.Common.{◌≡◌, ◌≢◌, ℕ, List, Some, Result, Ok, Err, MatchResult}
 use Rattle.cg_model.specs.States.{State}
 use Rattle.cg_model.specs.Clauses.{first}
 use Rattle.cg_text.specs.Faults.{Reads}
-use Rattle.cg_text.specs.Readings.{Reading, IsReading}
+use Rattle.cg_text.specs.Readings.{Reading, IsReading, OnText}
 use Rattle.cg_text.specs.TextOf.{IsTextOf}
 use Rattle.cg_text.specs.TextFaults.{text_faults}
 use Rattle.cg_text.specs.declared.tree.fault.TreeFault.{TreeFault}
@@ -17,6 +17,10 @@ pub is_reading : (bytes : List ℕ) → IsReading bytes (reading_of bytes)
 unfolding reading_of
 is_reading bytes = (a_reading bytes).1
 
+-- what holds of whatever they are read as
+pub on_text : (bytes : List ℕ) {P : Reading → Type 0} → ((read : Reading) → IsReading bytes read → P read) → OnText bytes P
+on_text bytes holds = (reading_of bytes, is_reading bytes, holds (reading_of bytes) (is_reading bytes))
+
 -- it is read as nothing else
 pub reading_is : (bytes : List ℕ) (read : Reading) → IsReading bytes read → reading_of bytes ≡ read
 reading_is bytes read is = one_reading bytes (reading_of bytes) read (is_reading bytes) is
@@ -27,7 +31,3 @@ pub reads_any : (bytes : List ℕ) (result : Result State TreeFault)
     → (read : Reading) → IsReading bytes read → Reads (λ rows. rows) result read
 reads_any bytes (Ok rows) found read is = one_reading bytes read (Ok rows) is found
 reads_any bytes (Err fault) found read is = λ other. one_reading bytes read (Err fault) is (found other)
-
--- a state that it is read as is the text's
-pub text_of : (bytes : List ℕ) (st : State) → reading_of bytes ≡ Ok st → IsTextOf st bytes
-text_of bytes st is = subst (IsReading bytes) is (is_reading bytes)

@@ -19,7 +19,7 @@ use Rattle.cg_cli.specs.Replays.{closed, course_read, lines_said, lines_report, 
 use Rattle.cg_cli.specs.Replaying.{Reporting, AreOf, HasFront, Replays, ReplaysFrom}
 use Rattle.cg_cli.specs.declared.fault.CliFault.{CliFault}
 use Rattle.cg_cli.specs.declared.fault.CliFault.TheVariants.{Uid, Gids, Read, Write, NoMemory, BadPath}
-use Rattle.cg_cli.proofs.ReplayEnds.{handed_on}
+use Rattle.cg_cli.proofs.ReportLaws.{handed_on}
 use Rattle.cg_cli.proofs.ReplayReads.{from_replays}
 
 -- the lines, by what the user and the course are
@@ -99,34 +99,33 @@ module _ (tree : Reading) (uid : ℕ) (gids : List ℕ) (subtree : Option (List 
       let is = ap closed same in
       (ap (λ (r : Report). r.ending) is, subst (Appends known known) (sym (ap (λ (r : Report). r.text) is)) (Appends-nil known))
 
-  -- where the user was read, and what is named as a subtree
-  module _ {name : Option (List ℕ)} (named : subtree ≡ name) (user : Identity) (of_user : Ok user ≡ user_read uid gids) where
-    lines_by_course : (read : Result Course CliFault) → course_read name tree ≡ read → lines ≡ lines_by (Ok user) read
-    lines_by_course read of_course =
-        ap (λ u. lines_by u (course_read subtree tree)) (sym of_user) ∙ ap (λ n. lines_by (Ok user) (course_read n tree)) named
-        ∙ ap (lines_by (Ok user)) of_course
+  -- where the user was read
+  module _ (user : Identity) (of_user : Ok user ≡ user_read uid gids) where
+    lines_by_course : (read : Result Course CliFault) → course_read subtree tree ≡ read → lines ≡ lines_by (Ok user) read
+    lines_by_course read of_course = ap (λ u. lines_by u (course_read subtree tree)) (sym of_user) ∙ ap (lines_by (Ok user)) of_course
 
     -- what is known of the lines of the course that was read
-    pub lines_are : (course : Course) → course_read name tree ≡ Ok course
+    pub lines_are : (course : Course) → course_read subtree tree ≡ Ok course
         → (Q : Reporting → Type 0) → Q (λ ops. lines_said course user 0 ops) → Q lines
     lines_are course of_course Q known = subst Q (sym (lines_by_course (Ok course) of_course)) known
 
-    course_known : (ops : List ℕ) (known : Option (List ℕ)) (fault : CliFault) → (fault ≢ NoMemory → course_read name tree ≡ Err fault)
+    course_known : (ops : List ℕ) (known : Option (List ℕ)) (fault : CliFault) → (fault ≢ NoMemory → course_read subtree tree ≡ Err fault)
         → Replays closed lines ops known known (Err fault)
     course_known ops known NoMemory is = nothing_said ops known
     course_known ops known Read is =
-        let never : false ≡ true = never_after (course_read name tree) Read (read_before name tree) (is (λ same. cc)) in cc
+        let never : false ≡ true = never_after (course_read subtree tree) Read (read_before subtree tree) (is (λ same. cc)) in cc
     course_known ops known Write is =
-        let never : false ≡ true = never_after (course_read name tree) Write (read_before name tree) (is (λ same. cc)) in cc
+        let never : false ≡ true = never_after (course_read subtree tree) Write (read_before subtree tree) (is (λ same. cc)) in cc
     course_known ops known fault is =
         said_fault ops known fault (ap (λ (report : Reporting). report ops) (lines_by_course (Err fault) (is (λ same. cc))))
 
-    pub course_fault : (ops : List ℕ) (known : Option (List ℕ)) (fault : CliFault) → (fault ≢ NoMemory → course_read name tree ≡ Err fault)
+    pub course_fault : (ops : List ℕ) (known : Option (List ℕ)) (fault : CliFault)
+        → (fault ≢ NoMemory → course_read subtree tree ≡ Err fault)
         → (result : Result ℕ CliFault) → IsErrAnd result (λ found. found ≡ fault) → Replays closed lines ops known known result
     course_fault ops known fault is result handed =
         handed_on (Replays closed lines ops known known) fault result handed (course_known ops known fault is)
 
-    pub course_fault_from : (given known : Option (List ℕ)) (fault : CliFault) → (fault ≢ NoMemory → course_read name tree ≡ Err fault)
+    pub course_fault_from : (given known : Option (List ℕ)) (fault : CliFault) → (fault ≢ NoMemory → course_read subtree tree ≡ Err fault)
         → (result : Result ℕ CliFault) → IsErrAnd result (λ found. found ≡ fault) → ReplaysFrom closed lines given given known known result
     course_fault_from given known fault is result handed =
         not_asked lines given known known result (λ ops. course_fault ops known fault is result handed)

@@ -1,21 +1,23 @@
 -- A replay over a reader: what it gave, and what is left.
-use Rattle.std.proofs.Common.{◌≡◌, ℕ, ◌<◌, ◌≤◌, true, false, nat_lt, List, [], ◌∷◌, ◌++◌, length, take, drop, Option, Some, None, Result}
+use Rattle.std.proofs.Common.{◌≡◌, ℕ, ◌+◌, ◌*◌, ◌<◌, ◌≤◌, true, false, nat_lt, List, [], ◌∷◌, ◌++◌, length, take, drop, Option, Some}
+use Rattle.std.proofs.Common.{None, Result}
 use Rattle.std.proofs.Common.{Ok, Err, IsErrAnd, IfSome, OnSome, ◌⊎◌, inl, inr, refl, ap, sym, ◌∙◌, subst, append-nil, length-take-le}
 use Rattle.std.proofs.Common.{arith}
 use Rattle.std.proofs.lemmas.Bool.Decides.{nat_tests}
 use Rattle.std.specs.Io.{StartsWith}
 use Rattle.std.specs.Io.KnownBytes.{Keeps, Consumes, IsAtEnd}
 use Rattle.std.specs.Io.BufRead.{DropsConsumable}
-use Rattle.cg_cgroup.specs.Identity.{Identity}
 use Rattle.std.proofs.BufReadLemmas.{Consumes_shown}
 use Rattle.std.proofs.KnownBytes.{Keeps-refl, Consumes-nil, Consumes-kept, Consumes-trans, Appends-kept, starts_with_rest}
 use Rattle.cg_cli.specs.Reports.{Said}
 use Rattle.cg_cli.specs.Courses.{Course, came_to}
 use Rattle.cg_cli.specs.Replays.{end_read}
-use Rattle.cg_cli.specs.Replaying.{Reporting, whole, AreOf, Replays, ReplaysFrom, coming, goes_on, IsWaiting, Leads, Fed, ReadOn}
+use Rattle.cg_cli.specs.Replaying.{Reporting, whole, AreOf, Replays, ReplaysFrom, Standing, coming, ending, goes_on, IsWaiting, Leads}
+use Rattle.cg_cli.specs.Replaying.{Fed, ReadOn}
 use Rattle.cg_cli.specs.declared.fault.CliFault.{CliFault}
 use Rattle.cg_cli.specs.declared.fault.CliFault.TheVariants.{Read, NoMemory}
-use Rattle.cg_cli.proofs.ReplayEnds.{handed_on, leads_nowhere, leads_on, quiet, whole_text, replays_end, replays_fault}
+use Rattle.cg_cli.proofs.ReplayEnds.{leads_nowhere, leads_on, given_said, replays_end, replays_fault}
+use Rattle.cg_cli.proofs.ReportLaws.{handed_on}
 
 no_piece : (had : Option (List ℕ)) → IfSome had (λ xs. StartsWith xs [])
 no_piece None = tt
@@ -86,56 +88,49 @@ end_passed (Some xs) None left given gave end = absurd gave
 end_passed (Some xs) (Some ys) left given gave end = end
 
 -- the input goes on, as far as it was read
-begun_goes_on : (course : Course) (done : ℕ) (line : List ℕ) → IsWaiting done line → goes_on (end_read course done line) ≡ true
-begun_goes_on course done [] waiting = refl
-begun_goes_on course done (b ∷ bs) waiting =
-    let few : done < 65536 = omega (arith, waiting.few) in
+begun_goes_on : (course : Course) (done : ℕ) (line : List ℕ) → done * 8193 + length line ≤ 536936448 → length line ≤ 8192
+    → goes_on (end_read course done line) ≡ true
+begun_goes_on course done [] few short = refl
+begun_goes_on course done (b ∷ bs) few short =
+    let below : done < 65536 = omega (arith, few) in
     let allowed : nat_lt done 65536 ≡ true = grind (arith, nat_tests) in
-    let within : length (b ∷ bs) ≤ 8192 = waiting.short in
-    let short : nat_lt 8192 (length (b ∷ bs)) ≡ false = grind (arith, nat_tests) in
-    rw (allowed, short) refl
+    let within : nat_lt 8192 (length (b ∷ bs)) ≡ false = grind (arith, nat_tests) in
+    rw (allowed, within) refl
 
-module _ {report : Reporting} (course : Course) (user : Identity) {done : ℕ} {line : List ℕ} (waiting : IsWaiting done line)
-    {given : List ℕ} {old mid : Option (List ℕ)} (way : Leads report (coming course user done line) given old mid)
-    (before had : Option (List ℕ)) (gave : Consumes before had given) where
-  abbrev there : Reporting
-  there = coming course user done line
-
-  fault_read : (after : Reporting) (left new : Option (List ℕ)) (fault : CliFault) → ReadOn there after had left mid new (Err fault)
+module _ {report : Reporting} {at : Standing} (waiting : IsWaiting at) {given : List ℕ} {old mid : Option (List ℕ)}
+    (way : Leads report (coming at) given old mid) (before had : Option (List ℕ)) (gave : Consumes before had given) where
+  fault_read : (after : Reporting) (left new : Option (List ℕ)) (fault : CliFault) → ReadOn (coming at) after had left mid new (Err fault)
       → ReplaysFrom whole report before left old new (Err fault)
   fault_read after left new Read read =
-      let said = whole_text report there given old mid (end_read course done line) way (quiet course user done line waiting) in (
+      let said = given_said waiting way in (
         given,
         Consumes-kept before had left given gave read.0,
         Appends-kept old mid new (report given).text said.1 read.1,
-        ap goes_on said.0 ∙ begun_goes_on course done line waiting,
+        ap goes_on said.0 ∙ begun_goes_on at.course at.done at.line waiting.few waiting.short,
       )
   fault_read after left new fault read =
       let known = split_known before had given read.0 gave read.1 in
       from_replays whole report before left old new (given ++ (read.0 ++ known.0)) (Err fault) known.1
-      (replays_fault report there after given read.0 known.0 old mid new (end_read course done line) fault way
-      (quiet course user done line waiting) read.2)
+      (replays_fault waiting way after read.0 known.0 new fault read.2)
 
   -- at a fault
   pub from_fault : {T : Type 0} (view : T → Course) (after : Reporting) (left new : Option (List ℕ)) (fault : CliFault)
-      → ReadOn there after had left mid new (Err fault)
+      → ReadOn (coming at) after had left mid new (Err fault)
       → (result : Result T CliFault) → IsErrAnd result (λ found. found ≡ fault)
       → ReplaysFrom whole report before left old new (came_to view result)
   from_fault view after left new fault read result is =
       handed_on (λ r. ReplaysFrom whole report before left old new (came_to view r)) fault result is (fault_read after left new fault read)
 
 -- at the end of the input
-module _ (course : Course) (user : Identity) {done : ℕ} {line : List ℕ} (waiting : IsWaiting done line) where
-  pub from_end : {report there : Reporting} {given : List ℕ} {old mid : Option (List ℕ)} → Leads report there given old mid
-      → (before had left : Option (List ℕ)) → Consumes before had given
-      → (new : Option (List ℕ)) (taken : ℕ) → taken ≡ 0 → ReadOn there (coming course user done line) had left mid new (Ok taken)
-      → (ended : Result Course CliFault) → ended ≡ end_read course done line → ReplaysFrom whole report before left old new ended
-  from_end {report} {there} {given} {old} {mid} way before had left gave new taken none more ended is =
-      let after = coming course user done line in
-      let read = subst (λ n. ReadOn there after had left mid new (Ok n)) none more in
-      let all = given ++ read.0 in
-      let known = all_known before left all (Consumes-trans before had left given read.0 gave read.2)
-      (end_passed before had left given gave (read.4 refl)) in
-      subst (ReplaysFrom whole report before left old new) (sym {A = Result Course CliFault} is)
-      (from_replays whole report before left old new all (end_read course done line) known
-      (replays_end report after all old new course done line waiting (leads_on way read.3) (quiet course user done line waiting)))
+pub from_end : {report there : Reporting} {at : Standing} {given : List ℕ} {old mid : Option (List ℕ)} → IsWaiting at
+    → Leads report there given old mid
+    → (before had left : Option (List ℕ)) → Consumes before had given
+    → (new : Option (List ℕ)) (taken : ℕ) → taken ≡ 0 → ReadOn there (coming at) had left mid new (Ok taken)
+    → (ended : Result Course CliFault) → ended ≡ ending at → ReplaysFrom whole report before left old new ended
+from_end {report} {there} {at} {given} {old} {mid} waiting way before had left gave new taken none more ended is =
+    let read = subst (λ n. ReadOn there (coming at) had left mid new (Ok n)) none more in
+    let all = given ++ read.0 in
+    let known = all_known before left all (Consumes-trans before had left given read.0 gave read.2)
+    (end_passed before had left given gave (read.4 refl)) in
+    subst (ReplaysFrom whole report before left old new) (sym {A = Result Course CliFault} is)
+    (from_replays whole report before left old new all (ending at) known (replays_end waiting (leads_on way read.3)))

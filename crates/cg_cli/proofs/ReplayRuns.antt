@@ -4,17 +4,17 @@ use Rattle.std.proofs.Common.{IsErrAnd, ap, sym, ◌∙◌, subst, append_assoc,
 use Rattle.std.proofs.lemmas.List.{take_more, take-append-le}
 use Rattle.std.proofs.lemmas.List.Elements.{All-append}
 use Rattle.std.specs.Io.KnownBytes.{Appends}
-use Rattle.cg_cgroup.specs.Identity.{Identity}
 use Rattle.cg_cli.specs.Courses.{Course, state_of, on_course}
+use Rattle.cg_model.specs.declared.operation.Op.{Op}
 use Rattle.cg_lines.specs.Outcomes.{outcome_text}
 use Rattle.cg_lines.specs.declared.lines.fault.LineFault.TheVariants.{TooLong}
 use Rattle.cg_cli.specs.Written.{AppendsPart}
 use Rattle.cg_cli.specs.Reports.{Said, fault_report, report_on}
 use Rattle.cg_cli.specs.Replays.{is_newline, outcome_of, operation_read, with_front, lines_said}
-use Rattle.cg_cli.specs.Replaying.{Reporting, coming, Leads, Fed, Answered}
+use Rattle.cg_cli.specs.Replaying.{Reporting, Standing, coming, Leads, Fed, Answered}
 use Rattle.cg_cli.specs.declared.fault.CliFault.{CliFault}
 use Rattle.cg_cli.specs.declared.fault.CliFault.TheVariants.{Line, TooManySteps, Write, Read, NoMemory}
-use Rattle.cg_cli.proofs.ReplayEnds.{handed_on}
+use Rattle.cg_cli.proofs.ReportLaws.{handed_on}
 use Rattle.cg_cli.proofs.ReplayReports.{report_of_line, report_of_long, report_of_many}
 
 -- ---- what was written
@@ -41,90 +41,105 @@ line_goes_on line piece rest end =
     ap (λ l. line ++ (l ++ rest)) (sym (take-append-drop end piece)) ∙ ap (λ l. line ++ l) (append_assoc (take end piece) (drop end piece) rest)
     ∙ sym (append_assoc line (take end piece) (drop end piece ++ rest))
 
-module _ (course : Course) (user : Identity) (done : ℕ) (line piece : List ℕ) (end : ℕ) where
+module _ (at : Standing) (piece : List ℕ) (end : ℕ) where
   abbrev whole : List ℕ
-  whole = line ++ take end piece
+  whole = at.line ++ take end piece
 
-  -- what is said where the line is whole
+  -- what is said of a line that is whole, and of what follows it
+  abbrev answered_before : List ℕ → Result Op CliFault → Said Course
+  answered_before rest read =
+      report_on read (λ op. with_front (outcome_text op (outcome_of (state_of at.course) at.user op))
+      (lines_said (on_course at.course at.user op) at.user (at.done + 1) rest))
+
   there : All (λ b. is_newline b ≡ false) whole → end < length piece → get_or piece end 0 ≡ 10 → (rest : List ℕ)
-      → coming course user done line (take (end + 1) piece ++ rest)
-      ≡ report_on (operation_read done whole) (λ op. with_front (outcome_text op (outcome_of (state_of course) user op)) (lines_said (on_course course user op) user (done + 1) rest))
-  there none within newline rest = ap (lines_said course user done) (line_ends line piece rest end within newline) ∙ report_of_line course user done whole rest none
+      → coming at (take (end + 1) piece ++ rest)
+      ≡ answered_before rest (operation_read at.done whole)
+  there none within newline rest =
+      ap (lines_said at.course at.user at.done) (line_ends at.line piece rest end within newline)
+      ∙ report_of_line at.course at.user at.done whole rest none
 
   line_answered : All (λ b. is_newline b ≡ false) whole → end < length piece → get_or piece end 0 ≡ 10
-      → (now : Course) (old new : Option (List ℕ)) → Answered (operation_read done whole) course now user old new (Ok tt)
-      → Leads (coming course user done line) (coming now user (done + 1) []) (take (end + 1) piece) old new
+      → (now : Course) (old new : Option (List ℕ)) → Answered (operation_read at.done whole) at.course now at.user old new (Ok tt)
+      → Leads (coming at) (coming (record { course = now; user = at.user; line = []; done = at.done + 1 })) (take (end + 1) piece) old new
   line_answered none within newline now old new answered =
       let op = answered.0 in
-      let said = outcome_text op (outcome_of (state_of course) user op) in
+      let said = outcome_text op (outcome_of (state_of at.course) at.user op) in
       record {
         written = said;
         appended = answered.3;
         whole = λ rest.
             there none within newline rest
-            ∙ ap (λ read. report_on read (λ op. with_front (outcome_text op (outcome_of (state_of course) user op)) (lines_said (on_course course user op) user (done + 1) rest))) answered.1
-            ∙ ap (λ s. with_front said (lines_said s user (done + 1) rest)) (sym answered.2);
+            ∙ ap (answered_before rest) answered.1
+            ∙ ap (λ s. with_front said (lines_said s at.user (at.done + 1) rest)) (sym answered.2);
       }
 
   -- the same where the piece goes on
   further : All (λ b. is_newline b ≡ false) whole → end < length piece → get_or piece end 0 ≡ 10 → (rest : List ℕ)
-      → coming course user done line (piece ++ rest)
-      ≡ report_on (operation_read done whole) (λ op. with_front (outcome_text op (outcome_of (state_of course) user op)) (lines_said (on_course course user op) user (done + 1) (drop (end + 1) piece ++ rest)))
+      → coming at (piece ++ rest)
+      ≡ answered_before (drop (end + 1) piece ++ rest) (operation_read at.done whole)
   further none within newline rest =
-      ap (λ l. coming course user done line l) (ap (λ l. l ++ rest) (sym (take-append-drop (end + 1) piece)) ∙ append_assoc (take (end + 1) piece) (drop (end + 1) piece) rest)
+      ap (λ l. coming at l)
+      (ap (λ l. l ++ rest) (sym (take-append-drop (end + 1) piece)) ∙ append_assoc (take (end + 1) piece) (drop (end + 1) piece) rest)
       ∙ there none within newline (drop (end + 1) piece ++ rest)
 
   fault_further : All (λ b. is_newline b ≡ false) whole → end < length piece → get_or piece end 0 ≡ 10
-      → (fault : CliFault) → operation_read done whole ≡ Err fault → (rest : List ℕ) → coming course user done line (piece ++ rest) ≡ fault_report fault
+      → (fault : CliFault) → operation_read at.done whole ≡ Err fault → (rest : List ℕ) → coming at (piece ++ rest) ≡ fault_report fault
   fault_further none within newline fault read rest =
       further none within newline rest
-      ∙ ap (λ r. report_on r (λ op. with_front (outcome_text op (outcome_of (state_of course) user op)) (lines_said (on_course course user op) user (done + 1) (drop (end + 1) piece ++ rest)))) read
+      ∙ ap (answered_before (drop (end + 1) piece ++ rest)) read
 
   line_failed : All (λ b. is_newline b ≡ false) whole → end < length piece → get_or piece end 0 ≡ 10
-      → (now : Course) (old new : Option (List ℕ)) (then : Reporting) (fault : CliFault) → Answered (operation_read done whole) course now user old new (Err fault)
-      → Fed (coming course user done line) then piece old new (Err fault)
+      → (now : Course) (old new : Option (List ℕ)) (then : Reporting) (fault : CliFault)
+      → Answered (operation_read at.done whole) at.course now at.user old new (Err fault)
+      → Fed (coming at) then piece old new (Err fault)
   line_failed none within newline now old new then Write answered =
       λ rest.
-      let said = outcome_text answered.0 (outcome_of (state_of course) user answered.0) in
+      let said = outcome_text answered.0 (outcome_of (state_of at.course) at.user answered.0) in
       let e = further none within newline rest
-      ∙ ap (λ r. report_on r (λ op. with_front (outcome_text op (outcome_of (state_of course) user op)) (lines_said (on_course course user op) user (done + 1) (drop (end + 1) piece ++ rest)))) answered.1 in
+      ∙ ap (answered_before (drop (end + 1) piece ++ rest)) answered.1 in
       subst (AppendsPart old new) (sym (ap (λ (r : Said Course). r.text) e))
-      (part_of_front old new said (lines_said (on_course course user answered.0) user (done + 1) (drop (end + 1) piece ++ rest)).text answered.2)
+      (part_of_front old new said
+      (lines_said (on_course at.course at.user answered.0) at.user (at.done + 1) (drop (end + 1) piece ++ rest)).text answered.2)
   line_failed none within newline now old new then NoMemory answered = answered
   line_failed none within newline now old new then Read answered = answered
   line_failed none within newline now old new then fault answered = (fault_further none within newline fault answered.0, answered.1)
 
   -- an answer to a line that is whole: it was begun, and its newline is in the piece
-  module _ (held : List ℕ) (is : held ≡ whole) (one_line : All (λ b. is_newline b ≡ false) line)
+  module _ (held : List ℕ) (is : held ≡ whole) (one_line : All (λ b. is_newline b ≡ false) at.line)
       (more : All (λ b. is_newline b ≡ false) (take end piece)) (within : end < length piece)
       (newline : end < length piece → get_or piece end 0 ≡ 10)
       (now : Course) (old new : Option (List ℕ)) where
     all_one_line : All (λ b. is_newline b ≡ false) whole
-    all_one_line = All-append (λ b. is_newline b ≡ false) line (take end piece) one_line more
+    all_one_line = All-append (λ b. is_newline b ≡ false) at.line (take end piece) one_line more
 
-    pub fed_answer : Answered (operation_read done held) course now user old new (Ok tt) → (left : List ℕ) → left ≡ []
-        → Leads (coming course user done line) (coming now user (done + 1) left) (take (end + 1) piece) old new
+    pub fed_answer : Answered (operation_read at.done held) at.course now at.user old new (Ok tt) → (left : List ℕ) → left ≡ []
+        → Leads (coming at) (coming (record { course = now; user = at.user; line = left; done = at.done + 1 }))
+        (take (end + 1) piece) old new
     fed_answer answered left none =
         let leads = line_answered all_one_line within (newline within) now old new
-        (subst (λ bytes. Answered (operation_read done bytes) course now user old new (Ok tt)) is answered) in
-        subst (λ l. Leads (coming course user done line) (coming now user (done + 1) l) (take (end + 1) piece) old new)
+        (subst (λ bytes. Answered (operation_read at.done bytes) at.course now at.user old new (Ok tt)) is answered) in
+        subst (λ l. Leads (coming at) (coming (record { course = now; user = at.user; line = l; done = at.done + 1 }))
+        (take (end + 1) piece) old new)
         (sym {A = List ℕ} none) leads
 
-    pub fed_fault : (then : Reporting) (fault : CliFault) → Answered (operation_read done held) course now user old new (Err fault)
+    pub fed_fault : (then : Reporting) (fault : CliFault) → Answered (operation_read at.done held) at.course now at.user old new (Err fault)
         → (result : Result ℕ CliFault) → IsErrAnd result (λ found. found ≡ fault)
-        → Fed (coming course user done line) then piece old new result
+        → Fed (coming at) then piece old new result
     fed_fault then fault answered result handed =
-        handed_on (Fed (coming course user done line) then piece old new) fault result handed
+        handed_on (Fed (coming at) then piece old new) fault result handed
         (line_failed all_one_line within (newline within) now old new then fault
-        (subst (λ bytes. Answered (operation_read done bytes) course now user old new (Err fault)) is answered))
+        (subst (λ bytes. Answered (operation_read at.done bytes) at.course now at.user old new (Err fault)) is answered))
 
   -- the line is too long
-  pub fed_long : All (λ b. is_newline b ≡ false) whole → 8192 < length whole → done < 65536 → (rest : List ℕ)
-      → coming course user done line (piece ++ rest) ≡ fault_report (Line (done + 1) TooLong)
-  fed_long none long few rest = ap (lines_said course user done) (line_goes_on line piece rest end) ∙ report_of_long course user done whole (drop end piece ++ rest) none long few
+  pub fed_long : All (λ b. is_newline b ≡ false) whole → 8192 < length whole → at.done < 65536 → (rest : List ℕ)
+      → coming at (piece ++ rest) ≡ fault_report (Line (at.done + 1) TooLong)
+  fed_long none long few rest =
+      ap (lines_said at.course at.user at.done) (line_goes_on at.line piece rest end)
+      ∙ report_of_long at.course at.user at.done whole (drop end piece ++ rest) none long few
 
 -- a line too many
-pub fed_many : (course : Course) (user : Identity) (done : ℕ) (line piece : List ℕ) → 65536 ≤ done → 0 < length piece → (rest : List ℕ)
-    → coming course user done line (piece ++ rest) ≡ fault_report TooManySteps
-fed_many course user done line piece many some rest =
-    report_of_many course user done (line ++ (piece ++ rest)) many (omega (arith, length-append line (piece ++ rest), length-append piece rest))
+pub fed_many : (at : Standing) (piece : List ℕ) → 65536 ≤ at.done → 0 < length piece → (rest : List ℕ)
+    → coming at (piece ++ rest) ≡ fault_report TooManySteps
+fed_many at piece many some rest =
+    report_of_many at.course at.user at.done (at.line ++ (piece ++ rest)) many
+    (omega (arith, length-append at.line (piece ++ rest), length-append piece rest))

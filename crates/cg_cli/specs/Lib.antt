@@ -12,4 +12,5 @@ pub mod Upgrades
 pub mod Audits
 pub mod Once
 pub mod AllPairs
+pub mod Asking
 pub mod Advising

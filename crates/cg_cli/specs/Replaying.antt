@@ -1,5 +1,6 @@
 -- What a replay has written by the time that it ends, and on its way. Own.
-use Rattle.std.specs.Prelude.{◌≡◌, ℕ, ◌+◌, ◌*◌, ◌≤◌, Bool, true, false, List, ◌++◌, length, take, Option, Result, Ok, Err, IfSome, OnSome}
+use Rattle.std.specs.Prelude.{◌≡◌, ℕ, ◌+◌, ◌*◌, ◌≤◌, Bool, true, false, List, [], ◌++◌, length, take, Option, Result, Ok, Err, IfSome}
+use Rattle.std.specs.Prelude.{OnSome}
 use Rattle.std.specs.List.{All}
 use Rattle.std.specs.Io.{StartsWith}
 use Rattle.std.specs.Io.KnownBytes.{Appends, Keeps, Consumes, IsAtEnd}
@@ -9,9 +10,10 @@ use Rattle.cg_lines.specs.Outcomes.{outcome_text}
 use Rattle.cg_lines.specs.declared.lines.fault.LineFault.TheVariants.{Cut}
 use Rattle.cg_cli.specs.Written.{AppendsPart}
 use Rattle.cg_cli.specs.Reports.{Said, fault_report}
-use Rattle.cg_cli.specs.Courses.{Course, state_of, on_course}
-use Rattle.cg_cli.specs.Replays.{most_operations, longest_line, is_newline, outcome_of, with_front, lines_said}
+use Rattle.cg_cli.specs.Courses.{Course, HasMade, state_of, on_course}
+use Rattle.cg_cli.specs.Replays.{most_operations, longest_line, is_newline, outcome_of, end_read, with_front, lines_said}
 use Rattle.cg_cli.specs.declared.fault.CliFault.{CliFault}
+use Rattle.cg_cli.specs.declared.replay.run.Run.{Run}
 use Rattle.cg_cli.specs.declared.fault.CliFault.TheVariants.{Line, Read, Write, NoMemory}
 
 -- ---- at the end
@@ -56,19 +58,37 @@ ReplaysFrom close lines before left old new ended = (ops : List ℕ) × AreOf be
 
 -- ---- on the way
 
--- what will be said of further bytes, behind `done` lines and the begun one
-abbrev pub coming : Course → Identity → ℕ → List ℕ → Reporting
-coming course user done line bytes = lines_said course user done (line ++ bytes)
+-- Where a replay stands between two pieces of its input: what `done` lines led to, and the bytes of a begun line.
+pub record Standing : Type 0 where
+  pub course : Course
+  pub user : Identity
+  pub line : List ℕ
+  pub done : ℕ
+
+abbrev pub standing_of : {C : Type 0} → (C → Course) → Run C → Standing
+standing_of view run = record { course = view run.course; user = run.user; line = run.line.items; done = run.done }
+
+abbrev pub from_start : Course → Identity → Standing
+from_start course user = record { course = course; user = user; line = []; done = 0 }
+
+-- what will be said of further bytes
+abbrev pub coming : Standing → Reporting
+coming at bytes = lines_said at.course at.user at.done (at.line ++ bytes)
+
+-- what it comes to where no bytes follow
+abbrev pub ending : Standing → Result Course CliFault
+ending at = end_read at.course at.done at.line
 
 -- how many bytes were taken at most
-abbrev pub most_taken : ℕ → List ℕ → ℕ
-most_taken done line = done * (longest_line + 1) + length line
+abbrev pub most_taken : Standing → ℕ
+most_taken at = at.done * (longest_line + 1) + length at.line
 
 -- The begun line has no newline and isn't too long; behind the last operation none is begun.
-pub record IsWaiting (done : ℕ) (line : List ℕ) : Type 0 where
-  pub one_line : All (λ b. is_newline b ≡ false) line
-  pub short : length line ≤ longest_line
-  pub few : most_taken done line ≤ most_operations * (longest_line + 1)
+pub record IsWaiting (at : Standing) : Type 0 where
+  pub made : HasMade at.done at.course
+  pub one_line : All (λ b. is_newline b ≡ false) at.line
+  pub short : length at.line ≤ longest_line
+  pub few : most_taken at ≤ most_operations * (longest_line + 1)
 
 -- Bytes led from one point of a replay to another, and something was written meanwhile: whatever follows, the report is
 -- what was written, and then the report from there on.

@@ -1,5 +1,5 @@
 //! What to change so that a subtree is contained against a user.
-ghost use Rattle.std.specs.Prelude.{◌≡◌, ◌≢◌, Ok, Err, Some, IfOk, MatchResult};
+ghost use Rattle.std.specs.Prelude.{◌≡◌, Ok, Some, IfOk};
 ghost use Rattle.cg_cgroup.specs.Identity.{Identity};
 ghost use Rattle.cg_cgroup.specs.Paths.{Names, path_at};
 ghost use Rattle.cg_cgroup.specs.Users.{user_of};
@@ -7,13 +7,12 @@ ghost use Rattle.cg_model.specs.States.{State};
 ghost use Rattle.cg_model.specs.Held.{IsContained};
 ghost use Rattle.cg_text.specs.Readings.{OnText};
 ghost use Rattle.cg_text.specs.TextOf.{IsTextOf};
-ghost use Rattle.cg_cli.specs.Advising.{contained_line, advised, advice_report, advise_report};
+ghost use Rattle.cg_cli.specs.Advising.{contained_line, advice_report, advise_report};
 ghost use Rattle.cg_cli.specs.Reports.{Reports};
 
-use crate::arguments::{UserIds, read_path, read_user};
+use crate::arguments::UserIds;
 use crate::fault::CliFault;
-use crate::reading::read_tree;
-use crate::write::write_whole;
+use crate::question::{Question, ask};
 use cg_advice::text::advice_lines;
 use cg_cgroup::memory::NoMemory;
 use cg_cgroup::path::Path;
@@ -43,36 +42,34 @@ pub fn advise_bytes<W: Write>(
         → IsTextOf st tree.now → user_of user.entry.uid user.entry.gids.now ≡ Some who → path_at subtree.now ≡ Some path
         → IsContained st who path }
 {
-    let user = read_user(user)?;
-    let subtree = read_path(alloc, subtree)?;
-    let tree = read_tree(alloc, tree)?;
-    let (text, status) = advised(alloc, &tree, &user, &subtree)?;
-    write_whole(out, text.as_slice())?;
-    Ok(status)
+    ask(alloc, &Advice, tree, user, subtree, out)
 }
 
-/// What is said of a subtree, and the status.
-fn advised<H: Hierarchy>(
-    alloc: Global,
-    tree: &H,
-    user: &User,
-    subtree: &Path,
-) -> Result<(Vec<u8>, u8), CheckFault>
-    ensures said { MatchResult result
-        (λ said. advice_report (H.state tree.now) user.now subtree.now ≡ record { text = said.0.items; ending = Ok said.1 })
-        (λ fault. fault ≢ CheckFault.NoMemory → advised (H.state tree.now) user.now subtree.now ≡ Err fault) }
-    ensures contained { IfOk result (λ said. said.1 ≡ 0 → IsContained (H.state tree.now) user.now subtree.now) }
-{
-    if let Some(fault) = fault_of(tree, subtree) {
-        return Err(fault);
-    }
-    match advice_lines(alloc, tree, user, subtree) {
-        Err(NoMemory) => Err(CheckFault::NoMemory),
-        Ok(Some(lines)) => Ok((lines, 1)),
-        Ok(None) => match contained_line(alloc) {
+/// What to change so that the subtree is contained.
+#[derive(Drop)]
+struct Advice;
+
+impl Question for Advice {
+    ghost report = { λ _ st user subtree. advice_report st user subtree };
+
+    fn answer<H: Hierarchy + Drop>(
+        &self,
+        alloc: Global,
+        tree: &H,
+        user: &User,
+        subtree: &Path,
+    ) -> Result<(Vec<u8>, u8), CheckFault> {
+        if let Some(fault) = fault_of(tree, subtree) {
+            return Err(fault);
+        }
+        match advice_lines(alloc, tree, user, subtree) {
             Err(NoMemory) => Err(CheckFault::NoMemory),
-            Ok(line) => Ok((line, 0)),
-        },
+            Ok(Some(lines)) => Ok((lines, 1)),
+            Ok(None) => match contained_line(alloc) {
+                Err(NoMemory) => Err(CheckFault::NoMemory),
+                Ok(line) => Ok((line, 0)),
+            },
+        }
     }
 }
 

@@ -13,9 +13,8 @@ ghost use Rattle.cg_cli.specs.Reports.{Reports};
 use crate::arguments::UserIds;
 use crate::check::status;
 use crate::fault::CliFault;
-use crate::named::{paths_once, users_once};
-use crate::reading::read_tree;
-use crate::write::write_whole;
+use crate::named::read_named;
+use crate::report::write_said;
 use cg_cgroup::memory::NoMemory;
 use cg_cgroup::path::Path;
 use cg_cgroup::user::User;
@@ -49,12 +48,14 @@ pub fn audit_bytes<W: Write>(
         → IsTextOf st tree.now → users_read (map (λ user. (user.uid, user.gids.now)) users.now) ≡ Ok who
         → paths_read (map (λ subtree. subtree.now) subtrees.now) ≡ Ok paths → who ≢ [] → AreContained st who paths }
 {
-    let users = users_once(alloc, users)?;
-    let subtrees = paths_once(alloc, subtrees)?;
-    let tree = read_tree(alloc, tree)?;
-    let (text, status) = audited(alloc, &tree, users.as_slice(), subtrees.as_slice())?;
-    write_whole(out, text.as_slice())?;
-    Ok(status)
+    let named = read_named(alloc, tree, users, subtrees)?;
+    let said = audited(
+        alloc,
+        &named.tree,
+        named.users.as_slice(),
+        named.subtrees.as_slice(),
+    )?;
+    write_said(out, said)
 }
 
 /// What is said of users and subtrees, and the status.

@@ -17,8 +17,7 @@ ghost use Rattle.cg_cli.specs.AllPairs.{worse, WritesPairs, pairs_found, all_rep
 use crate::arguments::UserIds;
 use crate::check::status;
 use crate::fault::CliFault;
-use crate::named::{paths_once, users_once};
-use crate::reading::read_tree;
+use crate::named::read_named;
 use crate::write::write_whole;
 use cg_cgroup::path::Path;
 use cg_cgroup::user::User;
@@ -52,10 +51,14 @@ pub fn audit_all_bytes<W: Write>(
         → IsTextOf st tree.now → users_read (map (λ user. (user.uid, user.gids.now)) users.now) ≡ Ok who
         → paths_read (map (λ subtree. subtree.now) subtrees.now) ≡ Ok paths → UnlistedAreContained st (once same_user who) (once same_path paths)) }
 {
-    let users = users_once(alloc, users)?;
-    let subtrees = paths_once(alloc, subtrees)?;
-    let tree = read_tree(alloc, tree)?;
-    write_listing(alloc, &tree, users.as_slice(), subtrees.as_slice(), out)
+    let named = read_named(alloc, tree, users, subtrees)?;
+    write_listing(
+        alloc,
+        &named.tree,
+        named.users.as_slice(),
+        named.subtrees.as_slice(),
+        out,
+    )
 }
 
 /// Writes all pairs that aren't contained, or that there is none.

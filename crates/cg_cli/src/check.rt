@@ -1,20 +1,18 @@
 //! Whether a subtree is contained against a user.
-ghost use Rattle.std.specs.Prelude.{◌≡◌, ◌≢◌, Ok, Err, Some, IfOk, MatchResult};
+ghost use Rattle.std.specs.Prelude.{◌≡◌, Ok, Some};
 ghost use Rattle.cg_cgroup.specs.Identity.{Identity};
 ghost use Rattle.cg_cgroup.specs.Paths.{Names, path_at};
 ghost use Rattle.cg_cgroup.specs.Users.{user_of};
 ghost use Rattle.cg_model.specs.States.{State};
 ghost use Rattle.cg_model.specs.Held.{IsContained};
-ghost use Rattle.cg_model.specs.Checks.{checked};
 ghost use Rattle.cg_text.specs.Readings.{OnText};
 ghost use Rattle.cg_text.specs.TextOf.{IsTextOf};
 ghost use Rattle.cg_cli.specs.Containment.{answer_status, check_report, subtree_report};
 ghost use Rattle.cg_cli.specs.Reports.{Reports};
 
-use crate::arguments::{UserIds, read_path, read_user};
+use crate::arguments::UserIds;
 use crate::fault::CliFault;
-use crate::reading::read_tree;
-use crate::write::write_whole;
+use crate::question::{Question, ask};
 use cg_cgroup::memory::NoMemory;
 use cg_cgroup::path::Path;
 use cg_cgroup::user::User;
@@ -45,30 +43,28 @@ pub fn check_bytes<W: Write>(
         → IsTextOf st tree.now → user_of user.entry.uid user.entry.gids.now ≡ Some who → path_at subtree.now ≡ Some path
         → IsContained st who path }
 {
-    let user = read_user(user)?;
-    let subtree = read_path(alloc, subtree)?;
-    let tree = read_tree(alloc, tree)?;
-    let (text, status) = answered(alloc, &tree, &user, &subtree)?;
-    write_whole(out, text.as_slice())?;
-    Ok(status)
+    ask(alloc, &Containment, tree, user, subtree, out)
 }
 
-/// What is said of a subtree, and the status.
-fn answered<H: Hierarchy + Drop>(
-    alloc: Global,
-    tree: &H,
-    user: &User,
-    subtree: &Path,
-) -> Result<(Vec<u8>, u8), CheckFault>
-    ensures said { MatchResult result
-        (λ said. subtree_report (H.state tree.now) user.now subtree.now ≡ record { text = said.0.items; ending = Ok said.1 })
-        (λ fault. fault ≢ CheckFault.NoMemory → checked (H.state tree.now) user.now subtree.now ≡ Err fault) }
-    ensures contained { IfOk result (λ said. said.1 ≡ 0 → IsContained (H.state tree.now) user.now subtree.now) }
-{
-    let answer = check(alloc, tree, user, subtree)?;
-    match answer_text(alloc, subtree, &answer) {
-        Ok(text) => Ok((text, status(&answer))),
-        Err(NoMemory) => Err(CheckFault::NoMemory),
+/// Whether the subtree is contained.
+#[derive(Drop)]
+struct Containment;
+
+impl Question for Containment {
+    ghost report = { λ _ st user subtree. subtree_report st user subtree };
+
+    fn answer<H: Hierarchy + Drop>(
+        &self,
+        alloc: Global,
+        tree: &H,
+        user: &User,
+        subtree: &Path,
+    ) -> Result<(Vec<u8>, u8), CheckFault> {
+        let answer = check(alloc, tree, user, subtree)?;
+        match answer_text(alloc, subtree, &answer) {
+            Ok(text) => Ok((text, status(&answer))),
+            Err(NoMemory) => Err(CheckFault::NoMemory),
+        }
     }
 }
 

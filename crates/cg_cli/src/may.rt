@@ -9,7 +9,7 @@ ghost use Rattle.cg_cli.specs.Reports.{Reports};
 use crate::arguments::{UserIds, read_path, read_pid, read_user};
 use crate::fault::CliFault;
 use crate::reading::read_tree;
-use crate::write::write_whole;
+use crate::report::write_said;
 use cg_cgroup::memory::NoMemory;
 use cg_cgroup::user::User;
 use cg_lines::outcome::outcome_text;
@@ -41,9 +41,8 @@ pub fn may_bytes<W: Write>(
     let pid = read_pid(pid)?;
     let to = read_path(alloc, to)?;
     let tree = read_tree(alloc, tree)?;
-    let (text, status) = permission(alloc, &tree, &user, &Op::Move { pid, to })?;
-    write_whole(out, text.as_slice())?;
-    Ok(status)
+    let said = permission(alloc, &tree, &user, &Op::Move { pid, to })?;
+    write_said(out, said)
 }
 
 /// What is said of an operation that may be refused, and the status.

@@ -1,16 +1,50 @@
 //! Users and subtrees as they are named, each of them once.
 ghost use Rattle.std.specs.Prelude.{◌≡◌, ◌≢◌, map, Err, IfErr, MatchResult};
 ghost use Rattle.cg_cgroup.specs.Paths.{same_path};
+ghost use Rattle.cg_text.specs.Readings.{Reading, IsReading};
+ghost use Rattle.cg_cli.specs.Asking.{named_read, IsMet, IsKeptOnce};
 ghost use Rattle.cg_cli.specs.Audits.{users_read, paths_read};
 ghost use Rattle.cg_cli.specs.Once.{same_user, IsReadOnce};
 ghost use Rattle.cg_cli.specs.declared.fault.CliFault.{CliFault};
 
 use crate::arguments::{UserIds, read_path, read_user};
 use crate::fault::CliFault;
+use crate::reading::read_tree;
 use cg_cgroup::path::Path;
 use cg_cgroup::user::User;
+use cg_rows::rows::Rows;
 use std::alloc::Global;
 use std::collections::BTreeSet;
+
+/// What an audit is asked about: users and subtrees, each where it is named first, and a tree.
+#[derive(Drop)]
+pub struct Named {
+    pub users: Vec<User>,
+    pub subtrees: Vec<Path>,
+    pub tree: Rows,
+}
+
+/// Reads all users, then all subtrees, and then the tree.
+pub fn read_named(
+    alloc: Global,
+    tree: &[u8],
+    users: &[UserIds<'_>],
+    subtrees: &[&str],
+) -> Result<Named, CliFault>
+    ensures { (read : Reading) → IsReading tree.now read → MatchResult result
+        (λ named. IsKeptOnce (named_read (map (λ user. (user.uid, user.gids.now)) users.now) (map (λ text. text.now) subtrees.now) read)
+        named.users.items named.subtrees.items named.tree)
+        (λ fault. IsMet (named_read (map (λ user. (user.uid, user.gids.now)) users.now) (map (λ text. text.now) subtrees.now) read) fault) }
+{
+    let users = users_once(alloc, users)?;
+    let subtrees = paths_once(alloc, subtrees)?;
+    let tree = read_tree(alloc, tree)?;
+    Ok(Named {
+        users,
+        subtrees,
+        tree,
+    })
+}
 
 /// The users, each where he is named first, or the first fault of one, which takes no memory to find.
 pub(crate) fn users_once(alloc: Global, users: &[UserIds<'_>]) -> Result<Vec<User>, CliFault>

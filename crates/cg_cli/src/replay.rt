@@ -4,17 +4,16 @@ ghost use Rattle.std.specs.Option.{option_map};
 ghost use Rattle.cg_text.specs.Readings.{Reading, IsReading, OnText};
 ghost use Rattle.cg_cli.specs.Arguments.{user_read};
 ghost use Rattle.cg_cli.specs.Courses.{HasMade, Unwatched as Plain, Watched, came_to};
-ghost use Rattle.cg_cli.specs.Replays.{closed, course_read, lines_report, lines_said};
-ghost use Rattle.cg_cli.specs.Replaying.{coming, whole, IsWaiting, Replays};
+ghost use Rattle.cg_cli.specs.Replays.{closed, course_read, lines_report};
+ghost use Rattle.cg_cli.specs.Replaying.{standing_of, from_start, coming, whole, IsWaiting, Replays};
 
 use crate::arguments::{UserIds, read_path, read_user};
 use crate::fault::CliFault;
 use crate::reading::read_tree;
-use crate::write::write_whole;
 use cg_cgroup::user::User;
 use cg_indexed::indexed::Indexed;
 use cg_runs::replay::Replay;
-use course::{OnCourse, Unwatched};
+use course::{MaybeWatched, OnCourse, write_closing};
 use run::Run;
 use std::alloc::Global;
 use std::io::Write;
@@ -47,20 +46,36 @@ pub fn replay_bytes<W: Write>(
     ensures user { IfErr (user_read user.entry.uid user.entry.gids.now) (λ fault. result ≡ Err fault) }
 {
     let user = read_user(user)?;
+    let course = course_of(alloc, tree, subtree)?;
+    slice_closed(alloc, course, user, ops, out)
+}
+
+/// The tree of a text, of which a subtree is watched where one is named.
+fn course_of(
+    alloc: Global,
+    tree: &[u8],
+    subtree: Option<&str>,
+) -> Result<MaybeWatched<Indexed>, CliFault>
+    ensures made { IfOk result (λ course. HasMade 0 (⟦<MaybeWatched<Indexed> as OnCourse>⟧.course course)) }
+    ensures read { (read : Reading) → IsReading tree.now read → MatchResult result
+        (λ course. course_read (option_map (λ text. text.now) subtree.entry) read
+        ≡ Ok (⟦<MaybeWatched<Indexed> as OnCourse>⟧.course course))
+        (λ fault. fault ≢ CliFault.NoMemory → course_read (option_map (λ text. text.now) subtree.entry) read ≡ Err fault) }
+{
     match subtree {
-        None => slice_closed(alloc, unwatched(alloc, tree)?, user, ops, out),
-        Some(subtree) => slice_closed(alloc, watched(alloc, tree, subtree)?, user, ops, out),
+        None => Ok(MaybeWatched::Unwatched(unwatched(alloc, tree)?)),
+        Some(subtree) => Ok(MaybeWatched::Watched(watched(alloc, tree, subtree)?)),
     }
 }
 
 /// The tree of a text.
-fn unwatched(alloc: Global, tree: &[u8]) -> Result<Unwatched<Indexed>, CliFault>
+fn unwatched(alloc: Global, tree: &[u8]) -> Result<Indexed, CliFault>
     ensures { (read : Reading) → IsReading tree.now read → MatchResult result
-        (λ course. course_read None read ≡ Ok (Plain course.tree))
+        (λ kept. course_read None read ≡ Ok (Plain kept))
         (λ fault. fault ≢ CliFault.NoMemory → course_read None read ≡ Err fault) }
 {
     let tree = Indexed::from_rows(alloc, read_tree(alloc, tree)?)?;
-    Ok(Unwatched::new(tree))
+    Ok(tree)
 }
 
 /// The tree of a text, with a subtree that is watched.
@@ -84,13 +99,11 @@ fn slice_closed<C: OnCourse, W: Write>(
     out: &mut W,
 ) -> Result<u8, CliFault>
     requires { HasMade 0 (C.course course) }
-    ensures { Replays closed (λ bytes. lines_said (C.course course) user 0 bytes) ops.now
+    ensures { Replays closed (coming (from_start (C.course course) user)) ops.now
         (W.contents out.old) (W.contents out.new) result }
 {
     let course = replay_slice(alloc, Run::new(alloc, course, user), ops, out)?;
-    let (text, status) = course.closing(alloc)?;
-    write_whole(out, text.as_slice())?;
-    Ok(status)
+    write_closing(alloc, &course, out)
 }
 
 /// Goes on with a replay over bytes that are all there.
@@ -100,9 +113,8 @@ fn replay_slice<C: OnCourse, W: Write>(
     ops: &[u8],
     out: &mut W,
 ) -> Result<C, CliFault>
-    requires waiting { IsWaiting run.done run.line.items }
-    requires made { HasMade run.done (C.course run.course) }
-    ensures { Replays whole (coming (C.course run.course) run.user run.done run.line.items) ops.now
+    requires { IsWaiting (standing_of C.course run) }
+    ensures { Replays whole (coming (standing_of C.course run)) ops.now
         (W.contents out.old) (W.contents out.new) (came_to C.course result) }
 {
     let mut rest = ops;

@@ -4,7 +4,7 @@ ghost use Rattle.cg_cli.specs.Upgrades.{Upgrades};
 
 use crate::fault::CliFault;
 use crate::reading::read_tree;
-use crate::write::write_whole;
+use crate::report::write_said;
 use cg_print::tree::tree_text;
 use std::alloc::Global;
 use std::io::Write;
@@ -19,6 +19,5 @@ pub fn upgrade_bytes<W: Write>(alloc: Global, tree: &[u8], out: &mut W) -> Resul
 {
     let rows = read_tree(alloc, tree)?;
     let text = tree_text(alloc, &rows)?;
-    write_whole(out, text.as_slice())?;
-    Ok(0)
+    write_said(out, (text, 0))
 }

@@ -4,7 +4,10 @@ ghost use Rattle.cg_model.specs.Clauses.{first};
 ghost use Rattle.cg_model.specs.Bars.{bars};
 ghost use Rattle.cg_steps.specs.Outcomes.{RefusedBy};
 ghost use Rattle.cg_cli.specs.Courses.{Course, HasRoom, state_of, on_course, closing, verdict_status};
+ghost use Rattle.cg_cli.specs.Reports.{Reports};
 
+use crate::fault::CliFault;
+use crate::report::write_said;
 use cg_cgroup::memory::NoMemory;
 use cg_cgroup::user::User;
 use cg_model::operation::Op;
@@ -16,6 +19,7 @@ use cg_runs::fault::StepFault;
 use cg_runs::replay::Replay;
 use cg_tree::hierarchy::Hierarchy;
 use std::alloc::Global;
+use std::io::Write;
 
 /// What operations are carried out on, one after another.
 pub trait OnCourse: Drop {
@@ -33,50 +37,50 @@ pub trait OnCourse: Drop {
         ensures { IfOk result (λ said. closing (course self.now) ≡ record { text = said.0.items; ending = Ok said.1 }) };
 }
 
-/// A tree of which no subtree is watched.
+/// Writes what is said at the end.
+pub fn write_closing<C: OnCourse, W: Write>(
+    alloc: Global,
+    course: &C,
+    out: &mut W,
+) -> Result<u8, CliFault>
+    ensures { Reports (closing (C.course course.now)) (W.contents out.old) (W.contents out.new) result }
+{
+    let said = course.closing(alloc)?;
+    write_said(out, said)
+}
+
+/// A tree, of which a subtree may be watched.
 #[derive(Drop)]
-pub struct Unwatched<H: Hierarchy> {
-    tree: H,
+pub enum MaybeWatched<H: Hierarchy> {
+    Unwatched(H),
+    Watched(Replay<H>),
 }
 
-impl<H: Hierarchy> Unwatched<H> {
-    pub fn new(tree: H) -> Unwatched<H>
-        ensures { H.state result.tree ≡ H.state tree }
-    {
-        Unwatched { tree }
-    }
-}
+impl<H: Hierarchy + Drop> OnCourse for MaybeWatched<H> {
+    ghost use Rattle.cg_cli.specs.Courses.{Unwatched as plain, Watched as watched};
+    ghost use Rattle.cg_cli.specs.declared.replay.course.MaybeWatched.TheVariants.{Unwatched, Watched};
 
-impl<H: Hierarchy + Drop> OnCourse for Unwatched<H> {
-    ghost use Rattle.cg_cli.specs.Courses.{Unwatched as plain};
-
-    ghost course = { λ c. plain (H.state c.tree) };
+    ghost course = { elim [ Unwatched tree ↦ plain (H.state tree) | Watched run ↦ watched run ] };
 
     fn step(&mut self, alloc: Global, user: &User, op: &Op) -> Result<Outcome, NoMemory> {
-        apply(alloc, &mut self.tree, user, op)
-    }
-
-    fn closing(&self, alloc: Global) -> Result<(Vec<u8>, u8), NoMemory> {
-        Ok((Vec::new(alloc), 0))
-    }
-}
-
-impl<H: Hierarchy + Drop> OnCourse for Replay<H> {
-    ghost use Rattle.cg_cli.specs.Courses.{Watched};
-
-    ghost course = { λ r. Watched r };
-
-    fn step(&mut self, alloc: Global, user: &User, op: &Op) -> Result<Outcome, NoMemory> {
-        match Replay::step(self, alloc, user, op) {
-            Ok(outcome) => Ok(outcome),
-            Err(StepFault::NoMemory) => Err(NoMemory),
-            Err(StepFault::TooManySteps) => unreachable!(),
+        match self {
+            MaybeWatched::Unwatched(tree) => apply(alloc, tree, user, op),
+            MaybeWatched::Watched(run) => match run.step(alloc, user, op) {
+                Ok(outcome) => Ok(outcome),
+                Err(StepFault::NoMemory) => Err(NoMemory),
+                Err(StepFault::TooManySteps) => unreachable!(),
+            },
         }
     }
 
     fn closing(&self, alloc: Global) -> Result<(Vec<u8>, u8), NoMemory> {
-        let verdict = self.verdict();
-        Ok((verdict_text(alloc, &verdict)?, status(verdict)))
+        match self {
+            MaybeWatched::Unwatched(_) => Ok((Vec::new(alloc), 0)),
+            MaybeWatched::Watched(run) => {
+                let verdict = run.verdict();
+                Ok((verdict_text(alloc, &verdict)?, status(verdict)))
+            }
+        }
     }
 }
 

@@ -1,18 +1,17 @@
 //! Operation lines that a reader gives.
-ghost use Rattle.std.specs.Prelude.{◌≡◌, ◌+◌, ◌≤◌, [], OnOk, IfOk, IfErr, Err};
+ghost use Rattle.std.specs.Prelude.{◌≡◌, ◌+◌, ◌≤◌, OnOk, IfOk, IfErr, Err};
 ghost use Rattle.std.specs.Option.{option_map};
 ghost use Rattle.cg_text.specs.Readings.{OnText};
 ghost use Rattle.cg_cli.specs.Arguments.{user_read};
 ghost use Rattle.cg_cli.specs.Courses.{HasMade, came_to};
-ghost use Rattle.cg_cli.specs.Replays.{closed, lines_report, lines_said};
-ghost use Rattle.cg_cli.specs.Replaying.{coming, most_taken, whole, IsWaiting, ReplaysFrom, ReadOn};
+ghost use Rattle.cg_cli.specs.Replays.{closed, lines_report};
+ghost use Rattle.cg_cli.specs.Replaying.{standing_of, from_start, coming, most_taken, whole, IsWaiting, ReplaysFrom, ReadOn};
 
-use super::{unwatched, watched};
+use super::course_of;
 use crate::arguments::{UserIds, read_user};
 use crate::fault::CliFault;
-use crate::replay::course::OnCourse;
+use crate::replay::course::{OnCourse, write_closing};
 use crate::replay::run::Run;
-use crate::write::write_whole;
 use cg_cgroup::user::User;
 use std::alloc::Global;
 use std::io::{BufRead, Write};
@@ -39,10 +38,8 @@ pub fn replay_from<R: BufRead, W: Write>(
     ensures user { IfErr (user_read user.entry.uid user.entry.gids.now) (λ fault. result ≡ Err fault) }
 {
     let user = read_user(user)?;
-    match subtree {
-        None => reader_closed(alloc, unwatched(alloc, tree)?, user, ops, out),
-        Some(subtree) => reader_closed(alloc, watched(alloc, tree, subtree)?, user, ops, out),
-    }
+    let course = course_of(alloc, tree, subtree)?;
+    reader_closed(alloc, course, user, ops, out)
 }
 
 /// A whole replay over the bytes of a reader, and what is said at its end.
@@ -54,13 +51,11 @@ fn reader_closed<C: OnCourse, R: BufRead, W: Write>(
     out: &mut W,
 ) -> Result<u8, CliFault>
     requires { HasMade 0 (C.course course) }
-    ensures { ReplaysFrom closed (λ bytes. lines_said (C.course course) user 0 bytes)
+    ensures { ReplaysFrom closed (coming (from_start (C.course course) user))
         (R.remaining ops.old) (R.remaining ops.new) (W.contents out.old) (W.contents out.new) result }
 {
     let course = replay_reader(alloc, Run::new(alloc, course, user), ops, out)?;
-    let (text, status) = course.closing(alloc)?;
-    write_whole(out, text.as_slice())?;
-    Ok(status)
+    write_closing(alloc, &course, out)
 }
 
 /// Goes on with a replay over the bytes of a reader.
@@ -70,11 +65,8 @@ fn replay_reader<C: OnCourse, R: BufRead, W: Write>(
     ops: &mut R,
     out: &mut W,
 ) -> Result<C, CliFault>
-    requires made { HasMade run.done (C.course run.course) }
-    requires waiting { IsWaiting run.done run.line.items }
-    requires first { run.done ≡ 0 }
-    requires fresh { run.line.items ≡ [] }
-    ensures { ReplaysFrom whole (coming (C.course run.course) run.user run.done run.line.items)
+    requires { IsWaiting (standing_of C.course run) }
+    ensures { ReplaysFrom whole (coming (standing_of C.course run))
         (R.remaining ops.old) (R.remaining ops.new) (W.contents out.old) (W.contents out.new) (came_to C.course result) }
 {
     for _asked in 0..MOST_ASKS {
@@ -92,15 +84,11 @@ fn read_on<C: OnCourse, R: BufRead, W: Write>(
     ops: &mut R,
     out: &mut W,
 ) -> Result<usize, CliFault>
-    requires waiting { IsWaiting run.old.done run.old.line.items }
-    requires made { HasMade run.old.done (C.course run.old.course) }
-    ensures read { ReadOn (coming (C.course run.old.course) run.old.user run.old.done run.old.line.items)
-        (coming (C.course run.new.course) run.new.user run.new.done run.new.line.items)
+    requires { IsWaiting (standing_of C.course run.old) }
+    ensures read { ReadOn (coming (standing_of C.course run.old)) (coming (standing_of C.course run.new))
         (R.remaining ops.old) (R.remaining ops.new) (W.contents out.old) (W.contents out.new) result }
-    ensures waiting { OnOk result (IsWaiting run.new.done run.new.line.items) }
-    ensures made { OnOk result (HasMade run.new.done (C.course run.new.course)) }
-    ensures taken { IfOk result (λ taken. most_taken run.old.done run.old.line.items + taken
-        ≤ most_taken run.new.done run.new.line.items) }
+    ensures waiting { OnOk result (IsWaiting (standing_of C.course run.new)) }
+    ensures taken { IfOk result (λ taken. most_taken (standing_of C.course run.old) + taken ≤ most_taken (standing_of C.course run.new)) }
 {
     let piece = match ops.fill_buf() {
         Ok(piece) => piece,

@@ -1,8 +1,7 @@
 //! The one core of both replays: it is fed pieces of the operations' bytes.
-ghost use Rattle.std.specs.Prelude.{◌≡◌, ◌+◌, ◌<◌, ◌≤◌, ◌++◌, OnOk, IfOk, length, [], ◌*◌};
-ghost use Rattle.cg_cli.specs.Replays.{end_read, most_operations, longest_line};
-ghost use Rattle.cg_cli.specs.Courses.{HasMade, came_to};
-ghost use Rattle.cg_cli.specs.Replaying.{coming, most_taken, IsWaiting, Fed};
+ghost use Rattle.std.specs.Prelude.{◌≡◌, ◌+◌, ◌<◌, ◌≤◌, OnOk, IfOk, length};
+ghost use Rattle.cg_cli.specs.Courses.{came_to};
+ghost use Rattle.cg_cli.specs.Replaying.{standing_of, from_start, coming, ending, most_taken, IsWaiting, Fed};
 
 use crate::fault::CliFault;
 use crate::replay::course::OnCourse;
@@ -27,10 +26,7 @@ pub struct Run<C> {
 impl<C: OnCourse> Run<C> {
     /// The replay before its first byte.
     pub fn new(alloc: Global, course: C, user: User) -> Run<C>
-        ensures course { C.course result.course ≡ C.course course }
-        ensures user { result.user ≡ user }
-        ensures line { result.line.items ≡ [] }
-        ensures done { result.done ≡ 0 }
+        ensures { standing_of C.course result ≡ from_start (C.course course) user }
     {
         Run {
             course,
@@ -48,17 +44,14 @@ impl<C: OnCourse> Run<C> {
         piece: &[u8],
         out: &mut W,
     ) -> Result<usize, CliFault>
-        requires waiting { IsWaiting self.old.done self.old.line.items }
-        requires made { HasMade self.old.done (C.course self.old.course) }
+        requires waiting { IsWaiting (standing_of C.course self.old) }
         requires some { 0 < length piece.now }
-        ensures fed { Fed (coming (C.course self.old.course) self.old.user self.old.done self.old.line.items)
-            (coming (C.course self.new.course) self.new.user self.new.done self.new.line.items)
-            piece.now (W.contents out.old) (W.contents out.new) result }
-        ensures waiting { OnOk result (IsWaiting self.new.done self.new.line.items) }
-        ensures made { OnOk result (HasMade self.new.done (C.course self.new.course)) }
+        ensures fed { Fed (coming (standing_of C.course self.old)) (coming (standing_of C.course self.new)) piece.now
+            (W.contents out.old) (W.contents out.new) result }
+        ensures waiting { OnOk result (IsWaiting (standing_of C.course self.new)) }
         ensures some { IfOk result (λ taken. 0 < taken) }
-        ensures taken { IfOk result (λ taken. most_taken self.old.done self.old.line.items + taken
-            ≤ most_taken self.new.done self.new.line.items) }
+        ensures taken { IfOk result (λ taken. most_taken (standing_of C.course self.old) + taken
+            ≤ most_taken (standing_of C.course self.new)) }
     {
         if self.done >= MOST_OPERATIONS {
             return Err(CliFault::TooManySteps);
@@ -86,8 +79,8 @@ impl<C: OnCourse> Run<C> {
 
     /// What the operations led to, or the fault of a line without its newline.
     pub fn end(self) -> Result<C, CliFault>
-        requires { IsWaiting self.done self.line.items }
-        ensures { came_to C.course result ≡ end_read (C.course self.course) self.done self.line.items }
+        requires { IsWaiting (standing_of C.course self) }
+        ensures { came_to C.course result ≡ ending (standing_of C.course self) }
     {
         if self.line.is_empty() {
             return Ok(self.course);

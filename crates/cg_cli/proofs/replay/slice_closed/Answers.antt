@@ -1,34 +1,18 @@
-use Rattle.cg_cli.proofs.Closings.{begun, made_none, close_fault, close_whole, close_part, close_memory}
+use Rattle.std.proofs.Common.{ap}
+use Rattle.cg_cli.specs.Replaying.{coming}
+use Rattle.cg_cli.proofs.Closings.{begun_waits, close_fault, close_said}
 use Rattle.cg_cli.proofs.replay.slice_closed.Goals as goal
 
-pub replay_slice-requires-clause-made : goal.replay_slice-requires-clause-made
-replay_slice-requires-clause-made g c = made_none c.new.ensures.course c.new.ensures.done c.requires
+pub replay_slice-requires : goal.replay_slice-requires
+replay_slice-requires g c = begun_waits c.new.ensures c.requires
 
 pub returns-in_err-course : goal.returns-in_err-course
 returns-in_err-course g c =
-    let run = c.new.ensures in
-    close_fault (begun run.course run.done run.user run.line) c.args.ops.now (g.W.Write.contents c.args.out.now)
-    (g.W.Write.contents c.replay_slice.new.out) c.in_err-course.field-0.0 c.in_err-course.ensures c.from_residual.result
-    c.from_residual.ensures.1
-
-pub returns-in_err-text : goal.returns-in_err-text
-returns-in_err-text g c =
-    let run = c.new.ensures in
-    close_memory (begun run.course run.done run.user run.line) c.args.ops.now (g.W.Write.contents c.args.out.now)
-    (g.W.Write.contents c.replay_slice.new.out) (g.C.OnCourse.course c.in_ok-course.course) c.in_ok-course.ensures
-    c.from_residual-in_err-text.result c.from_residual-in_err-text.ensures.1
-
-pub returns-in_err-write_whole : goal.returns-in_err-write_whole
-returns-in_err-write_whole g c =
-    let run = c.new.ensures in
-    close_part (begun run.course run.done run.user run.line) c.args.ops.now (g.W.Write.contents c.args.out.now)
-    (g.W.Write.contents c.replay_slice.new.out) (g.C.OnCourse.course c.in_ok-course.course) c.in_ok-course.ensures
-    (g.W.Write.contents c.write_whole.new.out) c.in_ok-text.ensures c.as_slice.ensures.value c.in_err-write_whole.ensures.err
-    c.from_residual-in_err-write_whole.result c.from_residual-in_err-write_whole.ensures.1
+    close_fault (ap coming c.new.ensures) c.args.ops.now (g.W.Write.contents c.args.out.now) (g.W.Write.contents c.replay_slice.new.out)
+    c.in_err-course.field-0.0 c.in_err-course.ensures c.from_residual.result c.from_residual.ensures.1
 
 pub returns : goal.returns
 returns g c =
-    let run = c.new.ensures in
-    close_whole (begun run.course run.done run.user run.line) c.args.ops.now (g.W.Write.contents c.args.out.now)
-    (g.W.Write.contents c.replay_slice.new.out) (g.C.OnCourse.course c.in_ok-course.course) c.in_ok-course.ensures
-    (g.W.Write.contents c.write_whole.new.out) c.in_ok-text.ensures c.as_slice.ensures.value c.in_ok-write_whole.ensures.ok
+    close_said (ap coming c.new.ensures) c.args.ops.now (g.W.Write.contents c.args.out.now) (g.W.Write.contents c.replay_slice.new.out)
+    (g.C.OnCourse.course c.in_ok-course.course) c.in_ok-course.ensures (g.W.Write.contents c.write_closing.new.out)
+    c.write_closing.result c.write_closing.ensures

@@ -2,15 +2,14 @@ use Rattle.std.proofs.Common.{◌≡◌, ◌⊎◌, length, subst, arith}
 use Rattle.std.proofs.lemmas.Bool.Decides.{nat_tests}
 use Rattle.std.proofs.lemmas.Result.{err_from_is_err_and}
 use Rattle.std.specs.Io.BufRead.{FillKeeps}
-use Rattle.cg_cli.specs.Replaying.{coming}
+use Rattle.cg_cli.specs.Replaying.{standing_of, coming}
 use Rattle.cg_cli.specs.declared.fault.CliFault.TheVariants.{Read, NoMemory}
 use Rattle.cg_cli.proofs.ReplayReads.{read_failed, read_end, read_fault, read_some}
 use Rattle.cg_cli.proofs.replay.reader.read_on.Goals as goal
 
 pub returns-in-Err-clause-read : goal.returns-in-Err-clause-read
 returns-in-Err-clause-read g c =
-    let run = c.args.run.now in
-    let before = coming (g.C.OnCourse.course run.course) run.user run.done run.line.items in
+    let before = coming (standing_of g.C.OnCourse.course c.args.run.now) in
     let failed : (c.of_read.result ≡ Read) ⊎ (c.of_read.result ≡ NoMemory) = grind arith in
     read_failed before before (g.R.Read.remaining c.args.ops.now) (g.R.Read.remaining c.fill_buf.follows.lender-at-none) (g.W.Write.contents c.args.out.now) c.of_read.result
     failed c.fill_buf.follows.holds-at-none.0
@@ -22,10 +21,8 @@ returns-then-is_empty-clause-read g c =
 
 pub returns-in_err-taken-clause-read : goal.returns-in_err-taken-clause-read
 returns-in_err-taken-clause-read g c =
-    let run = c.args.run.now in
-    let fed = c.feed.new.self in
-    let before = coming (g.C.OnCourse.course run.course) run.user run.done run.line.items in
-    let after = coming (g.C.OnCourse.course fed.course) fed.user fed.done fed.line.items in
+    let before = coming (standing_of g.C.OnCourse.course c.args.run.now) in
+    let after = coming (standing_of g.C.OnCourse.course c.feed.new.self) in
     let p = err_from_is_err_and c.from_residual.result c.from_residual.ensures.1 in
     rw (p.1, p.2)
     (read_fault before after (g.R.Read.remaining c.args.ops.now) (g.R.Read.remaining c.fill_buf.follows.lender-at-none) (g.W.Write.contents c.args.out.now)
@@ -33,10 +30,8 @@ returns-in_err-taken-clause-read g c =
 
 pub returns-clause-read : goal.returns-clause-read
 returns-clause-read g c =
-    let run = c.args.run.now in
-    let fed = c.feed.new.self in
-    let before = coming (g.C.OnCourse.course run.course) run.user run.done run.line.items in
-    let after = coming (g.C.OnCourse.course fed.course) fed.user fed.done fed.line.items in
+    let before = coming (standing_of g.C.OnCourse.course c.args.run.now) in
+    let after = coming (standing_of g.C.OnCourse.course c.feed.new.self) in
     let had = g.R.Read.remaining c.args.ops.now in
     let rested = c.fill_buf.follows.lender-at-none in
     let filled = subst (FillKeeps had (g.R.Read.remaining rested) (g.R.BufRead.consumable_len rested)) c.in-Ok.is c.fill_buf.follows.holds-at-none in

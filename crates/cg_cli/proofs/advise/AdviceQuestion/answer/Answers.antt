@@ -1,6 +1,6 @@
 use Rattle.std.proofs.Common.{sym, ◌∙◌}
 use Rattle.cg_cli.proofs.AdviseReports.{contained-unadvised}
-use Rattle.cg_cli.proofs.advise.advised.Goals as goal
+use Rattle.cg_cli.proofs.advise.AdviceQuestion.answer.Goals as goal
 
 pub returns-in-Ok-clause-contained : goal.returns-in-Ok-clause-contained
 returns-in-Ok-clause-contained g c zero =

@@ -1,0 +1,143 @@
+-- What an audit reads before it asks: users, subtrees and a tree, or the first fault.
+use Rattle.std.proofs.Common.{◌≡◌, ◌≢◌, ℕ, Bool, true, false, cond, nat_eq, List, [], ◌∷◌, Option, Some, None, Result, Ok, Err, refl}
+use Rattle.std.proofs.Common.{ap, sym, ◌∙◌, subst}
+use Rattle.cg_cgroup.specs.Paths.{Names, path_at}
+use Rattle.cg_cgroup.specs.Users.{user_of}
+use Rattle.cg_cgroup.specs.Identity.{Identity}
+use Rattle.cg_model.specs.States.{State}
+use Rattle.cg_text.specs.Readings.{Reading}
+use Rattle.cg_text.specs.declared.tree.fault.TreeFault.{TreeFault}
+use Rattle.cg_text.specs.declared.tree.fault.TreeFault.TheVariants.{NoMemory as TreeNoMemory}
+use Rattle.cg_cli.specs.AllPairs.{read_then}
+use Rattle.cg_cli.specs.Arguments.{or_fault, user_read, path_read}
+use Rattle.cg_cli.specs.Asking.{read_in_turn, named_read, read_takes_memory, IsMet, IsKeptOnce}
+use Rattle.cg_cli.specs.Audits.{read_before, each_read, users_read, paths_read}
+use Rattle.cg_cli.specs.Faults.{lifted}
+use Rattle.cg_cli.specs.May.{tree_read}
+use Rattle.cg_cli.specs.Reports.{Said, report_on, takes_memory}
+use Rattle.cg_cli.specs.declared.fault.CliFault.{CliFault}
+use Rattle.cg_cli.specs.declared.fault.CliFault.TheVariants.{Uid, Gids, BadPath, Write, NoMemory}
+use Rattle.cg_cli.proofs.ReportLaws.{tree_takes, tree_met}
+
+-- ---- the faults of words
+
+before_fault : {A : Type 0} (P : CliFault → Type 0) (x : Result A CliFault) (xs : Result (List A) CliFault) (fault : CliFault)
+    → (x ≡ Err fault → P fault) → (xs ≡ Err fault → P fault) → read_before x xs ≡ Err fault → P fault
+before_fault P (Ok x) (Ok xs) fault of_first of_rest is = let never : ⊥ = cc in absurd never
+before_fault P (Ok x) (Err other) fault of_first of_rest is = of_rest is
+before_fault P (Err other) xs fault of_first of_rest is = let same : other ≡ fault = cc in of_first (ap Err same)
+
+each_fault : {A B : Type 0} (P : CliFault → Type 0) (read : A → Result B CliFault)
+    → ((x : A) (fault : CliFault) → read x ≡ Err fault → P fault) → (xs : List A) (fault : CliFault) → each_read read xs ≡ Err fault
+    → P fault
+each_fault P read each [] fault is = let never : ⊥ = cc in absurd never
+each_fault P read each (x ∷ xs) fault is =
+    before_fault P (read x) (each_read read xs) fault (each x fault) (each_fault P read each xs fault) is
+
+or_fault_is : {A : Type 0} (found : Option A) (stated fault : CliFault) → or_fault found stated ≡ Err fault → fault ≡ stated
+or_fault_is None stated fault is = cc
+or_fault_is (Some x) stated fault is = let never : ⊥ = cc in absurd never
+
+user_fault : (root : Bool) (found : Option Identity) (fault : CliFault) → cond root (Err Uid) (or_fault found Gids) ≡ Err fault
+    → fault ≢ Write
+user_fault true found fault is = λ same. cc
+user_fault false None fault is = λ same. cc
+user_fault false (Some who) fault is = let never : ⊥ = cc in absurd never
+
+users_fault : (given : List (ℕ × List ℕ)) (fault : CliFault) → users_read given ≡ Err fault → fault ≢ Write
+users_fault given fault is =
+    each_fault (λ f. f ≢ Write) (λ ids. user_read ids.0 ids.1) (λ ids f. user_fault (nat_eq ids.0 0) (user_of ids.0 ids.1) f) given fault is
+
+paths_fault : (texts : List (List ℕ)) (fault : CliFault) → paths_read texts ≡ Err fault → fault ≡ BadPath
+paths_fault texts fault is = each_fault (λ f. f ≡ BadPath) path_read (λ text f. or_fault_is (path_at text) BadPath f) texts fault is
+
+takes_by_faults : {A : Type 0} (read : Result A CliFault) → ((fault : CliFault) → read ≡ Err fault → takes_memory (Err fault) ≡ true)
+    → read_takes_memory read ≡ true
+takes_by_faults (Ok x) faults = refl
+takes_by_faults (Err fault) faults = faults fault refl
+
+paths_take : (texts : List (List ℕ)) → read_takes_memory (paths_read texts) ≡ true
+paths_take texts = takes_by_faults (paths_read texts) (λ fault is. ap (λ f. takes_memory (Err f)) (paths_fault texts fault is))
+
+-- ---- three things, one after another
+
+all_take : {A B C : Type 0} (first : Result A CliFault) (second : Result B CliFault) (third : Result C CliFault)
+    → read_takes_memory first ≡ true
+    → read_takes_memory second ≡ true → read_takes_memory third ≡ true → read_takes_memory (read_in_turn first second third) ≡ true
+all_take (Ok x) (Ok y) (Ok z) one two three = refl
+all_take (Ok x) (Ok y) (Err fault) one two three = three
+all_take (Ok x) (Err fault) third one two three = two
+all_take (Err fault) second third one two three = one
+
+-- a report on what was read one after another is one on all of it
+pub regrouped : {A B C D : Type 0} (next : A → B → C → Said D) (first : Result A CliFault) (second : Result B CliFault)
+    (third : Result C CliFault)
+    → report_on first (λ x. report_on second (λ y. report_on third (λ z. next x y z)))
+    ≡ report_on (read_in_turn first second third) (λ all. next all.0 all.1 all.2)
+regrouped next (Ok x) (Ok y) (Ok z) = refl
+regrouped next (Ok x) (Ok y) (Err fault) = refl
+regrouped next (Ok x) (Err fault) third = refl
+regrouped next (Err fault) second third = refl
+
+pub read_together : {A B C D : Type 0} (next : A → B → C → Result D CliFault) (first : Result A CliFault) (second : Result B CliFault)
+    (third : Result C CliFault)
+    → read_then first (λ x. read_then second (λ y. read_then third (λ z. next x y z)))
+    ≡ read_then (read_in_turn first second third) (λ all. next all.0 all.1 all.2)
+read_together next (Ok x) (Ok y) (Ok z) = refl
+read_together next (Ok x) (Ok y) (Err fault) = refl
+read_together next (Ok x) (Err fault) third = refl
+read_together next (Err fault) second third = refl
+
+met : {A : Type 0} (read : Result A CliFault) (fault : CliFault) → fault ≢ Write → (fault ≢ NoMemory → read ≡ Err fault)
+    → (fault ≡ NoMemory → read_takes_memory read ≡ true) → IsMet read fault
+met read Write other stated takes = absurd (other refl)
+met read NoMemory other stated takes = takes refl
+met read fault other stated takes = stated (λ same. cc)
+
+module _ (given : List (ℕ × List ℕ)) (texts : List (List ℕ)) (tree : Reading) where
+  pub users_met : (fault : CliFault) → (fault ≢ NoMemory → users_read given ≡ Err fault)
+      → ((other : CliFault) → users_read given ≡ Err other → fault ≡ other) → IsMet (named_read given texts tree) fault
+  users_met fault stated first =
+      met (named_read given texts tree) fault (λ write. users_fault given fault (stated (λ same. cc)) write)
+      (λ other. ap (λ u. read_in_turn u (paths_read texts) (tree_read tree)) (stated other))
+      (λ same. all_take (users_read given) (paths_read texts) (tree_read tree)
+      (takes_by_faults (users_read given) (λ other is. ap (λ f. takes_memory (Err f)) (sym (first other is) ∙ same)))
+      (paths_take texts) (tree_takes tree))
+
+  module _ (users : List Identity) (of_users : users_read given ≡ Ok users) where
+    pub paths_met : (fault : CliFault) → (fault ≢ NoMemory → paths_read texts ≡ Err fault) → IsMet (named_read given texts tree) fault
+    paths_met fault stated =
+        met (named_read given texts tree) fault (λ write. let named : fault ≡ BadPath = paths_fault texts fault (stated (λ same. cc)) in cc)
+        (λ other. ap (λ u. read_in_turn u (paths_read texts) (tree_read tree)) of_users
+        ∙ ap (λ p. read_in_turn (Ok users) p (tree_read tree)) (stated other))
+        (λ same. all_take (users_read given) (paths_read texts) (tree_read tree) (ap read_takes_memory of_users) (paths_take texts)
+        (tree_takes tree))
+
+    module _ (subtrees : List Names) (of_paths : paths_read texts ≡ Ok subtrees) where
+      by_tree : (read : Result State CliFault)
+          → read_in_turn (users_read given) (paths_read texts) read ≡ read_in_turn (Ok users) (Ok subtrees) read
+      by_tree read = ap (λ u. read_in_turn u (paths_read texts) read) of_users ∙ ap (λ p. read_in_turn (Ok users) p read) of_paths
+
+      text_met : (fault : CliFault) → IsMet (tree_read tree) fault → IsMet (read_in_turn (Ok users) (Ok subtrees) (tree_read tree)) fault
+      text_met Write never = never
+      text_met NoMemory takes = all_take (Ok users) (Ok subtrees) (tree_read tree) refl refl takes
+      text_met fault is = ap (read_in_turn (Ok users) (Ok subtrees)) is
+
+      pub tree_fault_met : (fault : TreeFault) → (fault ≢ TreeNoMemory → tree ≡ Err fault) → IsMet (named_read given texts tree) (lifted fault)
+      tree_fault_met fault stated =
+          subst (λ read. IsMet read (lifted fault)) (sym (by_tree (tree_read tree))) (text_met (lifted fault) (tree_met tree fault stated))
+
+      pub all_are : (st : State) → tree ≡ Ok st → named_read given texts tree ≡ Ok (users, subtrees, st)
+      all_are st of_text = by_tree (tree_read tree) ∙ ap (λ t. read_in_turn (Ok users) (Ok subtrees) (tree_read t)) of_text
+
+-- the same lists by other names
+pub kept_as : {read : Result (List Identity × List Names × State) CliFault} {users others : List Identity}
+    {subtrees ways : List Names} {st : State}
+    → IsKeptOnce read users subtrees st → others ≡ users → ways ≡ subtrees → IsKeptOnce read others ways st
+kept_as kept same_users same_subtrees = record {
+  all_users = kept.all_users;
+  all_subtrees = kept.all_subtrees;
+  is = kept.is;
+  of_users = same_users ∙ kept.of_users;
+  of_subtrees = same_subtrees ∙ kept.of_subtrees;
+}

@@ -1,6 +1,0 @@
-use Rattle.cg_report.proofs.Shown.{answers_are_shown}
-use Rattle.cg_cli.proofs.check.answered.Goals as goal
-
-pub answer_text-requires : goal.answer_text-requires
-answer_text-requires g c =
-    answers_are_shown (g.H.Hierarchy.state c.args.tree.now) c.args.user.now c.args.subtree.now c.in_ok-answer.answer c.in_ok-answer.ensures.answer

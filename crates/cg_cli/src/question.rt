@@ -1,0 +1,66 @@
+//! Questions about a user and a subtree: what they ask of a tree differs, and nothing else.
+ghost use Rattle.std.specs.Prelude.{◌≡◌, ◌≢◌, true, Ok, Some, IfOk, MatchResult};
+ghost use Rattle.cg_cgroup.specs.Identity.{Identity};
+ghost use Rattle.cg_cgroup.specs.Paths.{Names, path_at};
+ghost use Rattle.cg_cgroup.specs.Users.{user_of};
+ghost use Rattle.cg_model.specs.States.{State};
+ghost use Rattle.cg_model.specs.Held.{IsContained};
+ghost use Rattle.cg_text.specs.Readings.{OnText};
+ghost use Rattle.cg_text.specs.TextOf.{IsTextOf};
+ghost use Rattle.cg_cli.specs.Asking.{asked_report};
+ghost use Rattle.cg_cli.specs.Faults.{lifted_check};
+ghost use Rattle.cg_cli.specs.Reports.{Report, Reports, fault_report, takes_memory};
+
+use crate::arguments::{UserIds, read_path, read_user};
+use crate::fault::CliFault;
+use crate::reading::read_tree;
+use crate::report::write_said;
+use cg_cgroup::path::Path;
+use cg_cgroup::user::User;
+use cg_model::fault::CheckFault;
+use cg_tree::hierarchy::Hierarchy;
+use std::alloc::Global;
+use std::io::Write;
+
+/// What is asked about a user and a subtree.
+pub trait Question {
+    ghost report: { Self → State → Identity → Names → Report };
+
+    /// What is said of them in a tree, and the status, which is 0 only where the subtree is contained.
+    fn answer<H: Hierarchy + Drop>(
+        &self,
+        alloc: Global,
+        tree: &H,
+        user: &User,
+        subtree: &Path,
+    ) -> Result<(Vec<u8>, u8), CheckFault>
+        ensures said { MatchResult result
+            (λ said. report self.now (H.state tree.now) user.now subtree.now ≡ record { text = said.0.items; ending = Ok said.1 })
+            (λ fault. fault ≢ CheckFault.NoMemory
+            → report self.now (H.state tree.now) user.now subtree.now ≡ fault_report (lifted_check fault)) }
+        ensures contained { IfOk result (λ said. said.1 ≡ 0 → IsContained (H.state tree.now) user.now subtree.now) };
+}
+
+/// Asks a question of the tree of a text, and writes what is said.
+pub fn ask<Q: Question, W: Write>(
+    alloc: Global,
+    question: &Q,
+    tree: &[u8],
+    user: UserIds<'_>,
+    subtree: &str,
+    out: &mut W,
+) -> Result<u8, CliFault>
+    requires { (st : State) (who : Identity) (path : Names) → takes_memory (Q.report question.now st who path).ending ≡ true }
+    ensures report { OnText tree.now (λ read. Reports
+        (asked_report (Q.report question.now) read user.entry.uid user.entry.gids.now subtree.now)
+        (W.contents out.old) (W.contents out.new) result) }
+    ensures contained { result ≡ Ok 0 → (st : State) (who : Identity) (path : Names)
+        → IsTextOf st tree.now → user_of user.entry.uid user.entry.gids.now ≡ Some who → path_at subtree.now ≡ Some path
+        → IsContained st who path }
+{
+    let user = read_user(user)?;
+    let subtree = read_path(alloc, subtree)?;
+    let tree = read_tree(alloc, tree)?;
+    let said = question.answer(alloc, &tree, &user, &subtree)?;
+    write_said(out, said)
+}
