@@ -24,11 +24,15 @@ use Rattle.cg_cli.proofs.ReportLaws.{call_takes, report_takes}
 
 module _ (st : State) (user : Identity) (subtree : Names) where
   -- where there is nothing to change it is contained
-  pub contained-unadvised : IsWellFormed st → None ≡ first (subtree_faults st subtree) → None ≡ advice_lines st user subtree → IsContained st user subtree
+  pub contained-unadvised : IsWellFormed st → None ≡ first (subtree_faults st subtree) → None ≡ advice_lines st user subtree
+      → IsContained st user subtree
   contained-unadvised formed none nothing =
-      contained-guarded st user subtree formed (no_fault st subtree none) (none_of_first (failures st user subtree) (guarded_first (first (failures st user subtree)) nothing))
+      contained-guarded st user subtree formed (no_fault st subtree none)
+      (none_of_first (failures st user subtree) (guarded_first (first (failures st user subtree)) nothing))
     where
-      guarded_first : (failed : Option Failed) → None ≡ cond (is_none failed) None (Some (flat_map (reached_lines user subtree) (reached st user subtree) ++ over_lines st subtree)) → failed ≡ None
+      guarded_first : (failed : Option Failed) → None
+          ≡ cond (is_none failed) None (Some (flat_map (reached_lines user subtree) (reached st user subtree) ++ over_lines st subtree))
+          → failed ≡ None
       guarded_first None nothing = refl
       guarded_first (Some failed) nothing = let never : ⊥ = cc in absurd never
 

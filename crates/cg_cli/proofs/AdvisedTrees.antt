@@ -17,17 +17,21 @@ use Rattle.cg_advice.proofs.Advising.{is_advised, mends-all, formed-advised}
 
 -- a cgroup is there where its directory is
 row-directory : (st : State) (path : Names) → has_row st path ≡ is_some (entry_at st path Dir)
-row-directory st path = elim (row_at st path) as (λ r. is_some r ≡ is_some (option_and_then (λ row. entry_in row Dir) r)) [ None ↦ refl | Some row ↦ refl ]
+row-directory st path =
+    elim (row_at st path) as (λ r. is_some r ≡ is_some (option_and_then (λ row. entry_in row Dir) r)) [ None ↦ refl | Some row ↦ refl ]
 
 still_some : (b : Bool) (f : Entry → Entry) (o : Option Entry) → is_some (cond b (option_map f o) o) ≡ is_some o
 still_some true f None = refl
 still_some true f (Some e) = refl
 still_some false f o = refl
 
-pub contained-advised : (st : State) (user : Identity) (subtree : Names) → IsUser user → IsWellFormed st → IsSubtree st subtree → AreCountable st subtree → IsContained (advised st user subtree) user subtree
+pub contained-advised : (st : State) (user : Identity) (subtree : Names) → IsUser user → IsWellFormed st → IsSubtree st subtree
+    → AreCountable st subtree → IsContained (advised st user subtree) user subtree
 contained-advised st user subtree is_user formed sub few =
     let new = advised st user subtree in
     let there = row-directory new subtree
-    ∙ ap is_some ((is_advised st user subtree).entries subtree Dir) ∙ still_some (is_guarded_entry subtree subtree Dir) (spared user) (entry_at st subtree Dir)
+    ∙ ap is_some ((is_advised st user subtree).entries subtree Dir)
+    ∙ still_some (is_guarded_entry subtree subtree Dir) (spared user) (entry_at st subtree Dir)
     ∙ sym (row-directory st subtree) in
-    contained-guarded new user subtree (formed-advised st user subtree formed few) (there ∙ sub.0, sub.1) (mends-all st user subtree is_user)
+    contained-guarded new user subtree (formed-advised st user subtree formed few) (there ∙ sub.0, sub.1)
+    (mends-all st user subtree is_user)

@@ -64,7 +64,8 @@ status_of_both (x ∷ xs) [] = ap (λ l. pairs_status (x ∷ l)) (append-nil xs)
     by_escape : (b : Bool) → cond b 1 2 ≡ worse (cond b 1 2) 0
     by_escape true = refl
     by_escape false = refl
-status_of_both (x ∷ xs) (y ∷ ys) = ap (λ b. cond b 1 2) (escape_of_both (x ∷ xs) (y ∷ ys)) ∙ by_escapes (some_escape (x ∷ xs)) (some_escape (y ∷ ys))
+status_of_both (x ∷ xs) (y ∷ ys) =
+    ap (λ b. cond b 1 2) (escape_of_both (x ∷ xs) (y ∷ ys)) ∙ by_escapes (some_escape (x ∷ xs)) (some_escape (y ∷ ys))
   where
     by_escapes : (b c : Bool) → cond (b || c) 1 2 ≡ worse (cond b 1 2) (cond c 1 2)
     by_escapes true c = refl
@@ -94,36 +95,41 @@ pub record Front (pairs rest : List Listed) (old new : Option (List ℕ)) (worst
 pub begins : (pairs rest : List Listed) (known : Option (List ℕ)) → rest ≡ pairs → Front pairs rest known known 0
 begins pairs rest known same = record { front = []; whole = same; status = refl; text = Appends-nil known }
 
-module _ (pairs here rest : List Listed) (old mid new : Option (List ℕ)) (status : ℕ) (far : Front pairs (here ++ rest) old mid status) where
-  pub goes_on : (more : ℕ) → WritesPairs here mid new (Ok more) → Front pairs rest old new (worse status more)
-  goes_on more written = record {
-    front = far.front ++ here;
-    whole = append_assoc far.front here rest ∙ far.whole;
-    status = status_of_both far.front here ∙ ap (λ n. worse n (pairs_status here)) far.status ∙ ap (worse status) written.0;
-    text = subst (Appends old new) (sym (text_of_both far.front here)) (Appends-trans old mid new _ _ far.text written.1);
-  }
+module _ (pairs here rest : List Listed) (old mid new : Option (List ℕ)) (status : ℕ) (far : Front pairs (here ++ rest) old mid status)
+  where
+    pub goes_on : (more : ℕ) → WritesPairs here mid new (Ok more) → Front pairs rest old new (worse status more)
+    goes_on more written = record {
+      front = far.front ++ here;
+      whole = append_assoc far.front here rest ∙ far.whole;
+      status = status_of_both far.front here ∙ ap (λ n. worse n (pairs_status here)) far.status ∙ ap (worse status) written.0;
+      text = subst (Appends old new) (sym (text_of_both far.front here)) (Appends-trans old mid new _ _ far.text written.1);
+    }
 
-  all_text : pairs_text pairs ≡ pairs_text far.front ++ (pairs_text here ++ pairs_text rest)
-  all_text = ap pairs_text (sym far.whole) ∙ text_of_both far.front (here ++ rest) ∙ ap (λ text. pairs_text far.front ++ text) (text_of_both here rest)
+    all_text : pairs_text pairs ≡ pairs_text far.front ++ (pairs_text here ++ pairs_text rest)
+    all_text =
+        ap pairs_text (sym far.whole) ∙ text_of_both far.front (here ++ rest)
+        ∙ ap (λ text. pairs_text far.front ++ text) (text_of_both here rest)
 
-  part_of : AppendsPart mid new (pairs_text here) → AppendsPart mid new (pairs_text here ++ pairs_text rest)
-  part_of part = (
-    part.0,
-    omega (arith, part.1, length-append (pairs_text here) (pairs_text rest)),
-    subst (Appends mid new) (sym (take-append-le part.0 (pairs_text here) (pairs_text rest) (omega (arith, part.1)))) part.2,
-  )
+    part_of : AppendsPart mid new (pairs_text here) → AppendsPart mid new (pairs_text here ++ pairs_text rest)
+    part_of part = (
+      part.0,
+      omega (arith, part.1, length-append (pairs_text here) (pairs_text rest)),
+      subst (Appends mid new) (sym (take-append-le part.0 (pairs_text here) (pairs_text rest) (omega (arith, part.1)))) part.2,
+    )
 
-  pub stops : (fault : CliFault) → WritesPairs here mid new (Err fault) → WritesPairs pairs old new (Err fault)
-  stops Write part = subst (AppendsPart old new) (sym all_text) (part_behind old mid new _ _ far.text (part_of part))
-  stops NoMemory left = (
-    far.front ++ left.0,
-    left.1 ++ rest,
-    append_assoc far.front left.0 (left.1 ++ rest) ∙ ap (λ l. far.front ++ l) (sym (append_assoc left.0 left.1 rest) ∙ ap (λ l. l ++ rest) left.2) ∙ far.whole,
-    subst (Appends old new) (sym (text_of_both far.front left.0)) (Appends-trans old mid new _ _ far.text left.3),
-  )
-  stops fault never = absurd never
+    pub stops : (fault : CliFault) → WritesPairs here mid new (Err fault) → WritesPairs pairs old new (Err fault)
+    stops Write part = subst (AppendsPart old new) (sym all_text) (part_behind old mid new _ _ far.text (part_of part))
+    stops NoMemory left = (
+      far.front ++ left.0,
+      left.1 ++ rest,
+      append_assoc far.front left.0 (left.1 ++ rest)
+          ∙ ap (λ l. far.front ++ l) (sym (append_assoc left.0 left.1 rest) ∙ ap (λ l. l ++ rest) left.2) ∙ far.whole,
+      subst (Appends old new) (sym (text_of_both far.front left.0)) (Appends-trans old mid new _ _ far.text left.3),
+    )
+    stops fault never = absurd never
 
-pub ends : (pairs rest : List Listed) (old new : Option (List ℕ)) (status : ℕ) → rest ≡ [] → Front pairs rest old new status → WritesPairs pairs old new (Ok status)
+pub ends : (pairs rest : List Listed) (old new : Option (List ℕ)) (status : ℕ) → rest ≡ [] → Front pairs rest old new status
+    → WritesPairs pairs old new (Ok status)
 ends pairs rest old new status none far =
     let same : far.front ≡ pairs = sym (append-nil far.front) ∙ ap (λ l. far.front ++ l) (sym none) ∙ far.whole in
     (ap pairs_status (sym same) ∙ far.status, subst (λ l. Appends old new (pairs_text l)) same far.text)
@@ -131,19 +137,24 @@ ends pairs rest old new status none far =
 -- ---- of one user
 
 -- the pair with a subtree is the next
-pub here_next : (st : State) (user : Identity) (subtrees : List Names) (i : ℕ) (subtree : Names) (pairs : List Listed) (old new : Option (List ℕ)) (worst : ℕ) → i < length subtrees → subtree ≡ get_or subtrees i subtree
+pub here_next : (st : State) (user : Identity) (subtrees : List Names) (i : ℕ) (subtree : Names) (pairs : List Listed)
+    (old new : Option (List ℕ)) (worst : ℕ) → i < length subtrees → subtree ≡ get_or subtrees i subtree
     → Front pairs (listed_of st (drop i subtrees) user) old new worst
     → Front pairs (listed_unless_contained user subtree (answer st user subtree) ++ listed_of st (drop (i + 1) subtrees) user) old new worst
 here_next st user subtrees i subtree pairs old new worst within at =
-    subst (λ rest. Front pairs (listed_of st rest user) old new worst) (drop-cons subtrees i subtree within ∙ (λ j. sym at j ∷ drop (sym (add-one i) j) subtrees))
+    subst (λ rest. Front pairs (listed_of st rest user) old new worst)
+    (drop-cons subtrees i subtree within ∙ (λ j. sym at j ∷ drop (sym (add-one i) j) subtrees))
 
 -- the pairs of the first user who is left are the next
-pub user_next : (st : State) (subtrees : List Names) (left : List Identity) (user : Identity) (pairs : List Listed) (old new : Option (List ℕ)) (worst : ℕ) → 0 < length left → user ≡ get_or left 0 user
-    → Front pairs (listed st left subtrees) old new worst → Front pairs (listed_of st subtrees user ++ listed st (drop 1 left) subtrees) old new worst
+pub user_next : (st : State) (subtrees : List Names) (left : List Identity) (user : Identity) (pairs : List Listed)
+    (old new : Option (List ℕ)) (worst : ℕ) → 0 < length left → user ≡ get_or left 0 user
+    → Front pairs (listed st left subtrees) old new worst
+    → Front pairs (listed_of st subtrees user ++ listed st (drop 1 left) subtrees) old new worst
 user_next st subtrees left user pairs old new worst within at =
     subst (λ rest. Front pairs (listed st rest subtrees) old new worst) (drop-cons left 0 user within ∙ (λ j. sym at j ∷ drop 1 left))
 
-pub passes_on : (pairs rest next : List Listed) (old new : Option (List ℕ)) (worst worse : ℕ) → next ≡ rest → worse ≡ worst → Front pairs rest old new worst → Front pairs next old new worse
+pub passes_on : (pairs rest next : List Listed) (old new : Option (List ℕ)) (worst worse : ℕ) → next ≡ rest → worse ≡ worst
+    → Front pairs rest old new worst → Front pairs next old new worse
 passes_on pairs rest next old new worst worse of_rest of_worst far =
     subst (λ (n : ℕ). Front pairs next old new n) (sym of_worst) (subst (λ l. Front pairs l old new worst) (sym of_rest) far)
 
@@ -158,7 +169,8 @@ module _ (st : State) (user : Identity) (subtree : Names) where
   one_status (Escapes ops) = refl
   one_status (Unsettled failed) = refl
 
-  one_text : (found : Answer) → found ≢ Contained → pairs_text (here found) ≡ pair_text (record { user = user; subtree = subtree; found = found })
+  one_text : (found : Answer) → found ≢ Contained
+      → pairs_text (here found) ≡ pair_text (record { user = user; subtree = subtree; found = found })
   one_text Contained other = absurd (other refl)
   one_text (Escapes ops) other = append-nil _
   one_text (Unsettled failed) other = append-nil _
@@ -170,25 +182,33 @@ module _ (st : State) (user : Identity) (subtree : Names) where
         same_Ok : {x y : Answer} → let r : Result Answer CheckFault = Ok x in let s : Result Answer CheckFault = Ok y in r ≡ s → x ≡ y
         same_Ok same = cc
 
-    pub contained_writes : (found : Answer) (known : Option (List ℕ)) → Gives check_takes (checked st user subtree) (Ok found) → found ≡ Contained → WritesPairs (here (answer st user subtree)) known known (Ok 0)
+    pub contained_writes : (found : Answer) (known : Option (List ℕ)) → Gives check_takes (checked st user subtree) (Ok found)
+        → found ≡ Contained → WritesPairs (here (answer st user subtree)) known known (Ok 0)
     contained_writes found known gives contained =
         subst (λ a. WritesPairs (here a) known known (Ok 0)) (sym (is_answer found gives ∙ contained)) (refl, Appends-nil known)
 
-    pub pair_writes : (found : Answer) (old new : Option (List ℕ)) (text : List ℕ) (status : ℕ) → Gives check_takes (checked st user subtree) (Ok found) → found ≢ Contained
-        → text ≡ pair_text (record { user = user; subtree = subtree; found = found }) → status ≡ answer_status found → Appends old new text → WritesPairs (here (answer st user subtree)) old new (Ok status)
+    pub pair_writes : (found : Answer) (old new : Option (List ℕ)) (text : List ℕ) (status : ℕ)
+        → Gives check_takes (checked st user subtree) (Ok found) → found ≢ Contained
+        → text ≡ pair_text (record { user = user; subtree = subtree; found = found }) → status ≡ answer_status found → Appends old new text
+        → WritesPairs (here (answer st user subtree)) old new (Ok status)
     pair_writes found old new text status gives other is status_is written =
         subst (λ a. WritesPairs (here a) old new (Ok status)) (sym (is_answer found gives))
         (one_status found ∙ sym status_is, subst (Appends old new) (is ∙ sym (one_text found other)) written)
 
-    pub pair_stops : (found : Answer) (old new : Option (List ℕ)) (text : List ℕ) → Gives check_takes (checked st user subtree) (Ok found) → found ≢ Contained
-        → text ≡ pair_text (record { user = user; subtree = subtree; found = found }) → AppendsPart old new text → WritesPairs (here (answer st user subtree)) old new (Err Write)
+    pub pair_stops : (found : Answer) (old new : Option (List ℕ)) (text : List ℕ) → Gives check_takes (checked st user subtree) (Ok found)
+        → found ≢ Contained
+        → text ≡ pair_text (record { user = user; subtree = subtree; found = found }) → AppendsPart old new text
+        → WritesPairs (here (answer st user subtree)) old new (Err Write)
     pair_stops found old new text gives other is part =
         subst (λ a. AppendsPart old new (pairs_text (here a))) (sym (is_answer found gives))
         (subst (AppendsPart old new) (is ∙ sym (one_text found other)) part)
 
-    pub fault_wants : (fault : CheckFault) (known : Option (List ℕ)) → Gives check_takes (checked st user subtree) (Err fault) → WritesPairs (here (answer st user subtree)) known known (Err (lifted_check fault))
-    fault_wants RootSubtree known gives = let never : ⊥ = let e = sym (checked-answer st user subtree (sym faultless)) ∙ gives in cc in absurd never
-    fault_wants NoSuchSubtree known gives = let never : ⊥ = let e = sym (checked-answer st user subtree (sym faultless)) ∙ gives in cc in absurd never
+    pub fault_wants : (fault : CheckFault) (known : Option (List ℕ)) → Gives check_takes (checked st user subtree) (Err fault)
+        → WritesPairs (here (answer st user subtree)) known known (Err (lifted_check fault))
+    fault_wants RootSubtree known gives =
+        let never : ⊥ = let e = sym (checked-answer st user subtree (sym faultless)) ∙ gives in cc in absurd never
+    fault_wants NoSuchSubtree known gives =
+        let never : ⊥ = let e = sym (checked-answer st user subtree (sym faultless)) ∙ gives in cc in absurd never
     fault_wants CheckNoMemory known gives = ([], here (answer st user subtree), refl, Appends-nil known)
 
 pub wants : (pairs : List Listed) (known : Option (List ℕ)) → WritesPairs pairs known known (Err NoMemory)
@@ -201,26 +221,31 @@ fault_said NoMemory known = (refl, Keeps-refl known)
 fault_said fault known = (refl, Keeps-refl known)
 
 module _ (st : State) (users : List Identity) (subtrees : List Names) where
-  pub subtree_said : (fault : CheckFault) (known : Option (List ℕ)) → Some fault ≡ first (flat_map (subtree_faults st) subtrees) → ReportsPairs (pairs_found st users subtrees) known known (Err (lifted_check fault))
+  pub subtree_said : (fault : CheckFault) (known : Option (List ℕ)) → Some fault ≡ first (flat_map (subtree_faults st) subtrees)
+      → ReportsPairs (pairs_found st users subtrees) known known (Err (lifted_check fault))
   subtree_said fault known is =
-      subst (λ o. ReportsPairs (in_call (unless_fault o (listed st users subtrees))) known known (Err (lifted_check fault))) is (fault_said (lifted_check fault) known)
+      subst (λ o. ReportsPairs (in_call (unless_fault o (listed st users subtrees))) known known (Err (lifted_check fault))) is
+      (fault_said (lifted_check fault) known)
 
   module _ (none : None ≡ first (flat_map (subtree_faults st) subtrees)) where
     abbrev pairs : List Listed
     pairs = listed st users subtrees
 
-    by_pairs : (old new : Option (List ℕ)) (result : Result ℕ CliFault) → ReportsPairs (Ok pairs) old new result → ReportsPairs (pairs_found st users subtrees) old new result
+    by_pairs : (old new : Option (List ℕ)) (result : Result ℕ CliFault) → ReportsPairs (Ok pairs) old new result
+        → ReportsPairs (pairs_found st users subtrees) old new result
     by_pairs old new result = subst (λ o. ReportsPairs (in_call (unless_fault o pairs)) old new result) none
 
     listed_text : (all : List Listed) → pairs_status all ≢ 0 → pairs_text all ≡ listing_text all
     listed_text [] other = absurd (other refl)
     listed_text (pair ∷ all) other = refl
 
-    part_text : (all : List Listed) (old new : Option (List ℕ)) → AppendsPart old new (pairs_text all) → AppendsPart old new (listing_text all)
+    part_text : (all : List Listed) (old new : Option (List ℕ)) → AppendsPart old new (pairs_text all)
+        → AppendsPart old new (listing_text all)
     part_text [] old new part = absurd (omega (arith, part.1))
     part_text (pair ∷ all) old new part = part
 
-    pub stop_said : (fault : CliFault) (old new : Option (List ℕ)) → WritesPairs pairs old new (Err fault) → ReportsPairs (pairs_found st users subtrees) old new (Err fault)
+    pub stop_said : (fault : CliFault) (old new : Option (List ℕ)) → WritesPairs pairs old new (Err fault)
+        → ReportsPairs (pairs_found st users subtrees) old new (Err fault)
     stop_said fault old new written = by_pairs old new (Err fault) (by_fault fault written)
       where
         by_fault : (fault : CliFault) → WritesPairs pairs old new (Err fault) → ReportsPairs (Ok pairs) old new (Err fault)
@@ -228,24 +253,32 @@ module _ (st : State) (users : List Identity) (subtrees : List Names) where
         by_fault NoMemory left = left
         by_fault fault never = absurd never
 
-    pub listing_said : (status : ℕ) (old new : Option (List ℕ)) → WritesPairs pairs old new (Ok status) → status ≢ 0 → ReportsPairs (pairs_found st users subtrees) old new (Ok status)
+    pub listing_said : (status : ℕ) (old new : Option (List ℕ)) → WritesPairs pairs old new (Ok status) → status ≢ 0
+        → ReportsPairs (pairs_found st users subtrees) old new (Ok status)
     listing_said status old new written other =
-        by_pairs old new (Ok status) (written.0, subst (Appends old new) (listed_text pairs (λ zero. other (sym written.0 ∙ zero))) written.1)
+        by_pairs old new (Ok status)
+        (written.0, subst (Appends old new) (listed_text pairs (λ zero. other (sym written.0 ∙ zero))) written.1)
 
     none_listed : (status : ℕ) (old mid : Option (List ℕ)) → WritesPairs pairs old mid (Ok status) → status ≡ 0 → pairs ≡ []
     none_listed status old mid written zero = no_status pairs (written.0 ∙ zero)
 
-    pub contained_said : (status : ℕ) (old mid new : Option (List ℕ)) → WritesPairs pairs old mid (Ok status) → status ≡ 0 → Appends mid new (listing_text []) → ReportsPairs (pairs_found st users subtrees) old new (Ok status)
+    pub contained_said : (status : ℕ) (old mid new : Option (List ℕ)) → WritesPairs pairs old mid (Ok status) → status ≡ 0
+        → Appends mid new (listing_text []) → ReportsPairs (pairs_found st users subtrees) old new (Ok status)
     contained_said status old mid new written zero text =
         let empty = none_listed status old mid written zero in
-        by_pairs old new (Ok status)
-        (written.0, subst (λ l. Appends old new (listing_text l)) (sym empty) (Appends-trans old mid new [] (listing_text []) (subst (λ l. Appends old mid (pairs_text l)) empty written.1) text))
+        by_pairs old new (Ok status) (
+          written.0,
+          subst (λ l. Appends old new (listing_text l)) (sym empty)
+              (Appends-trans old mid new [] (listing_text []) (subst (λ l. Appends old mid (pairs_text l)) empty written.1) text),
+        )
 
-    pub contained_stops : (status : ℕ) (old mid new : Option (List ℕ)) → WritesPairs pairs old mid (Ok status) → status ≡ 0 → AppendsPart mid new (listing_text []) → ReportsPairs (pairs_found st users subtrees) old new (Err Write)
+    pub contained_stops : (status : ℕ) (old mid new : Option (List ℕ)) → WritesPairs pairs old mid (Ok status) → status ≡ 0
+        → AppendsPart mid new (listing_text []) → ReportsPairs (pairs_found st users subtrees) old new (Err Write)
     contained_stops status old mid new written zero part =
         let empty = none_listed status old mid written zero in
         by_pairs old new (Err Write)
-        (subst (λ l. AppendsPart old new (listing_text l)) (sym empty) (part_behind old mid new [] (listing_text []) (subst (λ l. Appends old mid (pairs_text l)) empty written.1) part))
+        (subst (λ l. AppendsPart old new (listing_text l)) (sym empty)
+        (part_behind old mid new [] (listing_text []) (subst (λ l. Appends old mid (pairs_text l)) empty written.1) part))
 
 -- ---- what is read before
 

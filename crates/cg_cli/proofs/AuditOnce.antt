@@ -46,13 +46,15 @@ same_first : {R : Type 0} (here xs ys : List R) → first xs ≡ first ys → fi
 same_first [] xs ys same = same
 same_first (r ∷ rs) xs ys same = refl
 
-joined_first : {R : Type 0} (here there xs ys : List R) → first here ≡ first there → first xs ≡ first ys → first (here ++ xs) ≡ first (there ++ ys)
+joined_first : {R : Type 0} (here there xs ys : List R) → first here ≡ first there → first xs ≡ first ys
+    → first (here ++ xs) ≡ first (there ++ ys)
 joined_first [] [] xs ys same rest = rest
 joined_first [] (r ∷ rs) xs ys same rest = let never : ⊥ = cc in absurd never
 joined_first (r ∷ rs) [] xs ys same rest = let never : ⊥ = cc in absurd never
 joined_first (r ∷ rs) (s ∷ ss) xs ys same rest = same
 
-first_each : {A R : Type 0} (f g : A → List R) → ((x : A) → first (f x) ≡ first (g x)) → (xs : List A) → first (flat_map f xs) ≡ first (flat_map g xs)
+first_each : {A R : Type 0} (f g : A → List R) → ((x : A) → first (f x) ≡ first (g x)) → (xs : List A)
+    → first (flat_map f xs) ≡ first (flat_map g xs)
 first_each f g each [] = refl
 first_each f g each (x ∷ xs) = joined_first (f x) (g x) (flat_map f xs) (flat_map g xs) (each x) (first_each f g each xs)
 
@@ -60,10 +62,13 @@ first_each f g each (x ∷ xs) = joined_first (f x) (g x) (flat_map f xs) (flat_
 
 module _ {A : Type 0} (same : A → A → Bool) (means : (x y : A) → same x y ≡ true → x ≡ y) where
   -- those like one of whom there is nothing may be left out
-  first_left : {R : Type 0} (f : A → List R) (x : A) (xs : List A) → f x ≡ [] → first (flat_map f (filter (λ y. not (same x y)) xs)) ≡ first (flat_map f xs)
+  first_left : {R : Type 0} (f : A → List R) (x : A) (xs : List A) → f x ≡ []
+      → first (flat_map f (filter (λ y. not (same x y)) xs)) ≡ first (flat_map f xs)
   first_left f x [] none = refl
   first_left f x (y ∷ ys) none =
-      elim (same x y) as (λ b. same x y ≡ b → first (flat_map f (cond (not b) (y ∷ filter (λ z. not (same x z)) ys) (filter (λ z. not (same x z)) ys))) ≡ first (f y ++ flat_map f ys)) [
+      elim (same x y) as (λ b. same x y ≡ b → first
+      (flat_map f (cond (not b) (y ∷ filter (λ z. not (same x z)) ys) (filter (λ z. not (same x z)) ys)))
+      ≡ first (f y ++ flat_map f ys)) [
         | true ↦ λ is. first_left f x ys none ∙ sym (ap (λ here. first (here ++ flat_map f ys)) (sym (ap f (means x y is)) ∙ none))
         | false ↦ λ is. same_first (f y) _ _ (first_left f x ys none)
       ] refl
@@ -75,18 +80,21 @@ module _ {A : Type 0} (same : A → A → Bool) (means : (x y : A) → same x y 
       left : List A
       left = filter (λ y. not (same x y)) (once same xs)
 
-      by_here : (here : List R) → f x ≡ here → first (flat_map f (once same xs)) ≡ first (flat_map f xs) → first (f x ++ flat_map f left) ≡ first (f x ++ flat_map f xs)
+      by_here : (here : List R) → f x ≡ here → first (flat_map f (once same xs)) ≡ first (flat_map f xs)
+          → first (f x ++ flat_map f left) ≡ first (f x ++ flat_map f xs)
       by_here [] is rest = same_first (f x) _ _ (first_left f x (once same xs) is ∙ rest)
       by_here (r ∷ rs) is rest = first_some (f x) _ r (ap first is) ∙ sym (first_some (f x) _ r (ap first is))
 
   behind : (x y : A) (xs : List A) → Contains xs y → Contains (x ∷ xs) y
   behind x y xs at = (suc at.0, omega (arith, at.1), at.2)
 
-  among_left : (x y : A) (xs : List A) (k : ℕ) → k < length xs → get_or xs k y ≡ y → same x y ≡ false → Contains (filter (λ z. not (same x z)) xs) y
+  among_left : (x y : A) (xs : List A) (k : ℕ) → k < length xs → get_or xs k y ≡ y → same x y ≡ false
+      → Contains (filter (λ z. not (same x z)) xs) y
   among_left x y [] k within is other = absurd (omega (arith, within))
   among_left x y (z ∷ xs) zero within is other =
       let e : same x z ≡ false = ap (same x) is ∙ other in
-      subst (λ b. Contains (cond (not b) (z ∷ filter (λ w. not (same x w)) xs) (filter (λ w. not (same x w)) xs)) y) (sym e) (0, omega arith, is)
+      subst (λ b. Contains (cond (not b) (z ∷ filter (λ w. not (same x w)) xs) (filter (λ w. not (same x w)) xs)) y) (sym e)
+      (0, omega arith, is)
   among_left x y (z ∷ xs) (suc k) within is other =
       let rest = among_left x y xs k (omega (arith, within)) is other in
       elim (same x z) as (λ b. Contains (cond (not b) (z ∷ filter (λ w. not (same x w)) xs) (filter (λ w. not (same x w)) xs)) y) [
@@ -108,14 +116,16 @@ module _ {A : Type 0} (same : A → A → Bool) (means : (x y : A) → same x y 
   among_once xs y at = among_at xs y at.0 at.1 at.2
 
   all_once : (P : A → Type 0) (xs : List A) → All P (once same xs) → All P xs
-  all_once P xs all k d within = All-contains P (once same xs) (get_or xs k d) all (among_once xs (get_or xs k d) (Contains-get_or xs k d within))
+  all_once P xs all k d within =
+      All-contains P (once same xs) (get_or xs k d) all (among_once xs (get_or xs k d) (Contains-get_or xs k d within))
 
   pub some_once : (xs : List A) → xs ≢ [] → once same xs ≢ []
   some_once [] some none = some refl
   some_once (x ∷ xs) some none = cc
 
 pub same_user-is : (user other : Identity) → same_user user other ≡ true → user ≡ other
-same_user-is user other is = λ i. record { uid = eqb-true user.uid other.uid parts.0 i; gids = (bytes_decides user.gids other.gids).0 parts.1 i }
+same_user-is user other is =
+    λ i. record { uid = eqb-true user.uid other.uid parts.0 i; gids = (bytes_decides user.gids other.gids).0 parts.1 i }
   where
     both_true : (a b : Bool) → a && b ≡ true → (a ≡ true) × (b ≡ true)
     both_true true b h = (refl, h)
@@ -128,21 +138,29 @@ same_user-is user other is = λ i. record { uid = eqb-true user.uid other.uid pa
 
 abbrev said : Option Listed → Report
 said None = record { text = codes "contained\n"; ending = Ok 0 }
-said (Some pair) = record { text = pair_line pair.user.uid pair.subtree ++ answer_text pair.subtree pair.found; ending = Ok (answer_status pair.found) }
+said (Some pair) =
+    record { text = pair_line pair.user.uid pair.subtree ++ answer_text pair.subtree pair.found; ending = Ok (answer_status pair.found) }
 
-one_said : (users : List Identity) (subtrees : List Names) (pairs : List AllAnswer) → AllByRecursion IsNamed pairs → IsPairShown users subtrees (unwrap_or (first pairs) Contained)
+one_said : (users : List Identity) (subtrees : List Names) (pairs : List AllAnswer) → AllByRecursion IsNamed pairs
+    → IsPairShown users subtrees (unwrap_or (first pairs) Contained)
     → audit_answer_report users subtrees (unwrap_or (first pairs) Contained) ≡ said (first (flat_map (listed_at users subtrees) pairs))
 one_said users subtrees [] names shown = refl
 one_said users subtrees (Contained ∷ pairs) names shown = absurd (names.0 refl)
 one_said users subtrees (Pair user subtree found ∷ pairs) names shown =
     ap of_uid (get_or-map (λ (who : Identity). who.uid) users user nobody 0 shown.0)
-    ∙ sym (λ i. said (first (present (at_user i) (λ who. present (at_subtree i) (λ path. record { user = who; subtree = path; found = found } ∷ [])) ++ flat_map (listed_at users subtrees) pairs)))
+    ∙ sym (λ i. said (first (present (at_user i)
+    (λ who. present (at_subtree i) (λ path. record { user = who; subtree = path; found = found } ∷ []))
+    ++ flat_map (listed_at users subtrees) pairs)))
   where
     nobody : Identity
     nobody = record { uid = 0; gids = [] }
 
     of_uid : ℕ → Report
-    of_uid uid = record { text = pair_line uid (subtree_at subtrees subtree) ++ answer_text (subtree_at subtrees subtree) found; ending = Ok (answer_status found) }
+    of_uid uid =
+        record {
+          text = pair_line uid (subtree_at subtrees subtree) ++ answer_text (subtree_at subtrees subtree) found;
+          ending = Ok (answer_status found);
+        }
 
     at_user : slice_get users user ≡ Some (get_or users user nobody)
     at_user = slice_get-get_or users user nobody shown.0
@@ -152,14 +170,17 @@ one_said users subtrees (Pair user subtree found ∷ pairs) names shown =
 
 module _ (st : State) (users : List Identity) (subtrees : List Names) where
   by_fault : (fault : Option CheckFault) → first (flat_map (subtree_faults st) subtrees) ≡ fault
-      → report_on (in_call (unless_fault fault (all_answers st users subtrees))) (audit_answer_report users subtrees) ≡ report_on (in_call (unless_fault fault (first (listed st users subtrees)))) said
+      → report_on (in_call (unless_fault fault (all_answers st users subtrees))) (audit_answer_report users subtrees)
+      ≡ report_on (in_call (unless_fault fault (first (listed st users subtrees)))) said
   by_fault (Some fault) is = refl
   by_fault None is =
       one_said users subtrees (pairs_from st 0 users subtrees) (named st 0 users subtrees)
-      (audits_are_shown st users subtrees (all_answers st users subtrees) (ap (λ fault. unless_fault fault (all_answers st users subtrees)) is))
+      (audits_are_shown st users subtrees (all_answers st users subtrees)
+      (ap (λ fault. unless_fault fault (all_answers st users subtrees)) is))
       ∙ ap (λ pairs. said (first pairs)) (sym (pairs-listed st users subtrees))
 
-  said_first : pairs_report st users subtrees ≡ report_on (in_call (unless_fault (first (flat_map (subtree_faults st) subtrees)) (first (listed st users subtrees)))) said
+  said_first : pairs_report st users subtrees
+      ≡ report_on (in_call (unless_fault (first (flat_map (subtree_faults st) subtrees)) (first (listed st users subtrees)))) said
   said_first = by_fault (first (flat_map (subtree_faults st) subtrees)) refl
 
   first_listed : first (listed st (once same_user users) (once same_path subtrees)) ≡ first (listed st users subtrees)
@@ -169,10 +190,12 @@ module _ (st : State) (users : List Identity) (subtrees : List Names) where
       (λ user. first_once same_path same_path-is (λ subtree. listed_unless_contained user subtree (answer st user subtree)) subtrees) users
 
 -- of the first pair alone
-pub said_once : (st : State) (users : List Identity) (subtrees : List Names) → pairs_report st (once same_user users) (once same_path subtrees) ≡ pairs_report st users subtrees
+pub said_once : (st : State) (users : List Identity) (subtrees : List Names)
+    → pairs_report st (once same_user users) (once same_path subtrees) ≡ pairs_report st users subtrees
 said_once st users subtrees =
     said_first st (once same_user users) (once same_path subtrees)
-    ∙ (λ i. report_on (in_call (unless_fault (first_once same_path same_path-is (subtree_faults st) subtrees i) (first_listed st users subtrees i))) said)
+    ∙ (λ i. report_on
+    (in_call (unless_fault (first_once same_path same_path-is (subtree_faults st) subtrees i) (first_listed st users subtrees i))) said)
     ∙ sym (said_first st users subtrees)
 
 -- ---- what it means that all is contained
@@ -186,15 +209,21 @@ module _ (users : List Identity) (subtrees : List Names) where
   ends_contained (Ok one) of_one is = ap Ok (of_one one refl (same_Ok (audit_status one) 0 is))
   ends_contained (Err fault) of_one is = let never : ⊥ = cc in absurd never
 
-  still_all : (st : State) → all_checked st (once same_user users) (once same_path subtrees) ≡ Ok Contained → all_checked st users subtrees ≡ Ok Contained
+  still_all : (st : State) → all_checked st (once same_user users) (once same_path subtrees) ≡ Ok Contained
+      → all_checked st users subtrees ≡ Ok Contained
   still_all st is =
       ends_contained (all_checked st users subtrees) (status_is_contained st users subtrees)
-      (ap (λ (r : Report). r.ending) (sym (said_once st users subtrees)) ∙ ap (λ (found : Result AllAnswer CheckFault). (report_on (in_call found) (audit_answer_report (once same_user users) (once same_path subtrees))).ending) is)
+      (ap (λ (r : Report). r.ending) (sym (said_once st users subtrees))
+      ∙ ap (λ (found : Result AllAnswer CheckFault).
+      (report_on (in_call found) (audit_answer_report (once same_user users) (once same_path subtrees))).ending) is)
 
   by_once : (deeds : List Deed) → AreBy users deeds → AreBy (once same_user users) deeds
-  by_once deeds by = all-each (λ deed. Contains users deed.0) (λ deed. Contains (once same_user users) deed.0) (λ deed at. among_once same_user same_user-is users deed.0 at) deeds by
+  by_once deeds by =
+      all-each (λ deed. Contains users deed.0) (λ deed. Contains (once same_user users) deed.0)
+      (λ deed at. among_once same_user same_user-is users deed.0 at) deeds by
 
-  open_once : (st : State) (deeds : List Deed) (subtree : Names) → OnlyTheseOpen users st deeds subtree → OnlyTheseOpen (once same_user users) st deeds subtree
+  open_once : (st : State) (deeds : List Deed) (subtree : Names) → OnlyTheseOpen users st deeds subtree
+      → OnlyTheseOpen (once same_user users) st deeds subtree
   open_once st [] subtree only = tt
   open_once st (deed ∷ deeds) subtree only =
       ((λ opens. among_once same_user same_user-is users deed.0 (only.0 opens)), open_once (after st deed.0 deed.1) deeds subtree only.1)
@@ -208,10 +237,13 @@ module _ (users : List Identity) (subtrees : List Names) where
     still = λ deeds by. still_all (after_all st deeds) (are.still deeds (by_once deeds by));
     strangers = λ deeds.
         all_once same_path same_path-is
-        (λ subtree. OnlyTheseOpen users st deeds subtree → (steps : ℕ) (clause : Clause) → verdict st deeds subtree ≡ Broken steps clause → IsOfStranger users deeds steps) subtrees
+        (λ subtree. OnlyTheseOpen users st deeds subtree → (steps : ℕ) (clause : Clause) → verdict st deeds subtree ≡ Broken steps clause
+        → IsOfStranger users deeds steps) subtrees
         (All-weaker
-        (λ subtree. OnlyTheseOpen (once same_user users) st deeds subtree → (steps : ℕ) (clause : Clause) → verdict st deeds subtree ≡ Broken steps clause → IsOfStranger (once same_user users) deeds steps)
-        (λ subtree. OnlyTheseOpen users st deeds subtree → (steps : ℕ) (clause : Clause) → verdict st deeds subtree ≡ Broken steps clause → IsOfStranger users deeds steps)
+        (λ subtree. OnlyTheseOpen (once same_user users) st deeds subtree → (steps : ℕ) (clause : Clause)
+        → verdict st deeds subtree ≡ Broken steps clause → IsOfStranger (once same_user users) deeds steps)
+        (λ subtree. OnlyTheseOpen users st deeds subtree → (steps : ℕ) (clause : Clause) → verdict st deeds subtree ≡ Broken steps clause
+        → IsOfStranger users deeds steps)
         (λ subtree law only steps clause broken. stranger_of_all deeds steps (law (open_once st deeds subtree only) steps clause broken))
         (once same_path subtrees) (are.strangers deeds));
   }

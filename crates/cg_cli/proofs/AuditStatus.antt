@@ -25,27 +25,33 @@ one_named user subtree one.Contained = tt
 one_named user subtree (one.Escapes ops) = ((λ same. cc), tt)
 one_named user subtree (one.Unsettled failed) = ((λ same. cc), tt)
 
-of_user_named : (st : State) (place : ℕ) (user : Identity) (from : ℕ) (subtrees : List Names) → AllByRecursion IsNamed (pairs_of st place user from subtrees)
+of_user_named : (st : State) (place : ℕ) (user : Identity) (from : ℕ) (subtrees : List Names)
+    → AllByRecursion IsNamed (pairs_of st place user from subtrees)
 of_user_named st place user from [] = tt
 of_user_named st place user from (subtree ∷ subtrees) =
     all-append IsNamed (pair_unless_contained place from (answer st user subtree)) (pairs_of st place user (suc from) subtrees)
     (one_named place from (answer st user subtree)) (of_user_named st place user (suc from) subtrees)
 
-pub named : (st : State) (from : ℕ) (users : List Identity) (subtrees : List Names) → AllByRecursion IsNamed (pairs_from st from users subtrees)
+pub named : (st : State) (from : ℕ) (users : List Identity) (subtrees : List Names)
+    → AllByRecursion IsNamed (pairs_from st from users subtrees)
 named st from [] subtrees = tt
 named st from (user ∷ users) subtrees =
     all-append IsNamed (pairs_of st from user 0 subtrees) (pairs_from st (suc from) users subtrees)
     (of_user_named st from user 0 subtrees) (named st (suc from) users subtrees)
 
-first_named : (pairs : List AllAnswer) → AllByRecursion IsNamed pairs → audit_status (unwrap_or (first pairs) Contained) ≡ 0 → unwrap_or (first pairs) Contained ≡ Contained
+first_named : (pairs : List AllAnswer) → AllByRecursion IsNamed pairs → audit_status (unwrap_or (first pairs) Contained) ≡ 0
+    → unwrap_or (first pairs) Contained ≡ Contained
 first_named [] all zero = refl
 first_named (pair ∷ pairs) all zero = absurd (all.0 zero)
 
-found_named : (fault : Option CheckFault) (answer found : AllAnswer) → (audit_status answer ≡ 0 → answer ≡ Contained) → unless_fault fault answer ≡ Ok found → audit_status found ≡ 0 → found ≡ Contained
-found_named None answer found of_answer is = let same : answer ≡ found = cc in subst (λ a. audit_status a ≡ 0 → a ≡ Contained) same of_answer
+found_named : (fault : Option CheckFault) (answer found : AllAnswer) → (audit_status answer ≡ 0 → answer ≡ Contained)
+    → unless_fault fault answer ≡ Ok found → audit_status found ≡ 0 → found ≡ Contained
+found_named None answer found of_answer is =
+    let same : answer ≡ found = cc in subst (λ a. audit_status a ≡ 0 → a ≡ Contained) same of_answer
 found_named (Some fault) answer found of_answer is = let never : ⊥ = cc in absurd never
 
-pub status_is_contained : (st : State) (users : List Identity) (subtrees : List Names) (found : AllAnswer) → all_checked st users subtrees ≡ Ok found → audit_status found ≡ 0 → found ≡ Contained
+pub status_is_contained : (st : State) (users : List Identity) (subtrees : List Names) (found : AllAnswer)
+    → all_checked st users subtrees ≡ Ok found → audit_status found ≡ 0 → found ≡ Contained
 status_is_contained st users subtrees found is =
     found_named (first (flat_map (subtree_faults st) subtrees)) (all_answers st users subtrees) found
     (first_named (pairs_from st 0 users subtrees) (named st 0 users subtrees)) is

@@ -19,7 +19,8 @@ use Rattle.cg_cli.specs.declared.fault.CliFault.{CliFault}
 use Rattle.cg_cli.specs.declared.fault.CliFault.TheVariants.{Uid, Gids, BadPath, Write, NoMemory}
 use Rattle.cg_cli.proofs.ReportLaws.{handed_on, same_Ok, call_takes, report_takes, tree_takes, tree_met, met_reports}
 
-same_user : (root : Bool) (found : Option Identity) (user who : Identity) → cond root (Err Uid) (or_fault found Gids) ≡ Ok user → found ≡ Some who → user ≡ who
+same_user : (root : Bool) (found : Option Identity) (user who : Identity) → cond root (Err Uid) (or_fault found Gids) ≡ Ok user
+    → found ≡ Some who → user ≡ who
 same_user true found user who is found_is = let never : ⊥ = cc in absurd never
 same_user false None user who is found_is = let never : ⊥ = cc in absurd never
 same_user false (Some one) user who is found_is = let a : one ≡ user = cc in let b : one ≡ who = cc in sym a ∙ b
@@ -74,7 +75,8 @@ module _ (tree : Reading) (uid : ℕ) (gids subtree : List ℕ) (user : Identity
       (handed_on (Reports (report_on (tree_read tree) (λ st. report st user path)) known known) (lifted fault) result handed
       (met_reports (tree_read tree) (λ st. report st user path) takes (lifted fault) (tree_met tree fault is) known))
 
-module _ (tree : Reading) (uid : ℕ) (gids subtree : List ℕ) (user : Identity) (path : Names) (st : State) (of_user : user_read uid gids ≡ Ok user) (of_path : path_read subtree ≡ Ok path) (of_text : tree ≡ Ok st) where
+module _ (tree : Reading) (uid : ℕ) (gids subtree : List ℕ) (user : Identity) (path : Names) (st : State)
+    (of_user : user_read uid gids ≡ Ok user) (of_path : path_read subtree ≡ Ok path) (of_text : tree ≡ Ok st) where
   pub asked_is : (report : State → Identity → Names → Report) → asked_report report tree uid gids subtree ≡ report st user path
   asked_is report =
       of_words tree uid gids subtree user path of_user of_path report ∙ ap (λ t. report_by report (Ok user) (Ok path) (tree_read t)) of_text
@@ -83,7 +85,8 @@ module _ (tree : Reading) (uid : ℕ) (gids subtree : List ℕ) (user : Identity
   report_is = asked_is subtree_report
 
   -- what holds of the state, the user and the path that were read holds of those that the bytes say
-  pub of_bytes : (P : State → Identity → Names → Type 0) → P st user path → (other : State) (who : Identity) (named : Names) → tree ≡ Ok other → user_of uid gids ≡ Some who → path_at subtree ≡ Some named → P other who named
+  pub of_bytes : (P : State → Identity → Names → Type 0) → P st user path → (other : State) (who : Identity) (named : Names)
+      → tree ≡ Ok other → user_of uid gids ≡ Some who → path_at subtree ≡ Some named → P other who named
   of_bytes P holds other who named of_other of_who of_named =
       let a : st ≡ other = let same = sym of_text ∙ of_other in cc in
       let b : user ≡ who = same_user (nat_eq uid 0) (user_of uid gids) user who of_user of_who in

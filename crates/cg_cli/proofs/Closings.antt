@@ -16,11 +16,13 @@ use Rattle.cg_cli.proofs.ReplayReads.{from_replays}
 use Rattle.cg_cli.proofs.ReportLaws.{handed_on}
 
 -- the text of the lines stands in front
-closed_by : (text : List ℕ) (ending : Result Course CliFault) → (more : List ℕ) × ((closed (record { text = text; ending = ending })).text ≡ text ++ more)
+closed_by : (text : List ℕ) (ending : Result Course CliFault)
+    → (more : List ℕ) × ((closed (record { text = text; ending = ending })).text ≡ text ++ more)
 closed_by text (Ok course) = ((closing course).text, refl)
 closed_by text (Err fault) = ([], sym (append-nil text))
 
-behind : (said : Said Course) (ending : Result Course CliFault) → said.ending ≡ ending → closed said ≡ closed (record { text = said.text; ending = ending })
+behind : (said : Said Course) (ending : Result Course CliFault) → said.ending ≡ ending
+    → closed said ≡ closed (record { text = said.text; ending = ending })
 behind said ending is = ap (λ (e : Result Course CliFault). closed (record { text = said.text; ending = e })) is
 
 module _ (lines : Reporting) (ops : List ℕ) (old new : Option (List ℕ)) where

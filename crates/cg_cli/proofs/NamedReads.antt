@@ -123,7 +123,8 @@ module _ (given : List (ℕ × List ℕ)) (texts : List (List ℕ)) (tree : Read
       text_met NoMemory takes = all_take (Ok users) (Ok subtrees) (tree_read tree) refl refl takes
       text_met fault is = ap (read_in_turn (Ok users) (Ok subtrees)) is
 
-      pub tree_fault_met : (fault : TreeFault) → (fault ≢ TreeNoMemory → tree ≡ Err fault) → IsMet (named_read given texts tree) (lifted fault)
+      pub tree_fault_met : (fault : TreeFault) → (fault ≢ TreeNoMemory → tree ≡ Err fault)
+          → IsMet (named_read given texts tree) (lifted fault)
       tree_fault_met fault stated =
           subst (λ read. IsMet read (lifted fault)) (sym (by_tree (tree_read tree))) (text_met (lifted fault) (tree_met tree fault stated))
 

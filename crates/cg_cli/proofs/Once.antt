@@ -16,7 +16,8 @@ use Rattle.cg_cli.specs.declared.fault.CliFault.{CliFault}
 use Rattle.cg_cli.specs.declared.fault.CliFault.TheVariants.{Uid, Gids}
 
 -- one more is new where none before is the same
-once_more : {A : Type 0} (same : A → A → Bool) (xs : List A) (x : A) → once same (xs ++ x ∷ []) ≡ once same xs ++ cond (list_any (λ y. same y x) xs) [] (x ∷ [])
+once_more : {A : Type 0} (same : A → A → Bool) (xs : List A) (x : A)
+    → once same (xs ++ x ∷ []) ≡ once same xs ++ cond (list_any (λ y. same y x) xs) [] (x ∷ [])
 once_more same [] x = refl
 once_more same (y ∷ xs) x =
     ap (λ l. y ∷ filter (λ z. not (same y z)) l) (once_more same xs x)
@@ -28,14 +29,17 @@ once_more same (y ∷ xs) x =
     kept false = elim (same y x) as (λ b. cond (not b) (x ∷ []) [] ≡ cond (b || false) [] (x ∷ [])) [ true ↦ refl | false ↦ refl ]
 
 -- what was read of a list so far: all of it, those who count, and of which keys one was read
-pub record ReadOnce {A K : Type 0} (same : A → A → Bool) (meets : A → K → Bool) (given : Result (List A) CliFault) (read : List A) (seen : K → Bool) : Type 0 where
+pub record ReadOnce {A K : Type 0} (same : A → A → Bool) (meets : A → K → Bool) (given : Result (List A) CliFault) (read : List A)
+    (seen : K → Bool) : Type 0 where
   pub all : List A
   pub is : given ≡ Ok all
   pub items : read ≡ once same all
   pub keys : (q : K) → seen q ≡ list_any (λ x. meets x q) all
 
-module _ {A K : Type 0} (same : A → A → Bool) (meets : A → K → Bool) (given more : Result (List A) CliFault) (read : List A) (old new : K → Bool) (x : A) (k : K) (added : Bool)
-    (before : ReadOnce same meets given read old) (next : (all : List A) → given ≡ Ok all → more ≡ Ok (all ++ x ∷ [])) (key : (y : A) → meets y k ≡ same y x)
+module _ {A K : Type 0} (same : A → A → Bool) (meets : A → K → Bool) (given more : Result (List A) CliFault) (read : List A)
+    (old new : K → Bool) (x : A) (k : K) (added : Bool)
+    (before : ReadOnce same meets given read old) (next : (all : List A) → given ≡ Ok all → more ≡ Ok (all ++ x ∷ []))
+    (key : (y : A) → meets y k ≡ same y x)
     (updates : (q : K) → new q ≡ cond (meets x q) true (old q)) (is_new : added ≡ not (old k)) where
   was_seen : old k ≡ list_any (λ y. same y x) before.all
   was_seen = before.keys k ∙ (λ i. list_any (λ y. key y i) before.all)
@@ -65,7 +69,8 @@ module _ {A K : Type 0} (same : A → A → Bool) (meets : A → K → Bool) (gi
     is = next before.all before.is;
     items =
         pushed ∙ ap (λ l. l ++ x ∷ []) before.items
-        ∙ sym (once_more same before.all x ∙ ap (λ b. once same before.all ++ cond b [] (x ∷ [])) (sym was_seen ∙ not_false (old k) (sym fresh ∙ is_new)));
+        ∙ sym (once_more same before.all x
+        ∙ ap (λ b. once same before.all ++ cond b [] (x ∷ [])) (sym was_seen ∙ not_false (old k) (sym fresh ∙ is_new)));
     keys = keys_more;
   }
 
@@ -75,7 +80,9 @@ module _ {A K : Type 0} (same : A → A → Bool) (meets : A → K → Bool) (gi
     is = next before.all before.is;
     items =
         kept ∙ before.items
-        ∙ sym (once_more same before.all x ∙ ap (λ b. once same before.all ++ cond b [] (x ∷ [])) (sym was_seen ∙ not_true (old k) (sym known ∙ is_new)) ∙ append-nil (once same before.all));
+        ∙ sym (once_more same before.all x
+        ∙ ap (λ b. once same before.all ++ cond b [] (x ∷ [])) (sym was_seen ∙ not_true (old k) (sym known ∙ is_new))
+        ∙ append-nil (once same before.all));
     keys = keys_more;
   }
 
@@ -93,7 +100,8 @@ meets who key = nat_eq who.uid key.0 && pointwise nat_eq who.gids key.1.now
 pub user_is : (uid : ℕ) (gids : List ℕ) (who : Identity) → Ok who ≡ user_read uid gids → who ≡ record { uid = uid; gids = gids }
 user_is uid gids who is = by_tests (nat_eq uid 0) (is_user (record { uid = uid; gids = gids })) (sym is)
   where
-    by_tests : (root may : Bool) → cond root (Err Uid) (or_fault (cond may (Some (record { uid = uid; gids = gids })) None) Gids) ≡ Ok who → who ≡ record { uid = uid; gids = gids }
+    by_tests : (root may : Bool) → cond root (Err Uid) (or_fault (cond may (Some (record { uid = uid; gids = gids })) None) Gids) ≡ Ok who
+        → who ≡ record { uid = uid; gids = gids }
     by_tests true may h = let never : ⊥ = cc in absurd never
     by_tests false true h = same_Ok h
       where
@@ -103,34 +111,40 @@ user_is uid gids who is = by_tests (nat_eq uid 0) (is_user (record { uid = uid; 
 
 pub key_at : (who : Identity) (key q : Key) → who ≡ record { uid = key.0; gids = key.1.now } → is_eq (key_cmp key q) ≡ meets who q
 key_at who key q is =
-    sym (both_tied (nat_eq key.0 q.0) (pointwise nat_eq key.1.now q.1.now) (nat_cmp key.0 q.0) (slice_cmp nat_cmp key.1.now q.1.now) (unsigned_ties key.0 q.0) (texts_ties key.1.now q.1.now))
+    sym (both_tied (nat_eq key.0 q.0) (pointwise nat_eq key.1.now q.1.now) (nat_cmp key.0 q.0) (slice_cmp nat_cmp key.1.now q.1.now)
+    (unsigned_ties key.0 q.0) (texts_ties key.1.now q.1.now))
     ∙ ap (λ (one : Identity). meets one q) (sym is)
 
 -- a key is compared by what it borrows, wherever that lies
 abbrev key_of : ℕ → List ℕ → Key
 key_of uid gids = (uid, record { ref_ptr = (0, 0); now = gids })
 
-module _ (given more : Result (List Identity) CliFault) (read : List Identity) (old new : Key → Bool) (uid : ℕ) (gids : List ℕ) (who : Identity) (added : Bool) (before : ReadOnce same_user meets given read old)
-    (next : (all : List Identity) → given ≡ Ok all → more ≡ Ok (all ++ who ∷ [])) (is : Ok who ≡ user_read uid gids) (updates : (q : Key) → new q ≡ cond (is_eq (key_cmp (key_of uid gids) q)) true (old q)) (is_new : added ≡ not (old (key_of uid gids))) where
-  same_key : (y : Identity) → meets y (key_of uid gids) ≡ same_user y who
-  same_key y = ap (same_user y) (sym (user_is uid gids who is))
+module _ (given more : Result (List Identity) CliFault) (read : List Identity) (old new : Key → Bool) (uid : ℕ) (gids : List ℕ)
+    (who : Identity) (added : Bool) (before : ReadOnce same_user meets given read old)
+    (next : (all : List Identity) → given ≡ Ok all → more ≡ Ok (all ++ who ∷ [])) (is : Ok who ≡ user_read uid gids)
+    (updates : (q : Key) → new q ≡ cond (is_eq (key_cmp (key_of uid gids) q)) true (old q)) (is_new : added ≡ not (old (key_of uid gids)))
+  where
+    same_key : (y : Identity) → meets y (key_of uid gids) ≡ same_user y who
+    same_key y = ap (same_user y) (sym (user_is uid gids who is))
 
-  meets_new : (q : Key) → new q ≡ cond (meets who q) true (old q)
-  meets_new q = updates q ∙ ap (λ b. cond b true (old q)) (key_at who (key_of uid gids) q (user_is uid gids who is))
+    meets_new : (q : Key) → new q ≡ cond (meets who q) true (old q)
+    meets_new q = updates q ∙ ap (λ b. cond b true (old q)) (key_at who (key_of uid gids) q (user_is uid gids who is))
 
-  pub user_first : added ≡ true → (items : List Identity) → items ≡ read ++ who ∷ [] → ReadOnce same_user meets more items new
-  user_first = read_first same_user meets given more read old new who (key_of uid gids) added before next same_key meets_new is_new
+    pub user_first : added ≡ true → (items : List Identity) → items ≡ read ++ who ∷ [] → ReadOnce same_user meets more items new
+    user_first = read_first same_user meets given more read old new who (key_of uid gids) added before next same_key meets_new is_new
 
-  pub user_again : added ≡ false → (items : List Identity) → items ≡ read → ReadOnce same_user meets more items new
-  user_again = read_again same_user meets given more read old new who (key_of uid gids) added before next same_key meets_new is_new
+    pub user_again : added ≡ false → (items : List Identity) → items ≡ read → ReadOnce same_user meets more items new
+    user_again = read_again same_user meets given more read old new who (key_of uid gids) added before next same_key meets_new is_new
 
 -- ---- paths
 
 pub path_at_key : (path q : Names) → is_eq (path_cmp path q) ≡ same_path path q
 path_at_key path q = sym (lists_ties (slice_cmp nat_cmp) texts_ties path q)
 
-module _ (given more : Result (List Names) CliFault) (read : List Names) (old new : Names → Bool) (key path : Names) (added : Bool) (before : ReadOnce same_path same_path given read old)
-    (next : (all : List Names) → given ≡ Ok all → more ≡ Ok (all ++ path ∷ [])) (is : key ≡ path) (updates : (q : Names) → new q ≡ cond (is_eq (path_cmp key q)) true (old q)) (is_new : added ≡ not (old key)) where
+module _ (given more : Result (List Names) CliFault) (read : List Names) (old new : Names → Bool) (key path : Names) (added : Bool)
+    (before : ReadOnce same_path same_path given read old)
+    (next : (all : List Names) → given ≡ Ok all → more ≡ Ok (all ++ path ∷ [])) (is : key ≡ path)
+    (updates : (q : Names) → new q ≡ cond (is_eq (path_cmp key q)) true (old q)) (is_new : added ≡ not (old key)) where
   same_names : (y : Names) → same_path y key ≡ same_path y path
   same_names y = ap (same_path y) is
 

@@ -47,11 +47,26 @@ lifted_before : (fault : TreeFault) → is_before (lifted fault) ≡ true
 lifted_before TreeNoMemory = refl
 lifted_before fault = refl
 
-row_before : (st : State) (subtree : Names) (found : Option Cgroup) → FaultIsBefore (elim found [ None ↦ Err (Rattle.cg_cli.specs.declared.fault.CliFault.TheVariants.Subtree Rattle.cg_model.specs.declared.fault.CheckFault.TheVariants.NoSuchSubtree) | Some row ↦ Ok (Watched (record { subtree = subtree; original = row; state = st; steps = 0; verdict = Rattle.cg_model.specs.Verdicts.verdict st [] subtree })) ])
+row_before : (st : State) (subtree : Names) (found : Option Cgroup)
+    → FaultIsBefore (elim found [
+      | None ↦
+          Err (Rattle.cg_cli.specs.declared.fault.CliFault.TheVariants.Subtree
+          Rattle.cg_model.specs.declared.fault.CheckFault.TheVariants.NoSuchSubtree)
+      | Some row ↦
+          Ok (Watched (record {
+            subtree = subtree;
+            original = row;
+            state = st;
+            steps = 0;
+            verdict = Rattle.cg_model.specs.Verdicts.verdict st [] subtree;
+          }))
+    ])
 row_before st subtree None = refl
 row_before st subtree (Some row) = tt
 
-root_before : (st : State) (subtree : Names) (root : Bool) (other : Result Course CliFault) → FaultIsBefore other → FaultIsBefore (cond root (Err (Rattle.cg_cli.specs.declared.fault.CliFault.TheVariants.Subtree Rattle.cg_model.specs.declared.fault.CheckFault.TheVariants.RootSubtree)) other)
+root_before : (st : State) (subtree : Names) (root : Bool) (other : Result Course CliFault) → FaultIsBefore other
+    → FaultIsBefore (cond root (Err (Rattle.cg_cli.specs.declared.fault.CliFault.TheVariants.Subtree
+    Rattle.cg_model.specs.declared.fault.CheckFault.TheVariants.RootSubtree)) other)
 root_before st subtree true other before = refl
 root_before st subtree false other before = before
 
@@ -59,11 +74,19 @@ course_before : (st : State) (subtree : Option Names) → FaultIsBefore (course_
 course_before st None = tt
 course_before st (Some subtree) = root_before st subtree (is_root subtree) _ (row_before st subtree (row_at st subtree))
 
-tree_before : (subtree : Option Names) (tree : Result State TreeFault) → FaultIsBefore (elim (elim tree as (λ _. Result State CliFault) [ Ok st ↦ Ok st | Err fault ↦ Err (lifted fault) ]) [ Ok st ↦ course_from st subtree | Err fault ↦ Err fault ])
+tree_before : (subtree : Option Names) (tree : Result State TreeFault)
+    → FaultIsBefore (elim (elim tree as (λ _. Result State CliFault) [ Ok st ↦ Ok st | Err fault ↦ Err (lifted fault) ])
+    [ Ok st ↦ course_from st subtree | Err fault ↦ Err fault ])
 tree_before subtree (Ok st) = course_before st subtree
 tree_before subtree (Err fault) = lifted_before fault
 
-path_before : (tree : Reading) (path : Option Names) → FaultIsBefore (elim (or_fault path BadPath) [ Ok named ↦ elim (elim tree as (λ _. Result State CliFault) [ Ok st ↦ Ok st | Err fault ↦ Err (lifted fault) ]) [ Ok st ↦ course_from st (Some named) | Err fault ↦ Err fault ] | Err fault ↦ Err fault ])
+path_before : (tree : Reading) (path : Option Names) → FaultIsBefore
+    (elim (or_fault path BadPath) [
+      | Ok named ↦
+          elim (elim tree as (λ _. Result State CliFault) [ Ok st ↦ Ok st | Err fault ↦ Err (lifted fault) ])
+          [ Ok st ↦ course_from st (Some named) | Err fault ↦ Err fault ]
+      | Err fault ↦ Err fault
+    ])
 path_before tree None = refl
 path_before tree (Some named) = tree_before (Some named) tree
 
@@ -91,10 +114,12 @@ module _ (tree : Reading) (uid : ℕ) (gids : List ℕ) (subtree : Option (List 
   lines = lines_report tree uid gids subtree
 
   pub nothing_said : (ops : List ℕ) (known : Option (List ℕ)) → HasFront lines ops known known
-  nothing_said ops known = ([], ops, refl, subst (Appends known known) (sym (silent (user_read uid gids) (course_read subtree tree))) (Appends-nil known))
+  nothing_said ops known =
+      ([], ops, refl, subst (Appends known known) (sym (silent (user_read uid gids) (course_read subtree tree))) (Appends-nil known))
 
   -- a fault before the operations
-  said_fault : (ops : List ℕ) (known : Option (List ℕ)) (fault : CliFault) → lines ops ≡ fault_report fault → ((closed (lines ops)).ending ≡ Err fault) × Appends known known (closed (lines ops)).text
+  said_fault : (ops : List ℕ) (known : Option (List ℕ)) (fault : CliFault) → lines ops ≡ fault_report fault
+      → ((closed (lines ops)).ending ≡ Err fault) × Appends known known (closed (lines ops)).text
   said_fault ops known fault same =
       let is = ap closed same in
       (ap (λ (r : Report). r.ending) is, subst (Appends known known) (sym (ap (λ (r : Report). r.text) is)) (Appends-nil known))
@@ -132,13 +157,16 @@ module _ (tree : Reading) (uid : ℕ) (gids : List ℕ) (subtree : Option (List 
 
   -- a fault of the user
   user_fault_by : (ops : List ℕ) (known : Option (List ℕ)) (fault : CliFault) (root : Bool) (found : Option Identity)
-      → user_read uid gids ≡ cond root (Err Uid) (or_fault found Gids) → cond root (Err Uid) (or_fault found Gids) ≡ Err fault → Replays closed lines ops known known (Err fault)
+      → user_read uid gids ≡ cond root (Err Uid) (or_fault found Gids) → cond root (Err Uid) (or_fault found Gids) ≡ Err fault
+      → Replays closed lines ops known known (Err fault)
   user_fault_by ops known fault true found e h =
       let is : Uid ≡ fault = cc in
-      subst (λ f. Replays closed lines ops known known (Err f)) is (said_fault ops known Uid (ap (λ u. lines_by u (course_read subtree tree) ops) e))
+      subst (λ f. Replays closed lines ops known known (Err f)) is
+      (said_fault ops known Uid (ap (λ u. lines_by u (course_read subtree tree) ops) e))
   user_fault_by ops known fault false None e h =
       let is : Gids ≡ fault = cc in
-      subst (λ f. Replays closed lines ops known known (Err f)) is (said_fault ops known Gids (ap (λ u. lines_by u (course_read subtree tree) ops) e))
+      subst (λ f. Replays closed lines ops known known (Err f)) is
+      (said_fault ops known Gids (ap (λ u. lines_by u (course_read subtree tree) ops) e))
   user_fault_by ops known fault false (Some user) e h = let never : ⊥ = cc in absurd never
 
   pub user_fault_from : (given known : Option (List ℕ)) (fault : CliFault) → Err fault ≡ user_read uid gids

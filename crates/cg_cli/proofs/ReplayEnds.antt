@@ -24,7 +24,9 @@ pub leads_nowhere : (report : Reporting) (known : Option (List ℕ)) → Leads r
 leads_nowhere report known = record { written = []; appended = Appends-nil known; whole = λ rest. refl }
 
 fronts : (front next : List ℕ) (report : Said Course) → with_front front (with_front next report) ≡ with_front (front ++ next) report
-fronts front next report = ap (λ (text : List ℕ). let r : Said Course = record { text = text; ending = report.ending } in r) (sym (append_assoc front next report.text))
+fronts front next report =
+    ap (λ (text : List ℕ). let r : Said Course = record { text = text; ending = report.ending } in r)
+    (sym (append_assoc front next report.text))
 
 pub leads_on : {before there after : Reporting} {first second : List ℕ} {old mid new : Option (List ℕ)}
     → Leads before there first old mid → Leads there after second mid new → Leads before after (first ++ second) old new
@@ -37,7 +39,8 @@ leads_on {before} {there} {after} {first} {second} {old} {mid} {new} p q = recor
 }
 
 -- a text that was written, and a part of the next
-pub part_behind : (old mid new : Option (List ℕ)) (front text : List ℕ) → Appends old mid front → AppendsPart mid new text → AppendsPart old new (front ++ text)
+pub part_behind : (old mid new : Option (List ℕ)) (front text : List ℕ) → Appends old mid front → AppendsPart mid new text
+    → AppendsPart old new (front ++ text)
 part_behind old mid new front text first part = (
   length front + part.0,
   omega (arith, part.1, length-append front text),
@@ -56,7 +59,8 @@ whole_text : (before after : Reporting) (given : List ℕ) (old new : Option (Li
     → Leads before after given old new → after [] ≡ end_said ending
     → ((before given).ending ≡ ending) × Appends old new (before given).text
 whole_text before after given old new ending way none =
-    let e : before given ≡ with_front way.written (end_said ending) = ap before (sym (append-nil given)) ∙ way.whole [] ∙ ap (with_front way.written) none in (
+    let e : before given ≡ with_front way.written (end_said ending) =
+    ap before (sym (append-nil given)) ∙ way.whole [] ∙ ap (with_front way.written) none in (
       ap (λ (r : Said Course). r.ending) e,
       subst (Appends old new) (sym (ap (λ (r : Said Course). r.text) e ∙ append-nil way.written)) way.appended,
     )

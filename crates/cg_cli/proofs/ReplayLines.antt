@@ -18,21 +18,24 @@ use Rattle.cg_cli.specs.declared.fault.CliFault.TheVariants.{Line}
 
 -- ---- what is read
 
-pub operation_read_ok : (done : ℕ) (line : List ℕ) (op : Op) → done < 65536 → length line ≤ 8192 → line ≡ spelling op → IsInRange op → operation_read done line ≡ Ok op
+pub operation_read_ok : (done : ℕ) (line : List ℕ) (op : Op) → done < 65536 → length line ≤ 8192 → line ≡ spelling op → IsInRange op
+    → operation_read done line ≡ Ok op
 operation_read_ok done line op few short spelled held =
     let a : nat_lt done 65536 ≡ true = grind (arith, nat_tests) in
     let b : nat_lt 8192 (length line) ≡ false = grind (arith, nat_tests) in
     let e : operation_at line ≡ Some op = ap operation_at spelled ∙ line_again op held in
     rw (a, b, e) refl
 
-pub operation_read_bad : (done : ℕ) (line : List ℕ) → done < 65536 → length line ≤ 8192 → ((op : Op) → IsInRange op → line ≢ spelling op) → operation_read done line ≡ Err (Line (done + 1) BadWord)
+pub operation_read_bad : (done : ℕ) (line : List ℕ) → done < 65536 → length line ≤ 8192 → ((op : Op) → IsInRange op → line ≢ spelling op)
+    → operation_read done line ≡ Err (Line (done + 1) BadWord)
 operation_read_bad done line few short none =
     let a : nat_lt done 65536 ≡ true = grind (arith, nat_tests) in
     let b : nat_lt 8192 (length line) ≡ false = grind (arith, nat_tests) in
     let e : operation_at line ≡ None = nothing_read line none in
     rw (a, b, e) refl
 
-pub operation_read_long : (done : ℕ) (line : List ℕ) → done < 65536 → 8192 < length line → operation_read done line ≡ Err (Line (done + 1) TooLong)
+pub operation_read_long : (done : ℕ) (line : List ℕ) → done < 65536 → 8192 < length line
+    → operation_read done line ≡ Err (Line (done + 1) TooLong)
 operation_read_long done line few long =
     let a : nat_lt done 65536 ≡ true = grind (arith, nat_tests) in
     let b : nat_lt 8192 (length line) ≡ true = grind (arith, nat_tests) in
@@ -40,6 +43,7 @@ operation_read_long done line few long =
 
 -- ---- what follows
 
-pub outcome_is : (st : State) (user : Identity) (op : Op) (outcome : Outcome) → RefusedBy outcome (first (bars st user op)) → outcome ≡ outcome_of st user op
+pub outcome_is : (st : State) (user : Identity) (op : Op) (outcome : Outcome) → RefusedBy outcome (first (bars st user op))
+    → outcome ≡ outcome_of st user op
 outcome_is st user op Done none = ap outcome_by (sym none)
 outcome_is st user op (Refused bar) barred = ap outcome_by (sym barred)

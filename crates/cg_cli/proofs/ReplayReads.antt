@@ -24,9 +24,12 @@ no_piece None = tt
 no_piece (Some xs) = refl
 
 -- nothing was read
-pub read_failed : (before after : Reporting) (had left old : Option (List ℕ)) (fault : CliFault) → (fault ≡ Read) ⊎ (fault ≡ NoMemory) → Keeps had left → ReadOn before after had left old old (Err fault)
-read_failed before after had left old fault (inl e) kept = subst (λ f. ReadOn before after had left old old (Err f)) (sym e) (kept, Keeps-refl old)
-read_failed before after had left old fault (inr e) kept = subst (λ f. ReadOn before after had left old old (Err f)) (sym e) ([], no_piece had, Keeps-refl old)
+pub read_failed : (before after : Reporting) (had left old : Option (List ℕ)) (fault : CliFault) → (fault ≡ Read) ⊎ (fault ≡ NoMemory)
+    → Keeps had left → ReadOn before after had left old old (Err fault)
+read_failed before after had left old fault (inl e) kept =
+    subst (λ f. ReadOn before after had left old old (Err f)) (sym e) (kept, Keeps-refl old)
+read_failed before after had left old fault (inr e) kept =
+    subst (λ f. ReadOn before after had left old old (Err f)) (sym e) ([], no_piece had, Keeps-refl old)
 
 at_end : (had left : Option (List ℕ)) (n : ℕ) → n ≡ 0 → IfSome had (λ xs. n ≡ 0 → xs ≡ []) → Keeps had left → OnSome had (IsAtEnd left)
 at_end None left n none end kept = tt
@@ -34,7 +37,8 @@ at_end (Some xs) None n none end kept = absurd kept
 at_end (Some xs) (Some ys) n none end kept = kept ∙ end none
 
 -- nothing is left
-pub read_end : (report : Reporting) (had left old : Option (List ℕ)) (n : ℕ) → n ≡ 0 → IfSome had (λ xs. n ≡ 0 → xs ≡ []) → Keeps had left → ReadOn report report had left old old (Ok 0)
+pub read_end : (report : Reporting) (had left old : Option (List ℕ)) (n : ℕ) → n ≡ 0 → IfSome had (λ xs. n ≡ 0 → xs ≡ []) → Keeps had left
+    → ReadOn report report had left old old (Ok 0)
 read_end report had left old n none end kept = (
   [],
   refl,
@@ -44,14 +48,16 @@ read_end report had left old n none end kept = (
 )
 
 -- a piece has a fault
-pub read_fault : (before after : Reporting) (had left old new : Option (List ℕ)) (piece : List ℕ) (fault : CliFault) → IfSome had (λ xs. StartsWith xs piece)
+pub read_fault : (before after : Reporting) (had left old new : Option (List ℕ)) (piece : List ℕ) (fault : CliFault)
+    → IfSome had (λ xs. StartsWith xs piece)
     → Fed before after piece old new (Err fault) → ReadOn before after had left old new (Err fault)
 read_fault before after had left old new piece Read front fed = absurd fed
 read_fault before after had left old new piece fault front fed = (piece, front, fed)
 
 -- a piece of which bytes were taken
 pub read_some : (before after : Reporting) (had shown left old new : Option (List ℕ)) (buffered : Option ℕ) (piece : List ℕ) (n : ℕ) → 0 < n
-    → IfSome had (λ xs. StartsWith xs piece) → IfSome had (λ xs. length piece ≡ 0 → xs ≡ []) → Keeps had shown → IfSome had (λ _. IfSome buffered (λ k. length piece ≤ k))
+    → IfSome had (λ xs. StartsWith xs piece) → IfSome had (λ xs. length piece ≡ 0 → xs ≡ []) → Keeps had shown
+    → IfSome had (λ _. IfSome buffered (λ k. length piece ≤ k))
     → DropsConsumable shown left buffered n → Fed before after piece old new (Ok n) → ReadOn before after had left old new (Ok n)
 read_some before after had shown left old new buffered piece n some front end kept fits drops fed =
     let moved = Consumes_shown had shown left buffered piece n fed.0 front end kept fits drops in
@@ -60,7 +66,8 @@ read_some before after had shown left old new buffered piece n some front end ke
 -- ---- at the end
 
 -- what is a replay of the reader's bytes
-pub from_replays : {A : Type 0} (close : Said Course → Said A) (report : Reporting) (before left old new : Option (List ℕ)) (ops : List ℕ) (ended : Result A CliFault) → AreOf before ops → Replays close report ops old new ended
+pub from_replays : {A : Type 0} (close : Said Course → Said A) (report : Reporting) (before left old new : Option (List ℕ)) (ops : List ℕ)
+    (ended : Result A CliFault) → AreOf before ops → Replays close report ops old new ended
     → ReplaysFrom close report before left old new ended
 from_replays close report before left old new ops (Ok came) are replays = (ops, are, replays)
 from_replays close report before left old new ops (Err Read) are replays = absurd replays
@@ -77,12 +84,14 @@ split_known (Some xs) (Some ys) given piece gave shows = (
 )
 
 -- the bytes of a reader that gave all
-all_known : (before left : Option (List ℕ)) (given : List ℕ) → Consumes before left given → OnSome before (IsAtEnd left) → AreOf before given
+all_known : (before left : Option (List ℕ)) (given : List ℕ) → Consumes before left given → OnSome before (IsAtEnd left)
+    → AreOf before given
 all_known None left given gave end = tt
 all_known (Some xs) None given gave end = absurd gave
 all_known (Some xs) (Some ys) given gave end = sym (gave ∙ ap (λ l. given ++ l) end ∙ append-nil given)
 
-end_passed : (before had left : Option (List ℕ)) (given : List ℕ) → Consumes before had given → OnSome had (IsAtEnd left) → OnSome before (IsAtEnd left)
+end_passed : (before had left : Option (List ℕ)) (given : List ℕ) → Consumes before had given → OnSome had (IsAtEnd left)
+    → OnSome before (IsAtEnd left)
 end_passed None had left given gave end = tt
 end_passed (Some xs) None left given gave end = absurd gave
 end_passed (Some xs) (Some ys) left given gave end = end

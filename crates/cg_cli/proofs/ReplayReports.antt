@@ -18,7 +18,9 @@ record Pieces (bytes : List ℕ) : Type 0 where
   pieces : List (List ℕ)
   are : slice_split is_newline bytes ≡ piece ∷ pieces
 
-of_onto : (b : ℕ) (bytes : List ℕ) → Pieces bytes → (c : Bool) → cond c ([] ∷ slice_split is_newline bytes) (onto_first b (slice_split is_newline bytes)) ≡ slice_split is_newline (b ∷ bytes) → Pieces (b ∷ bytes)
+of_onto : (b : ℕ) (bytes : List ℕ) → Pieces bytes → (c : Bool)
+    → cond c ([] ∷ slice_split is_newline bytes) (onto_first b (slice_split is_newline bytes)) ≡ slice_split is_newline (b ∷ bytes)
+    → Pieces (b ∷ bytes)
 of_onto b bytes rest true e = record { piece = []; pieces = slice_split is_newline bytes; are = sym e }
 of_onto b bytes rest false e = record { piece = b ∷ rest.piece; pieces = rest.pieces; are = sym e ∙ ap (onto_first b) rest.are }
 
@@ -27,25 +29,31 @@ pieces_of [] = record { piece = []; pieces = []; are = refl }
 pieces_of (b ∷ bytes) = of_onto b bytes (pieces_of bytes) (is_newline b) refl
 
 -- bytes without a newline stand before the first piece
-front_of_first : (front rest : List ℕ) (first : List ℕ) (others : List (List ℕ)) → All (λ b. is_newline b ≡ false) front → slice_split is_newline rest ≡ first ∷ others
+front_of_first : (front rest : List ℕ) (first : List ℕ) (others : List (List ℕ)) → All (λ b. is_newline b ≡ false) front
+    → slice_split is_newline rest ≡ first ∷ others
     → slice_split is_newline (front ++ rest) ≡ (front ++ first) ∷ others
 front_of_first [] rest first others none e = e
 front_of_first (b ∷ front) rest first others none e =
-    ap (λ c. cond c ([] ∷ slice_split is_newline (front ++ rest)) (onto_first b (slice_split is_newline (front ++ rest)))) (All-head (λ x. is_newline x ≡ false) b front none)
+    ap (λ c. cond c ([] ∷ slice_split is_newline (front ++ rest)) (onto_first b (slice_split is_newline (front ++ rest))))
+    (All-head (λ x. is_newline x ≡ false) b front none)
     ∙ ap (onto_first b) (front_of_first front rest first others (All-tail (λ x. is_newline x ≡ false) b front none) e)
 
 -- a line: its operation's outcome, and then what is said of the rest; or its fault
 pub report_of_line : (course : Course) (user : Identity) (done : ℕ) (line rest : List ℕ) → All (λ b. is_newline b ≡ false) line
     → lines_said course user done (line ++ 10 ∷ rest)
-    ≡ report_on (operation_read done line) (λ op. with_front (outcome_text op (outcome_of (state_of course) user op)) (lines_said (on_course course user op) user (done + 1) rest))
+    ≡ report_on (operation_read done line)
+    (λ op. with_front (outcome_text op (outcome_of (state_of course) user op)) (lines_said (on_course course user op) user (done + 1) rest))
 unfolding lines_said replayed
 report_of_line course user done line rest none =
     let more = pieces_of rest in
     ap (replayed course user done) (slice_split_at is_newline line 10 rest none refl ∙ ap (λ ps. line ∷ ps) more.are)
-    ∙ ap (λ ps. report_on (operation_read done line) (λ op. with_front (outcome_text op (outcome_of (state_of course) user op)) (replayed (on_course course user op) user (done + 1) ps))) (sym more.are)
+    ∙ ap (λ ps. report_on (operation_read done line)
+    (λ op. with_front (outcome_text op (outcome_of (state_of course) user op)) (replayed (on_course course user op) user (done + 1) ps)))
+    (sym more.are)
 
 -- the end of the input
-pub report_of_end : (course : Course) (user : Identity) (done : ℕ) (rest : List ℕ) → All (λ b. is_newline b ≡ false) rest → lines_said course user done rest ≡ end_said (end_read course done rest)
+pub report_of_end : (course : Course) (user : Identity) (done : ℕ) (rest : List ℕ) → All (λ b. is_newline b ≡ false) rest
+    → lines_said course user done rest ≡ end_said (end_read course done rest)
 unfolding lines_said replayed
 report_of_end course user done rest none = ap (replayed course user done) (slice_split_none is_newline rest none)
 
@@ -63,7 +71,8 @@ long_first course user done (b ∷ bs) (next ∷ others) long few =
     rw (a, e) refl
 
 -- a line that is too long, whatever follows
-pub report_of_long : (course : Course) (user : Identity) (done : ℕ) (line rest : List ℕ) → All (λ b. is_newline b ≡ false) line → 8192 < length line → done < 65536
+pub report_of_long : (course : Course) (user : Identity) (done : ℕ) (line rest : List ℕ) → All (λ b. is_newline b ≡ false) line
+    → 8192 < length line → done < 65536
     → lines_said course user done (line ++ rest) ≡ fault_report (Line (done + 1) TooLong)
 unfolding lines_said
 report_of_long course user done line rest none long few =
@@ -72,13 +81,15 @@ report_of_long course user done line rest none long few =
     ∙ long_first course user done (line ++ more.piece) more.pieces (omega (arith, length-append line more.piece)) few
 
 -- behind the last line that is answered: a further one, or bytes of one
-one_more : (course : Course) (user : Identity) (done : ℕ) (first next : List ℕ) (others : List (List ℕ)) → 65536 ≤ done → replayed course user done (first ∷ next ∷ others) ≡ fault_report TooManySteps
+one_more : (course : Course) (user : Identity) (done : ℕ) (first next : List ℕ) (others : List (List ℕ)) → 65536 ≤ done
+    → replayed course user done (first ∷ next ∷ others) ≡ fault_report TooManySteps
 unfolding replayed
 one_more course user done first next others many =
     let a : nat_lt done 65536 ≡ false = grind (arith, nat_tests) in
     rw a refl
 
-bytes_more : (course : Course) (user : Identity) (done b : ℕ) (bs : List ℕ) (others : List (List ℕ)) → 65536 ≤ done → replayed course user done ((b ∷ bs) ∷ others) ≡ fault_report TooManySteps
+bytes_more : (course : Course) (user : Identity) (done b : ℕ) (bs : List ℕ) (others : List (List ℕ)) → 65536 ≤ done
+    → replayed course user done ((b ∷ bs) ∷ others) ≡ fault_report TooManySteps
 unfolding replayed
 bytes_more course user done b bs [] many =
     let a : nat_lt done 65536 ≡ false = grind (arith, nat_tests) in
@@ -86,14 +97,16 @@ bytes_more course user done b bs [] many =
 bytes_more course user done b bs (next ∷ others) many = one_more course user done (b ∷ bs) next others many
 
 many_at : (course : Course) (user : Identity) (done b : ℕ) (bytes : List ℕ) → 65536 ≤ done → Pieces bytes → (c : Bool)
-    → replayed course user done (cond c ([] ∷ slice_split is_newline bytes) (onto_first b (slice_split is_newline bytes))) ≡ fault_report TooManySteps
+    → replayed course user done (cond c ([] ∷ slice_split is_newline bytes) (onto_first b (slice_split is_newline bytes)))
+    ≡ fault_report TooManySteps
 many_at course user done b bytes many rest true =
     ap (λ ps. replayed course user done ([] ∷ ps)) rest.are ∙ one_more course user done [] rest.piece rest.pieces many
 many_at course user done b bytes many rest false =
     ap (λ ps. replayed course user done (onto_first b ps)) rest.are ∙ bytes_more course user done b rest.piece rest.pieces many
 
 -- more than may be answered
-pub report_of_many : (course : Course) (user : Identity) (done : ℕ) (rest : List ℕ) → 65536 ≤ done → 0 < length rest → lines_said course user done rest ≡ fault_report TooManySteps
+pub report_of_many : (course : Course) (user : Identity) (done : ℕ) (rest : List ℕ) → 65536 ≤ done → 0 < length rest
+    → lines_said course user done rest ≡ fault_report TooManySteps
 unfolding lines_said
 report_of_many course user done [] many some = absurd (omega arith)
 report_of_many course user done (b ∷ bytes) many some = many_at course user done b bytes many (pieces_of bytes) (is_newline b)

@@ -30,7 +30,8 @@ part_of_front old new front rest part = (
 -- ---- a piece of the input
 
 -- a newline behind the bytes up to `end`
-line_ends : (line piece rest : List ℕ) (end : ℕ) → end < length piece → get_or piece end 0 ≡ 10 → line ++ (take (end + 1) piece ++ rest) ≡ (line ++ take end piece) ++ 10 ∷ rest
+line_ends : (line piece rest : List ℕ) (end : ℕ) → end < length piece → get_or piece end 0 ≡ 10
+    → line ++ (take (end + 1) piece ++ rest) ≡ (line ++ take end piece) ++ 10 ∷ rest
 line_ends line piece rest end within newline =
     ap (λ l. line ++ (l ++ rest)) (take_more piece end 0 within ∙ ap (λ b. take end piece ++ b ∷ []) newline)
     ∙ ap (λ l. line ++ l) (append_assoc (take end piece) (10 ∷ []) rest) ∙ sym (append_assoc line (take end piece) (10 ∷ rest))
@@ -38,7 +39,8 @@ line_ends line piece rest end within newline =
 -- the bytes up to `end` and all others
 line_goes_on : (line piece rest : List ℕ) (end : ℕ) → line ++ (piece ++ rest) ≡ (line ++ take end piece) ++ (drop end piece ++ rest)
 line_goes_on line piece rest end =
-    ap (λ l. line ++ (l ++ rest)) (sym (take-append-drop end piece)) ∙ ap (λ l. line ++ l) (append_assoc (take end piece) (drop end piece) rest)
+    ap (λ l. line ++ (l ++ rest)) (sym (take-append-drop end piece))
+    ∙ ap (λ l. line ++ l) (append_assoc (take end piece) (drop end piece) rest)
     ∙ sym (append_assoc line (take end piece) (drop end piece ++ rest))
 
 module _ (at : Standing) (piece : List ℕ) (end : ℕ) where

@@ -8,20 +8,23 @@ use Rattle.cg_cli.proofs.named.test_users.Goals as goal
 pub loop-user-preserved : goal.loop-user-preserved
 loop-user-preserved c = (
   c.loop-user.invariant.0 ++ (c.in_ok-read_user.field-0 ∷ []),
-  read_more (λ ids. user_read ids.0 ids.1) (λ user. (user.uid, user.gids.now)) c.args.users.now c.loop-user.user-index _ c.loop-user.invariant.0 c.in_ok-read_user.field-0 c.loop-user-test.true c.loop-user.invariant.1 (sym c.in_ok-read_user.ensures),
+  read_more (λ ids. user_read ids.0 ids.1) (λ user. (user.uid, user.gids.now)) c.args.users.now c.loop-user.user-index _
+      c.loop-user.invariant.0 c.in_ok-read_user.field-0 c.loop-user-test.true c.loop-user.invariant.1 (sym c.in_ok-read_user.ensures),
 )
 
 pub returns-in_err-read_user-clause-fault : goal.returns-in_err-read_user-clause-fault
 returns-in_err-read_user-clause-fault c =
     let p = err_from_is_err_and c.from_residual.result c.from_residual.ensures.1 in
     rw (p.1, p.2)
-    (read_stops (λ ids. user_read ids.0 ids.1) (λ user. (user.uid, user.gids.now)) c.args.users.now c.loop-user.user-index _ c.loop-user.invariant.0 c.in_err-read_user.field-0.0 c.loop-user-test.true c.loop-user.invariant.1 (sym c.in_err-read_user.ensures))
+    (read_stops (λ ids. user_read ids.0 ids.1) (λ user. (user.uid, user.gids.now)) c.args.users.now c.loop-user.user-index _
+    c.loop-user.invariant.0 c.in_err-read_user.field-0.0 c.loop-user-test.true c.loop-user.invariant.1 (sym c.in_err-read_user.ensures))
 
 pub returns-in_err-read_user-clause-faults : goal.returns-in_err-read_user-clause-faults
 returns-in_err-read_user-clause-faults c fault stated =
     let p = err_from_is_err_and c.from_residual.result c.from_residual.ensures.1 in
     let first : users_read (map (λ user. (user.uid, user.gids.now)) c.args.users.now) ≡ Err c.in_err-read_user.field-0.0 =
-    read_stops (λ ids. user_read ids.0 ids.1) (λ user. (user.uid, user.gids.now)) c.args.users.now c.loop-user.user-index _ c.loop-user.invariant.0 c.in_err-read_user.field-0.0 c.loop-user-test.true c.loop-user.invariant.1 (sym c.in_err-read_user.ensures)
+    read_stops (λ ids. user_read ids.0 ids.1) (λ user. (user.uid, user.gids.now)) c.args.users.now c.loop-user.user-index _
+    c.loop-user.invariant.0 c.in_err-read_user.field-0.0 c.loop-user-test.true c.loop-user.invariant.1 (sym c.in_err-read_user.ensures)
     in
     let whole : c.in_err-read_user.field-0.0 ≡ fault = cc (sym first ∙ stated) in
     rw (p.1, p.2) (ap Err whole)

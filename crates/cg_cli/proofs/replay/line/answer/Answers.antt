@@ -40,14 +40,16 @@ pub returns-in-Err : goal.returns-in-Err
 returns-in-Err g c =
     let told = c.in-Err.ensures in
     rw c.of_line.ensures
-    (faulty c.args.done c.args.line.now (g.C.OnCourse.course c.args.course.now) c.args.user.now (g.W.Write.contents c.args.out.now) c.in-Err.fault
+    (faulty c.args.done c.args.line.now (g.C.OnCourse.course c.args.course.now) c.args.user.now (g.W.Write.contents c.args.out.now)
+    c.in-Err.fault
     c.requires.few told.too_long told.bad_word told.not_cut)
 
 pub outcome_text-requires : goal.outcome_text-requires
 outcome_text-requires g c = outcome_shown _ _ _ _ c.in_ok-outcome.ensures.outcome
 
 -- what was written is the line of the outcome
-outcome_line : (st : State) (user : Identity) (op : Op) (outcome : Outcome) (items text : List ℕ) → outcome ≡ outcome_of st user op → items ≡ outcome_text op outcome → text ≡ items
+outcome_line : (st : State) (user : Identity) (op : Op) (outcome : Outcome) (items text : List ℕ) → outcome ≡ outcome_of st user op
+    → items ≡ outcome_text op outcome → text ≡ items
     → text ≡ outcome_text op (outcome_of st user op)
 outcome_line st user op outcome items text is said same = same ∙ said ∙ ap (outcome_text op) is
 
@@ -57,12 +59,14 @@ returns-in_err-write_whole g c =
     let st = state_of (g.C.OnCourse.course c.args.course.now) in
     let told = c.in-Ok.ensures.ok in
     let line = outcome_line st c.args.user.now op c.in_ok-outcome.outcome c.in_ok-text.text.items c.as_slice.result.now
-    (outcome_is st c.args.user.now op c.in_ok-outcome.outcome c.in_ok-outcome.ensures.outcome) c.in_ok-text.ensures c.as_slice.ensures.value in
+    (outcome_is st c.args.user.now op c.in_ok-outcome.outcome c.in_ok-outcome.ensures.outcome) c.in_ok-text.ensures c.as_slice.ensures.value
+    in
     let p = err_from_is_err_and c.from_residual-in_err-write_whole.result c.from_residual-in_err-write_whole.ensures.1 in
     rw (p.1, p.2) (
       op,
       operation_read_ok c.args.done c.args.line.now op c.requires.few told.1 told.0 told.2,
-      subst (AppendsPart (g.W.Write.contents c.args.out.now) (g.W.Write.contents c.write_whole.new.out)) line c.in_err-write_whole.ensures.err,
+      subst (AppendsPart (g.W.Write.contents c.args.out.now) (g.W.Write.contents c.write_whole.new.out)) line
+          c.in_err-write_whole.ensures.err,
     )
 
 pub returns : goal.returns
@@ -73,7 +77,9 @@ returns g c =
     let outcome = c.in_ok-outcome.outcome in
     let told = c.in-Ok.ensures.ok in
     let made = c.in_ok-outcome.ensures in
-    let line = outcome_line st user op outcome c.in_ok-text.text.items c.as_slice.result.now (outcome_is st user op outcome made.outcome) c.in_ok-text.ensures c.as_slice.ensures.value in (
+    let line =
+    outcome_line st user op outcome c.in_ok-text.text.items c.as_slice.result.now (outcome_is st user op outcome made.outcome)
+    c.in_ok-text.ensures c.as_slice.ensures.value in (
       op,
       operation_read_ok c.args.done c.args.line.now op c.requires.few told.1 told.0 told.2,
       made.ok,

@@ -11,7 +11,8 @@ pub returns-in-Err-clause-read : goal.returns-in-Err-clause-read
 returns-in-Err-clause-read g c =
     let before = coming (standing_of g.C.OnCourse.course c.args.run.now) in
     let failed : (c.of_read.result ≡ Read) ⊎ (c.of_read.result ≡ NoMemory) = grind arith in
-    read_failed before before (g.R.Read.remaining c.args.ops.now) (g.R.Read.remaining c.fill_buf.follows.lender-at-none) (g.W.Write.contents c.args.out.now) c.of_read.result
+    read_failed before before (g.R.Read.remaining c.args.ops.now) (g.R.Read.remaining c.fill_buf.follows.lender-at-none)
+    (g.W.Write.contents c.args.out.now) c.of_read.result
     failed c.fill_buf.follows.holds-at-none.0
 
 pub returns-then-is_empty-clause-read : goal.returns-then-is_empty-clause-read
@@ -25,7 +26,8 @@ returns-in_err-taken-clause-read g c =
     let after = coming (standing_of g.C.OnCourse.course c.feed.new.self) in
     let p = err_from_is_err_and c.from_residual.result c.from_residual.ensures.1 in
     rw (p.1, p.2)
-    (read_fault before after (g.R.Read.remaining c.args.ops.now) (g.R.Read.remaining c.fill_buf.follows.lender-at-none) (g.W.Write.contents c.args.out.now)
+    (read_fault before after (g.R.Read.remaining c.args.ops.now) (g.R.Read.remaining c.fill_buf.follows.lender-at-none)
+    (g.W.Write.contents c.args.out.now)
     (g.W.Write.contents c.feed.new.out) c.in-Ok.piece.now c.in_err-taken.field-0.0 c.in-Ok.ensures.front c.in_err-taken.ensures.fed)
 
 pub returns-clause-read : goal.returns-clause-read
@@ -34,7 +36,10 @@ returns-clause-read g c =
     let after = coming (standing_of g.C.OnCourse.course c.feed.new.self) in
     let had = g.R.Read.remaining c.args.ops.now in
     let rested = c.fill_buf.follows.lender-at-none in
-    let filled = subst (FillKeeps had (g.R.Read.remaining rested) (g.R.BufRead.consumable_len rested)) c.in-Ok.is c.fill_buf.follows.holds-at-none in
-    read_some before after had (g.R.Read.remaining rested) (g.R.Read.remaining c.consume.new.self) (g.W.Write.contents c.args.out.now) (g.W.Write.contents c.feed.new.out)
-    (g.R.BufRead.consumable_len rested) c.in-Ok.piece.now c.in_ok-taken.taken c.in_ok-taken.ensures.some c.in-Ok.ensures.front c.in-Ok.ensures.end filled.0 filled.1
+    let filled =
+    subst (FillKeeps had (g.R.Read.remaining rested) (g.R.BufRead.consumable_len rested)) c.in-Ok.is c.fill_buf.follows.holds-at-none in
+    read_some before after had (g.R.Read.remaining rested) (g.R.Read.remaining c.consume.new.self) (g.W.Write.contents c.args.out.now)
+    (g.W.Write.contents c.feed.new.out)
+    (g.R.BufRead.consumable_len rested) c.in-Ok.piece.now c.in_ok-taken.taken c.in_ok-taken.ensures.some c.in-Ok.ensures.front
+    c.in-Ok.ensures.end filled.0 filled.1
     c.consume.ensures.bytes c.in_ok-taken.ensures.fed
