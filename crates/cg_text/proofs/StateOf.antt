@@ -227,9 +227,8 @@ state_of_document document none =
     let made : List (Names × Cgroup) = entries format tables cgroups_say in
     let live : LiveAndUsed = processes tables rows lives_say in (
       state_of_tables (map.from_sorted made) live top.0,
-      document_is_of format document top.0 made (map.from_sorted made) refl (ap first said.2)
-          (ap first together, are_entries format tables cgroups_say) live (ap first said.4, are_processes tables rows lives_say)
-          form.1 top.1 _ refl,
+      document_is_of format document top.0 made (ap first said.2) (ap first together, are_entries format tables cgroups_say) live
+          (ap first said.4, are_processes tables rows lives_say) (map.from_sorted made) refl form.1 top.1 _ refl,
     )
 
 pub state_of_text : (bytes : List ℕ) → text_faults bytes ≡ [] → (st : State) × IsTextOf st bytes

@@ -350,31 +350,17 @@ fronts_none path = fronts_until (met_at [] path) 0 (length path) (omega arith) (
 pub last_entry : (rows : List Row) (last : Row) → last_of (entries_from [] (rows ++ last ∷ [])) ≡ Some (entry_from rows last)
 last_entry rows last = ap last_of (entries_push rows last) ∙ last_push (entries_from [] rows) (entry_from rows last)
 
--- where there is no entry no path was met
-pub unmet_first : (entries : List (Names × Cgroup)) (met : List Row) (path : Names) → entries ≡ entries_from [] met → last_of entries ≡ None
-    → false ≡ has_met met path
-unmet_first entries met path are none =
-    elim (ended met) [
-      | inl e ↦ sym (ap (λ (rows : List Row). has_met rows path) e)
+-- a next path was met exactly where the last entry has it
+pub met_by_last : (entries : List (Names × Cgroup)) (met : List Row) (row : Row) → entries ≡ entries_from [] met → IsNext met row
+    → elim (last_of entries) [ None ↦ false | Some last ↦ same_path last.0 row.path ] ≡ has_met met row.path
+met_by_last entries met row are order =
+    let of_last : Option (Names × Cgroup) → Bool = λ o. elim o [ None ↦ false | Some last ↦ same_path last.0 row.path ] in
+    let of_met : List Row → Option (Names × Cgroup) = λ rows. last_of (entries_from [] rows) in
+    ap (λ es. of_last (last_of es)) are
+    ∙ elim (ended met) [
+      | inl e ↦ ap (λ (rows : List Row). of_last (of_met rows)) e ∙ sym (ap (λ (rows : List Row). has_met rows row.path) e)
       | inr w ↦
-          let last = ap (λ (rows : List Row). last_of (entries_from [] rows)) w.2 ∙ last_entry w.0 w.1 in
-          absurd (true≢false (ap is_some (sym last ∙ ap last_of (sym are) ∙ none)))
-    ]
-
-abbrev entry_path : Names → Option (Names × Cgroup) → Names
-entry_path default None = default
-entry_path default (Some entry) = entry.0
-
--- a next path was met exactly where it is that of the last entry
-pub met_by_last : (entries : List (Names × Cgroup)) (met : List Row) (row : Row) (last : Names × Cgroup) → entries ≡ entries_from [] met
-    → IsNext met row → last_of entries ≡ Some last → same_path last.0 row.path ≡ has_met met row.path
-met_by_last entries met row last are order some =
-    elim (ended met) [
-      | inl e ↦ absurd (true≢false (ap is_some (sym some ∙ ap last_of are ∙ ap (λ (rows : List Row). last_of (entries_from [] rows)) e)))
-      | inr w ↦
-          let is = sym some ∙ ap last_of are ∙ ap (λ (rows : List Row). last_of (entries_from [] rows)) w.2 ∙ last_entry w.0 w.1 in
-          let path : last.0 ≡ w.1.path = ap (entry_path []) is in
-          ap (λ (p : Names). same_path p row.path) path
+          ap (λ (rows : List Row). of_last (of_met rows)) w.2 ∙ ap of_last (last_entry w.0 w.1)
           ∙ met_last w.0 w.1 row (subst (λ (rows : List Row). AreInOrder (rows ++ row ∷ [])) w.2 order)
           ∙ ap (λ (rows : List Row). has_met rows row.path) (sym w.2)
     ]
