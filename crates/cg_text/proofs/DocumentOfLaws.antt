@@ -57,8 +57,7 @@ read_accepted file read value is = grind (arith, accepted_is)
 found_accepted : (file : LimitFile) (found : Option Data) (value : Limit)
     → elim found [ None ↦ Some (default_value file) | Some held ↦ option_and_then (accepted file) (limit_of held) ] ≡ Some value
     → accepts file value ≡ true
-found_accepted file None value is = ap (accepts file) (sym (same_some (default_value file) value is)) ∙ accepts-default_value file
-found_accepted file (Some held) value is = read_accepted file (limit_of held) value is
+found_accepted file found value is = grind (arith, read_accepted, accepts-default_value)
 
 value_accepted : (file : LimitFile) (row : Members) (value : Limit) → value_said row file ≡ Some value → accepts file value ≡ true
 value_accepted file row value is = found_accepted file (get_member (codes "value") (unwrap_or (table_of (File file) row) no_members)) value

@@ -61,12 +61,7 @@ once_tail row rows once = (
 
 -- what isn't less, the other way, and isn't the same is less
 less : (p q : Names) → is_lt (path_cmp q p) ≡ false → same_path p q ≡ false → is_lt (path_cmp p q) ≡ true
-less p q late apart =
-    elim (path_cmp q p) as (λ r. path_cmp p q ≡ ordering_reverse r → is_lt r ≡ false → is_lt (path_cmp p q) ≡ true) [
-      | Less ↦ λ _ late. absurd (true≢false late)
-      | Equal ↦ λ e _. absurd (true≢false (sym (ap is_eq e) ∙ sym (same_path-ties p q) ∙ apart))
-      | Greater ↦ λ e _. ap is_lt e
-    ] (path_cmp_total.antisymm p q) late
+less p q late apart = grind (arith, path_cmp_total.antisymm p q, same_path-ties p q)
 
 below_entries : (path : Names) (met rows : List Row)
     → ((k : ℕ) (d : Row) → k < length rows → is_lt (path_cmp (get_or rows k d).path path) ≡ false)

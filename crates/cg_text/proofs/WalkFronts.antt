@@ -33,30 +33,17 @@ IsUpTo p q = is_gt (path_cmp p q) ≡ false
 
 -- what isn't less, the other way, isn't greater
 not_greater : (p q : Names) → is_lt (path_cmp q p) ≡ false → IsUpTo p q
-not_greater p q h = ap is_gt (path_cmp_total.antisymm p q) ∙ turned (path_cmp q p) ∙ h
-  where
-    turned : (r : Ordering) → is_gt (ordering_reverse r) ≡ is_lt r
-    turned Less = refl
-    turned Equal = refl
-    turned Greater = refl
+not_greater p q h = grind (arith, path_cmp_total.antisymm p q)
 
 -- what isn't greater isn't less, the other way
 pub not_less : (p q : Names) → is_le (path_cmp p q) ≡ true → is_lt (path_cmp q p) ≡ false
-not_less p q h = ap is_lt (path_cmp_total.antisymm q p) ∙ turned (path_cmp p q) h
-  where
-    turned : (r : Ordering) → is_le r ≡ true → is_lt (ordering_reverse r) ≡ false
-    turned Less k = refl
-    turned Equal k = refl
-    turned Greater k = absurd (true≢false (sym k))
+not_less p q h = grind (arith, path_cmp_total.antisymm q p)
 
 -- what is neither greater than the other is the same
 not_apart : (p q : Names) → IsUpTo p q → IsUpTo q p → p ≡ q
 not_apart p q h k =
-    elim (path_cmp p q) as (λ r. path_cmp p q ≡ r → is_gt r ≡ false → p ≡ q) [
-      | Less ↦ λ e _. absurd (true≢false (sym (ap is_gt (path_cmp_total.antisymm q p ∙ ap ordering_reverse e)) ∙ k))
-      | Equal ↦ λ e _. path_cmp-IsAntisymmetric p q e
-      | Greater ↦ λ _ more. absurd (true≢false more)
-    ] refl h
+    let e : path_cmp p q ≡ Equal = grind (arith, path_cmp_total.antisymm p q) in
+    path_cmp-IsAntisymmetric p q e
 
 pub rows_rise : (rows : List Row) → AreInOrder rows → (i j : ℕ) (d : Row) → i ≤ j → j < length rows
     → IsUpTo (get_or rows i d).path (get_or rows j d).path
