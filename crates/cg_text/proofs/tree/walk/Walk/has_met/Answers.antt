@@ -1,4 +1,4 @@
-use Rattle.std.proofs.Common.{◌≡◌, Bool, false, Option, None, Some, ap, sym, ◌∙◌}
+use Rattle.std.proofs.Common.{Bool, false, Option, None, Some, ap, sym, ◌∙◌}
 use Rattle.std.specs.Option.{option_copied}
 use Rattle.cg_cgroup.specs.Paths.{Names, same_path}
 use Rattle.cg_cgroup.specs.declared.cgroup.Cgroup.{Cgroup}
