@@ -63,7 +63,8 @@ module _ (document : Members) (format : Format) (passed : first (form_faults doc
       → first (document_faults document) ≡ Some (BadController Top)
   controllers_fault none = faults_behind None none
 
-  module _ (controllers : ControllerSet) (named : controllers_said (codes "controllers") document ≡ Some controllers) (fault : TreeFault) where
+  module _ (controllers : ControllerSet) (named : controllers_said (codes "controllers") document ≡ Some controllers)
+      (fault : TreeFault) where
     pub row_fault : alone ≡ Some fault → first (document_faults document) ≡ Some fault
     row_fault is =
         faults_behind (Some controllers) named ∙ ap (λ o. option_or (option_or o (together (Some controllers))) living) is

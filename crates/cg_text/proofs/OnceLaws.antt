@@ -59,14 +59,16 @@ module _ {A K X : Type 0} {R : K → K → Ordering} (total : IsTotalOrder R) (s
   unfound q (row ∷ rows) all = ap (λ b. cond b (Some (pair row).1) (look rows q)) all.0 ∙ unfound q rows all.1
 
   -- what holds at each place holds of all
-  all_at : (P : A → Type 0) (rows : List A) → ((i : ℕ) (row : A) → i < length rows → row ≡ get_or rows i row → P row) → AllByRecursion P rows
+  all_at : (P : A → Type 0) (rows : List A) → ((i : ℕ) (row : A) → i < length rows → row ≡ get_or rows i row → P row)
+      → AllByRecursion P rows
   all_at P [] each = tt
   all_at P (row ∷ rows) each = (each zero row (omega arith) refl, all_at P rows (λ i x inside is. each (suc i) x (omega arith) is))
 
   pub fresh_once : (rows : List A) → Once rows → IsFresh rows
   fresh_once [] once = tt
   fresh_once (row ∷ rows) once =
-      let parts : (i : ℕ) (x : A) → i < length rows → x ≡ get_or rows i x → (ties (pair x).0 row ≡ false) × (look (take i rows) (pair x).0 ≡ None) =
+      let parts : (i : ℕ) (x : A) → i < length rows → x ≡ get_or rows i x → (ties (pair x).0 row ≡ false) × (look (take i rows)
+      (pair x).0 ≡ None) =
       λ i x inside is. missed (ties (pair x).0 row) (pair row).1 (look (take i rows) (pair x).0) (once (suc i) x (omega arith) is) in (
         unfound (pair row).0 rows (all_at (λ x. ties (pair row).0 x ≡ false) rows (λ i x inside is. turned x row (parts i x inside is).0)),
         fresh_once rows (λ i x inside is. (parts i x inside is).1),
@@ -83,7 +85,8 @@ module _ {A K X : Type 0} {R : K → K → Ordering} (total : IsTotalOrder R) (s
   pub once_counted : (q : K) (rows : List A) → IsFresh rows → counted (ties q) rows ≡ cond (is_some (look rows q)) 1 0
   once_counted q [] fresh = refl
   once_counted q (row ∷ rows) fresh =
-      elim (ties q row) as (λ b. ties q row ≡ b → cond b (1 + counted (ties q) rows) (counted (ties q) rows) ≡ cond (is_some (cond b (Some (pair row).1) (look rows q))) 1 0) [
+      elim (ties q row) as (λ b. ties q row ≡ b → cond b (1 + counted (ties q) rows) (counted (ties q) rows) ≡ cond (is_some (cond b
+      (Some (pair row).1) (look rows q))) 1 0) [
         | true ↦ λ tie.
             let is : q ≡ (pair row).0 = same q (pair row).0 ((Equal-is _).0 tie) in
             ap (λ n. 1 + n) (none_counted q rows (ap (look rows) is ∙ fresh.0))

@@ -166,7 +166,12 @@ module _ (said : Entries) where
       (λ file. ap is_some (files file).owner) in (
         no_entry_fault are
             ∙ ap (λ b. first (unless b (BadValue said.place))) (all_so valued (λ file. ap is_some (files file).value) all_files),
-        record { enabled = enabled; entries = λ name. sym (entries name); values = λ file. sym (values file); files = λ file. ap is_some (files file).stands },
+        record {
+          enabled = enabled;
+          entries = λ name. sym (entries name);
+          values = λ file. sym (values file);
+          files = λ file. ap is_some (files file).stands;
+        },
       )
 
 -- ---- a row's table

@@ -220,7 +220,8 @@ state_of_document document none =
     let format : Format = form.0 in
     let said = five_none [] _ _ _ _ (rw form.1.format at parts.1) in
     let top = absent_none _ _ said.1 in
-    let together : cgroup_faults (Some top.0) tables ≡ [] = ap (λ (set : Option ControllerSet). cgroup_faults set tables) (sym top.1) ∙ said.3 in
+    let together : cgroup_faults (Some top.0) tables ≡ [] = ap (λ (set : Option ControllerSet). cgroup_faults set tables) (sym top.1)
+    ∙ said.3 in
     let cgroups_say = none_say (λ _. row_faults format) AtCgroup (SaysCgroup format) (λ _. row_says format) tables said.2 in
     let lives_say = none_say (process_faults tables) AtProcess (Says tables)
     (λ earlier at row none. (earlier, process_says tables earlier at row none)) rows said.4 in

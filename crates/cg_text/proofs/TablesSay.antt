@@ -117,7 +117,8 @@ pub record SaysProcess (tables earlier : List Members) (row : Members) : Type 0 
   pub free : (enabled : ControllerSet) → enabled_there tables place ≡ Some enabled → (is_root place || enables_nothing enabled) ≡ true
 
 found_there : (tables : List Members) (said : Option Names) (table : Members)
-    → option_and_then (λ path. find (has_path path) tables) said ≡ Some table → (path : Names) × (said ≡ Some path) × (is_there tables path ≡ true)
+    → option_and_then (λ path. find (has_path path) tables) said ≡ Some table
+    → (path : Names) × (said ≡ Some path) × (is_there tables path ≡ true)
 found_there tables None table is = cc
 found_there tables (Some path) table is = (path, refl, sym (is_some-find (has_path path) tables) ∙ ap is_some is)
 

@@ -22,7 +22,8 @@ abbrev Entries : Type 0
 Entries = Vec (Path × Cgroup) Global
 
 module _ (format : Format) (controllers : ControllerSet) (tables : List Members) (rows sorted : List Row) (walk : Walk) where
-  pub walked_is : (result : Result Entries TreeFault) → AreReadAs format 1 tables rows → AreInOrder sorted → IsStableByKey (λ row. row.path) path_cmp rows sorted → HasMet controllers sorted walk
+  pub walked_is : (result : Result Entries TreeFault) → AreReadAs format 1 tables rows → AreInOrder sorted
+      → IsStableByKey (λ row. row.path) path_cmp rows sorted → HasMet controllers sorted walk
       → Passes (λ entries. entries ≡ walk.entries) (least_fault walk.least (has_root walk.entries.items)) result
       → Passes (λ (entries : Entries). AreEntriesOf format tables entries.items) (first (cgroup_faults (Some controllers) tables)) result
   walked_is (Ok entries) read order stable met passes =

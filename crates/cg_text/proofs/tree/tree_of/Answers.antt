@@ -17,7 +17,8 @@ use Rattle.cg_text.proofs.tree.tree_of.Goals.{In_ok-controllers, In_ok-rows, In_
 
 -- ---- what has been read
 
-named : (c : In_ok-controllers) → controllers_said (codes "controllers") (table_view c.args.document.now) ≡ Some c.in_ok-controllers.controllers
+named : (c : In_ok-controllers)
+    → controllers_said (codes "controllers") (table_view c.args.document.now) ≡ Some c.in_ok-controllers.controllers
 named c = sym c.controllers_at.ensures ∙ c.in_ok-controllers.ensures.ok_part
 
 alone : (c : In_ok-rows)

@@ -8,7 +8,8 @@ use Rattle.cg_text.proofs.tree.processes.place_of.Goals as goal
 pub returns-in_err-at : goal.returns-in_err-at
 returns-in_err-at c = λ tables among.
     passed_on _ _ _ c.in_err-at.field-0.0 c.from_residual.ensures (λ memory.
-    without_path tables c.args.cgroups.now among c.args.place (table_view c.args.row.now) c.in_err-at.field-0.0 (c.in_err-at.ensures memory))
+    without_path tables c.args.cgroups.now among c.args.place (table_view c.args.row.now) c.in_err-at.field-0.0
+    (c.in_err-at.ensures memory))
 
 pub returns-in_default : goal.returns-in_default
 returns-in_default c = λ tables among other.
