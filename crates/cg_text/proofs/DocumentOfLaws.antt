@@ -100,7 +100,9 @@ module _ (format : Format) (document : Members) (controllers : ControllerSet) (e
   cgroups = map.from_sorted entries
 
   paths_once : IsOnce (path_said (codes "path")) same_path tables
-  paths_once = record { new = λ before row after is path named. (stands_among controllers tables together before row after is path named).fresh }
+  paths_once = record {
+    new = λ before row after is path named. (stands_among controllers tables together before row after is path named).fresh;
+  }
 
   -- ---- the look-ups
 
@@ -236,7 +238,8 @@ module _ (format : Format) (document : Members) (controllers : ControllerSet) (e
       abbrev these : AreProcesses lives processes
       these = live.1
 
-      said_at : (before : List Members) (row : Members) (after : List Members) → before ++ row ∷ after ≡ lives → SaysProcess tables before row
+      said_at : (before : List Members) (row : Members) (after : List Members) → before ++ row ∷ after ≡ lives
+          → SaysProcess tables before row
       said_at before row after is =
           let passed = none_at (process_faults tables) AtProcess lives living before row after is in
           process_says tables before passed.0 row passed.1

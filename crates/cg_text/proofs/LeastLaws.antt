@@ -404,25 +404,27 @@ module _ (format : Format) (controllers : ControllerSet) (tables : List Members)
 
     module _ (once : AreOnce rows) where
       -- a test of a row alone
-      alone_first : (clause : CgroupClause) (fault : Place → TreeFault) (fails : List Row → Row → Bool) (bad : Row → Bool) (number : Option ℕ)
-          → Tells format clause fault (λ _. bad) 1 [] → IsLeast fails sorted number
+      alone_first : (clause : CgroupClause) (fault : Place → TreeFault) (fails : List Row → Row → Bool) (bad : Row → Bool)
+          (number : Option ℕ) → Tells format clause fault (λ _. bad) 1 [] → IsLeast fails sorted number
           → ((front : List Row) (row : Row) (back : List Row) → front ++ row ∷ back ≡ sorted → fails front row ≡ bad row)
           → first (each clause AtCgroup 1 [] tables) ≡ option_map (λ number. fault (AtCgroup number)) number
       alone_first clause fault fails bad number tells is agree =
           first_is_least format clause fault (λ _. bad) 1 [] tables rows number tells read
           (least_moved fails (λ _. bad) sorted rows number same (λ front row back _ cut _. agree front row back cut) is)
 
-      orphan_first : first (each (orphan_clause tables) AtCgroup 1 [] tables) ≡ option_map (λ number. NoParent (AtCgroup number)) least.orphan
+      orphan_first : first (each (orphan_clause tables) AtCgroup 1 [] tables) ≡ option_map (λ n. NoParent (AtCgroup n)) least.orphan
       orphan_first =
           alone_first (orphan_clause tables) NoParent is_orphan has_no_parent least.orphan orphan_tells tested.orphan
           (λ front row back cut. ap (λ o. not (is_some o)) (over_before rows sorted same order once no_controllers front row back cut))
 
-      within_first : first (each (within_clause controllers tables) AtCgroup 1 [] tables) ≡ option_map (λ number. TopDown (AtCgroup number)) least.not_within
+      within_first : first (each (within_clause controllers tables) AtCgroup 1 [] tables)
+          ≡ option_map (λ number. TopDown (AtCgroup number)) least.not_within
       within_first =
-          alone_first (within_clause controllers tables) TopDown (is_not_within controllers) enables_more least.not_within within_tells tested.not_within
+          alone_first (within_clause controllers tables) TopDown (is_not_within controllers) enables_more least.not_within within_tells
+          tested.not_within
           (λ front row back cut. ap (is_past row.cgroup.enabled) (over_before rows sorted same order once controllers front row back cut))
 
-      files_first : first (each (files_clause tables) AtCgroup 1 [] tables) ≡ option_map (λ number. NoSuchFile (AtCgroup number)) least.no_file
+      files_first : first (each (files_clause tables) AtCgroup 1 [] tables) ≡ option_map (λ n. NoSuchFile (AtCgroup n)) least.no_file
       files_first =
           alone_first (files_clause tables) NoSuchFile has_no_file needs_more least.no_file files_tells tested.no_file
           (λ front row back cut. ap (is_past row.needed) (over_before rows sorted same order once no_controllers front row back cut))
