@@ -111,8 +111,8 @@ module _ {A : Type 0} (p : A → Bool) where
       cut_kept ys (filter p front) y (filter p back) (sym same ∙ ap (filter p) (sym is) ∙ filter_cut front y back passes)
 
   -- where no element passes behind one that does, the filter keeps the first
-  pub once_kept : (xs : List A)
-      → ((front : List A) (x : A) (back : List A) → front ++ x ∷ back ≡ xs → p x ≡ true → list_any p front ≡ false)
+  pub once_kept : (xs : List A) → ((front : List A) (x : A) (back : List A) → front ++ x ∷ back ≡ xs → p x ≡ true
+      → list_any p front ≡ false)
       → filter p xs ≡ option_to_list (head_of (filter p xs))
   once_kept xs once = kept (filter p xs) refl
     where

@@ -63,18 +63,18 @@ module _ (document : Members) (format : Format) (passed : first (form_faults doc
       → first (document_faults document) ≡ Some (BadController Top)
   controllers_fault none = faults_behind None none
 
-  module _ (controllers : ControllerSet) (named : controllers_said (codes "controllers") document ≡ Some controllers) (fault : TreeFault)
-    where
-      pub row_fault : alone ≡ Some fault → first (document_faults document) ≡ Some fault
-      row_fault is =
-          faults_behind (Some controllers) named ∙ ap (λ o. option_or (option_or o (together (Some controllers))) living) is
+  module _ (controllers : ControllerSet) (named : controllers_said (codes "controllers") document ≡ Some controllers)
+      (fault : TreeFault) where
+    pub row_fault : alone ≡ Some fault → first (document_faults document) ≡ Some fault
+    row_fault is =
+        faults_behind (Some controllers) named ∙ ap (λ o. option_or (option_or o (together (Some controllers))) living) is
 
-      pub cgroup_fault : alone ≡ None → together (Some controllers) ≡ Some fault → first (document_faults document) ≡ Some fault
-      cgroup_fault read is = faults_behind (Some controllers) named ∙ (λ i. option_or (option_or (read i) (is i)) living)
+    pub cgroup_fault : alone ≡ None → together (Some controllers) ≡ Some fault → first (document_faults document) ≡ Some fault
+    cgroup_fault read is = faults_behind (Some controllers) named ∙ (λ i. option_or (option_or (read i) (is i)) living)
 
-      pub process_fault : alone ≡ None → together (Some controllers) ≡ None → living ≡ Some fault
-          → first (document_faults document) ≡ Some fault
-      process_fault read none is = faults_behind (Some controllers) named ∙ (λ i. option_or (option_or (read i) (none i)) (is i))
+    pub process_fault : alone ≡ None → together (Some controllers) ≡ None → living ≡ Some fault
+        → first (document_faults document) ≡ Some fault
+    process_fault read none is = faults_behind (Some controllers) named ∙ (λ i. option_or (option_or (read i) (none i)) (is i))
 
 -- what is answered where something is missing
 pub missing_is : {A : Type 0} (o : Option A) (fault found : TreeFault) → ok_or o fault ≡ Err found → o ≡ None → found ≡ fault

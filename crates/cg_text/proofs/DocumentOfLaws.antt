@@ -57,8 +57,7 @@ read_accepted file read value is = grind (arith, accepted_is)
 found_accepted : (file : LimitFile) (found : Option Data) (value : Limit)
     → elim found [ None ↦ Some (default_value file) | Some held ↦ option_and_then (accepted file) (limit_of held) ] ≡ Some value
     → accepts file value ≡ true
-found_accepted file None value is = ap (accepts file) (sym (same_some (default_value file) value is)) ∙ accepts-default_value file
-found_accepted file (Some held) value is = read_accepted file (limit_of held) value is
+found_accepted file found value is = grind (arith, read_accepted, accepts-default_value)
 
 value_accepted : (file : LimitFile) (row : Members) (value : Limit) → value_said row file ≡ Some value → accepts file value ≡ true
 value_accepted file row value is = found_accepted file (get_member (codes "value") (unwrap_or (table_of (File file) row) no_members)) value
@@ -81,19 +80,33 @@ over_with b at_root found there is so = grind arith
 implied : (a b : Bool) → (not a || b) ≡ true → a ≡ true → b ≡ true
 implied a b h so = grind arith
 
-module _ (format : Format) (tables : List Members) (controllers : ControllerSet) (entries : List (Names × Cgroup))
-    (alone : each_cgroup (λ _. row_faults format) tables ≡ []) (together : cgroup_faults (Some controllers) tables ≡ [])
-    (are : AreEntriesOf format tables entries) where
+module _ (format : Format) (document : Members) (controllers : ControllerSet) (entries : List (Names × Cgroup))
+    (read : first (each_cgroup (λ _. row_faults format) (tables_at (codes "cgroup") document)) ≡ None)
+    (walked : (first (cgroup_faults (Some controllers) (tables_at (codes "cgroup") document)) ≡ None)
+    × AreEntriesOf format (tables_at (codes "cgroup") document) entries) where
+  abbrev tables : List Members
+  tables = tables_at (codes "cgroup") document
+
+  alone : each_cgroup (λ _. row_faults format) tables ≡ []
+  alone = none_of_first _ read
+
+  together : cgroup_faults (Some controllers) tables ≡ []
+  together = none_of_first _ walked.0
+
+  abbrev are : AreEntriesOf format tables entries
+  are = walked.1
+
   abbrev cgroups : map.FinMap path_cmp Cgroup
   cgroups = map.from_sorted entries
 
   paths_once : IsOnce (path_said (codes "path")) same_path tables
-  paths_once =
-      record { new = λ before row after is path named. (stands_among controllers tables together before row after is path named).fresh }
+  paths_once = record {
+    new = λ before row after is path named. (stands_among controllers tables together before row after is path named).fresh;
+  }
 
   -- ---- the look-ups
 
-  pub get_is : (path : Names) → map.get cgroups path ≡ lookup (same_path path) entries
+  get_is : (path : Names) → map.get cgroups path ≡ lookup (same_path path) entries
   get_is path = map.get-from_sorted path_cmp entries path (passes _ are.sorted) ∙ found_by_path path entries
 
   enabled_is : (path : Names) (found : Option Cgroup) → map.get cgroups path ≡ found
@@ -108,7 +121,7 @@ module _ (format : Format) (tables : List Members) (controllers : ControllerSet)
       sym (ap (option_and_then (controllers_said (codes "enabled"))) table.1
       ∙ (are.each path cgroup table.0 (sym (get_is path) ∙ is) table.1).enabled)
 
-  pub among : IsAmong tables cgroups
+  among : IsAmong tables cgroups
   among = record {
     there = λ path. ap is_some (get_is path) ∙ are.there path;
     enabled = λ path. enabled_is path (map.get cgroups path) refl;
@@ -214,7 +227,17 @@ module _ (format : Format) (tables : List Members) (controllers : ControllerSet)
 
     -- ---- processes
 
-    module _ (lives : List Members) (living : each_process (process_faults tables) lives ≡ []) (these : AreProcesses lives processes) where
+    module _ (live : (first (each_process (process_faults tables) (tables_at (codes "process") document)) ≡ None)
+        × AreProcesses (tables_at (codes "process") document) processes) where
+      abbrev lives : List Members
+      lives = tables_at (codes "process") document
+
+      living : each_process (process_faults tables) lives ≡ []
+      living = none_of_first _ live.0
+
+      abbrev these : AreProcesses lives processes
+      these = live.1
+
       said_at : (before : List Members) (row : Members) (after : List Members) → before ++ row ∷ after ≡ lives
           → SaysProcess tables before row
       said_at before row after is =
@@ -240,7 +263,7 @@ module _ (format : Format) (tables : List Members) (controllers : ControllerSet)
           ∙ ap (λ (o : Option Cgroup). elim o [ None ↦ false | Some row ↦ is_root says.place || enables_nothing row.enabled ]) cgroup.1
           ∙ says.free cgroup.0.enabled enabled
 
-      pub formed : IsWellFormed st
+      formed : IsWellFormed st
       formed = record {
         root = among.there [] ∙ root_there controllers tables together;
         parents = parents_there;
@@ -271,55 +294,28 @@ module _ (format : Format) (tables : List Members) (controllers : ControllerSet)
       pids_counted : (pid : ℕ) → count_by (has_pid pid) lives ≡ cond (is_some (process_at st pid)) 1 0
       pids_counted pid = once_counted pid_said nat_eq eqb-true nat_itself lives pids_once pid ∙ ap (λ b. cond b 1 0) (sym (these.pids pid))
 
--- ---- what the reader has of a document
+      -- ---- as the reader has them
 
-module _ (format : Format) (document : Members) (controllers : ControllerSet) (entries : List (Names × Cgroup))
-    (found : map.FinMap path_cmp Cgroup) (made : found ≡ map.from_sorted entries)
-    (alone : first (each_cgroup (λ _. row_faults format) (tables_at (codes "cgroup") document)) ≡ None)
-    (walked : (first (cgroup_faults (Some controllers) (tables_at (codes "cgroup") document)) ≡ None)
-    × AreEntriesOf format (tables_at (codes "cgroup") document) entries) where
-  abbrev tables : List Members
-  tables = tables_at (codes "cgroup") document
+      module _ (found : map.FinMap path_cmp Cgroup) (made : found ≡ cgroups) where
+        pub formed_of : IsWellFormed (state_of_tables found processes controllers)
+        formed_of = subst (λ cgroups. IsWellFormed (state_of_tables cgroups processes controllers)) (sym made) formed
 
-  none_alone : each_cgroup (λ _. row_faults format) tables ≡ []
-  none_alone = none_of_first _ alone
+        -- the document is of these cgroups and processes
+        pub document_is_of : IsInForm format document → controllers_said (codes "controllers") document ≡ Some controllers
+            → (whole : State) → whole ≡ state_of_tables found processes controllers → IsDocumentOf whole document
+        document_is_of form said whole is =
+            subst (λ whole. IsDocumentOf whole document) (sym (is ∙ ap (λ cgroups. state_of_tables cgroups processes controllers) made))
+            (record {
+              format = format;
+              form = form;
+              controllers = said;
+              cgroups = rows_are;
+              paths = paths_counted;
+              processes = processes_are;
+              pids = pids_counted;
+              used = these.used;
+              formed = formed;
+            })
 
-  none_together : cgroup_faults (Some controllers) tables ≡ []
-  none_together = none_of_first _ walked.0
-
-  pub among_these : IsAmong tables found
-  among_these = subst (IsAmong tables) (sym made) (among format tables controllers entries none_alone none_together walked.1)
-
-  module _ (processes : LiveAndUsed)
-      (live : (first (each_process (process_faults tables) (tables_at (codes "process") document)) ≡ None)
-      × AreProcesses (tables_at (codes "process") document) processes) where
-    abbrev lives : List Members
-    lives = tables_at (codes "process") document
-
-    none_living : each_process (process_faults tables) lives ≡ []
-    none_living = none_of_first _ live.0
-
-    abbrev made_of : map.FinMap path_cmp Cgroup → State
-    made_of cgroups = state_of_tables cgroups processes controllers
-
-    formed_here : IsWellFormed (made_of (map.from_sorted entries))
-    formed_here = formed format tables controllers entries none_alone none_together walked.1 processes lives none_living live.1
-
-    pub formed_of : IsWellFormed (made_of found)
-    formed_of = subst (λ cgroups. IsWellFormed (made_of cgroups)) (sym made) formed_here
-
-    -- the document is of these cgroups and processes
-    pub document_is_of : IsInForm format document → controllers_said (codes "controllers") document ≡ Some controllers
-        → (whole : State) → whole ≡ made_of found → IsDocumentOf whole document
-    document_is_of form said whole is = subst (λ whole. IsDocumentOf whole document) (sym (is ∙ ap made_of made)) (record {
-      format = format;
-      form = form;
-      controllers = said;
-      cgroups = rows_are format tables controllers entries none_alone none_together walked.1 processes;
-      paths = paths_counted format tables controllers entries none_alone none_together walked.1 processes;
-      processes =
-          processes_are format tables controllers entries none_alone none_together walked.1 processes lives none_living live.1;
-      pids = pids_counted format tables controllers entries none_alone none_together walked.1 processes lives none_living live.1;
-      used = live.1.used;
-      formed = formed_here;
-    })
+  pub among_these : (found : map.FinMap path_cmp Cgroup) → found ≡ cgroups → IsAmong tables found
+  among_these found made = subst (IsAmong tables) (sym made) among

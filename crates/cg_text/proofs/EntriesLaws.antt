@@ -1,10 +1,9 @@
 -- The entries that the walk leaves behind are those of the tables, each as its table says, with the files that stand.
-use Rattle.std.proofs.Common.{◌≡◌, ℕ, ◌+◌, ◌<◌, ◌≤◌, zero, suc, Bool, true, false, cond, ◌||◌, List, [], ◌∷◌, ◌++◌, length, take, get_or, filter, Option, Some, None, is_some, option_map, unwrap_or, Less, Equal, Greater, is_eq, is_lt, refl, sym, ap, subst, ◌∙◌, true≢false, arith}
+use Rattle.std.proofs.Common.{◌≡◌, ℕ, ◌+◌, ◌<◌, ◌≤◌, zero, suc, Bool, true, false, cond, ◌||◌, List, [], ◌∷◌, ◌++◌, length, take, get_or, filter, Option, Some, None, is_some, option_map, unwrap_or, is_lt, refl, sym, ap, subst, ◌∙◌, true≢false, arith}
 use Rattle.std.specs.Prelude.{find}
 use Rattle.std.specs.Option.{option_to_list}
 use Rattle.std.specs.List.{list_any}
 use Rattle.std.specs.Map.{lookup}
-use Rattle.std.specs.Ordering.{ordering_reverse}
 use Rattle.std.specs.FinMap.Entries.{below_all, is_sorted}
 use Rattle.std.proofs.lemmas.Bool.{and_from, or_parts}
 use Rattle.std.proofs.lemmas.List.{take_more, get_or-take, length-take, append_assoc}
@@ -61,12 +60,7 @@ once_tail row rows once = (
 
 -- what isn't less, the other way, and isn't the same is less
 less : (p q : Names) → is_lt (path_cmp q p) ≡ false → same_path p q ≡ false → is_lt (path_cmp p q) ≡ true
-less p q late apart =
-    elim (path_cmp q p) as (λ r. path_cmp p q ≡ ordering_reverse r → is_lt r ≡ false → is_lt (path_cmp p q) ≡ true) [
-      | Less ↦ λ _ late. absurd (true≢false late)
-      | Equal ↦ λ e _. absurd (true≢false (sym (ap is_eq e) ∙ sym (same_path-ties p q) ∙ apart))
-      | Greater ↦ λ e _. ap is_lt e
-    ] (path_cmp_total.antisymm p q) late
+less p q late apart = grind (arith, path_cmp_total.antisymm p q, same_path-ties p q)
 
 below_entries : (path : Names) (met rows : List Row)
     → ((k : ℕ) (d : Row) → k < length rows → is_lt (path_cmp (get_or rows k d).path path) ≡ false)

@@ -405,16 +405,14 @@ module _ (format : Format) (controllers : ControllerSet) (tables : List Members)
     module _ (once : AreOnce rows) where
       -- a test of a row alone
       alone_first : (clause : CgroupClause) (fault : Place → TreeFault) (fails : List Row → Row → Bool) (bad : Row → Bool)
-          (number : Option ℕ)
-          → Tells format clause fault (λ _. bad) 1 [] → IsLeast fails sorted number
+          (number : Option ℕ) → Tells format clause fault (λ _. bad) 1 [] → IsLeast fails sorted number
           → ((front : List Row) (row : Row) (back : List Row) → front ++ row ∷ back ≡ sorted → fails front row ≡ bad row)
           → first (each clause AtCgroup 1 [] tables) ≡ option_map (λ number. fault (AtCgroup number)) number
       alone_first clause fault fails bad number tells is agree =
           first_is_least format clause fault (λ _. bad) 1 [] tables rows number tells read
           (least_moved fails (λ _. bad) sorted rows number same (λ front row back _ cut _. agree front row back cut) is)
 
-      orphan_first : first (each (orphan_clause tables) AtCgroup 1 [] tables)
-          ≡ option_map (λ number. NoParent (AtCgroup number)) least.orphan
+      orphan_first : first (each (orphan_clause tables) AtCgroup 1 [] tables) ≡ option_map (λ n. NoParent (AtCgroup n)) least.orphan
       orphan_first =
           alone_first (orphan_clause tables) NoParent is_orphan has_no_parent least.orphan orphan_tells tested.orphan
           (λ front row back cut. ap (λ o. not (is_some o)) (over_before rows sorted same order once no_controllers front row back cut))
@@ -426,8 +424,7 @@ module _ (format : Format) (controllers : ControllerSet) (tables : List Members)
           tested.not_within
           (λ front row back cut. ap (is_past row.cgroup.enabled) (over_before rows sorted same order once controllers front row back cut))
 
-      files_first : first (each (files_clause tables) AtCgroup 1 [] tables)
-          ≡ option_map (λ number. NoSuchFile (AtCgroup number)) least.no_file
+      files_first : first (each (files_clause tables) AtCgroup 1 [] tables) ≡ option_map (λ n. NoSuchFile (AtCgroup n)) least.no_file
       files_first =
           alone_first (files_clause tables) NoSuchFile has_no_file needs_more least.no_file files_tells tested.no_file
           (λ front row back cut. ap (is_past row.needed) (over_before rows sorted same order once no_controllers front row back cut))
@@ -435,8 +432,7 @@ module _ (format : Format) (controllers : ControllerSet) (tables : List Members)
     pub faults_first : first (cgroup_faults (Some controllers) tables) ≡ least_fault least (has_root (entries_from [] sorted))
     faults_first =
         simp first_or
-        (in_turn least.twice least.orphan least.not_within least.no_file (has_root (entries_from [] sorted)) _ _ _ _ _ twice_first
-        root_first
+        (in_turn least.twice least.orphan least.not_within least.no_file (has_root (entries_from [] sorted)) _ _ _ _ _ twice_first root_first
         (λ none.
         let once = once_moved sorted rows same (once_from sorted least.twice tested.twice none) in
         (orphan_first once, within_first once, files_first once)))

@@ -17,8 +17,8 @@ noted_is : (least : Option ℕ) (number : ℕ) (fails : Bool) (found : ℕ) → 
 noted_is least number false found is = inl is
 noted_is None number true found is = inr (refl, cc)
 noted_is (Some old) number true found is =
-    elim (nat_lt old number) as
-    (λ b. Some (cond b old number) ≡ Some found → (Some old ≡ Some found) ⊎ ((true ≡ true) × (number ≡ found))) [
+    elim (nat_lt old number) as (λ b. Some (cond b old number) ≡ Some found → (Some old ≡ Some found) ⊎ ((true ≡ true) ×
+    (number ≡ found))) [
       | true ↦ λ same. inl same
       | false ↦ λ same. inr (refl, cc)
     ] is

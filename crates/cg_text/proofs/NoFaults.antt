@@ -68,8 +68,8 @@ all_of p (x ∷ xs) all =
 none_before : {A : Type 0} (p : A → Bool) (all before : List A) (x : A) (after : List A) (b : Bool) → before ++ x ∷ after ≡ all
     → count_by p all ≡ cond b 1 0 → p x ≡ true → list_any p before ≡ false
 none_before p all before x after b is count here =
-    let sum =
-    sym (length-append (filter p before) (x ∷ filter p after)) ∙ ap length (sym (filter_cut p before x after here) ∙ ap (filter p) is)
+    let sum = sym (length-append (filter p before) (x ∷ filter p after)) ∙ ap length (sym (filter_cut p before x after here) ∙ ap
+    (filter p) is)
     ∙ length-filter p all ∙ count in
     any_filter p before ∙ ap (λ some. is_some (head_of some)) (nil_from_length (filter p before) (one_at_most _ _ b sum))
   where

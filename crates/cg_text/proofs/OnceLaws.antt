@@ -67,8 +67,8 @@ module _ {A K X : Type 0} {R : K → K → Ordering} (total : IsTotalOrder R) (s
   pub fresh_once : (rows : List A) → Once rows → IsFresh rows
   fresh_once [] once = tt
   fresh_once (row ∷ rows) once =
-      let parts : (i : ℕ) (x : A) → i < length rows → x ≡ get_or rows i x
-      → (ties (pair x).0 row ≡ false) × (look (take i rows) (pair x).0 ≡ None) =
+      let parts : (i : ℕ) (x : A) → i < length rows → x ≡ get_or rows i x → (ties (pair x).0 row ≡ false) × (look (take i rows)
+      (pair x).0 ≡ None) =
       λ i x inside is. missed (ties (pair x).0 row) (pair row).1 (look (take i rows) (pair x).0) (once (suc i) x (omega arith) is) in (
         unfound (pair row).0 rows (all_at (λ x. ties (pair row).0 x ≡ false) rows (λ i x inside is. turned x row (parts i x inside is).0)),
         fresh_once rows (λ i x inside is. (parts i x inside is).1),
@@ -85,8 +85,8 @@ module _ {A K X : Type 0} {R : K → K → Ordering} (total : IsTotalOrder R) (s
   pub once_counted : (q : K) (rows : List A) → IsFresh rows → counted (ties q) rows ≡ cond (is_some (look rows q)) 1 0
   once_counted q [] fresh = refl
   once_counted q (row ∷ rows) fresh =
-      elim (ties q row) as (λ b. ties q row ≡ b
-      → cond b (1 + counted (ties q) rows) (counted (ties q) rows) ≡ cond (is_some (cond b (Some (pair row).1) (look rows q))) 1 0) [
+      elim (ties q row) as (λ b. ties q row ≡ b → cond b (1 + counted (ties q) rows) (counted (ties q) rows) ≡ cond (is_some (cond b
+      (Some (pair row).1) (look rows q))) 1 0) [
         | true ↦ λ tie.
             let is : q ≡ (pair row).0 = same q (pair row).0 ((Equal-is _).0 tie) in
             ap (λ n. 1 + n) (none_counted q rows (ap (look rows) is ∙ fresh.0))

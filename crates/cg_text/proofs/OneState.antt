@@ -106,8 +106,8 @@ module _ (format : Format) (st other : State) (row : Members) (is : IsRowOf form
     same_file : (file : LimitFile) (one two : Option LimitEntry) → file_of is.cgroup file ≡ one → file_of also.cgroup file ≡ two
         → is_some one ≡ is_some two → one ≡ two
     same_file file None None here there stands = refl
-    same_file file None (Some two) here there stands = absurd (true≢false (sym stands))
-    same_file file (Some one) None here there stands = absurd (true≢false stands)
+    same_file file None (Some two) here there stands = cc
+    same_file file (Some one) None here there stands = cc
     same_file file (Some one) (Some two) here there stands =
         let entry_of : Option LimitEntry → Option Entry = option_map (λ (f : LimitEntry). f.entry) in
         let entry : one.entry ≡ two.entry = same_entry (File file) one.entry two.entry (ap entry_of here) (ap entry_of there) in

@@ -220,17 +220,16 @@ state_of_document document none =
     let format : Format = form.0 in
     let said = five_none [] _ _ _ _ (rw form.1.format at parts.1) in
     let top = absent_none _ _ said.1 in
-    let together : cgroup_faults (Some top.0) tables ≡ [] =
-    ap (λ (set : Option ControllerSet). cgroup_faults set tables) (sym top.1) ∙ said.3 in
+    let together : cgroup_faults (Some top.0) tables ≡ [] = ap (λ (set : Option ControllerSet). cgroup_faults set tables) (sym top.1)
+    ∙ said.3 in
     let cgroups_say = none_say (λ _. row_faults format) AtCgroup (SaysCgroup format) (λ _. row_says format) tables said.2 in
     let lives_say = none_say (process_faults tables) AtProcess (Says tables)
     (λ earlier at row none. (earlier, process_says tables earlier at row none)) rows said.4 in
     let made : List (Names × Cgroup) = entries format tables cgroups_say in
     let live : LiveAndUsed = processes tables rows lives_say in (
       state_of_tables (map.from_sorted made) live top.0,
-      document_is_of format document top.0 made (map.from_sorted made) refl (ap first said.2)
-          (ap first together, are_entries format tables cgroups_say) live (ap first said.4, are_processes tables rows lives_say)
-          form.1 top.1 _ refl,
+      document_is_of format document top.0 made (ap first said.2) (ap first together, are_entries format tables cgroups_say) live
+          (ap first said.4, are_processes tables rows lives_say) (map.from_sorted made) refl form.1 top.1 _ refl,
     )
 
 pub state_of_text : (bytes : List ℕ) → text_faults bytes ≡ [] → (st : State) × IsTextOf st bytes

@@ -186,17 +186,9 @@ files_allowed format rows = refl
 
 -- ---- keys that have to be there
 
-and_true : (b : Bool) → b ≡ (b && true)
-and_true b = grind arith
-
 needed_at : (members : Members) (name : List ℕ) (test : Data → Bool) → fits_at members (must_have name test)
     ≡ (allows_at members (must_have name test) && is_some (get_member name members))
-needed_at members name test =
-    elim (get_member name members) as (λ found. elim found [ None ↦ false | Some held ↦ test held ]
-    ≡ (elim found [ None ↦ true | Some held ↦ test held ] && is_some found)) [
-      | None ↦ refl
-      | Some held ↦ and_true (test held)
-    ]
+needed_at inside name test = grind arith
 
 one_needed : (w a p r : Bool) → (w && ((a && p) && r)) ≡ ((w && (a && r)) && p)
 one_needed w a p r = grind arith

@@ -2,9 +2,8 @@
 use Rattle.std.proofs.Common.{◌≡◌, ℕ, zero, suc, ◌+◌, ◌-◌, ◌<◌, ◌≤◌, Bool, true, false, ◌&&◌, cond, List, [], ◌∷◌, ◌++◌, length, take, get_or, map as map_list, reverse, Option, Some, None, is_some, refl, sym, ap, subst, ◌∙◌, true≢false, arith, ltb, eqb, ◌⊎◌, inl, inr, ⊎_elim, min}
 use Rattle.std.specs.Prelude.{find, option_and_then, unwrap_or}
 use Rattle.std.specs.Option.{option_map, option_to_list}
-use Rattle.std.specs.Ordering.{is_le, is_lt, is_gt, ordering_reverse}
-use Rattle.std.specs.declared.cmp.Ordering.{Ordering}
-use Rattle.std.specs.declared.cmp.Ordering.TheVariants.{Less, Equal, Greater}
+use Rattle.std.specs.Ordering.{is_le, is_lt, is_gt}
+use Rattle.std.specs.declared.cmp.Ordering.TheVariants.{Equal}
 use Rattle.std.proofs.lemmas.Bool.{cases_lt, false_from_ne_true, ltb-true, ltb-false, eq-eqb, ne_eqb}
 use Rattle.std.proofs.lemmas.Bool.Decides.{nat_tests}
 use Rattle.std.proofs.lemmas.List.{append-nil, append_assoc, reverse-append, length_push, get_or_push, get_or_append_left, take_all, take-take, length-take-le, map_push, same_from_push}
@@ -33,30 +32,17 @@ IsUpTo p q = is_gt (path_cmp p q) ≡ false
 
 -- what isn't less, the other way, isn't greater
 not_greater : (p q : Names) → is_lt (path_cmp q p) ≡ false → IsUpTo p q
-not_greater p q h = ap is_gt (path_cmp_total.antisymm p q) ∙ turned (path_cmp q p) ∙ h
-  where
-    turned : (r : Ordering) → is_gt (ordering_reverse r) ≡ is_lt r
-    turned Less = refl
-    turned Equal = refl
-    turned Greater = refl
+not_greater p q h = grind (arith, path_cmp_total.antisymm p q)
 
 -- what isn't greater isn't less, the other way
 pub not_less : (p q : Names) → is_le (path_cmp p q) ≡ true → is_lt (path_cmp q p) ≡ false
-not_less p q h = ap is_lt (path_cmp_total.antisymm q p) ∙ turned (path_cmp p q) h
-  where
-    turned : (r : Ordering) → is_le r ≡ true → is_lt (ordering_reverse r) ≡ false
-    turned Less k = refl
-    turned Equal k = refl
-    turned Greater k = absurd (true≢false (sym k))
+not_less p q h = grind (arith, path_cmp_total.antisymm q p)
 
 -- what is neither greater than the other is the same
 not_apart : (p q : Names) → IsUpTo p q → IsUpTo q p → p ≡ q
 not_apart p q h k =
-    elim (path_cmp p q) as (λ r. path_cmp p q ≡ r → is_gt r ≡ false → p ≡ q) [
-      | Less ↦ λ e _. absurd (true≢false (sym (ap is_gt (path_cmp_total.antisymm q p ∙ ap ordering_reverse e)) ∙ k))
-      | Equal ↦ λ e _. path_cmp-IsAntisymmetric p q e
-      | Greater ↦ λ _ more. absurd (true≢false more)
-    ] refl h
+    let e : path_cmp p q ≡ Equal = grind (arith, path_cmp_total.antisymm p q) in
+    path_cmp-IsAntisymmetric p q e
 
 pub rows_rise : (rows : List Row) → AreInOrder rows → (i j : ℕ) (d : Row) → i ≤ j → j < length rows
     → IsUpTo (get_or rows i d).path (get_or rows j d).path
@@ -350,31 +336,17 @@ fronts_none path = fronts_until (met_at [] path) 0 (length path) (omega arith) (
 pub last_entry : (rows : List Row) (last : Row) → last_of (entries_from [] (rows ++ last ∷ [])) ≡ Some (entry_from rows last)
 last_entry rows last = ap last_of (entries_push rows last) ∙ last_push (entries_from [] rows) (entry_from rows last)
 
--- where there is no entry no path was met
-pub unmet_first : (entries : List (Names × Cgroup)) (met : List Row) (path : Names) → entries ≡ entries_from [] met → last_of entries ≡ None
-    → false ≡ has_met met path
-unmet_first entries met path are none =
-    elim (ended met) [
-      | inl e ↦ sym (ap (λ (rows : List Row). has_met rows path) e)
+-- a next path was met exactly where the last entry has it
+pub met_by_last : (entries : List (Names × Cgroup)) (met : List Row) (row : Row) → entries ≡ entries_from [] met → IsNext met row
+    → elim (last_of entries) [ None ↦ false | Some last ↦ same_path last.0 row.path ] ≡ has_met met row.path
+met_by_last entries met row are order =
+    let of_last : Option (Names × Cgroup) → Bool = λ o. elim o [ None ↦ false | Some last ↦ same_path last.0 row.path ] in
+    let of_met : List Row → Option (Names × Cgroup) = λ rows. last_of (entries_from [] rows) in
+    ap (λ es. of_last (last_of es)) are
+    ∙ elim (ended met) [
+      | inl e ↦ ap (λ (rows : List Row). of_last (of_met rows)) e ∙ sym (ap (λ (rows : List Row). has_met rows row.path) e)
       | inr w ↦
-          let last = ap (λ (rows : List Row). last_of (entries_from [] rows)) w.2 ∙ last_entry w.0 w.1 in
-          absurd (true≢false (ap is_some (sym last ∙ ap last_of (sym are) ∙ none)))
-    ]
-
-abbrev entry_path : Names → Option (Names × Cgroup) → Names
-entry_path default None = default
-entry_path default (Some entry) = entry.0
-
--- a next path was met exactly where it is that of the last entry
-pub met_by_last : (entries : List (Names × Cgroup)) (met : List Row) (row : Row) (last : Names × Cgroup) → entries ≡ entries_from [] met
-    → IsNext met row → last_of entries ≡ Some last → same_path last.0 row.path ≡ has_met met row.path
-met_by_last entries met row last are order some =
-    elim (ended met) [
-      | inl e ↦ absurd (true≢false (ap is_some (sym some ∙ ap last_of are ∙ ap (λ (rows : List Row). last_of (entries_from [] rows)) e)))
-      | inr w ↦
-          let is = sym some ∙ ap last_of are ∙ ap (λ (rows : List Row). last_of (entries_from [] rows)) w.2 ∙ last_entry w.0 w.1 in
-          let path : last.0 ≡ w.1.path = ap (entry_path []) is in
-          ap (λ (p : Names). same_path p row.path) path
+          ap (λ (rows : List Row). of_last (of_met rows)) w.2 ∙ ap of_last (last_entry w.0 w.1)
           ∙ met_last w.0 w.1 row (subst (λ (rows : List Row). AreInOrder (rows ++ row ∷ [])) w.2 order)
           ∙ ap (λ (rows : List Row). has_met rows row.path) (sym w.2)
     ]

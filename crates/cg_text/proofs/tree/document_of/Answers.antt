@@ -8,6 +8,6 @@ pub returns-in-Ok : goal.returns-in-Ok
 returns-in-Ok c = ap (λ o. or_fault o NotToml) (document_is c.args.bytes.now _ c.in-Ok.ensures.ok)
 
 pub returns-else-is_memory : goal.returns-else-is_memory
-returns-else-is_memory c =
-    λ other. ap (λ o. or_fault o NotToml)
-    (no_document c.args.bytes.now (c.in-Err.ensures.refused (λ memory. true≢false (sym (c.if-is_memory.ensures.1 memory)))))
+returns-else-is_memory c = λ other.
+    ap (λ o. or_fault o NotToml) (no_document c.args.bytes.now (c.in-Err.ensures.refused
+    (λ memory. true≢false (sym (c.if-is_memory.ensures.1 memory)))))

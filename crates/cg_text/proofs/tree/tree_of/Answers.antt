@@ -83,8 +83,8 @@ returns-in_err-processes c =
     let read = alone (goal.at.returns-in_err-processes c).In_ok-rows in
     let entries = walked (goal.at.returns-in_err-processes c).In_ok-walked in
     let document = table_view c.args.document.now in
-    let among = among_these c.in_ok-format.format document c.in_ok-controllers.controllers c.in_ok-walked.field-0.items _
-    c.from_sorted-cgroups.ensures read entries in
+    let among = among_these c.in_ok-format.format document c.in_ok-controllers.controllers c.in_ok-walked.field-0.items read entries _
+    c.from_sorted-cgroups.ensures in
     rw (p.1, p.2) (λ other.
     process_fault document c.in_ok-format.format c.in_ok-format.ensures.0 c.in_ok-format.ensures.1 _
     (named (goal.at.returns-in_err-processes c).In_ok-controllers) _ read entries.0
@@ -95,19 +95,19 @@ from_tables-requires c =
     let read = alone (goal.at.from_tables-requires c).In_ok-rows in
     let entries = walked (goal.at.from_tables-requires c).In_ok-walked in
     let document = table_view c.args.document.now in
-    let among = among_these c.in_ok-format.format document c.in_ok-controllers.controllers c.in_ok-walked.field-0.items _
-    c.from_sorted-cgroups.ensures read entries in
-    formed_of c.in_ok-format.format document c.in_ok-controllers.controllers c.in_ok-walked.field-0.items _ c.from_sorted-cgroups.ensures
-    read entries c.in_ok-processes.processes (rw c.elements_at-2.ensures at (c.in_ok-processes.ensures _ among))
+    let among = among_these c.in_ok-format.format document c.in_ok-controllers.controllers c.in_ok-walked.field-0.items read entries _
+    c.from_sorted-cgroups.ensures in
+    formed_of c.in_ok-format.format document c.in_ok-controllers.controllers c.in_ok-walked.field-0.items read entries
+    c.in_ok-processes.processes (rw c.elements_at-2.ensures at (c.in_ok-processes.ensures _ among)) _ c.from_sorted-cgroups.ensures
 
 pub returns : goal.returns
 returns c =
     let read = alone (goal.at.returns c).In_ok-rows in
     let entries = walked (goal.at.returns c).In_ok-walked in
     let document = table_view c.args.document.now in
-    let among = among_these c.in_ok-format.format document c.in_ok-controllers.controllers c.in_ok-walked.field-0.items _
-    c.from_sorted-cgroups.ensures read entries in
-    document_is_of c.in_ok-format.format document c.in_ok-controllers.controllers c.in_ok-walked.field-0.items _
-    c.from_sorted-cgroups.ensures read entries c.in_ok-processes.processes
-    (rw c.elements_at-2.ensures at (c.in_ok-processes.ensures _ among)) c.in_ok-format.ensures.1
+    let among = among_these c.in_ok-format.format document c.in_ok-controllers.controllers c.in_ok-walked.field-0.items read entries _
+    c.from_sorted-cgroups.ensures in
+    document_is_of c.in_ok-format.format document c.in_ok-controllers.controllers c.in_ok-walked.field-0.items read entries
+    c.in_ok-processes.processes (rw c.elements_at-2.ensures at (c.in_ok-processes.ensures _ among)) _ c.from_sorted-cgroups.ensures
+    c.in_ok-format.ensures.1
     (named (goal.at.returns c).In_ok-controllers) c.from_tables.result c.from_tables.ensures

@@ -10,8 +10,8 @@ loop-index-init c = none_passed _ Cgroup (map view c.args.cgroups.now)
 
 pub loop-index-preserved : goal.loop-index-preserved
 loop-index-preserved c =
-    more_shaped (row_keys c.args.format) Cgroup c.args.cgroups.now _ _ c.loop-index.invariant c.loop-index-test.true
-    c.index-cgroups-index.is _
+    more_shaped (row_keys c.args.format) Cgroup c.args.cgroups.now _ _ c.loop-index.invariant
+    c.loop-index-test.true c.index-cgroups-index.is _
     c.is_cgroup.ensures c.if-not-is_cgroup.false
 
 pub returns : goal.returns
@@ -19,6 +19,6 @@ returns c = (all_shaped (row_keys c.args.format) Cgroup c.args.cgroups.now _ c.l
 
 pub returns-then-not-is_cgroup : goal.returns-then-not-is_cgroup
 returns-then-not-is_cgroup c = λ _.
-    misshapen (row_keys c.args.format) Cgroup c.args.cgroups.now _ _ c.loop-index.invariant c.loop-index-test.true c.index-cgroups-index.is
-    _
+    misshapen (row_keys c.args.format) Cgroup c.args.cgroups.now _ _ c.loop-index.invariant
+    c.loop-index-test.true c.index-cgroups-index.is _
     c.is_cgroup.ensures _ c.row_number.ensures c.if-not-is_cgroup.true

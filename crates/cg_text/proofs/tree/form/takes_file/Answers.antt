@@ -6,7 +6,8 @@ use Rattle.cg_text.proofs.tree.form.takes_file.Goals as goal
 pub returns-in-Some-Procs : goal.returns-in-Some-Procs
 returns-in-Some-Procs c =
     entry_taken c.args.format c.args.key.now (view c.args.value.now) _ _ _ c.from_name.ensures.found
-    (c.in-Some-Procs.is ∙ ap Some c.in-Some-Procs.field-0-is) (c.is_entry.ensures ∙ owner_allowed c.args.format (view c.args.value.now))
+    (c.in-Some-Procs.is ∙ ap Some c.in-Some-Procs.field-0-is)
+    (c.is_entry.ensures ∙ owner_allowed c.args.format (view c.args.value.now))
 
 pub returns-in-Some-SubtreeControl : goal.returns-in-Some-SubtreeControl
 returns-in-Some-SubtreeControl c =
