@@ -15,11 +15,13 @@ module _ {A : Type 0} (read : List ℕ → Option A) where
   pub read_more : (front : List A) (word : List ℕ) (words : List (List ℕ)) (x : A) (whole : Option (List A)) → read word ≡ Some x
       → with_front front (all_read read (word ∷ words)) ≡ whole → with_front (front ++ (x ∷ [])) (all_read read words) ≡ whole
   read_more front word words x whole e h =
-      elim (all_read read words) as (λ rest. with_front (front ++ (x ∷ [])) rest ≡ with_front front (option_map (λ others. x ∷ others) rest)) [
+      elim (all_read read words) as
+      (λ rest. with_front (front ++ (x ∷ [])) rest ≡ with_front front (option_map (λ others. x ∷ others) rest)) [
         | None ↦ refl
         | Some others ↦ ap (λ (xs : List A). Some xs) (append_assoc front (x ∷ []) others)
       ]
-      ∙ ap (λ (first : Option A). with_front front (option_and_then (λ y. option_map (λ others. y ∷ others) (all_read read words)) first)) (sym e)
+      ∙ ap (λ (first : Option A). with_front front (option_and_then (λ y. option_map (λ others. y ∷ others) (all_read read words)) first))
+      (sym e)
       ∙ h
 
   -- a word that says nothing
@@ -49,7 +51,8 @@ module _ {E : Type 0} where
   pub number_parsed : (word : List ℕ) (r : Result ℕ E) → ParsesUnsigned 32 10 word r → result_ok r ≡ number_read word
   number_parsed word r h = id_read (without_leading_plus word) r h
 
-module _ {E : Type 0} (gives : List ℕ → Result ℕ E → Type 0) (parses : (word : List ℕ) (r : Result ℕ E) → gives word r → ParsesUnsigned 32 10 word r) where
+module _ {E : Type 0} (gives : List ℕ → Result ℕ E → Type 0)
+    (parses : (word : List ℕ) (r : Result ℕ E) → gives word r → ParsesUnsigned 32 10 word r) where
   one_read : (word : List ℕ) (read : Option ℕ) → ReadsOne gives word read → read ≡ number_read word
   one_read word (Some n) h = number_parsed {E = E} word (Ok n) (parses word (Ok n) h)
   one_read word None h = number_parsed {E = E} word (Err h.0) (parses word (Err h.0) h.1)

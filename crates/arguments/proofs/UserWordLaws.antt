@@ -80,11 +80,13 @@ pub ids_more : (front text : List ℕ) (parts : List ℕ × List ℕ) (id : ℕ)
     → id_at parts.0 ≡ Some id → with_front front (ids_at (slice_split is_comma text)) ≡ read
     → with_front (front ++ (id ∷ [])) (ids_at (slice_split is_comma parts.1)) ≡ read
 ids_more front text parts id read e f h =
-    elim (ids_at (slice_split is_comma parts.1)) as (λ rest. with_front (front ++ (id ∷ [])) rest ≡ with_front front (option_map (λ ids. id ∷ ids) rest)) [
+    elim (ids_at (slice_split is_comma parts.1)) as
+    (λ rest. with_front (front ++ (id ∷ [])) rest ≡ with_front front (option_map (λ ids. id ∷ ids) rest)) [
       | None ↦ refl
       | Some others ↦ ap (λ (xs : List ℕ). Some xs) (append_assoc front (id ∷ []) others)
     ]
-    ∙ ap (λ (first : Option ℕ). with_front front (option_and_then (λ i. option_map (λ ids. i ∷ ids) (ids_at (slice_split is_comma parts.1))) first)) (sym f)
+    ∙ ap (λ (first : Option ℕ).
+    with_front front (option_and_then (λ i. option_map (λ ids. i ∷ ids) (ids_at (slice_split is_comma parts.1))) first)) (sym f)
     ∙ ap (λ (ws : List (List ℕ)). with_front front (ids_at ws)) (sym (split_cut text parts e))
     ∙ h
 
@@ -102,7 +104,8 @@ pub ids_bad : (front text : List ℕ) (parts : List ℕ × List ℕ) (read : Opt
 ids_bad front text parts read e f h =
     sym h
     ∙ ap (λ (ws : List (List ℕ)). with_front front (ids_at ws)) (split_cut text parts e)
-    ∙ ap (λ (first : Option ℕ). with_front front (option_and_then (λ i. option_map (λ ids. i ∷ ids) (ids_at (slice_split is_comma parts.1))) first)) f
+    ∙ ap (λ (first : Option ℕ).
+    with_front front (option_and_then (λ i. option_map (λ ids. i ∷ ids) (ids_at (slice_split is_comma parts.1))) first)) f
 
 pub ids_last_bad : (front text : List ℕ) (read : Option (List ℕ)) → cut_at is_comma text ≡ None → id_at text ≡ None
     → with_front front (ids_at (slice_split is_comma text)) ≡ read → read ≡ None

@@ -65,7 +65,7 @@ fn push_entries<H: Hierarchy>(
         let Some(at) = guarded_entry(tree, subtree, place) else {
             continue;
         };
-        let lines = entry_lines(alloc, user, subtree, &at)?;
+        let lines = entry_lines(alloc, user, subtree, at)?;
         text.extend_from_slice(lines.as_slice())?;
     }
     Ok(())
@@ -76,17 +76,17 @@ fn entry_lines(
     alloc: Global,
     user: &User,
     subtree: &Path,
-    at: &GuardedEntry,
+    at: GuardedEntry,
 ) -> Result<Vec<u8>, NoMemory>
-    requires { IsShown subtree.now at.now }
-    ensures { IfOk result (λ lines. lines.items ≡ flat_map (reached_lines user.now subtree.now) (if_reached user.now at.now)) }
+    requires { IsShown subtree.now at }
+    ensures { IfOk result (λ lines. lines.items ≡ flat_map (reached_lines user.now subtree.now) (if_reached user.now at)) }
 {
     if !user.reaches(&at.entry) {
         return Ok(Vec::new(alloc));
     }
-    let mut lines = fails_line(alloc, user, subtree, at)?.into_bytes();
-    push_mend(alloc, &mut lines, subtree, chown_of(user, at))?;
-    push_mend(alloc, &mut lines, subtree, chmod_of(user, at))?;
+    let mut lines = fails_line(alloc, user, subtree, &at)?.into_bytes();
+    push_mend(alloc, &mut lines, subtree, chown_of(user, &at))?;
+    push_mend(alloc, &mut lines, subtree, chmod_of(user, &at))?;
     Ok(lines)
 }
 
@@ -111,20 +111,12 @@ fn push_limits<H: Hierarchy>(
     };
     let fits = fits_descendants(tree, subtree, cgroup);
     let count = tree.count_below(subtree, len);
-    push_mend(
-        alloc,
-        text,
-        subtree,
-        raised(subtree, LimitFile::MaxDescendants, fits, count),
-    )?;
+    let descendants = raised(subtree, LimitFile::MaxDescendants, fits, count);
+    push_mend(alloc, text, subtree, descendants)?;
     let fits = fits_depth(tree, subtree, cgroup);
     let levels = tree.depth_below(subtree, len);
-    push_mend(
-        alloc,
-        text,
-        subtree,
-        raised(subtree, LimitFile::MaxDepth, fits, levels),
-    )?;
+    let depth = raised(subtree, LimitFile::MaxDepth, fits, levels);
+    push_mend(alloc, text, subtree, depth)?;
     Ok(())
 }
 

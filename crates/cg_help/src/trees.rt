@@ -11,7 +11,7 @@ use entries::{entry_said, value_said};
 use rows::{controller_said, double_said, enabled_said, file_said, parent_said, place_said};
 use shape::shape_said;
 use std::alloc::{AllocError, Global};
-use table::{label, paths_of_rows, row, text_at};
+use table::{RowAt, label, paths_of_rows, row, text_at};
 use toml::Table;
 
 /// What is wrong with the text of a tree, which has this fault.
@@ -46,34 +46,61 @@ pub(crate) fn first_missing<'a>(alloc: Global, bytes: &[u8], paths: &[&'a str]) 
 }
 
 fn fault_said(alloc: Global, fault: TreeFault, top: &Table) -> Result<Option<String>, AllocError> {
+    let place = match fault {
+        TreeFault::Format => return plainly(alloc, "format is 1 or 2: write format = 2"),
+        TreeFault::NoRoot => return plainly(alloc, "no row of cgroup has path = '/'"),
+        TreeFault::Shape(place)
+        | TreeFault::BadController(place)
+        | TreeFault::BadPath(place)
+        | TreeFault::BadEntry(place)
+        | TreeFault::BadValue(place)
+        | TreeFault::Duplicate(place)
+        | TreeFault::NoParent(place)
+        | TreeFault::TopDown(place)
+        | TreeFault::NoSuchFile(place)
+        | TreeFault::BadPid(place)
+        | TreeFault::DuplicatePid(place)
+        | TreeFault::NoSuchPlace(place)
+        | TreeFault::InternalProcess(place) => place,
+        _ => return Ok(None),
+    };
+    let label = label(alloc, top, place)?;
+    let Some(keys) = row(top, place) else {
+        return match fault {
+            TreeFault::Shape(_) => Ok(Some(format!(in alloc; "{label} isn't a table")?)),
+            _ => Ok(None),
+        };
+    };
+    match row_said(alloc, fault, &RowAt { top, place, keys })? {
+        Some(why) => Ok(Some(format!(in alloc; "{label}: {why}")?)),
+        None => Ok(None),
+    }
+}
+
+/// What is wrong with a row, behind its name.
+fn row_said(
+    alloc: Global,
+    fault: TreeFault,
+    row: &RowAt<'_>,
+) -> Result<Option<String>, AllocError> {
     match fault {
-        TreeFault::Shape(place) => shape_said(alloc, top, place),
-        TreeFault::Format => plainly(alloc, "format is 1 or 2: write format = 2"),
-        TreeFault::BadController(place) => controller_said(alloc, top, place),
-        TreeFault::BadPath(place) => path_said(alloc, top, place),
-        TreeFault::BadEntry(place) => entry_said(alloc, top, place),
-        TreeFault::BadValue(place) => value_said(alloc, top, place),
-        TreeFault::Duplicate(place) => double_said(alloc, top, place, "path"),
-        TreeFault::NoRoot => plainly(alloc, "no row of cgroup has path = '/'"),
-        TreeFault::NoParent(place) => parent_said(alloc, top, place),
-        TreeFault::TopDown(place) => enabled_said(alloc, top, place),
-        TreeFault::NoSuchFile(place) => file_said(alloc, top, place),
-        TreeFault::BadPid(place) => pid_said(alloc, top, place),
-        TreeFault::DuplicatePid(place) => double_said(alloc, top, place, "pid"),
-        TreeFault::NoSuchPlace(place) => place_said(
+        TreeFault::Shape(_) => shape_said(alloc, row),
+        TreeFault::BadController(_) => controller_said(alloc, row),
+        TreeFault::BadPath(_) => path_said(alloc, row),
+        TreeFault::BadEntry(_) => entry_said(alloc, row),
+        TreeFault::BadValue(_) => value_said(alloc, row),
+        TreeFault::Duplicate(_) => double_said(alloc, row, "path"),
+        TreeFault::NoParent(_) => parent_said(alloc, row),
+        TreeFault::TopDown(_) => enabled_said(alloc, row),
+        TreeFault::NoSuchFile(_) => file_said(alloc, row),
+        TreeFault::BadPid(_) => pid_said(alloc, row),
+        TreeFault::DuplicatePid(_) => double_said(alloc, row, "pid"),
+        TreeFault::NoSuchPlace(_) => place_said(alloc, row, "isn't the path of a row of cgroup"),
+        TreeFault::InternalProcess(_) => place_said(
             alloc,
-            top,
-            place,
-            "isn't the path of a row of cgroup",
+            row,
+            "enables controllers, and only the root may do so with processes in it",
         ),
-        TreeFault::InternalProcess(place) => {
-            place_said(
-                alloc,
-                top,
-                place,
-                "enables controllers, and only the root may do so with processes in it",
-            )
-        }
         _ => Ok(None),
     }
 }
@@ -82,27 +109,17 @@ fn plainly(alloc: Global, words: &str) -> Result<Option<String>, AllocError> {
     Ok(Some(String::from_str(alloc, words)?))
 }
 
-fn path_said(alloc: Global, top: &Table, place: Place) -> Result<Option<String>, AllocError> {
-    let Some(path) = text_at(top, place, "path") else {
-        return Ok(None);
-    };
-    let label = label(alloc, top, place)?;
-    match why_no_path(alloc, path)? {
-        Some(why) => Ok(Some(format!(in alloc; "{label}: {why}")?)),
+fn path_said(alloc: Global, row: &RowAt<'_>) -> Result<Option<String>, AllocError> {
+    match text_at(row, "path") {
+        Some(path) => why_no_path(alloc, path),
         None => Ok(None),
     }
 }
 
-fn pid_said(alloc: Global, top: &Table, place: Place) -> Result<Option<String>, AllocError> {
-    let Some(row) = row(top, place) else {
-        return Ok(None);
-    };
-    let label = label(alloc, top, place)?;
-    match row.get("pid") {
+fn pid_said(alloc: Global, row: &RowAt<'_>) -> Result<Option<String>, AllocError> {
+    match row.keys.get("pid") {
         Some(value) => match value.as_integer() {
-            Some(pid) => Ok(Some(format!(in alloc;
-                "{label}: pid {pid} isn't one of 1 to 4194303"
-            )?)),
+            Some(pid) => Ok(Some(format!(in alloc; "pid {pid} isn't one of 1 to 4194303")?)),
             None => Ok(None),
         },
         None => Ok(None),

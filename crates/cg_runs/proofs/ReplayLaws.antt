@@ -112,6 +112,11 @@ pub record IsApplied (st : State) (user : Identity) (op : Op) (new : State) (out
   pub refused : RefusedBy outcome (first (bars st user op))
   pub unchanged : IsRefused outcome → new ≡ st
 
+-- how far a replay is
+abbrev pub progress : Names → Cgroup → State → ℕ → Verdict → Progress
+progress subtree original state steps verdict =
+    record { subtree = subtree; original = original; state = state; steps = steps; verdict = verdict }
+
 pub applied : (st : State) (user : Identity) (op : Op) (new : State) (outcome : Outcome)
     → ((let ended : Result Outcome NoMemory = Ok outcome in ended ≡ Ok Done) → (bars st user op ≡ []) × (new ≡ next st user op))
     → RefusedBy outcome (first (bars st user op)) → (IsRefused outcome → new ≡ st) → IsApplied st user op new outcome

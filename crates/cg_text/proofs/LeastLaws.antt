@@ -432,7 +432,8 @@ module _ (format : Format) (controllers : ControllerSet) (tables : List Members)
     pub faults_first : first (cgroup_faults (Some controllers) tables) ≡ least_fault least (has_root (entries_from [] sorted))
     faults_first =
         simp first_or
-        (in_turn least.twice least.orphan least.not_within least.no_file (has_root (entries_from [] sorted)) _ _ _ _ _ twice_first root_first
+        (in_turn least.twice least.orphan least.not_within least.no_file (has_root (entries_from [] sorted)) _ _ _ _ _ twice_first
+        root_first
         (λ none.
         let once = once_moved sorted rows same (once_from sorted least.twice tested.twice none) in
         (orphan_first once, within_first once, files_first once)))

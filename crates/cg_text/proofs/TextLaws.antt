@@ -6,7 +6,8 @@ use Rattle.toml.specs.Data.{Members}
 use Rattle.toml.specs.Parse.{parse_document}
 use Rattle.cg_text.specs.TreeTexts.{document_of}
 
-pub document_is : (bytes : List ℕ) (document : Members) → IsUtf8 bytes × (parse_document bytes ≡ Some document) → document_of bytes ≡ Some document
+pub document_is : (bytes : List ℕ) (document : Members) → IsUtf8 bytes × (parse_document bytes ≡ Some document)
+    → document_of bytes ≡ Some document
 document_is bytes document is = ap (λ b. cond b (parse_document bytes) None) (is_utf8-from_IsUtf8 bytes is.0) ∙ is.1
 
 pub no_document : (bytes : List ℕ) → (IsUtf8 bytes → parse_document bytes ≡ None) → document_of bytes ≡ None

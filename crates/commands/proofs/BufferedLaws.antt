@@ -35,20 +35,26 @@ Keeps-Keeps (Some xs) (Some ys) (Some zs) a k = k ∙ a
 AppendsPart-Keeps : (old mid new : Option (List ℕ)) (text : List ℕ) → AppendsPart old mid text → Keeps mid new → AppendsPart old new text
 AppendsPart-Keeps old mid new text a k = (a.0, a.1, Appends-Keeps old mid new _ a.2 k)
 
-Reports-Keeps : (report : Report) (old mid new : Option (List ℕ)) (result : Result ℕ CliFault) → Reports report old mid result → Keeps mid new → Reports report old new result
+Reports-Keeps : (report : Report) (old mid new : Option (List ℕ)) (result : Result ℕ CliFault) → Reports report old mid result
+    → Keeps mid new → Reports report old new result
 Reports-Keeps report old mid new (Ok status) h k = (h.0, Appends-Keeps old mid new report.text h.1 k)
 Reports-Keeps report old mid new (Err Write) h k = AppendsPart-Keeps old mid new report.text h k
 Reports-Keeps report old mid new (Err NoMemory) h k = (h.0, Keeps-Keeps old mid new h.1 k)
 Reports-Keeps report old mid new (Err fault) h k = (h.0, Keeps-Keeps old mid new h.1 k)
 
-IsUnread-Keeps : (old mid new : Option (List ℕ)) (result : Result ℕ CliFault) → IsUnread old mid result → Keeps mid new → IsUnread old new result
+IsUnread-Keeps : (old mid new : Option (List ℕ)) (result : Result ℕ CliFault) → IsUnread old mid result → Keeps mid new
+    → IsUnread old new result
 IsUnread-Keeps old mid new result h k = (h.0, Keeps-Keeps old mid new h.1 k)
 
-OnTree-Keeps : {A : Type 0} (file : Option A) (given : Option (List ℕ)) (before after : Reading → Type 0) (old mid new : Option (List ℕ)) (result : Result ℕ CliFault) → ((tree : Reading) → before tree → after tree) → OnTree file given before old mid result → Keeps mid new → OnTree file given after old new result
+OnTree-Keeps : {A : Type 0} (file : Option A) (given : Option (List ℕ)) (before after : Reading → Type 0) (old mid new : Option (List ℕ))
+    (result : Result ℕ CliFault) → ((tree : Reading) → before tree → after tree) → OnTree file given before old mid result
+    → Keeps mid new
+    → OnTree file given after old new result
 OnTree-Keeps file given before after old mid new result passed (inl h) k = inl (h.0, h.1, (h.2.0, h.2.1, passed h.2.0 h.2.2))
 OnTree-Keeps file given before after old mid new result passed (inr h) k = inr (IsUnread-Keeps old mid new result h k)
 
-ReportsPairs-Keeps : (pairs : Result (List Listed) CliFault) (old mid new : Option (List ℕ)) (result : Result ℕ CliFault) → ReportsPairs pairs old mid result → Keeps mid new → ReportsPairs pairs old new result
+ReportsPairs-Keeps : (pairs : Result (List Listed) CliFault) (old mid new : Option (List ℕ)) (result : Result ℕ CliFault)
+    → ReportsPairs pairs old mid result → Keeps mid new → ReportsPairs pairs old new result
 ReportsPairs-Keeps (Ok pairs) old mid new (Ok status) h k = (h.0, Appends-Keeps old mid new _ h.1 k)
 ReportsPairs-Keeps (Ok pairs) old mid new (Err Write) h k = AppendsPart-Keeps old mid new _ h k
 ReportsPairs-Keeps (Ok pairs) old mid new (Err NoMemory) h k = (h.0, h.1, h.2, Appends-Keeps old mid new _ h.3 k)
@@ -57,41 +63,54 @@ ReportsPairs-Keeps (Err fault) old mid new (Ok status) h k = h
 ReportsPairs-Keeps (Err fault) old mid new (Err NoMemory) h k = (h.0, Keeps-Keeps old mid new h.1 k)
 ReportsPairs-Keeps (Err fault) old mid new (Err other) h k = (h.0, Keeps-Keeps old mid new h.1 k)
 
-AuditSays-by : (all : Bool) (pairs : Result (List Listed) CliFault) (report : Report) (old mid new : Option (List ℕ)) (result : Result ℕ CliFault)
+AuditSays-by : (all : Bool) (pairs : Result (List Listed) CliFault) (report : Report) (old mid new : Option (List ℕ))
+    (result : Result ℕ CliFault)
     → MatchBool all (ReportsPairs pairs old mid result) (Reports report old mid result) → Keeps mid new
     → MatchBool all (ReportsPairs pairs old new result) (Reports report old new result)
 AuditSays-by true pairs report old mid new result said k = ReportsPairs-Keeps pairs old mid new result said k
 AuditSays-by false pairs report old mid new result said k = Reports-Keeps report old mid new result said k
 
-AuditSays-Keeps : (audit : Audit) (old mid new : Option (List ℕ)) (result : Result ℕ CliFault) (tree : Reading) → AuditSays audit old mid result tree → Keeps mid new → AuditSays audit old new result tree
+AuditSays-Keeps : (audit : Audit) (old mid new : Option (List ℕ)) (result : Result ℕ CliFault) (tree : Reading)
+    → AuditSays audit old mid result tree → Keeps mid new → AuditSays audit old new result tree
 AuditSays-Keeps audit old mid new result tree said k =
     AuditSays-by audit.all (all_report tree (map ids_of audit.users.items) (map (λ subtree. subtree.now) audit.subtrees.items))
     (audit_report tree (map ids_of audit.users.items) (map (λ subtree. subtree.now) audit.subtrees.items)) old mid new result said k
 
-Upgrades-Keeps : (tree : Reading) (old mid new : Option (List ℕ)) (result : Result ℕ CliFault) → Upgrades old mid result tree → Keeps mid new → Upgrades old new result tree
-Upgrades-Keeps tree old mid new result h k = record { text = h.text; written = h.written; reports = Reports-Keeps _ old mid new result h.reports k }
+Upgrades-Keeps : (tree : Reading) (old mid new : Option (List ℕ)) (result : Result ℕ CliFault) → Upgrades old mid result tree
+    → Keeps mid new → Upgrades old new result tree
+Upgrades-Keeps tree old mid new result h k =
+    record { text = h.text; written = h.written; reports = Reports-Keeps _ old mid new result h.reports k }
 
-Replays-Keeps : (lines : Reporting) (ops : List ℕ) (old mid new : Option (List ℕ)) (result : Result ℕ CliFault) → Replays closed lines ops old mid result → Keeps mid new → Replays closed lines ops old new result
+Replays-Keeps : (lines : Reporting) (ops : List ℕ) (old mid new : Option (List ℕ)) (result : Result ℕ CliFault)
+    → Replays closed lines ops old mid result → Keeps mid new → Replays closed lines ops old new result
 Replays-Keeps lines ops old mid new (Err Write) h k = AppendsPart-Keeps old mid new _ h k
 Replays-Keeps lines ops old mid new (Err NoMemory) h k = (h.0, h.1, h.2, Appends-Keeps old mid new _ h.3 k)
 Replays-Keeps lines ops old mid new (Err Read) h k = absurd h
 Replays-Keeps lines ops old mid new ended h k = (h.0, Appends-Keeps old mid new _ h.1 k)
 
-ReplaysFrom-Keeps : (lines : Reporting) (before left old mid new : Option (List ℕ)) (result : Result ℕ CliFault) → ReplaysFrom closed lines before left old mid result → Keeps mid new → ReplaysFrom closed lines before left old new result
+ReplaysFrom-Keeps : (lines : Reporting) (before left old mid new : Option (List ℕ)) (result : Result ℕ CliFault)
+    → ReplaysFrom closed lines before left old mid result → Keeps mid new → ReplaysFrom closed lines before left old new result
 ReplaysFrom-Keeps lines before left old mid new (Err Read) h k = (h.0, h.1, Appends-Keeps old mid new _ h.2 k, h.3)
 ReplaysFrom-Keeps lines before left old mid new ended h k = (h.0, h.1, Replays-Keeps lines h.0 old mid new ended h.2 k)
 
-ReplaysOver-Keeps : (before : Option (List ℕ)) (said : Reporting) (old mid new : Option (List ℕ)) (result : Result ℕ CliFault) → ReplaysOver before said old mid result → Keeps mid new → ReplaysOver before said old new result
+ReplaysOver-Keeps : (before : Option (List ℕ)) (said : Reporting) (old mid new : Option (List ℕ)) (result : Result ℕ CliFault)
+    → ReplaysOver before said old mid result → Keeps mid new → ReplaysOver before said old new result
 ReplaysOver-Keeps before said old mid new result (inl h) k = inl (h.0, ReplaysFrom-Keeps said before h.0 old mid new result h.1 k)
 ReplaysOver-Keeps before said old mid new result (inr h) k = inr (IsUnread-Keeps old mid new result h k)
 
-pub CarriesOut-Keeps : (asked : Request) (given old mid new : Option (List ℕ)) (result : Result ℕ CliFault) → CarriesOut asked given old mid result → Keeps mid new → CarriesOut asked given old new result
+pub CarriesOut-Keeps : (asked : Request) (given old mid new : Option (List ℕ)) (result : Result ℕ CliFault)
+    → CarriesOut asked given old mid result → Keeps mid new → CarriesOut asked given old new result
 CarriesOut-Keeps (request.Help text) given old mid new result h k = Reports-Keeps _ old mid new result h k
-CarriesOut-Keeps (request.May may) given old mid new result h k = OnTree-Keeps may.tree given _ _ old mid new result (λ tree said. Reports-Keeps _ old mid new result said k) h k
-CarriesOut-Keeps (request.Check check) given old mid new result h k = OnTree-Keeps check.tree given _ _ old mid new result (λ tree said. Reports-Keeps _ old mid new result said k) h k
-CarriesOut-Keeps (request.Audit audit) given old mid new result h k = OnTree-Keeps audit.tree given _ _ old mid new result (λ tree said. AuditSays-Keeps audit old mid new result tree said k) h k
-CarriesOut-Keeps (request.Advise advise) given old mid new result h k = OnTree-Keeps advise.tree given _ _ old mid new result (λ tree said. Reports-Keeps _ old mid new result said k) h k
+CarriesOut-Keeps (request.May may) given old mid new result h k =
+    OnTree-Keeps may.tree given _ _ old mid new result (λ tree said. Reports-Keeps _ old mid new result said k) h k
+CarriesOut-Keeps (request.Check check) given old mid new result h k =
+    OnTree-Keeps check.tree given _ _ old mid new result (λ tree said. Reports-Keeps _ old mid new result said k) h k
+CarriesOut-Keeps (request.Audit audit) given old mid new result h k =
+    OnTree-Keeps audit.tree given _ _ old mid new result (λ tree said. AuditSays-Keeps audit old mid new result tree said k) h k
+CarriesOut-Keeps (request.Advise advise) given old mid new result h k =
+    OnTree-Keeps advise.tree given _ _ old mid new result (λ tree said. Reports-Keeps _ old mid new result said k) h k
 CarriesOut-Keeps (request.Replay replay) given old mid new result h k =
     OnTree-Keeps (tree_file replay.sources) given _ _ old mid new result
     (λ tree said. (said.0, said.1, ReplaysOver-Keeps said.0 (replay_said replay tree) old mid new result said.2 k)) h k
-CarriesOut-Keeps (request.Upgrade upgrade) given old mid new result h k = OnTree-Keeps upgrade.tree given _ _ old mid new result (λ tree said. Upgrades-Keeps tree old mid new result said k) h k
+CarriesOut-Keeps (request.Upgrade upgrade) given old mid new result h k =
+    OnTree-Keeps upgrade.tree given _ _ old mid new result (λ tree said. Upgrades-Keeps tree old mid new result said k) h k

@@ -11,7 +11,8 @@ Keeps-refl : (known : Option (List ℕ)) → Keeps known known
 Keeps-refl None = tt
 Keeps-refl (Some xs) = refl
 
-pub unread : (known : Option (List ℕ)) (fault : CliFault) (result : Result ℕ CliFault) → result ≡ Err fault → (fault ≡ Read) ⊎ (fault ≡ NoMemory) → IsUnread known known result
+pub unread : (known : Option (List ℕ)) (fault : CliFault) (result : Result ℕ CliFault) → result ≡ Err fault
+    → (fault ≡ Read) ⊎ (fault ≡ NoMemory) → IsUnread known known result
 unread known fault result is (inl e) = (inl (is ∙ ap (λ (it : CliFault). Err it) e), Keeps-refl known)
 unread known fault result is (inr e) = (inr (is ∙ ap (λ (it : CliFault). Err it) e), Keeps-refl known)
 

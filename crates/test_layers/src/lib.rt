@@ -2,26 +2,4 @@
 #![tactic(auto)]
 
 #[cfg(test)]
-mod cgroups;
-#[cfg(test)]
-mod files;
-#[cfg(test)]
-mod guards;
-#[cfg(test)]
-mod indexed;
-#[cfg(test)]
-mod operations;
-#[cfg(test)]
-mod ops;
-#[cfg(test)]
-mod paths;
-#[cfg(test)]
-mod processes;
-#[cfg(test)]
-mod runs;
-#[cfg(test)]
-mod texts;
-#[cfg(test)]
-mod trees;
-#[cfg(test)]
-mod users;
+mod tests;

@@ -1,5 +1,5 @@
 //! Owners, modes and values that are out of range.
-use crate::trees::table::{label, row, shown_value};
+use crate::trees::table::{RowAt, shown_value};
 use cg_text::tree::Place;
 use std::alloc::{AllocError, Global};
 use toml::{Table, Value};
@@ -10,22 +10,14 @@ const GREATEST_ID: i64 = 4_294_967_295;
 const GREATEST_MODE: i64 = 0o777;
 
 /// What is wrong with an owner, a group or a mode of a row.
-pub(super) fn entry_said(
-    alloc: Global,
-    top: &Table,
-    place: Place,
-) -> Result<Option<String>, AllocError> {
-    let Some(row) = row(top, place) else {
-        return Ok(None);
-    };
-    let label = label(alloc, top, place)?;
-    let why = match place {
-        Place::Process(_) => keys_said(alloc, row)?,
-        _ => cgroup_said(alloc, row)?,
+pub(super) fn entry_said(alloc: Global, row: &RowAt<'_>) -> Result<Option<String>, AllocError> {
+    let why = match row.place {
+        Place::Process(_) => keys_said(alloc, row.keys)?,
+        _ => cgroup_said(alloc, row.keys)?,
     };
     match why {
-        Some(why) => Ok(Some(format!(in alloc; "{label}: {why}")?)),
-        None => Ok(Some(format!(in alloc; "{label}: in format 1 a mode has no bit 0o020")?)),
+        Some(why) => Ok(Some(why)),
+        None => Ok(Some(String::from_str(alloc, "in format 1 a mode has no bit 0o020")?)),
     }
 }
 
@@ -99,23 +91,15 @@ fn is_spelled_octal(mode: i64) -> bool {
 }
 
 /// Which limit file of a row has a value that it doesn't accept.
-pub(super) fn value_said(
-    alloc: Global,
-    top: &Table,
-    place: Place,
-) -> Result<Option<String>, AllocError> {
-    let Some(row) = row(top, place) else {
-        return Ok(None);
-    };
-    let label = label(alloc, top, place)?;
-    let Some(Value::Table(files)) = row.get("files") else {
+pub(super) fn value_said(alloc: Global, row: &RowAt<'_>) -> Result<Option<String>, AllocError> {
+    let Some(Value::Table(files)) = row.keys.get("files") else {
         return Ok(None);
     };
     match bad_value(files) {
         Some((name, value)) => {
             let shown = shown_value(alloc, value)?;
             let range = range_of(name);
-            Ok(Some(format!(in alloc; "{label}: {name} doesn't accept {shown}: write {range}")?))
+            Ok(Some(format!(in alloc; "{name} doesn't accept {shown}: write {range}")?))
         }
         None => Ok(None),
     }

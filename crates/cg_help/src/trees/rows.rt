@@ -1,6 +1,6 @@
 //! Rows that don't go together.
 use crate::shown::quoted;
-use crate::trees::table::{label, row, row_of, shown_value, text_at, texts_at};
+use crate::trees::table::{RowAt, row_of, shown_value, text_at, texts_at};
 use cg_cgroup::files::LimitFile;
 use cg_text::tree::Place;
 use std::alloc::{AllocError, Global};
@@ -9,22 +9,17 @@ use toml::{Table, Value};
 /// Which text of `controllers` or `enabled` is no controller.
 pub(super) fn controller_said(
     alloc: Global,
-    top: &Table,
-    place: Place,
+    row: &RowAt<'_>,
 ) -> Result<Option<String>, AllocError> {
-    let Some(row) = row(top, place) else {
-        return Ok(None);
-    };
-    let key = match place {
+    let key = match row.place {
         Place::Top => "controllers",
         _ => "enabled",
     };
-    match unknown_controller(texts_at(row, key)) {
+    match unknown_controller(texts_at(row.keys, key)) {
         Some(text) => {
-            let label = label(alloc, top, place)?;
             let shown = quoted(alloc, text)?;
             Ok(Some(format!(in alloc;
-                "{label}: '{shown}' of {key} isn't cpu, memory or pids: leave it out"
+                "'{shown}' of {key} isn't cpu, memory or pids: leave it out"
             )?))
         }
         None => Ok(None),
@@ -45,33 +40,23 @@ fn unknown_controller(texts: &[Value]) -> Option<&str> {
 /// That an earlier row has the same path or PID.
 pub(super) fn double_said(
     alloc: Global,
-    top: &Table,
-    place: Place,
+    row: &RowAt<'_>,
     key: &str,
 ) -> Result<Option<String>, AllocError> {
-    let Some(row) = row(top, place) else {
+    let Some(value) = row.keys.get(key) else {
         return Ok(None);
     };
-    let Some(value) = row.get(key) else {
-        return Ok(None);
-    };
-    let label = label(alloc, top, place)?;
     let shown = shown_value(alloc, value)?;
-    Ok(Some(format!(in alloc; "{label}: an earlier row has {key} {shown}")?))
+    Ok(Some(format!(in alloc; "an earlier row has {key} {shown}")?))
 }
 
 /// That the row above isn't there.
-pub(super) fn parent_said(
-    alloc: Global,
-    top: &Table,
-    place: Place,
-) -> Result<Option<String>, AllocError> {
-    let Some(path) = text_at(top, place, "path") else {
+pub(super) fn parent_said(alloc: Global, row: &RowAt<'_>) -> Result<Option<String>, AllocError> {
+    let Some(path) = text_at(row, "path") else {
         return Ok(None);
     };
-    let label = label(alloc, top, place)?;
     let shown = quoted(alloc, parent_of(path))?;
-    Ok(Some(format!(in alloc; "{label}: no row has the parent's path, '{shown}'")?))
+    Ok(Some(format!(in alloc; "no row has the parent's path, '{shown}'")?))
 }
 
 /// The parent of a path that isn't the root.
@@ -84,25 +69,16 @@ fn parent_of(path: &str) -> &str {
 }
 
 /// What a row enables that isn't enabled above.
-pub(super) fn enabled_said(
-    alloc: Global,
-    top: &Table,
-    place: Place,
-) -> Result<Option<String>, AllocError> {
-    let Some(row) = row(top, place) else {
-        return Ok(None);
-    };
-    let path = text_at(top, place, "path").unwrap_or("/");
-    let available = available_at(top, path);
-    let label = label(alloc, top, place)?;
-    match first_beside(texts_at(row, "enabled"), available) {
+pub(super) fn enabled_said(alloc: Global, row: &RowAt<'_>) -> Result<Option<String>, AllocError> {
+    let path = text_at(row, "path").unwrap_or("/");
+    match first_beside(texts_at(row.keys, "enabled"), available_at(row.top, path)) {
         Some(name) => {
             let above = quoted(alloc, parent_of(path))?;
             let name = quoted(alloc, name)?;
             if path == "/" {
-                Ok(Some(format!(in alloc; "{label}: {name} isn't in controllers")?))
+                Ok(Some(format!(in alloc; "{name} isn't in controllers")?))
             } else {
-                Ok(Some(format!(in alloc; "{label}: the row of '{above}' doesn't enable {name}")?))
+                Ok(Some(format!(in alloc; "the row of '{above}' doesn't enable {name}")?))
             }
         }
         None => Ok(None),
@@ -142,29 +118,20 @@ fn is_among(text: &str, others: &[Value]) -> bool {
 }
 
 /// Which limit file doesn't stand at a row's cgroup.
-pub(super) fn file_said(
-    alloc: Global,
-    top: &Table,
-    place: Place,
-) -> Result<Option<String>, AllocError> {
-    let Some(row) = row(top, place) else {
+pub(super) fn file_said(alloc: Global, row: &RowAt<'_>) -> Result<Option<String>, AllocError> {
+    let path = text_at(row, "path").unwrap_or("/");
+    let Some(Value::Table(files)) = row.keys.get("files") else {
         return Ok(None);
     };
-    let path = text_at(top, place, "path").unwrap_or("/");
-    let Some(Value::Table(files)) = row.get("files") else {
-        return Ok(None);
-    };
-    let label = label(alloc, top, place)?;
-    match first_standing_nowhere(files, path, available_at(top, path)) {
+    match first_standing_nowhere(files, path, available_at(row.top, path)) {
+        Some((name, _)) if path == "/" => {
+            Ok(Some(format!(in alloc; "{name} never stands at the root")?))
+        }
         Some((name, controller)) => {
             let above = quoted(alloc, parent_of(path))?;
-            if path == "/" {
-                Ok(Some(format!(in alloc; "{label}: {name} never stands at the root")?))
-            } else {
-                Ok(Some(format!(in alloc;
-                    "{label}: {name} doesn't stand there: the row of '{above}' doesn't enable {controller}"
-                )?))
-            }
+            Ok(Some(format!(in alloc;
+                "{name} doesn't stand there: the row of '{above}' doesn't enable {controller}"
+            )?))
         }
         None => Ok(None),
     }
@@ -195,14 +162,12 @@ fn controller_of(file: &str) -> Option<&'static str> {
 /// What is wrong with the place of a process.
 pub(super) fn place_said(
     alloc: Global,
-    top: &Table,
-    place: Place,
+    row: &RowAt<'_>,
     why: &str,
 ) -> Result<Option<String>, AllocError> {
-    let Some(at) = text_at(top, place, "at") else {
+    let Some(at) = text_at(row, "at") else {
         return Ok(None);
     };
-    let label = label(alloc, top, place)?;
     let shown = quoted(alloc, at)?;
-    Ok(Some(format!(in alloc; "{label}: {shown} {why}")?))
+    Ok(Some(format!(in alloc; "{shown} {why}")?))
 }

@@ -1,6 +1,6 @@
 //! A key that is missing, unknown or of the wrong type.
 use crate::shown::quoted;
-use crate::trees::table::{label, row, shown_value};
+use crate::trees::table::{RowAt, shown_value};
 use cg_text::tree::Place;
 use std::alloc::{AllocError, Global};
 use toml::{Table, Value};
@@ -75,21 +75,13 @@ fn keys_of(place: Place) -> &'static [Key] {
     }
 }
 
-pub(super) fn shape_said(
-    alloc: Global,
-    top: &Table,
-    place: Place,
-) -> Result<Option<String>, AllocError> {
-    let label = label(alloc, top, place)?;
-    let Some(table) = row(top, place) else {
-        return Ok(Some(format!(in alloc; "{label} isn't a table")?));
-    };
-    if let Some(why) = keys_said(alloc, table, keys_of(place))? {
-        return Ok(Some(format!(in alloc; "{label}: {why}")?));
+pub(super) fn shape_said(alloc: Global, row: &RowAt<'_>) -> Result<Option<String>, AllocError> {
+    if let Some(why) = keys_said(alloc, row.keys, keys_of(row.place))? {
+        return Ok(Some(why));
     }
-    match inner_said(alloc, table)? {
-        Some(why) => Ok(Some(format!(in alloc; "{label}: {why}")?)),
-        None => Ok(Some(format!(in alloc; "{label}: in format 1 there is no key gid")?)),
+    match inner_said(alloc, row.keys)? {
+        Some(why) => Ok(Some(why)),
+        None => Ok(Some(String::from_str(alloc, "in format 1 there is no key gid")?)),
     }
 }
 

@@ -16,6 +16,14 @@ pub(super) fn rows<'a>(top: &'a Table, key: &str) -> &'a [Value] {
     }
 }
 
+/// A row of a tree's document, or its top table.
+#[derive(Clone, Copy)]
+pub(super) struct RowAt<'a> {
+    pub top: &'a Table,
+    pub place: Place,
+    pub keys: &'a Table,
+}
+
 /// The row at a place, or the top table.
 pub(super) fn row<'a>(top: &'a Table, place: Place) -> Option<&'a Table> {
     match place {
@@ -55,12 +63,16 @@ pub(super) fn paths_of_rows(alloc: Global, top: &Table) -> Result<BTreeSet<Strin
 }
 
 fn path_of(row: &Table) -> Option<&str> {
-    row.get("path")?.as_str()
+    text_of(row, "path")
 }
 
 /// The text at a key of a row.
-pub(super) fn text_at<'a>(top: &'a Table, place: Place, key: &str) -> Option<&'a str> {
-    row(top, place)?.get(key)?.as_str()
+pub(super) fn text_at<'a>(row: &RowAt<'a>, key: &str) -> Option<&'a str> {
+    text_of(row.keys, key)
+}
+
+fn text_of<'a>(keys: &'a Table, key: &str) -> Option<&'a str> {
+    keys.get(key)?.as_str()
 }
 
 /// The texts of an array at a key.
@@ -75,7 +87,11 @@ pub(super) fn label(alloc: Global, top: &Table, place: Place) -> Result<String, 
         Place::Cgroup(number) => ("cgroup", number, "path"),
         Place::Process(number) => ("process", number, "at"),
     };
-    match text_at(top, place, key) {
+    let text = match row(top, place) {
+        Some(keys) => text_of(keys, key),
+        None => None,
+    };
+    match text {
         Some(text) => {
             let shown = quoted(alloc, text)?;
             format!(in alloc; "row {number} of {kind}, {key} '{shown}'")

@@ -1,6 +1,6 @@
 //! Operations on trees worked out by hand: the delegation example of the kernel's document, with uid 1 in place of uid 0.
-use crate::ops::{chmod, control, exit, fork, mkdir, moved, rmdir, set};
-use crate::trees::fixtures::{ALL, Owners, delegate, populate, root_alone};
+use crate::tests::ops::{chmod, control, exit, fork, mkdir, moved, rmdir, set};
+use crate::tests::trees::fixtures::{ALL, Owners, delegate, populate, root_alone};
 use cg_cgroup::files::{Controller, EntryName, Limit, LimitFile};
 use cg_cgroup::path::Path;
 use cg_cgroup::process::Pid;

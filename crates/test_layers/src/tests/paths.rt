@@ -1,5 +1,5 @@
 //! Paths.
-use crate::files::NAMED;
+use crate::tests::files::NAMED;
 use cg_cgroup::path::{Path, PathFault};
 use std::alloc::{AllocError, Global};
 use std::cmp::Ordering;
@@ -83,15 +83,14 @@ fn expect_reserved(rt: &impl Abort, alloc: Global, name: &str) -> Result<(), Fai
 
 #[test]
 fn reserved_names(rt: HostRuntime) -> Result<(), Fail> {
-    // of files that aren't limit files
+    for (_, name) in NAMED {
+        expect_reserved(&rt, rt.alloc(), name)?;
+    }
     for name in [
         "cgroup.controllers",
         "cgroup.procs",
         "cgroup.subtree_control",
     ] {
-        expect_reserved(&rt, rt.alloc(), name)?;
-    }
-    for (_, name) in NAMED {
         expect_reserved(&rt, rt.alloc(), name)?;
     }
     Ok(())

@@ -13,11 +13,15 @@ returns-then-starts_with c =
 pub returns-in-Ok : goal.returns-in-Ok
 returns-in-Ok c =
     let first = starts_char 43 c.args.word.now c.starts_with.result c.starts_with.ensures.cases (lit< tt) (lit< tt) in
-    let read = id_parsed c.args.word.now c.parse.result (λ e. both_ways c.starts_with.result c.if-starts_with.false (first.1 e)) c.parse.ensures.value.0 in
+    let read =
+    id_parsed c.args.word.now c.parse.result (λ e. both_ways c.starts_with.result c.if-starts_with.false (first.1 e))
+    c.parse.ensures.value.0 in
     rw (← read, c.in-Ok.is) refl
 
 pub returns-in-Err : goal.returns-in-Err
 returns-in-Err c =
     let first = starts_char 43 c.args.word.now c.starts_with.result c.starts_with.ensures.cases (lit< tt) (lit< tt) in
-    let read = id_parsed c.args.word.now c.parse.result (λ e. both_ways c.starts_with.result c.if-starts_with.false (first.1 e)) c.parse.ensures.value.0 in
+    let read =
+    id_parsed c.args.word.now c.parse.result (λ e. both_ways c.starts_with.result c.if-starts_with.false (first.1 e))
+    c.parse.ensures.value.0 in
     rw (← read, c.in-Err.is) refl

@@ -10,6 +10,7 @@ use Rattle.arguments.proofs.request.number.Goals as goal
 
 pub returns : goal.returns
 returns c =
-    let read = number_is (λ word r. ParsesUnsigned 32 10 word r × ExplainsUnsignedError 10 word r × HasUnsignedDigitsIfOk word r) (λ word r h. h.0)
+    let read =
+    number_is (λ word r. ParsesUnsigned 32 10 word r × ExplainsUnsignedError 10 word r × HasUnsignedDigitsIfOk word r) (λ word r h. h.0)
     (one_text (found_of c.args.matches.now) c.args.name.now) c.get_one.result c.get_one.ensures.none c.get_one.ensures.value in
     c.ok_or.ensures.value ∙ ap (λ (o : Option ℕ). ok_or o Usage) read

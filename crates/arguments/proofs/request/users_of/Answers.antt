@@ -14,6 +14,8 @@ loop-word-preserved c =
     let none : Bor (List ℕ) = record { ref_ptr = (0, 0); now = [] } in
     let front = map ids_of c.loop-word.users.items in
     let at = words_from {B = Bor (List ℕ)} (λ word. word.now) words i none c.loop-word-test.true in
-    let more = read_more user_at front (get_or words i none).now (map (λ word. word.now) (drop (i + 1) words)) (ids_of c.in_ok-from_word.field-0) _ c.in_ok-from_word.ensures
+    let more =
+    read_more user_at front (get_or words i none).now (map (λ word. word.now) (drop (i + 1) words)) (ids_of c.in_ok-from_word.field-0) _
+    c.in_ok-from_word.ensures
     (ap (λ (ws : List (List ℕ)). with_front front (all_read user_at ws)) (sym at) ∙ c.loop-word.invariant) in
     rw (c.in_ok-push.ensures.items, map-append) more

@@ -9,7 +9,8 @@ use Rattle.commands.proofs.RequestLaws.{unread}
 use Rattle.commands.proofs.run.replayed.Goals as goal
 
 -- what is left of a reader behind a buffer in which nothing was read yet
-remaining-fresh : {T A : Type 0} (reader : BufReader T A) (below : T) (remaining : T → Option (List ℕ)) → reader_inner reader ≡ below → reader_buffer reader ≡ [] → reader_capacity reader ≡ 8192 → reader_remaining remaining reader ≡ remaining below
+remaining-fresh : {T A : Type 0} (reader : BufReader T A) (below : T) (remaining : T → Option (List ℕ)) → reader_inner reader ≡ below
+    → reader_buffer reader ≡ [] → reader_capacity reader ≡ 8192 → reader_remaining remaining reader ≡ remaining below
 remaining-fresh reader below remaining inner empty capacity =
     ap (λ (size : ℕ). if size == 0 then None else prepend_known (reader_buffer reader) (remaining (reader_inner reader))) capacity
     ∙ ap (λ (held : List ℕ). prepend_known held (remaining (reader_inner reader))) empty
@@ -22,6 +23,8 @@ returns-in_default g c =
 
 pub returns : goal.returns
 returns g c =
-    let before = remaining-fresh c.in-Ok.ops _ (λ kept. g.O.Read.remaining kept.inner.inner) c.in-Ok.ensures.inner c.in-Ok.ensures.empty c.in-Ok.ensures.capacity in
+    let before =
+    remaining-fresh c.in-Ok.ops _ (λ kept. g.O.Read.remaining kept.inner.inner) c.in-Ok.ensures.inner c.in-Ok.ensures.empty
+    c.in-Ok.ensures.capacity in
     let said = rw (c.ids-replayer.ensures.uid, c.ids-replayer.ensures.gids) at c.replay_from-ended.ensures.replays in
     (said.0, said.1, inl (_, rw before at said.2))

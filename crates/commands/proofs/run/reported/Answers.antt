@@ -2,4 +2,8 @@ use Rattle.commands.proofs.BufferedLaws.{CarriesOut-Keeps}
 use Rattle.commands.proofs.run.reported.Goals as goal
 
 pub returns-clause-carried : goal.returns-clause-carried
-returns-clause-carried g c = (c.carried_out-ended.result, CarriesOut-Keeps c.args.request.now _ _ _ _ c.carried_out-ended.result c.carried_out-ended.ensures c.flushed.ensures.kept, c.flushed.ensures.ended)
+returns-clause-carried g c = (
+  c.carried_out-ended.result,
+  CarriesOut-Keeps c.args.request.now _ _ _ _ c.carried_out-ended.result c.carried_out-ended.ensures c.flushed.ensures.kept,
+  c.flushed.ensures.ended,
+)

@@ -4,7 +4,8 @@ use Rattle.commands.proofs.run.upgrade.Goals as goal
 
 pub returns-in_err-tree : goal.returns-in_err-tree
 returns-in_err-tree g c =
-    inr (unread_by (g.W.Write.contents c.args.out.now) c.in_err-tree.field-0.0 c.from_residual.result c.from_residual.ensures.1 c.in_err-tree.ensures.fault)
+    inr (unread_by (g.W.Write.contents c.args.out.now) c.in_err-tree.field-0.0 c.from_residual.result c.from_residual.ensures.1
+    c.in_err-tree.ensures.fault)
 
 pub returns : goal.returns
 returns g c =

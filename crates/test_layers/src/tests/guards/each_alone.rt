@@ -1,6 +1,6 @@
 //! Each entry on which a guard of `/a/b` stands, as the only one that user 1000 reaches: by writing, and by owning.
-use crate::files::NAMED;
-use crate::guards::trees::first_failed;
+use crate::tests::files::NAMED;
+use crate::tests::guards::trees::first_failed;
 use cg_cgroup::user::User;
 use cg_model::guard::{Failed, Guard};
 use cg_rows::rows::Rows;

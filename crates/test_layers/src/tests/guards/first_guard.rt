@@ -1,5 +1,5 @@
 //! The first guard that fails for user 1000, on trees worked out by hand.
-use crate::guards::trees::{
+use crate::tests::guards::trees::{
     MEMORY_MAX_OWNED, ROOM_FOR_ONE, ROOT, ROOT_CONTROL_OWNED, ROOT_DIR_OWNED, ROOT_PROCS_OPEN,
     first_failed, tree_with,
 };

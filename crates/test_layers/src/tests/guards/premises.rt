@@ -1,6 +1,6 @@
 //! What a guarded user's step keeps it doesn't keep without the guard: for each guard a tree in which it alone fails, and
 //! an operation after which a part of that is false.
-use crate::guards::trees::{
+use crate::tests::guards::trees::{
     MEMORY_MAX_OWNED, ROOM_FOR_ONE, ROOT_CONTROL_OWNED, ROOT_DIR_OWNED, ROOT_PROCS_OPEN,
     first_failed, tree_with,
 };

@@ -1,5 +1,5 @@
 //! How many cgroups lie below one, while cgroups are made and removed below it.
-use crate::trees::fixtures::{Owners, add, delegation, path, remove};
+use crate::tests::trees::fixtures::{Owners, add, delegation, path, remove};
 use cg_cgroup::path::PathFault;
 use cg_indexed::indexed::Indexed;
 use cg_tree::hierarchy::Hierarchy;

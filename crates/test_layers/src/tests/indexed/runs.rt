@@ -1,6 +1,6 @@
 //! Random runs on both kinds of trees.
-use crate::indexed::alike::hold;
-use crate::indexed::random::{PIDS, operation, paths};
+use crate::tests::indexed::alike::hold;
+use crate::tests::indexed::random::{PIDS, operation, paths};
 use cg_cgroup::cgroup::Cgroup;
 use cg_cgroup::files::ControllerSet;
 use cg_cgroup::memory::NoMemory;

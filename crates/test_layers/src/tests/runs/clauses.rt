@@ -1,5 +1,5 @@
 //! Each clause, at the start where it can be broken there, and at a later step where it can be broken there.
-use crate::runs::trees::{SAME, replay_with, verdict_after};
+use crate::tests::runs::trees::{SAME, replay_with, verdict_after};
 use cg_cgroup::process::Pid;
 use cg_model::verdict::{Clause, Verdict};
 use std::test::Fail;

@@ -1,5 +1,5 @@
 //! What a replay refuses to begin with, what it counts and where it ends.
-use crate::runs::trees::{replay_of, verdict_after};
+use crate::tests::runs::trees::{replay_of, verdict_after};
 use cg_cgroup::path::Path;
 use cg_cgroup::user::User;
 use cg_lines::lines::read_op;

@@ -1,5 +1,5 @@
 //! Operation lines, read and written.
-use crate::ops::{chmod, control, exit, fork, mkdir, moved, rmdir, set};
+use crate::tests::ops::{chmod, control, exit, fork, mkdir, moved, rmdir, set};
 use cg_cgroup::files::{Controller, EntryName, Limit, LimitFile};
 use cg_lines::lines::{LONGEST_LINE, LineFault, op_text, read_op};
 use cg_model::operation::Op;

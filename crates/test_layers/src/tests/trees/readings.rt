@@ -1,5 +1,5 @@
 //! What any tree answers, compared with what is wanted.
-use crate::trees::fixtures::path;
+use crate::tests::trees::fixtures::path;
 use cg_cgroup::files::{Controller, ControllerSet, EntryName, Limit, LimitFile};
 use cg_cgroup::memory::NoMemory;
 use cg_cgroup::path::Path;

@@ -6,4 +6,5 @@ use Rattle.cg_text.proofs.tree.said.controllers_at.Given as goal
 
 abbrev pub invariant-loop-element : goal.invariant-loop-element
 invariant-loop-element l =
-    controllers_from l.controllers (filter_map as_str (map view (drop l.element-index l.elements))) ≡ controllers_said l.key (table_view l.table)
+    controllers_from l.controllers (filter_map as_str (map view (drop l.element-index l.elements)))
+    ≡ controllers_said l.key (table_view l.table)

@@ -1,0 +1,13 @@
+//! The tests, by what they are of.
+mod cgroups;
+mod files;
+mod guards;
+mod indexed;
+mod operations;
+mod ops;
+mod paths;
+mod processes;
+mod runs;
+mod texts;
+mod trees;
+mod users;
