@@ -24,7 +24,7 @@ pub unbroken_within : (st : State) (subtree : Names) → has_row st subtree ≡ 
 unbroken_within st subtree there within = λ i.
     unless (there i) Gone
     ++ map Crossed (filter-none (λ pid. is_crossed subtree (place_at st pid) (place_at st pid)) (pids_of st)
-      (λ pid. uncrossed subtree (place_at st pid)) i)
+    (λ pid. uncrossed subtree (place_at st pid)) i)
     ++ unless (same_limits-itself (limits st subtree) i) LimitsChanged
     ++ unless (fits.0 i) Descendants
     ++ unless (fits.1 i) Depth
