@@ -3,7 +3,8 @@ use Rattle.std.proofs.Common.{◌≡◌, ℕ, Bool, false, ◌+◌, ◌<◌, ◌
 use Rattle.std.specs.Prelude.{filter_map}
 use Rattle.std.specs.Option.{option_or}
 use Rattle.std.specs.List.{list_all, cons_option}
-use Rattle.std.proofs.lemmas.Bool.{and_parts}
+use Rattle.std.proofs.lemmas.Bool.{and_parts, true≢false, true_from_ne_false}
+use Rattle.std.proofs.lemmas.List.Folds.{list_all_at}
 use Rattle.std.proofs.lemmas.List.{drop_more, take_more, take_all, drop_all, length-map, get_or-map}
 use Rattle.cg_cgroup.proofs.Options.{some_value}
 use Rattle.cg_text.specs.Form.{Key, is_table}
@@ -139,6 +140,15 @@ module _ (clauses : List Members → Place → Members → List TreeFault) (plac
     (are : list_all (λ held. is_some (as_table (view held))) elements ≡ true) where
   abbrev pub tables_of : List Members
   tables_of = filter_map as_table (map view elements)
+
+  -- the table that an element is
+  pub table_at : (i : ℕ) (element : Value) → i < length elements → element ≡ get_or elements i element
+      → (table : Members) × (Some table ≡ as_table (view element))
+  table_at i element within there =
+      let is : Value → Bool = λ held. is_some (as_table (view held)) in
+      let so = true_from_ne_false (is (get_or elements i element)) (λ no. true≢false (sym are ∙ list_all_at is elements i element within no)) in
+      let some = some_value (as_table (view element)) (ap is there ∙ so) in
+      (some.0, sym some.1)
 
   module _ (i : ℕ) (table : Members) (number : ℕ) (next : IsNextTable elements i table number) where
     seen : table_seen next.element ≡ table

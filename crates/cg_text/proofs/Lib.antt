@@ -3,6 +3,7 @@ pub mod TextLaws
 pub mod OnceLaws
 pub mod KeysOnce
 pub mod TablesSay
+pub mod TakenLaws
 pub mod CgroupClauses
 pub mod LiveLaws
 pub mod DocumentOfLaws

@@ -23,7 +23,7 @@ pub use fault::{Place, TreeFault};
 use form::in_form;
 use processes::processes_of;
 use row::rows_of;
-use said::{controllers_at, elements_at};
+use said::{controllers_at, elements_at, take_elements};
 use std::alloc::Global;
 use toml::Table;
 use walk::walked;
@@ -48,17 +48,18 @@ fn document_of(alloc: Global, bytes: &[u8]) -> Result<Table, TreeFault>
 }
 
 /// The tree that a document says, or the document's first fault.
-fn tree_of(alloc: Global, document: &Table) -> Result<Rows, TreeFault>
-    ensures { MatchResult result (λ rows. IsDocumentOf rows (table_view document.now))
-        (λ fault. fault ≢ TreeFault.NoMemory → first (document_faults (table_view document.now)) ≡ Some fault) }
+fn tree_of(alloc: Global, mut document: Table) -> Result<Rows, TreeFault>
+    ensures { MatchResult result (λ rows. IsDocumentOf rows (table_view document))
+        (λ fault. fault ≢ TreeFault.NoMemory → first (document_faults (table_view document)) ≡ Some fault) }
 {
-    let format = in_form(document)?;
-    let controllers = controllers_at(document, "controllers").ok_or(TreeFault::BadController(
+    let format = in_form(&document)?;
+    let controllers = controllers_at(&document, "controllers").ok_or(TreeFault::BadController(
         Place::Top,
     ))?;
-    let rows = rows_of(alloc, format, elements_at(document, "cgroup"))?;
+    // a row of the document is dropped once it is read
+    let rows = rows_of(alloc, format, take_elements(alloc, &mut document, "cgroup"))?;
     let cgroups = PathTable::from_sorted(walked(alloc, rows, controllers)?);
-    let processes = processes_of(alloc, &cgroups, elements_at(document, "process"))?;
+    let processes = processes_of(alloc, &cgroups, elements_at(&document, "process"))?;
     Ok(Rows::from_tables(cgroups, processes, controllers))
 }
 
@@ -73,5 +74,5 @@ pub fn read_tree(alloc: Global, bytes: &[u8]) -> Result<Rows, TreeFault>
         return Err(TreeFault::TooLong);
     }
     let document = document_of(alloc, bytes)?;
-    tree_of(alloc, &document)
+    tree_of(alloc, document)
 }

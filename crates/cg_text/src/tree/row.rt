@@ -1,8 +1,8 @@
 //! A cgroup's row, read into what the tree keeps of it.
-ghost use Rattle.std.specs.Prelude.{◌≡◌, ◌≤◌, true, length, map, filter_map, is_some};
+ghost use Rattle.std.specs.Prelude.{◌≡◌, ◌≤◌, true, length, map, filter_map, Some, is_some};
 ghost use Rattle.std.specs.Option.{option_map};
 ghost use Rattle.std.specs.List.{list_all};
-ghost use Rattle.toml.specs.Data.{as_table};
+ghost use Rattle.toml.specs.Data.{Members, as_table};
 ghost use Rattle.toml.specs.View.{view, table_view};
 ghost use Rattle.cg_cgroup.specs.declared.files.EntryName.TheVariants.{File};
 ghost use Rattle.cg_model.specs.Clauses.{first};
@@ -155,19 +155,29 @@ fn row_of(alloc: Global, format: Format, number: u32, table: &Table) -> Result<R
     })
 }
 
-/// The rows of cgroups' tables, or the first fault of the first that has one.
-pub fn rows_of(alloc: Global, format: Format, elements: &[Value]) -> Result<Vec<Row>, TreeFault>
-    requires few { length elements.now ≤ 4096 }
-    requires tables { list_all (λ held. is_some (as_table (view held))) elements.now ≡ true }
-    ensures { Passes (λ rows. AreReadAs format 1 (filter_map as_table (map view elements.now)) rows.items)
-        (first (each_cgroup (λ _. row_faults format) (filter_map as_table (map view elements.now)))) result }
+/// The row of an element that is a cgroup's table, or its first fault.
+fn row_in(alloc: Global, format: Format, number: u32, element: Value) -> Result<Row, TreeFault>
+    requires { is_some (as_table (view element)) ≡ true }
+    ensures { (table : Members) → Some table ≡ as_table (view element)
+        → Passes (IsReadAs format number table) (first (row_faults format (AtCgroup number) table)) result }
+{
+    let Some(table) = element.as_table() else {
+        unreachable!()
+    };
+    row_of(alloc, format, number, table)
+}
+
+/// The rows of cgroups' tables, or the first fault of the first that has one. A table is dropped once it is read.
+pub fn rows_of(alloc: Global, format: Format, elements: Vec<Value>) -> Result<Vec<Row>, TreeFault>
+    requires few { length elements.items ≤ 4096 }
+    requires tables { list_all (λ held. is_some (as_table (view held))) elements.items ≡ true }
+    ensures { Passes (λ rows. AreReadAs format 1 (filter_map as_table (map view elements.items)) rows.items)
+        (first (each_cgroup (λ _. row_faults format) (filter_map as_table (map view elements.items)))) result }
 {
     let mut rows = Vec::with_capacity(alloc, elements.len())?;
-    for (index, element) in elements.iter().enumerate() {
-        let Some(table) = element.as_table() else {
-            unreachable!()
-        };
-        rows.push(row_of(alloc, format, row_number(index), table)?)?;
+    for element in elements {
+        let number = row_number(rows.len());
+        rows.push(row_in(alloc, format, number, element)?)?;
     }
     Ok(rows)
 }

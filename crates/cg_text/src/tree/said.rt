@@ -1,6 +1,8 @@
 //! What a table says at its keys, as far as it is in range.
-ghost use Rattle.std.specs.Prelude.{◌≡◌, map, Some, option_and_then};
+ghost use Rattle.std.specs.Prelude.{◌≡◌, ℕ, List, false, map, Some, option_and_then};
 ghost use Rattle.std.specs.Option.{option_map, option_copied};
+ghost use Rattle.std.specs.Ordering.{is_eq, nat_cmp};
+ghost use Rattle.std.specs.Cmp.Lexicographic.{slice_cmp};
 ghost use Rattle.cg_model.specs.Clauses.{first, absent};
 ghost use Rattle.toml.specs.Data.{get_member, as_array};
 ghost use Rattle.toml.specs.View.{view, array_view, table_view};
@@ -40,6 +42,27 @@ pub fn elements_at<'a>(table: &'a Table, key: &str) -> &'a [Value]
     match array_at(table, key) {
         None => &[],
         Some(items) => items.as_slice(),
+    }
+}
+
+/// Takes the elements of the array at a key out of a table; there are none where it is left out.
+pub fn take_elements(alloc: Global, table: &mut Table, key: &str) -> Vec<Value>
+    ensures taken { map view result.items ≡ elements_at key.now (table_view table.old) }
+    ensures others { (other : List ℕ) → is_eq (slice_cmp nat_cmp other key.now) ≡ false
+        → get_member other (table_view table.new) ≡ get_member other (table_view table.old) }
+{
+    match table.remove(key) {
+        None => Vec::new(alloc),
+        Some(value) => array_of(value).unwrap_or(Vec::new(alloc)),
+    }
+}
+
+fn array_of(value: Value) -> Option<Array>
+    ensures { option_map array_view result ≡ as_array (view value) }
+{
+    match value {
+        Value::Array(items) => Some(items),
+        _ => None,
     }
 }
 

@@ -1,44 +1,50 @@
-use Rattle.std.proofs.Common.{◌≡◌, filter_map, codes, Some, None, ap, sym, subst, ◌∙◌}
+use Rattle.std.proofs.Common.{◌≡◌, map, refl, filter_map, codes, Some, None, ap, sym, subst, ◌∙◌}
 use Rattle.std.proofs.lemmas.Result.{err_from_is_err_and}
 use Rattle.std.specs.List.{list_all}
 use Rattle.toml.specs.Data.{as_table}
-use Rattle.toml.specs.View.{table_view}
+use Rattle.toml.specs.View.{view, table_view}
 use Rattle.cg_model.specs.Clauses.{first}
 use Rattle.cg_text.specs.Form.{row_keys, live_keys, is_table}
-use Rattle.cg_text.specs.Said.{tables_at, controllers_said}
+use Rattle.cg_text.specs.Said.{elements_at, tables_at, controllers_said}
 use Rattle.cg_text.specs.TextFaults.{each_cgroup, row_faults, cgroup_faults}
 use Rattle.cg_text.specs.Walk.{AreEntriesOf}
 use Rattle.cg_text.specs.declared.tree.fault.Place.TheVariants.{Top}
 use Rattle.cg_text.specs.declared.tree.fault.TreeFault.TheVariants.{BadController}
 use Rattle.cg_text.proofs.DocumentOfLaws.{among_these, formed_of, document_is_of}
 use Rattle.cg_text.proofs.DocumentInTurn.{form_fault, controllers_fault, row_fault, cgroup_fault, process_fault, missing_is, all_tables}
+use Rattle.cg_text.proofs.TakenLaws.{elements_stay}
 use Rattle.cg_text.proofs.tree.tree_of.Goals as goal
-use Rattle.cg_text.proofs.tree.tree_of.Goals.{In_ok-controllers, In_ok-rows, In_ok-walked}
+use Rattle.cg_text.proofs.tree.tree_of.Goals.{In_ok-controllers, In_ok-rows, In_ok-walked, After-elements_at}
 
 -- ---- what has been read
 
 named : (c : In_ok-controllers)
-    → controllers_said (codes "controllers") (table_view c.args.document.now) ≡ Some c.in_ok-controllers.controllers
+    → controllers_said (codes "controllers") (table_view c.args.document) ≡ Some c.in_ok-controllers.controllers
 named c = sym c.controllers_at.ensures ∙ c.in_ok-controllers.ensures.ok_part
 
 alone : (c : In_ok-rows)
-    → first (each_cgroup (λ _. row_faults c.in_ok-format.format) (tables_at (codes "cgroup") (table_view c.args.document.now))) ≡ None
-alone c = rw c.elements_at.ensures at c.in_ok-rows.ensures.0
+    → first (each_cgroup (λ _. row_faults c.in_ok-format.format) (tables_at (codes "cgroup") (table_view c.args.document))) ≡ None
+alone c = rw c.take_elements.ensures.taken at c.in_ok-rows.ensures.0
 
 walked : (c : In_ok-walked)
-    → (first (cgroup_faults (Some c.in_ok-controllers.controllers) (tables_at (codes "cgroup") (table_view c.args.document.now))) ≡ None)
-    × AreEntriesOf c.in_ok-format.format (tables_at (codes "cgroup") (table_view c.args.document.now)) c.in_ok-walked.field-0.items
+    → (first (cgroup_faults (Some c.in_ok-controllers.controllers) (tables_at (codes "cgroup") (table_view c.args.document))) ≡ None)
+    × AreEntriesOf c.in_ok-format.format (tables_at (codes "cgroup") (table_view c.args.document)) c.in_ok-walked.field-0.items
 walked c =
     subst (λ tables. (first (cgroup_faults (Some c.in_ok-controllers.controllers) tables) ≡ None)
-    × AreEntriesOf c.in_ok-format.format tables c.in_ok-walked.field-0.items) (ap (filter_map as_table) c.elements_at.ensures)
+    × AreEntriesOf c.in_ok-format.format tables c.in_ok-walked.field-0.items) (ap (filter_map as_table) c.take_elements.ensures.taken)
     (c.in_ok-walked.ensures c.in_ok-format.format _ c.in_ok-rows.ensures.1)
+
+-- the processes are those of the whole document
+lives : (c : After-elements_at) → map view c.elements_at.result.now ≡ elements_at (codes "process") (table_view c.args.document)
+lives c = c.elements_at.ensures ∙ elements_stay (codes "process") (table_view c.take_elements.new.table) (table_view c.args.document)
+    (c.take_elements.ensures.others (codes "process") refl)
 
 -- ---- the goals
 
 pub returns-in_err-format : goal.returns-in_err-format
 returns-in_err-format c =
     let p = err_from_is_err_and c.from_residual.result c.from_residual.ensures.1 in
-    rw (p.1, p.2) (λ other. form_fault (table_view c.args.document.now) c.in_err-format.field-0.0 (c.in_err-format.ensures other))
+    rw (p.1, p.2) (λ other. form_fault (table_view c.args.document) c.in_err-format.field-0.0 (c.in_err-format.ensures other))
 
 pub returns-in_err-controllers : goal.returns-in_err-controllers
 returns-in_err-controllers c =
@@ -47,67 +53,67 @@ returns-in_err-controllers c =
     let same = missing_is c.controllers_at.result (BadController Top) c.in_err-controllers.field-0.0
     (sym c.in_err-controllers.ensures.value) none in
     rw (p.1, p.2) (λ _.
-    controllers_fault (table_view c.args.document.now) c.in_ok-format.format c.in_ok-format.ensures.0 c.in_ok-format.ensures.1
+    controllers_fault (table_view c.args.document) c.in_ok-format.format c.in_ok-format.ensures.0 c.in_ok-format.ensures.1
     (sym c.controllers_at.ensures ∙ none)
     ∙ ap Some (sym same))
 
 pub rows_of-requires-clause-tables : goal.rows_of-requires-clause-tables
 rows_of-requires-clause-tables c =
-    all_tables (row_keys c.in_ok-format.format) c.elements_at.result.now
-    (ap (list_all (is_table (row_keys c.in_ok-format.format))) c.elements_at.ensures ∙ c.in_ok-format.ensures.1.cgroups)
+    all_tables (row_keys c.in_ok-format.format) c.take_elements.result.items
+    (ap (list_all (is_table (row_keys c.in_ok-format.format))) c.take_elements.ensures.taken ∙ c.in_ok-format.ensures.1.cgroups)
 
 pub returns-in_err-rows : goal.returns-in_err-rows
 returns-in_err-rows c =
     let p = err_from_is_err_and c.from_residual-in_err-rows.result c.from_residual-in_err-rows.ensures.1 in
     rw (p.1, p.2) (λ other.
-    row_fault (table_view c.args.document.now) c.in_ok-format.format c.in_ok-format.ensures.0 c.in_ok-format.ensures.1 _
-    (named (goal.at.returns-in_err-rows c).In_ok-controllers) _ (rw c.elements_at.ensures at (c.in_err-rows.ensures other)))
+    row_fault (table_view c.args.document) c.in_ok-format.format c.in_ok-format.ensures.0 c.in_ok-format.ensures.1 _
+    (named (goal.at.returns-in_err-rows c).In_ok-controllers) _ (rw c.take_elements.ensures.taken at (c.in_err-rows.ensures other)))
 
 pub returns-in_err-walked : goal.returns-in_err-walked
 returns-in_err-walked c =
     let p = err_from_is_err_and c.from_residual-in_err-walked.result c.from_residual-in_err-walked.ensures.1 in
     rw (p.1, p.2) (λ other.
-    cgroup_fault (table_view c.args.document.now) c.in_ok-format.format c.in_ok-format.ensures.0 c.in_ok-format.ensures.1 _
+    cgroup_fault (table_view c.args.document) c.in_ok-format.format c.in_ok-format.ensures.0 c.in_ok-format.ensures.1 _
     (named (goal.at.returns-in_err-walked c).In_ok-controllers) _ (alone (goal.at.returns-in_err-walked c).In_ok-rows)
-    (sym (ap (λ tables. first (cgroup_faults (Some c.in_ok-controllers.controllers) (filter_map as_table tables))) c.elements_at.ensures)
+    (sym (ap (λ tables. first (cgroup_faults (Some c.in_ok-controllers.controllers) (filter_map as_table tables))) c.take_elements.ensures.taken)
     ∙ c.in_err-walked.ensures c.in_ok-format.format _ c.in_ok-rows.ensures.1 other))
 
 pub processes_of-requires-clause-tables : goal.processes_of-requires-clause-tables
 processes_of-requires-clause-tables c =
-    all_tables live_keys c.elements_at-2.result.now
-    (ap (list_all (is_table live_keys)) c.elements_at-2.ensures ∙ c.in_ok-format.ensures.1.processes)
+    all_tables live_keys c.elements_at.result.now
+    (ap (list_all (is_table live_keys)) (lives (goal.at.processes_of-requires-clause-tables c).After-elements_at) ∙ c.in_ok-format.ensures.1.processes)
 
 pub returns-in_err-processes : goal.returns-in_err-processes
 returns-in_err-processes c =
     let p = err_from_is_err_and c.from_residual-in_err-processes.result c.from_residual-in_err-processes.ensures.1 in
     let read = alone (goal.at.returns-in_err-processes c).In_ok-rows in
     let entries = walked (goal.at.returns-in_err-processes c).In_ok-walked in
-    let document = table_view c.args.document.now in
+    let document = table_view c.args.document in
     let among = among_these c.in_ok-format.format document c.in_ok-controllers.controllers c.in_ok-walked.field-0.items read entries _
     c.from_sorted-cgroups.ensures in
     rw (p.1, p.2) (λ other.
     process_fault document c.in_ok-format.format c.in_ok-format.ensures.0 c.in_ok-format.ensures.1 _
     (named (goal.at.returns-in_err-processes c).In_ok-controllers) _ read entries.0
-    (rw c.elements_at-2.ensures at (c.in_err-processes.ensures _ among other)))
+    (rw (lives (goal.at.returns-in_err-processes c).After-elements_at) at (c.in_err-processes.ensures _ among other)))
 
 pub from_tables-requires : goal.from_tables-requires
 from_tables-requires c =
     let read = alone (goal.at.from_tables-requires c).In_ok-rows in
     let entries = walked (goal.at.from_tables-requires c).In_ok-walked in
-    let document = table_view c.args.document.now in
+    let document = table_view c.args.document in
     let among = among_these c.in_ok-format.format document c.in_ok-controllers.controllers c.in_ok-walked.field-0.items read entries _
     c.from_sorted-cgroups.ensures in
     formed_of c.in_ok-format.format document c.in_ok-controllers.controllers c.in_ok-walked.field-0.items read entries
-    c.in_ok-processes.processes (rw c.elements_at-2.ensures at (c.in_ok-processes.ensures _ among)) _ c.from_sorted-cgroups.ensures
+    c.in_ok-processes.processes (rw (lives (goal.at.from_tables-requires c).After-elements_at) at (c.in_ok-processes.ensures _ among)) _ c.from_sorted-cgroups.ensures
 
 pub returns : goal.returns
 returns c =
     let read = alone (goal.at.returns c).In_ok-rows in
     let entries = walked (goal.at.returns c).In_ok-walked in
-    let document = table_view c.args.document.now in
+    let document = table_view c.args.document in
     let among = among_these c.in_ok-format.format document c.in_ok-controllers.controllers c.in_ok-walked.field-0.items read entries _
     c.from_sorted-cgroups.ensures in
     document_is_of c.in_ok-format.format document c.in_ok-controllers.controllers c.in_ok-walked.field-0.items read entries
-    c.in_ok-processes.processes (rw c.elements_at-2.ensures at (c.in_ok-processes.ensures _ among)) _ c.from_sorted-cgroups.ensures
+    c.in_ok-processes.processes (rw (lives (goal.at.returns c).After-elements_at) at (c.in_ok-processes.ensures _ among)) _ c.from_sorted-cgroups.ensures
     c.in_ok-format.ensures.1
     (named (goal.at.returns c).In_ok-controllers) c.from_tables.result c.from_tables.ensures
