@@ -1,5 +1,5 @@
 -- The document of a tree that is kept, and that a text can carry, is one of the tree's state, and so is each text of that document.
-use Rattle.std.proofs.Common.{◌≡◌, ◌≢◌, ℕ, ◌≤◌, ◌<◌, Bool, true, false, cond, nat_le, List, [], ◌∷◌, length, take, map as map_list, codes, Ordering, Option, Some, None, is_some, Result, Ok, Err, MatchResult, refl, sym, ap, subst, ◌∙◌, true≢false, arith}
+use Rattle.std.proofs.Common.{◌≡◌, ℕ, ◌≤◌, Bool, true, false, cond, List, [], ◌∷◌, length, take, map as map_list, codes, Ordering, Option, Some, None, is_some, refl, sym, ap, subst, ◌∙◌, arith}
 use Rattle.std.specs.Prelude.{count_by, filter_map, nat_eq}
 use Rattle.std.specs.List.{AllByRecursion, list_all}
 use Rattle.std.specs.Ordering.{nat_cmp, eq_by_cmp}
@@ -7,7 +7,6 @@ use Rattle.std.specs.Cmp.{IsTotalOrder, nat_cmp_total, unsigned_ties}
 use Rattle.std.specs.FinMap as finite
 use Rattle.std.specs.FinMap.{FinMap, IsAntisymmetric, get, entries, find, nat_cmp-IsAntisymmetric}
 use Rattle.std.proofs.lemmas.Bool.{and_from}
-use Rattle.std.proofs.lemmas.Bool.Decides.{nat_tests}
 use Rattle.std.proofs.lemmas.List.{map-id, length-map}
 use Rattle.toml.specs.Data.{Members, table, as_table}
 use Rattle.cg_cgroup.specs.Paths.{Names, path_cmp, same_path}
@@ -16,20 +15,16 @@ use Rattle.cg_cgroup.specs.declared.process.Process.{Process}
 use Rattle.cg_cgroup.proofs.PathOrder.{path_cmp_total, path_cmp-IsAntisymmetric, same_path-ties}
 use Rattle.cg_model.specs.States.{State, row_at, process_at}
 use Rattle.cg_model.specs.WellFormed.{enabled_above}
-use Rattle.cg_model.specs.Clauses.{first}
 use Rattle.cg_steps.proofs.FormedParts.{may_hold-row}
 use Rattle.cg_steps.proofs.Lists.{all-both, all-each}
-use Rattle.cg_text.specs.Form.{Key, is_table, row_keys, live_keys}
-use Rattle.cg_text.specs.Said.{tables_at, path_said, has_path, pid_said}
-use Rattle.cg_text.specs.TextOf.{IsInForm, IsRowOf, IsProcessOf, has_pid, IsDocumentOf, IsTextOf}
-use Rattle.cg_text.specs.TextFaults.{text_faults}
-use Rattle.cg_text.specs.TreeTexts.{longest_text, document_of}
-use Rattle.cg_text.specs.declared.tree.fault.TreeFault.{TreeFault}
-use Rattle.cg_text.specs.declared.tree.fault.TreeFault.TheVariants.{TooLong, NoMemory}
-use Rattle.cg_text.specs.declared.tree.format.Format.TheVariants.{Two}
-use Rattle.cg_text.proofs.OnceLaws.{IsFresh, counted_is, counted_same, counted-map, fresh_once, once_counted}
-use Rattle.cg_print.specs.Documents.{cgroup_table, process_table, tree_document, IsSpelled}
-use Rattle.cg_print.specs.Carried.{IsNamedRow, IsNamedProcess, IsKept, IsCarried, IsTooLong}
+use Rattle.cg_format.specs.Form.{Key, is_table, row_keys, live_keys}
+use Rattle.cg_format.specs.Said.{tables_at, path_said, has_path, pid_said}
+use Rattle.cg_format.specs.TextOf.{IsInForm, IsRowOf, IsProcessOf, has_pid, IsDocumentOf, IsTextOf}
+use Rattle.cg_format.specs.TreeTexts.{longest_text, document_of}
+use Rattle.cg_format.specs.declared.format.Format.TheVariants.{Two}
+use Rattle.cg_format.proofs.OnceLaws.{IsFresh, counted_is, counted_same, counted-map, fresh_once, once_counted}
+use Rattle.cg_print.specs.Documents.{cgroup_table, process_table, tree_document}
+use Rattle.cg_print.specs.Carried.{IsNamedRow, IsNamedProcess, IsKept, IsCarried}
 use Rattle.cg_print.proofs.Entries.{none_before, entries_there, held_there}
 use Rattle.cg_print.proofs.FormBack.{cgroup_in_form, process_in_form, top_in_form}
 use Rattle.cg_print.proofs.SaidBack.{path_back, enabled_back, entry_back, value_back, files_back, pid_back, uid_back, place_back, format_back, controllers_back, cgroups_back, processes_back}
@@ -169,34 +164,3 @@ pub text_back : (text : List ℕ) (st : State) → document_of text ≡ Some (tr
     → length text ≤ longest_text → IsTextOf st text
 text_back text st parsed kept carried short =
     record { short = short; document = tree_document st; parsed = parsed; says = document_back st kept carried }
-
-passes : (n m : ℕ) → nat_le n m ≡ true → n ≤ m
-passes n m is = grind (arith, nat_tests)
-
-fails : (n m : ℕ) → nat_le n m ≡ false → m < n
-fails n m is = grind (arith, nat_tests)
-
--- what a reader may answer of a text that has a state, unless it is too long
-abbrev IsAnswer : State → Result State TreeFault → Type 0
-IsAnswer st result = MatchResult result (λ rows. rows ≡ st) (λ fault. fault ≢ NoMemory → (fault ≡ TooLong) × IsTooLong st)
-
--- what is read of a text
-abbrev IsRead : List ℕ → Result State TreeFault → Type 0
-IsRead text result = MatchResult result (λ rows. IsTextOf rows text) (λ fault. fault ≢ NoMemory → first (text_faults text) ≡ Some fault)
-
--- a text is of one state, and then has no fault
-module _ (text : List ℕ) (st : State) (one : (rows other : State) → IsTextOf rows text → IsTextOf other text → rows ≡ other)
-    (no_fault : IsTextOf st text → text_faults text ≡ []) where
-  by_read : (result : Result State TreeFault) → IsTextOf st text → IsRead text result → IsAnswer st result
-  by_read (Ok rows) is read = one rows st read is
-  by_read (Err fault) is read = λ other. absurd (true≢false (ap is_some (sym (read other) ∙ ap first (no_fault is))))
-
-  pub read_again : (result : Result State TreeFault) → IsSpelled st text → (length text ≤ longest_text → IsTextOf st text)
-      → (longest_text < length text → result ≡ Err TooLong) → IsRead text result → IsAnswer st result
-  read_again result spelled state too_long read =
-      elim (nat_le (length text) longest_text) as (λ b. nat_le (length text) longest_text ≡ b → IsAnswer st result) [
-        | true ↦ λ is. by_read result (state (passes (length text) longest_text is)) read
-        | false ↦ λ is.
-            let over = fails (length text) longest_text is in
-            subst (IsAnswer st) (sym (too_long over)) (λ _. (refl, (text, spelled, over)))
-      ] refl

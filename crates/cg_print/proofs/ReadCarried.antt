@@ -10,10 +10,10 @@ use Rattle.toml.specs.Data.{Data, Members, as_table}
 use Rattle.cg_cgroup.proofs.PathOrder.{path_cmp_total, path_cmp-IsAntisymmetric}
 use Rattle.cg_model.specs.States.{State}
 use Rattle.cg_steps.proofs.Lists.{all-each}
-use Rattle.cg_text.specs.Said.{elements_at, tables_at, has_path}
-use Rattle.cg_text.specs.TextOf.{IsRowOf, IsProcessOf, has_pid, IsTextOf}
-use Rattle.cg_text.specs.declared.tree.format.Format.{Format}
-use Rattle.cg_text.proofs.OnceLaws.{counted, counted_is}
+use Rattle.cg_format.specs.Said.{elements_at, tables_at, has_path}
+use Rattle.cg_format.specs.TextOf.{IsRowOf, IsProcessOf, has_pid, IsTextOf}
+use Rattle.cg_format.specs.declared.format.Format.{Format}
+use Rattle.cg_format.proofs.OnceLaws.{counted, counted_is}
 use Rattle.cg_print.specs.Carried.{IsCarried}
 use Rattle.cg_print.proofs.DocumentBack.{path_ties, pid_ties}
 

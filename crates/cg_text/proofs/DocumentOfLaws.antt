@@ -28,17 +28,17 @@ use Rattle.cg_model.specs.WellFormed.{has_row, enabled_at, enabled_above, availa
 use Rattle.cg_steps.proofs.ClauseLaws.{none_of_first}
 use Rattle.cg_rows.specs.Processes.{LiveAndUsed}
 use Rattle.cg_rows.specs.RowsForm.{state_of_tables}
-use Rattle.cg_text.specs.Said.{tables_at, integer_at, path_said, controllers_said, mode_missing, limit_of, accepted, id_read, mode_read, table_of, entry_said, value_said, is_named, has_path, pid_said}
-use Rattle.cg_text.specs.TextOf.{IsInForm, IsRowOf, IsProcessOf, has_pid, IsDocumentOf}
-use Rattle.cg_text.specs.TextFaults.{each_cgroup, each_process, row_faults, is_there, enabled_there, over, cgroup_faults, process_faults}
+use Rattle.cg_format.specs.Said.{tables_at, integer_at, path_said, controllers_said, mode_missing, limit_of, accepted, id_read, mode_read, table_of, entry_said, value_said, is_named, has_path, pid_said}
+use Rattle.cg_format.specs.TextOf.{IsInForm, IsRowOf, IsProcessOf, has_pid, IsDocumentOf}
+use Rattle.cg_format.specs.TextFaults.{each_cgroup, each_process, row_faults, is_there, enabled_there, over, cgroup_faults, process_faults}
 use Rattle.cg_text.specs.Walk.{IsEntryOf, AreEntriesOf}
 use Rattle.cg_text.specs.Live.{IsAmong, IsLive, AreProcesses}
-use Rattle.cg_text.specs.declared.tree.fault.Place.TheVariants.{Cgroup as AtCgroup, Process as AtProcess}
-use Rattle.cg_text.specs.declared.tree.format.Format.{Format}
-use Rattle.cg_text.proofs.Cuts.{is_some-find}
-use Rattle.cg_text.proofs.SaidRanges.{mode_small, entry_as, accepted_is}
-use Rattle.cg_text.proofs.KeysOnce.{none_at, all_rows, found_at, IsOnce, key_had, once_found, once_counted}
-use Rattle.cg_text.proofs.TablesSay.{row_says, StandsAmong, stands_among, root_there, SaysProcess, process_says}
+use Rattle.cg_format.specs.declared.fault.Place.TheVariants.{Cgroup as AtCgroup, Process as AtProcess}
+use Rattle.cg_format.specs.declared.format.Format.{Format}
+use Rattle.cg_format.proofs.Cuts.{is_some-find}
+use Rattle.cg_format.proofs.SaidRanges.{mode_small, entry_as, accepted_is}
+use Rattle.cg_format.proofs.KeysOnce.{none_at, all_rows, found_at, IsOnce, key_had, once_found, once_counted}
+use Rattle.cg_format.proofs.TablesSay.{row_says, StandsAmong, stands_among, root_there, SaysProcess, process_says}
 
 -- ---- what is said is in range
 

@@ -24,14 +24,14 @@ use Rattle.cg_cgroup.specs.declared.cgroup.LimitEntry.{LimitEntry}
 use Rattle.cg_cgroup.specs.declared.cgroup.Cgroup.{Cgroup}
 use Rattle.cg_cgroup.proofs.Options.{same_some}
 use Rattle.cg_cgroup.proofs.PathOrder.{path_cmp_total, same_path-ties, same_path_refl}
-use Rattle.cg_text.specs.Said.{has_path}
-use Rattle.cg_text.specs.TextFaults.{over}
+use Rattle.cg_format.specs.Said.{has_path}
+use Rattle.cg_format.specs.TextFaults.{over}
 use Rattle.cg_text.specs.Rows.{IsReadAs, AreReadAs}
 use Rattle.cg_text.specs.Walk.{has_met, over_in, fitted_to, entries_from, HasTested, least_fault, AreInOrder, IsNext, IsEntryOf, AreEntriesOf}
-use Rattle.cg_text.specs.declared.tree.format.Format.{Format}
+use Rattle.cg_format.specs.declared.format.Format.{Format}
 use Rattle.cg_text.specs.declared.tree.row.Row.{Row}
 use Rattle.cg_text.specs.declared.tree.walk.Least.{Least}
-use Rattle.cg_text.proofs.Cuts.{head_of, find_filter, any_filter}
+use Rattle.cg_format.proofs.Cuts.{head_of, find_filter, any_filter}
 use Rattle.cg_text.proofs.LeastLaws.{at_path, AreMatched, read_found, there_is, over_is, AreSameRows, same_rows, AreOnce, once_from, once_moved, over_before}
 
 -- ---- the keys of the entries

@@ -29,19 +29,19 @@ use Rattle.cg_model.specs.States.{State}
 use Rattle.cg_steps.proofs.ClauseLaws.{no_parts, no_unless}
 use Rattle.cg_rows.specs.Processes.{LiveAndUsed}
 use Rattle.cg_rows.specs.RowsForm.{state_of_tables}
-use Rattle.cg_text.specs.Said.{tables_at, path_said, format_said, entry_said, is_named, has_path, pid_said}
-use Rattle.cg_text.specs.TextOf.{has_pid, IsDocumentOf, IsTextOf}
-use Rattle.cg_text.specs.TextFaults.{form_faults, said_faults, row_faults, over, cgroup_faults, process_faults, document_faults, text_faults}
-use Rattle.cg_text.specs.TreeTexts.{longest_text}
+use Rattle.cg_format.specs.Said.{tables_at, path_said, format_said, entry_said, is_named, has_path, pid_said}
+use Rattle.cg_format.specs.TextOf.{has_pid, IsDocumentOf, IsTextOf}
+use Rattle.cg_format.specs.TextFaults.{form_faults, said_faults, row_faults, over, cgroup_faults, process_faults, document_faults, text_faults}
+use Rattle.cg_format.specs.TreeTexts.{longest_text}
 use Rattle.cg_text.specs.Rows.{IsReadAs}
 use Rattle.cg_text.specs.Walk.{fitted_to, IsEntryOf, AreEntriesOf}
 use Rattle.cg_text.specs.Live.{IsLive, AreProcesses}
-use Rattle.cg_text.specs.declared.tree.format.Format.{Format}
+use Rattle.cg_format.specs.declared.format.Format.{Format}
 use Rattle.cg_text.specs.declared.tree.row.Row.{Row}
-use Rattle.cg_text.specs.declared.tree.fault.Place.TheVariants.{Cgroup as AtCgroup, Process as AtProcess}
-use Rattle.cg_text.proofs.KeysOnce.{five_none, absent_none, none_say}
-use Rattle.cg_text.proofs.TablesSay.{SaysCgroup, row_says, SaysProcess, process_says}
-use Rattle.cg_text.proofs.FormClauses.{at_most, in_form}
+use Rattle.cg_format.specs.declared.fault.Place.TheVariants.{Cgroup as AtCgroup, Process as AtProcess}
+use Rattle.cg_format.proofs.KeysOnce.{five_none, absent_none, none_say}
+use Rattle.cg_format.proofs.TablesSay.{SaysCgroup, row_says, SaysProcess, process_says}
+use Rattle.cg_format.proofs.FormClauses.{at_most, in_form}
 use Rattle.cg_text.proofs.PairsOf.{pairs_of, pair_there, pair_found}
 use Rattle.cg_text.proofs.EntriesLaws.{read_entry}
 use Rattle.cg_text.proofs.DocumentOfLaws.{found_by_path, document_is_of}

@@ -21,10 +21,10 @@ use Rattle.cg_cgroup.specs.Texts as texts
 use Rattle.cg_cgroup.specs.declared.files.LimitFile.{LimitFile}
 use Rattle.cg_cgroup.specs.declared.files.EntryName.{EntryName}
 use Rattle.cg_cgroup.specs.declared.files.EntryName.TheVariants.{Dir, Procs, SubtreeControl, File}
-use Rattle.cg_text.specs.Form.{Key, must_have, may_have, are_among, fits_at, is_table, document_keys, owner_keys, limit_keys, file_keys_of, row_keys, live_keys, is_text, is_integer, are_texts}
+use Rattle.cg_format.specs.Form.{Key, must_have, may_have, are_among, fits_at, is_table, document_keys, owner_keys, limit_keys, file_keys_of, row_keys, live_keys, is_text, is_integer, are_texts}
 use Rattle.cg_text.specs.Keys.{flat_keys, takes, takes_all, allows_at, allows, allows_table}
-use Rattle.cg_text.specs.declared.tree.format.Format.{Format}
-use Rattle.cg_text.specs.declared.tree.format.Format.TheVariants.{One, Two}
+use Rattle.cg_format.specs.declared.format.Format.{Format}
+use Rattle.cg_format.specs.declared.format.Format.TheVariants.{One, Two}
 use Rattle.cg_text.specs.declared.tree.form.FlatTable.{FlatTable}
 use Rattle.cg_text.specs.declared.tree.form.FlatTable.TheVariants.{Document, Process, Owner, Limit}
 

@@ -14,12 +14,12 @@ use Rattle.cg_cgroup.specs.declared.cgroup.Cgroup.{Cgroup}
 use Rattle.cg_cgroup.specs.declared.process.Process.{Process}
 use Rattle.cg_model.specs.Clauses.{unless, absent, present}
 use Rattle.cg_rows.specs.Processes.{LiveAndUsed}
-use Rattle.cg_text.specs.Said.{path_said, has_path, pid_said, uid_said}
-use Rattle.cg_text.specs.TextOf.{has_pid}
-use Rattle.cg_text.specs.TextFaults.{is_there, enabled_there}
-use Rattle.cg_text.specs.declared.tree.fault.Place.{Place}
-use Rattle.cg_text.specs.declared.tree.fault.TreeFault.{TreeFault}
-use Rattle.cg_text.specs.declared.tree.fault.TreeFault.TheVariants.{NoSuchPlace, InternalProcess}
+use Rattle.cg_format.specs.Said.{path_said, has_path, pid_said, uid_said}
+use Rattle.cg_format.specs.TextOf.{has_pid}
+use Rattle.cg_format.specs.TextFaults.{is_there, enabled_there}
+use Rattle.cg_format.specs.declared.fault.Place.{Place}
+use Rattle.cg_format.specs.declared.fault.TreeFault.{TreeFault}
+use Rattle.cg_format.specs.declared.fault.TreeFault.TheVariants.{NoSuchPlace, InternalProcess}
 
 -- the cgroups are those of these tables, and enable what these say
 pub record IsAmong (tables : List Members) (cgroups : map.FinMap path_cmp Cgroup) : Type 0 where

@@ -17,12 +17,12 @@ use Rattle.cg_cgroup.specs.declared.files.LimitFile.{LimitFile}
 use Rattle.cg_cgroup.specs.declared.files.LimitFile.TheVariants.{CpuWeight, MemoryMin, MemoryLow, MemoryHigh, MemoryMax, PidsMax}
 use Rattle.cg_cgroup.specs.declared.cgroup.LimitEntry.{LimitEntry}
 use Rattle.cg_cgroup.specs.declared.cgroup.Cgroup.{Cgroup}
-use Rattle.cg_text.specs.Said.{path_said, controllers_said, entry_said, value_said, has_path}
-use Rattle.cg_text.specs.TextFaults.{is_there, over}
-use Rattle.cg_text.specs.declared.tree.format.Format.{Format}
-use Rattle.cg_text.specs.declared.tree.fault.Place.TheVariants.{Cgroup as AtCgroup}
-use Rattle.cg_text.specs.declared.tree.fault.TreeFault.{TreeFault}
-use Rattle.cg_text.specs.declared.tree.fault.TreeFault.TheVariants.{Duplicate, NoRoot, NoParent, TopDown, NoSuchFile}
+use Rattle.cg_format.specs.Said.{path_said, controllers_said, entry_said, value_said, has_path}
+use Rattle.cg_format.specs.TextFaults.{is_there, over}
+use Rattle.cg_format.specs.declared.format.Format.{Format}
+use Rattle.cg_format.specs.declared.fault.Place.TheVariants.{Cgroup as AtCgroup}
+use Rattle.cg_format.specs.declared.fault.TreeFault.{TreeFault}
+use Rattle.cg_format.specs.declared.fault.TreeFault.TheVariants.{Duplicate, NoRoot, NoParent, TopDown, NoSuchFile}
 use Rattle.cg_text.specs.declared.tree.row.Row.{Row}
 use Rattle.cg_text.specs.declared.tree.walk.Above.{Above}
 use Rattle.cg_text.specs.declared.tree.walk.Least.{Least}

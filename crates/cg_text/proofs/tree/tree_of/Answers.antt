@@ -4,12 +4,12 @@ use Rattle.std.specs.List.{list_all}
 use Rattle.toml.specs.Data.{as_table}
 use Rattle.toml.specs.View.{table_view}
 use Rattle.cg_model.specs.Clauses.{first}
-use Rattle.cg_text.specs.Form.{row_keys, live_keys, is_table}
-use Rattle.cg_text.specs.Said.{tables_at, controllers_said}
-use Rattle.cg_text.specs.TextFaults.{each_cgroup, row_faults, cgroup_faults}
+use Rattle.cg_format.specs.Form.{row_keys, live_keys, is_table}
+use Rattle.cg_format.specs.Said.{tables_at, controllers_said}
+use Rattle.cg_format.specs.TextFaults.{each_cgroup, row_faults, cgroup_faults}
 use Rattle.cg_text.specs.Walk.{AreEntriesOf}
-use Rattle.cg_text.specs.declared.tree.fault.Place.TheVariants.{Top}
-use Rattle.cg_text.specs.declared.tree.fault.TreeFault.TheVariants.{BadController}
+use Rattle.cg_format.specs.declared.fault.Place.TheVariants.{Top}
+use Rattle.cg_format.specs.declared.fault.TreeFault.TheVariants.{BadController}
 use Rattle.cg_text.proofs.DocumentOfLaws.{among_these, formed_of, document_is_of}
 use Rattle.cg_text.proofs.DocumentInTurn.{form_fault, controllers_fault, row_fault, cgroup_fault, process_fault, missing_is, all_tables}
 use Rattle.cg_text.proofs.tree.tree_of.Goals as goal

@@ -26,11 +26,11 @@ use Rattle.cg_cgroup.proofs.PathOrder.{path_cmp_total, path_cmp-IsAntisymmetric,
 use Rattle.cg_cgroup.proofs.CgroupLaws.{SameRest, same_cgroup}
 use Rattle.cg_model.specs.States.{State, row_at, process_at}
 use Rattle.cg_model.specs.WellFormed.{has_row, enabled_at, enabled_above, IsWellFormed}
-use Rattle.cg_text.specs.Said.{tables_at, text_at, integer_at, path_said, pid_said, pid_read, number_or, has_path}
-use Rattle.cg_text.specs.TextOf.{IsRowOf, IsProcessOf, has_pid, IsDocumentOf, IsTextOf}
-use Rattle.cg_text.specs.declared.tree.format.Format.{Format}
-use Rattle.cg_text.proofs.Cuts.{head_of, find_filter}
-use Rattle.cg_text.proofs.SaidRanges.{passed}
+use Rattle.cg_format.specs.Said.{tables_at, text_at, integer_at, path_said, pid_said, pid_read, number_or, has_path}
+use Rattle.cg_format.specs.TextOf.{IsRowOf, IsProcessOf, has_pid, IsDocumentOf, IsTextOf}
+use Rattle.cg_format.specs.declared.format.Format.{Format}
+use Rattle.cg_format.proofs.Cuts.{head_of, find_filter}
+use Rattle.cg_format.proofs.SaidRanges.{passed}
 
 -- ---- what is found
 

@@ -1,0 +1,10 @@
+pub mod OnceLaws
+pub mod Cuts
+pub mod KeysOnce
+pub mod CgroupClauses
+pub mod TablesSay
+pub mod FormClauses
+pub mod SaidRanges
+pub mod OneState
+pub mod NoFaults
+pub mod OneReading

@@ -1,0 +1,23 @@
+-- A text is read as one thing at most.
+use Rattle.std.proofs.Common.{◌≡◌, ℕ, List, Some, is_some, Ok, Err, sym, ap, ◌∙◌, true≢false}
+use Rattle.cg_model.specs.Clauses.{first}
+use Rattle.cg_model.specs.States.{State}
+use Rattle.cg_cgroup.proofs.Options.{same_some}
+use Rattle.cg_format.specs.Readings.{Reading, IsReading}
+use Rattle.cg_format.specs.TextOf.{IsTextOf}
+use Rattle.cg_format.specs.TextFaults.{text_faults}
+use Rattle.cg_format.specs.declared.fault.TreeFault.{TreeFault}
+use Rattle.cg_format.proofs.OneState.{one_state}
+use Rattle.cg_format.proofs.NoFaults.{no_faults}
+
+-- a text that is of a state has no first fault
+no_first : (bytes : List ℕ) (st : State) (fault : TreeFault) → IsTextOf st bytes → first (text_faults bytes) ≡ Some fault
+    → Ok st ≡ Err fault
+no_first bytes st fault is found =
+    absurd (true≢false (sym (ap is_some found) ∙ ap (λ faults. is_some (first faults)) (no_faults bytes st is)))
+
+pub one_reading : (bytes : List ℕ) (tree other : Reading) → IsReading bytes tree → IsReading bytes other → tree ≡ other
+one_reading bytes (Ok st) (Ok other) is also = ap Ok (one_state bytes st other is also)
+one_reading bytes (Ok st) (Err fault) is also = no_first bytes st fault is also
+one_reading bytes (Err fault) (Ok st) is also = sym (no_first bytes st fault also is)
+one_reading bytes (Err fault) (Err other) is also = ap Err (same_some fault other (sym is ∙ also))

@@ -1,0 +1,26 @@
+//! What holds of every tree text by the format's words alone. The contract of each function is the law; none does anything.
+ghost use Rattle.std.specs.Prelude.{◌≡◌, ℕ, true, List, [], is_some};
+ghost use Rattle.cg_cgroup.specs.Paths.{Names, IsPath};
+ghost use Rattle.cg_cgroup.specs.Numbers.{is_pid};
+ghost use Rattle.cg_model.specs.States.{State, process_at};
+ghost use Rattle.cg_model.specs.WellFormed.{has_row};
+ghost use Rattle.cg_format.specs.TextOf.{IsTextOf};
+ghost use Rattle.cg_format.specs.TextFaults.{text_faults};
+ghost use Rattle.cg_format.specs.Readings.{Reading, IsReading};
+
+/// In a text that is of a state none of the clauses finds a fault, and it is of no other.
+pub fn texts_are_of_one_state()
+    ensures fault { (bytes : List ℕ) (st : State) → IsTextOf st bytes → text_faults bytes ≡ [] }
+    ensures one { (bytes : List ℕ) (st other : State) → IsTextOf st bytes → IsTextOf other bytes → st ≡ other }
+{}
+
+/// A text is read as one thing at most.
+pub fn readings_are_one()
+    ensures { (bytes : List ℕ) (tree other : Reading) → IsReading bytes tree → IsReading bytes other → tree ≡ other }
+{}
+
+/// In the state of a text each cgroup stands at a path, and each live process has a PID.
+pub fn states_are_named()
+    ensures paths { (bytes : List ℕ) (st : State) (path : Names) → IsTextOf st bytes → has_row st path ≡ true → IsPath path }
+    ensures pids { (bytes : List ℕ) (st : State) (pid : ℕ) → IsTextOf st bytes → is_some (process_at st pid) ≡ true → is_pid pid ≡ true }
+{}
