@@ -8,8 +8,7 @@ use Rattle.cg_format.specs.TextOf.{IsTextOf}
 use Rattle.cg_format.specs.TextFaults.{text_faults}
 use Rattle.cg_format.specs.declared.fault.TreeFault.{TreeFault}
 use Rattle.cg_format.specs.declared.fault.TreeFault.TheVariants.{NoMemory}
-use Rattle.cg_format.proofs.OneReading.{one_reading}
-use Rattle.cg_text.proofs.ReadingLaws.{a_reading}
+use Rattle.cg_format.proofs.ReadingLaws.{a_reading, one_reading}
 
 pub reading_of : List ℕ → Reading
 reading_of bytes = (a_reading bytes).0

@@ -7,4 +7,7 @@ pub mod FormClauses
 pub mod SaidRanges
 pub mod OneState
 pub mod NoFaults
-pub mod OneReading
+pub mod PairsOf
+pub mod DocumentOfLaws
+pub mod StateOf
+pub mod ReadingLaws

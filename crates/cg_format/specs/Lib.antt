@@ -4,3 +4,4 @@ pub mod TreeTexts
 pub mod TextOf
 pub mod TextFaults
 pub mod Readings
+pub mod Tables

@@ -8,15 +8,17 @@ ghost use Rattle.cg_format.specs.TextOf.{IsTextOf};
 ghost use Rattle.cg_format.specs.TextFaults.{text_faults};
 ghost use Rattle.cg_format.specs.Readings.{Reading, IsReading};
 
-/// In a text that is of a state none of the clauses finds a fault, and it is of no other.
-pub fn texts_are_of_one_state()
+/// A text is of a state exactly where none of the clauses finds a fault in it, and of one at most.
+pub fn texts_are_of_states()
     ensures fault { (bytes : List ℕ) (st : State) → IsTextOf st bytes → text_faults bytes ≡ [] }
+    ensures state { (bytes : List ℕ) → text_faults bytes ≡ [] → (st : State) × IsTextOf st bytes }
     ensures one { (bytes : List ℕ) (st other : State) → IsTextOf st bytes → IsTextOf other bytes → st ≡ other }
 {}
 
-/// A text is read as one thing at most.
-pub fn readings_are_one()
-    ensures { (bytes : List ℕ) (tree other : Reading) → IsReading bytes tree → IsReading bytes other → tree ≡ other }
+/// A text is read as one thing: the state that it is of, or the first of its faults.
+pub fn texts_are_read()
+    ensures some { (bytes : List ℕ) → (tree : Reading) × IsReading bytes tree }
+    ensures one { (bytes : List ℕ) (tree other : Reading) → IsReading bytes tree → IsReading bytes other → tree ≡ other }
 {}
 
 /// In the state of a text each cgroup stands at a path, and each live process has a PID.

@@ -1,7 +1,6 @@
 pub mod SaidLaws
 pub mod TextLaws
 pub mod LiveLaws
-pub mod DocumentOfLaws
 pub mod DocumentInTurn
 pub mod RowLaws
 pub mod EachRow
@@ -12,6 +11,3 @@ pub mod EntriesLaws
 pub mod LeastNumbers
 pub mod LeastLaws
 pub mod WalkEnd
-pub mod PairsOf
-pub mod StateOf
-pub mod ReadingLaws

@@ -7,10 +7,11 @@ use Rattle.cg_model.specs.Clauses.{first}
 use Rattle.cg_format.specs.Form.{row_keys, live_keys, is_table}
 use Rattle.cg_format.specs.Said.{tables_at, controllers_said}
 use Rattle.cg_format.specs.TextFaults.{each_cgroup, row_faults, cgroup_faults}
-use Rattle.cg_text.specs.Walk.{AreEntriesOf}
+use Rattle.cg_format.specs.TextOf.{IsDocumentOf}
+use Rattle.cg_format.specs.Tables.{AreEntriesOf}
 use Rattle.cg_format.specs.declared.fault.Place.TheVariants.{Top}
 use Rattle.cg_format.specs.declared.fault.TreeFault.TheVariants.{BadController}
-use Rattle.cg_text.proofs.DocumentOfLaws.{among_these, formed_of, document_is_of}
+use Rattle.cg_format.proofs.DocumentOfLaws.{among_these, document_is_of}
 use Rattle.cg_text.proofs.DocumentInTurn.{form_fault, controllers_fault, row_fault, cgroup_fault, process_fault, missing_is, all_tables}
 use Rattle.cg_text.proofs.tree.tree_of.Goals as goal
 use Rattle.cg_text.proofs.tree.tree_of.Goals.{In_ok-controllers, In_ok-rows, In_ok-walked}
@@ -97,8 +98,10 @@ from_tables-requires c =
     let document = table_view c.args.document.now in
     let among = among_these c.in_ok-format.format document c.in_ok-controllers.controllers c.in_ok-walked.field-0.items read entries _
     c.from_sorted-cgroups.ensures in
-    formed_of c.in_ok-format.format document c.in_ok-controllers.controllers c.in_ok-walked.field-0.items read entries
-    c.in_ok-processes.processes (rw c.elements_at-2.ensures at (c.in_ok-processes.ensures _ among)) _ c.from_sorted-cgroups.ensures
+    (document_is_of c.in_ok-format.format document c.in_ok-controllers.controllers c.in_ok-walked.field-0.items read entries
+    c.in_ok-processes.processes.live c.in_ok-processes.processes.used
+    (rw c.elements_at-2.ensures at (c.in_ok-processes.ensures _ among)) _ c.from_sorted-cgroups.ensures c.in_ok-format.ensures.1
+    (named (goal.at.from_tables-requires c).In_ok-controllers)).formed
 
 pub returns : goal.returns
 returns c =
@@ -107,7 +110,8 @@ returns c =
     let document = table_view c.args.document.now in
     let among = among_these c.in_ok-format.format document c.in_ok-controllers.controllers c.in_ok-walked.field-0.items read entries _
     c.from_sorted-cgroups.ensures in
-    document_is_of c.in_ok-format.format document c.in_ok-controllers.controllers c.in_ok-walked.field-0.items read entries
-    c.in_ok-processes.processes (rw c.elements_at-2.ensures at (c.in_ok-processes.ensures _ among)) _ c.from_sorted-cgroups.ensures
-    c.in_ok-format.ensures.1
-    (named (goal.at.returns c).In_ok-controllers) c.from_tables.result c.from_tables.ensures
+    subst (λ rows. IsDocumentOf rows document) (sym c.from_tables.ensures)
+    (document_is_of c.in_ok-format.format document c.in_ok-controllers.controllers c.in_ok-walked.field-0.items read entries
+    c.in_ok-processes.processes.live c.in_ok-processes.processes.used
+    (rw c.elements_at-2.ensures at (c.in_ok-processes.ensures _ among)) _ c.from_sorted-cgroups.ensures c.in_ok-format.ensures.1
+    (named (goal.at.returns c).In_ok-controllers))

@@ -1,5 +1,5 @@
--- A text is read as one thing at most.
-use Rattle.std.proofs.Common.{◌≡◌, ℕ, List, Some, is_some, Ok, Err, sym, ap, ◌∙◌, true≢false}
+-- A text is read as one thing: the state that it is of, or the first of its faults.
+use Rattle.std.proofs.Common.{◌≡◌, ℕ, List, [], ◌∷◌, Some, is_some, Ok, Err, sym, ap, ◌∙◌, true≢false, refl}
 use Rattle.cg_model.specs.Clauses.{first}
 use Rattle.cg_model.specs.States.{State}
 use Rattle.cg_cgroup.proofs.Options.{same_some}
@@ -9,6 +9,16 @@ use Rattle.cg_format.specs.TextFaults.{text_faults}
 use Rattle.cg_format.specs.declared.fault.TreeFault.{TreeFault}
 use Rattle.cg_format.proofs.OneState.{one_state}
 use Rattle.cg_format.proofs.NoFaults.{no_faults}
+use Rattle.cg_format.proofs.StateOf.{state_of_text}
+
+pub a_reading : (bytes : List ℕ) → (tree : Reading) × IsReading bytes tree
+a_reading bytes =
+    elim (text_faults bytes) as (λ (faults : List TreeFault). text_faults bytes ≡ faults → (tree : Reading) × IsReading bytes tree) [
+      | [] ↦ λ none.
+          let made = state_of_text bytes none in
+          (Ok made.0, made.1)
+      | fault ∷ faults ↦ λ is. (Err fault, ap first is)
+    ] refl
 
 -- a text that is of a state has no first fault
 no_first : (bytes : List ℕ) (st : State) (fault : TreeFault) → IsTextOf st bytes → first (text_faults bytes) ≡ Some fault
