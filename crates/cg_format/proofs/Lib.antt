@@ -1,4 +1,3 @@
-pub mod OnceLaws
 pub mod Cuts
 pub mod KeysOnce
 pub mod CgroupClauses
