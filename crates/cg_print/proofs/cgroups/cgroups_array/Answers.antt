@@ -19,7 +19,8 @@ loop-path-preserved g c =
     more path_cmp_total (g.H.Hierarchy.state c.args.tree.now).rows c.deref-path-items.result.now
     (c.deref-path-items.ensures.value ∙ c.in_ok-paths.ensures) c.loop-path.path-index c.path-item.result c.loop-path-test.true
     c.path-item.is (λ path row. table (cgroup_table path row)) IsNamedRow c.loop-path.values.items c.push.new.self.items
-    c.in_ok-cgroup_value.field-0 c.in_ok-push.ensures.items c.loop-path.invariant c.in_ok-cgroup_value.ensures.written c.in_ok-cgroup_value.ensures.named
+    c.in_ok-cgroup_value.field-0 c.in_ok-push.ensures.items c.loop-path.invariant
+    c.in_ok-cgroup_value.ensures.written c.in_ok-cgroup_value.ensures.named
 
 pub returns : goal.returns
 returns g c =

@@ -19,7 +19,8 @@ loop-pid-preserved g c =
     more nat_cmp_total (g.H.Hierarchy.state c.args.tree.now).live c.deref-pid-items.result.now
     (c.deref-pid-items.ensures.value ∙ c.in_ok-pids.ensures) c.loop-pid.pid-index c.pid-item.result c.loop-pid-test.true
     c.pid-item.is (λ pid process. table (process_table pid process)) IsNamedProcess c.loop-pid.values.items c.push.new.self.items
-    c.in_ok-process_value.field-0 c.in_ok-push.ensures.items c.loop-pid.invariant c.in_ok-process_value.ensures.written c.in_ok-process_value.ensures.named
+    c.in_ok-process_value.field-0 c.in_ok-push.ensures.items c.loop-pid.invariant
+    c.in_ok-process_value.ensures.written c.in_ok-process_value.ensures.named
 
 pub returns : goal.returns
 returns g c =
