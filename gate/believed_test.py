@@ -315,11 +315,11 @@ class Repository(unittest.TestCase):
     def test_contained_is_of_runs_alone(self):
         reached = self.reached("cg_model::specs::Held::IsContained")
         self.assertLessEqual({("cg_model", "verdict"), ("cg_model", "bars"), ("cg_model", "Op"), ("cg_model", "State")}, reached)
-        self.assertFalse({"cg_text", "cg_check", "cg_tries", "cg_indexed"} & {crate for crate, _ in reached})
+        self.assertFalse({"cg_format", "cg_text", "cg_check", "cg_tries", "cg_indexed"} & {crate for crate, _ in reached})
 
     def test_check_reaches_what_its_clauses_do(self):
         contained, report = (self.reached("cg_cli::check::check_bytes", it) for it in ("contained", "report"))
-        self.assertLessEqual({("cg_text", "IsTextOf"), ("cg_model", "IsContained")}, contained)
+        self.assertLessEqual({("cg_format", "IsTextOf"), ("cg_model", "IsContained")}, contained)
         self.assertNotIn(("cg_model", "tries"), contained)
         self.assertIn(("cg_model", "tries"), report)
         self.assertEqual(self.reached("cg_cli::check::check_bytes"), contained | report)

@@ -11,8 +11,8 @@ use Rattle.cg_cgroup.specs.Paths.{Names, same_path}
 use Rattle.cg_cgroup.specs.Identity.{Identity}
 use Rattle.cg_model.specs.States.{State}
 use Rattle.cg_model.specs.Clauses.{first}
-use Rattle.cg_text.specs.Readings.{Reading}
-use Rattle.cg_text.specs.TextOf.{IsTextOf}
+use Rattle.cg_format.specs.Readings.{Reading}
+use Rattle.cg_format.specs.TextOf.{IsTextOf}
 use Rattle.cg_model.specs.declared.fault.CheckFault.{CheckFault}
 use Rattle.cg_model.specs.declared.fault.CheckFault.TheVariants.{RootSubtree, NoSuchSubtree, NoMemory as CheckNoMemory}
 use Rattle.cg_model.specs.Answers.{answer}

@@ -5,7 +5,7 @@ use Rattle.cg_cgroup.specs.Identity.{Identity}
 use Rattle.cg_model.specs.States.{State}
 use Rattle.cg_model.specs.Checks.{all_checked}
 use Rattle.cg_model.specs.Several.{AreContained}
-use Rattle.cg_text.specs.Readings.{Reading}
+use Rattle.cg_format.specs.Readings.{Reading}
 use Rattle.cg_cli.specs.Asking.{read_in_turn, named_read, IsMet, IsKeptOnce}
 use Rattle.cg_cli.specs.Audits.{users_read, paths_read, audit_answer_report, pairs_report, audit_report}
 use Rattle.cg_cli.specs.Containment.{in_call}

@@ -6,9 +6,9 @@ use Rattle.cg_cgroup.specs.Users.{user_of}
 use Rattle.cg_cgroup.specs.Identity.{Identity}
 use Rattle.cg_model.specs.States.{State}
 use Rattle.cg_model.specs.Checks.{checked}
-use Rattle.cg_text.specs.Readings.{Reading}
-use Rattle.cg_text.specs.declared.tree.fault.TreeFault.{TreeFault}
-use Rattle.cg_text.specs.declared.tree.fault.TreeFault.TheVariants.{NoMemory as TreeNoMemory}
+use Rattle.cg_format.specs.Readings.{Reading}
+use Rattle.cg_format.specs.declared.fault.TreeFault.{TreeFault}
+use Rattle.cg_format.specs.declared.fault.TreeFault.TheVariants.{NoMemory as TreeNoMemory}
 use Rattle.cg_cli.specs.Arguments.{or_fault, user_read, path_read}
 use Rattle.cg_cli.specs.Asking.{asked_report, read_takes_memory, IsMet}
 use Rattle.cg_cli.specs.Containment.{in_call, answer_report, subtree_report, check_report}

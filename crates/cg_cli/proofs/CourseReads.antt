@@ -8,9 +8,9 @@ use Rattle.cg_model.specs.Verdicts.{verdict}
 use Rattle.cg_model.specs.declared.fault.CheckFault.{CheckFault}
 use Rattle.cg_model.specs.declared.fault.CheckFault.TheVariants.{RootSubtree, NoSuchSubtree, NoMemory as CheckNoMemory}
 use Rattle.cg_runs.specs.Faults.{IsFaultOf}
-use Rattle.cg_text.specs.Readings.{Reading}
-use Rattle.cg_text.specs.declared.tree.fault.TreeFault.{TreeFault}
-use Rattle.cg_text.specs.declared.tree.fault.TreeFault.TheVariants.{NoMemory as TreeNoMemory}
+use Rattle.cg_format.specs.Readings.{Reading}
+use Rattle.cg_format.specs.declared.fault.TreeFault.{TreeFault}
+use Rattle.cg_format.specs.declared.fault.TreeFault.TheVariants.{NoMemory as TreeNoMemory}
 use Rattle.cg_cli.specs.Arguments.{path_read}
 use Rattle.cg_cli.specs.Courses.{Course, Watched, course_from}
 use Rattle.cg_cli.specs.Faults.{lifted, lifted_check}

@@ -19,3 +19,4 @@ mod UpgradeReports
 pub mod ReadingOf
 mod ReportLaws
 mod CourseReads
+mod WrittenRead

@@ -3,12 +3,12 @@ use Rattle.std.proofs.Common.{◌≡◌, ◌≢◌, ℕ, List, Some, Result, Ok,
 use Rattle.cg_model.specs.States.{State}
 use Rattle.cg_model.specs.Clauses.{first}
 use Rattle.cg_text.specs.Faults.{Reads}
-use Rattle.cg_text.specs.Readings.{Reading, IsReading, OnText}
-use Rattle.cg_text.specs.TextOf.{IsTextOf}
-use Rattle.cg_text.specs.TextFaults.{text_faults}
-use Rattle.cg_text.specs.declared.tree.fault.TreeFault.{TreeFault}
-use Rattle.cg_text.specs.declared.tree.fault.TreeFault.TheVariants.{NoMemory}
-use Rattle.cg_text.proofs.ReadingLaws.{a_reading, one_reading}
+use Rattle.cg_format.specs.Readings.{Reading, IsReading, OnText}
+use Rattle.cg_format.specs.TextOf.{IsTextOf}
+use Rattle.cg_format.specs.TextFaults.{text_faults}
+use Rattle.cg_format.specs.declared.fault.TreeFault.{TreeFault}
+use Rattle.cg_format.specs.declared.fault.TreeFault.TheVariants.{NoMemory}
+use Rattle.cg_format.proofs.ReadingLaws.{a_reading, one_reading}
 
 pub reading_of : List ℕ → Reading
 reading_of bytes = (a_reading bytes).0

@@ -1,9 +1,9 @@
 -- What is written anew of a text is of the state that the text has.
 use Rattle.std.proofs.Common.{◌≡◌, ◌≢◌, ℕ, List, [], Option, Result, Ok, Err, IsErrAnd, refl, ap, sym, subst}
 use Rattle.cg_model.specs.States.{State}
-use Rattle.cg_text.specs.Readings.{Reading}
-use Rattle.cg_text.specs.declared.tree.fault.TreeFault.{TreeFault}
-use Rattle.cg_text.specs.declared.tree.fault.TreeFault.TheVariants.{NoMemory as TreeNoMemory}
+use Rattle.cg_format.specs.Readings.{Reading}
+use Rattle.cg_format.specs.declared.fault.TreeFault.{TreeFault}
+use Rattle.cg_format.specs.declared.fault.TreeFault.TheVariants.{NoMemory as TreeNoMemory}
 use Rattle.cg_print.specs.Carried.{IsCarried}
 use Rattle.cg_cli.specs.Faults.{lifted}
 use Rattle.cg_cli.specs.May.{tree_read}

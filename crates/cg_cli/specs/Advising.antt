@@ -7,7 +7,7 @@ use Rattle.cg_model.specs.Clauses.{first}
 use Rattle.cg_model.specs.declared.fault.CheckFault.{CheckFault}
 use Rattle.cg_advice.specs.AdviceLines.{advice_lines}
 use Rattle.cg_model.specs.Checks.{subtree_faults, unless_fault}
-use Rattle.cg_text.specs.Readings.{Reading}
+use Rattle.cg_format.specs.Readings.{Reading}
 use Rattle.cg_cli.specs.Arguments.{user_read, path_read}
 use Rattle.cg_cli.specs.Reports.{Report, report_on}
 use Rattle.cg_cli.specs.Containment.{in_call}

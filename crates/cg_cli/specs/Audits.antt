@@ -4,7 +4,7 @@ use Rattle.cg_cgroup.specs.Paths.{Names}
 use Rattle.cg_cgroup.specs.Identity.{Identity}
 use Rattle.cg_model.specs.States.{State}
 use Rattle.cg_model.specs.Checks.{all_checked}
-use Rattle.cg_text.specs.Readings.{Reading}
+use Rattle.cg_format.specs.Readings.{Reading}
 use Rattle.cg_model.specs.declared.answer.AllAnswer.{AllAnswer}
 use Rattle.cg_model.specs.declared.answer.AllAnswer.TheVariants.{Contained, Pair}
 use Rattle.cg_report.specs.AuditLines.{audit_text}

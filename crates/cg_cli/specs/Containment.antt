@@ -5,7 +5,7 @@ use Rattle.cg_cgroup.specs.Identity.{Identity}
 use Rattle.cg_model.specs.States.{State}
 use Rattle.cg_model.specs.declared.fault.CheckFault.{CheckFault}
 use Rattle.cg_model.specs.Checks.{checked}
-use Rattle.cg_text.specs.Readings.{Reading}
+use Rattle.cg_format.specs.Readings.{Reading}
 use Rattle.cg_model.specs.declared.answer.Answer.{Answer}
 use Rattle.cg_model.specs.declared.answer.Answer.TheVariants.{Contained, Escapes, Unsettled}
 use Rattle.cg_report.specs.AnswerLines.{answer_text}

@@ -3,10 +3,10 @@
 use Rattle.std.specs.Prelude.{ℕ, List, [], ◌++◌, codes, Option, Some, None}
 use Rattle.std.specs.Fmt.{decimal}
 use Rattle.cg_lines.specs.Outcomes.{spaced}
-use Rattle.cg_text.specs.declared.tree.fault.Place.{Place}
-use Rattle.cg_text.specs.declared.tree.fault.Place.TheVariants.{Top, Cgroup, Process}
-use Rattle.cg_text.specs.declared.tree.fault.TreeFault.{TreeFault}
-use Rattle.cg_text.specs.declared.tree.fault.TreeFault.TheVariants as tree
+use Rattle.cg_format.specs.declared.fault.Place.{Place}
+use Rattle.cg_format.specs.declared.fault.Place.TheVariants.{Top, Cgroup, Process}
+use Rattle.cg_format.specs.declared.fault.TreeFault.{TreeFault}
+use Rattle.cg_format.specs.declared.fault.TreeFault.TheVariants as tree
 use Rattle.cg_lines.specs.declared.lines.fault.LineFault.{LineFault}
 use Rattle.cg_lines.specs.declared.lines.fault.LineFault.TheVariants as lines
 use Rattle.cg_model.specs.declared.fault.CheckFault.{CheckFault}

@@ -2,8 +2,8 @@
 use Rattle.std.specs.Prelude.{ℕ}
 use Rattle.cg_cgroup.specs.declared.path.PathFault.{PathFault}
 use Rattle.cg_cgroup.specs.declared.path.PathFault.TheVariants.{BadPath as NoPath, NoMemory as PathNoMemory}
-use Rattle.cg_text.specs.declared.tree.fault.TreeFault.{TreeFault}
-use Rattle.cg_text.specs.declared.tree.fault.TreeFault.TheVariants.{NoMemory as TreeNoMemory}
+use Rattle.cg_format.specs.declared.fault.TreeFault.{TreeFault}
+use Rattle.cg_format.specs.declared.fault.TreeFault.TheVariants.{NoMemory as TreeNoMemory}
 use Rattle.cg_lines.specs.declared.lines.fault.LineFault.{LineFault}
 use Rattle.cg_lines.specs.declared.lines.fault.LineFault.TheVariants.{NoMemory as LineNoMemory}
 use Rattle.cg_model.specs.declared.fault.CheckFault.{CheckFault}

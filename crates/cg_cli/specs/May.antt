@@ -10,7 +10,7 @@ use Rattle.cg_model.specs.declared.operation.Op.TheVariants.{Move}
 use Rattle.cg_model.specs.declared.outcome.Refusal.{Refusal}
 use Rattle.cg_model.specs.declared.outcome.Outcome.TheVariants.{Refused}
 use Rattle.cg_lines.specs.Outcomes.{outcome_text}
-use Rattle.cg_text.specs.Readings.{Reading}
+use Rattle.cg_format.specs.Readings.{Reading}
 use Rattle.cg_cli.specs.Faults.{lifted}
 use Rattle.cg_cli.specs.Arguments.{user_read, pid_read, path_read}
 use Rattle.cg_cli.specs.Reports.{Report, report_on}

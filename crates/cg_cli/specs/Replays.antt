@@ -12,7 +12,7 @@ use Rattle.cg_model.specs.declared.outcome.Outcome.TheVariants.{Done, Refused}
 use Rattle.cg_lines.specs.LineReading.{operation_at}
 use Rattle.cg_lines.specs.Outcomes.{outcome_text}
 use Rattle.cg_lines.specs.declared.lines.fault.LineFault.TheVariants.{TooLong, BadWord, Cut}
-use Rattle.cg_text.specs.Readings.{Reading}
+use Rattle.cg_format.specs.Readings.{Reading}
 use Rattle.cg_cli.specs.Arguments.{or_fault, user_read, path_read}
 use Rattle.cg_cli.specs.Courses.{Course, state_of, on_course, course_from, closing}
 use Rattle.cg_cli.specs.May.{tree_read}

@@ -1,9 +1,9 @@
 -- The report on writing a tree text anew. Own.
 use Rattle.std.specs.Prelude.{◌≡◌, ◌≢◌, ℕ, ◌≤◌, List, length, Option, Some, Result, Ok, Err}
 use Rattle.cg_model.specs.States.{State}
-use Rattle.cg_text.specs.Readings.{Reading}
-use Rattle.cg_text.specs.TextOf.{IsTextOf}
-use Rattle.cg_text.specs.TreeTexts.{longest_text, document_of}
+use Rattle.cg_format.specs.Readings.{Reading}
+use Rattle.cg_format.specs.TextOf.{IsTextOf}
+use Rattle.cg_format.specs.TreeTexts.{longest_text, document_of}
 use Rattle.cg_print.specs.Documents.{tree_document, IsSpelled}
 use Rattle.cg_cli.specs.May.{tree_read}
 use Rattle.cg_cli.specs.Reports.{Report, Reports, report_on}

@@ -5,8 +5,8 @@ ghost use Rattle.cg_cgroup.specs.Paths.{Names, path_at};
 ghost use Rattle.cg_cgroup.specs.Users.{user_of};
 ghost use Rattle.cg_model.specs.States.{State};
 ghost use Rattle.cg_model.specs.Held.{IsContained};
-ghost use Rattle.cg_text.specs.Readings.{OnText};
-ghost use Rattle.cg_text.specs.TextOf.{IsTextOf};
+ghost use Rattle.cg_format.specs.Readings.{OnText};
+ghost use Rattle.cg_format.specs.TextOf.{IsTextOf};
 ghost use Rattle.cg_cli.specs.Advising.{contained_line, advice_report, advise_report};
 ghost use Rattle.cg_cli.specs.Reports.{Reports};
 

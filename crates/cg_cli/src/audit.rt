@@ -5,8 +5,8 @@ ghost use Rattle.cg_cgroup.specs.Paths.{Names};
 ghost use Rattle.cg_model.specs.States.{State};
 ghost use Rattle.cg_model.specs.Checks.{all_checked};
 ghost use Rattle.cg_model.specs.Several.{AreContained};
-ghost use Rattle.cg_text.specs.Readings.{OnText};
-ghost use Rattle.cg_text.specs.TextOf.{IsTextOf};
+ghost use Rattle.cg_format.specs.Readings.{OnText};
+ghost use Rattle.cg_format.specs.TextOf.{IsTextOf};
 ghost use Rattle.cg_cli.specs.Audits.{users_read, paths_read, audit_status, pairs_report, audit_report};
 ghost use Rattle.cg_cli.specs.Reports.{Reports};
 

@@ -1,4 +1,5 @@
-//! Laws of the reports, over the definitions alone. The contract of each function is the law; none does anything.
+//! Laws over the definitions alone, whose functions do nothing, and what is read of a tree that is written.
+ghost use Rattle.std.specs.Prelude.{◌≡◌, ◌≢◌, MatchResult};
 ghost use Rattle.cg_cgroup.specs.Paths.{Names};
 ghost use Rattle.cg_cgroup.specs.Identity.{Identity};
 ghost use Rattle.cg_cgroup.specs.Users.{IsUser};
@@ -8,6 +9,16 @@ ghost use Rattle.cg_model.specs.Guards.{IsSubtree};
 ghost use Rattle.cg_model.specs.Held.{IsContained};
 ghost use Rattle.cg_model.specs.Mends.{advised};
 ghost use Rattle.cg_model.specs.Advised.{AreCountable};
+ghost use Rattle.cg_format.specs.declared.fault.TreeFault.TheVariants.{NoMemory as MemoryFault, TooLong};
+ghost use Rattle.cg_print.specs.Carried.{IsCarried, IsTooLong};
+
+use cg_cgroup::memory::NoMemory;
+use cg_print::tree::tree_text;
+use cg_rows::rows::Rows;
+use cg_text::tree::laws::texts_are_of_states;
+use cg_text::tree::{TreeFault, read_tree};
+use cg_tree::hierarchy::Hierarchy;
+use std::alloc::Global;
 
 /// With the changes of the advice made the subtree is contained against the user, where it has no more cgroups and levels
 /// than a limit can say.
@@ -16,3 +27,17 @@ pub fn advised_is_contained()
         → IsUser user → IsWellFormed st → IsSubtree st subtree → AreCountable st subtree
         → IsContained (advised st user subtree) user subtree }
 {}
+
+/// The tree that `read_tree` reads of what `tree_text` writes of a tree. Where a text can carry the tree it is an equal one,
+/// unless that text is too long or memory is wanted.
+pub fn written_is_read<H: Hierarchy>(alloc: Global, tree: &H) -> Result<Rows, TreeFault>
+    ensures again { IsCarried (H.state tree.now) → MatchResult result
+        (λ rows. rows ≡ H.state tree.now)
+        (λ fault. fault ≢ MemoryFault → (fault ≡ TooLong) × IsTooLong (H.state tree.now)) }
+{
+    texts_are_of_states();
+    match tree_text(alloc, tree) {
+        Ok(text) => read_tree(alloc, text.as_slice()),
+        Err(NoMemory) => Err(TreeFault::NoMemory),
+    }
+}

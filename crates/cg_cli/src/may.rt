@@ -2,7 +2,7 @@
 ghost use Rattle.std.specs.Prelude.{◌≡◌, IfOk};
 ghost use Rattle.cg_model.specs.Clauses.{first};
 ghost use Rattle.cg_model.specs.Bars.{bars};
-ghost use Rattle.cg_text.specs.Readings.{OnText};
+ghost use Rattle.cg_format.specs.Readings.{OnText};
 ghost use Rattle.cg_cli.specs.May.{permission, may_report};
 ghost use Rattle.cg_cli.specs.Reports.{Reports};
 

@@ -1,7 +1,7 @@
 //! Users and subtrees as they are named, each of them once.
 ghost use Rattle.std.specs.Prelude.{◌≡◌, ◌≢◌, map, Err, IfErr, MatchResult};
 ghost use Rattle.cg_cgroup.specs.Paths.{same_path};
-ghost use Rattle.cg_text.specs.Readings.{Reading, IsReading};
+ghost use Rattle.cg_format.specs.Readings.{Reading, IsReading};
 ghost use Rattle.cg_cli.specs.Asking.{named_read, IsMet, IsKeptOnce};
 ghost use Rattle.cg_cli.specs.Audits.{users_read, paths_read};
 ghost use Rattle.cg_cli.specs.Once.{same_user, IsReadOnce};

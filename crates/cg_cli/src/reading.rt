@@ -1,6 +1,6 @@
 //! A tree text as the reports have it.
 ghost use Rattle.cg_text.specs.Faults.{Reads};
-ghost use Rattle.cg_text.specs.Readings.{Reading, IsReading};
+ghost use Rattle.cg_format.specs.Readings.{Reading, IsReading};
 
 use cg_rows::rows::Rows;
 use cg_text::tree::TreeFault;

@@ -1,7 +1,7 @@
 //! Operation lines that are replayed: each is answered by its outcome before the next is read.
 ghost use Rattle.std.specs.Prelude.{◌≡◌, ◌≢◌, IfOk, IfErr, MatchResult, Ok, Err, Some, None};
 ghost use Rattle.std.specs.Option.{option_map};
-ghost use Rattle.cg_text.specs.Readings.{Reading, IsReading, OnText};
+ghost use Rattle.cg_format.specs.Readings.{Reading, IsReading, OnText};
 ghost use Rattle.cg_cli.specs.Arguments.{user_read};
 ghost use Rattle.cg_cli.specs.Courses.{HasMade, Unwatched as Plain, Watched, came_to};
 ghost use Rattle.cg_cli.specs.Replays.{closed, course_read, lines_report};

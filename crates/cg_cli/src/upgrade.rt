@@ -1,5 +1,5 @@
 //! Writing a tree text anew.
-ghost use Rattle.cg_text.specs.Readings.{OnText};
+ghost use Rattle.cg_format.specs.Readings.{OnText};
 ghost use Rattle.cg_cli.specs.Upgrades.{Upgrades};
 
 use crate::fault::CliFault;

@@ -37,10 +37,10 @@ use Rattle.cg_report.specs.AnswerLines.{op_lines}
 use Rattle.cg_report.specs.VerdictLines.{verdict_text}
 use Rattle.cg_escapes.specs.EscapeLines.{HasLine, HaveLines}
 use Rattle.cg_escapes.proofs.EscapeLines.{escape_lines}
-use Rattle.cg_text.specs.Readings.{Reading, IsReading}
-use Rattle.cg_text.specs.TextOf.{IsTextOf}
-use Rattle.cg_text.specs.declared.tree.fault.TreeFault.{TreeFault}
-use Rattle.cg_text.proofs.OneState.{paths_are_paths, pids_are_pids}
+use Rattle.cg_format.specs.Readings.{Reading, IsReading}
+use Rattle.cg_format.specs.TextOf.{IsTextOf}
+use Rattle.cg_format.specs.declared.fault.TreeFault.{TreeFault}
+use Rattle.cg_format.proofs.OneState.{paths_are_paths, pids_are_pids}
 use Rattle.cg_cli.specs.Faults.{lifted}
 use Rattle.cg_cli.specs.Arguments.{user_read, path_read}
 use Rattle.cg_cli.specs.May.{tree_read}

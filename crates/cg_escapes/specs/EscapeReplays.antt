@@ -12,7 +12,7 @@ use Rattle.cg_model.specs.declared.answer.Answer.TheVariants.{Escapes}
 use Rattle.cg_report.specs.AnswerLines.{op_lines}
 use Rattle.cg_report.specs.VerdictLines.{verdict_text}
 use Rattle.cg_escapes.specs.EscapeLines.{HaveLines}
-use Rattle.cg_text.specs.Readings.{Reading}
+use Rattle.cg_format.specs.Readings.{Reading}
 use Rattle.cg_cli.specs.Reports.{Report}
 use Rattle.cg_cli.specs.Containment.{check_report}
 use Rattle.cg_cli.specs.Replays.{replay_report}

@@ -10,7 +10,7 @@ ghost use Rattle.cg_model.specs.Answers.{answer};
 ghost use Rattle.cg_model.specs.declared.answer.Answer.TheVariants.{Escapes};
 ghost use Rattle.cg_escapes.specs.EscapeLines.{IsNamed, HaveLines};
 ghost use Rattle.std.specs.Prelude.{◌≡◌, ℕ, List, Ok};
-ghost use Rattle.cg_text.specs.Readings.{Reading, IsReading};
+ghost use Rattle.cg_format.specs.Readings.{Reading, IsReading};
 ghost use Rattle.cg_cli.specs.Containment.{check_report};
 ghost use Rattle.cg_escapes.specs.EscapeReplays.{IsReplayed};
 

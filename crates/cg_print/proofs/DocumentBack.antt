@@ -1,14 +1,15 @@
 -- The document of a tree that is kept, and that a text can carry, is one of the tree's state, and so is each text of that document.
-use Rattle.std.proofs.Common.{◌≡◌, ◌≢◌, ℕ, ◌≤◌, ◌<◌, Bool, true, false, cond, nat_le, List, [], ◌∷◌, length, take, map as map_list, codes, Ordering, Option, Some, None, is_some, Result, Ok, Err, MatchResult, refl, sym, ap, subst, ◌∙◌, true≢false, arith}
+use Rattle.std.proofs.Common.{◌≡◌, ℕ, ◌≤◌, suc, T, filter, true≢false, Bool, true, false, cond, List, [], ◌∷◌, length, map as map_list, codes, Ordering, Equal, is_eq, Option, Some, None, is_some, refl, sym, ap, subst, ◌∙◌, arith}
 use Rattle.std.specs.Prelude.{count_by, filter_map, nat_eq}
 use Rattle.std.specs.List.{AllByRecursion, list_all}
 use Rattle.std.specs.Ordering.{nat_cmp, eq_by_cmp}
-use Rattle.std.specs.Cmp.{IsTotalOrder, nat_cmp_total, unsigned_ties}
+use Rattle.std.specs.Cmp.{IsTotalOrder, Equal-is, nat_cmp_total, unsigned_ties}
 use Rattle.std.specs.FinMap as finite
-use Rattle.std.specs.FinMap.{FinMap, IsAntisymmetric, get, entries, find, nat_cmp-IsAntisymmetric}
+use Rattle.std.specs.FinMap.{FinMap, get, entries, find}
+use Rattle.std.specs.FinMap.Entries.{is_sorted, below_all}
+use Rattle.std.proofs.lemmas.List.Sums.{length-filter}
 use Rattle.std.proofs.lemmas.Bool.{and_from}
-use Rattle.std.proofs.lemmas.Bool.Decides.{nat_tests}
-use Rattle.std.proofs.lemmas.List.{map-id, length-map}
+use Rattle.std.proofs.lemmas.List.{length-map}
 use Rattle.toml.specs.Data.{Members, table, as_table}
 use Rattle.cg_cgroup.specs.Paths.{Names, path_cmp, same_path}
 use Rattle.cg_cgroup.specs.declared.cgroup.Cgroup.{Cgroup}
@@ -16,21 +17,17 @@ use Rattle.cg_cgroup.specs.declared.process.Process.{Process}
 use Rattle.cg_cgroup.proofs.PathOrder.{path_cmp_total, path_cmp-IsAntisymmetric, same_path-ties}
 use Rattle.cg_model.specs.States.{State, row_at, process_at}
 use Rattle.cg_model.specs.WellFormed.{enabled_above}
-use Rattle.cg_model.specs.Clauses.{first}
 use Rattle.cg_steps.proofs.FormedParts.{may_hold-row}
 use Rattle.cg_steps.proofs.Lists.{all-both, all-each}
-use Rattle.cg_text.specs.Form.{Key, is_table, row_keys, live_keys}
-use Rattle.cg_text.specs.Said.{tables_at, path_said, has_path, pid_said}
-use Rattle.cg_text.specs.TextOf.{IsInForm, IsRowOf, IsProcessOf, has_pid, IsDocumentOf, IsTextOf}
-use Rattle.cg_text.specs.TextFaults.{text_faults}
-use Rattle.cg_text.specs.TreeTexts.{longest_text, document_of}
-use Rattle.cg_text.specs.declared.tree.fault.TreeFault.{TreeFault}
-use Rattle.cg_text.specs.declared.tree.fault.TreeFault.TheVariants.{TooLong, NoMemory}
-use Rattle.cg_text.specs.declared.tree.format.Format.TheVariants.{Two}
-use Rattle.cg_text.proofs.OnceLaws.{IsFresh, counted_is, counted_same, counted-map, fresh_once, once_counted}
-use Rattle.cg_print.specs.Documents.{cgroup_table, process_table, tree_document, IsSpelled}
-use Rattle.cg_print.specs.Carried.{IsNamedRow, IsNamedProcess, IsKept, IsCarried, IsTooLong}
-use Rattle.cg_print.proofs.Entries.{none_before, entries_there, held_there}
+use Rattle.cg_steps.proofs.MapLaws.{first_of_both, second_of_both, is_less}
+use Rattle.cg_format.specs.Form.{Key, is_table, row_keys, live_keys}
+use Rattle.cg_format.specs.Said.{tables_at, path_said, has_path, pid_said}
+use Rattle.cg_format.specs.TextOf.{IsInForm, IsRowOf, IsProcessOf, has_pid, IsDocumentOf, IsTextOf}
+use Rattle.cg_format.specs.TreeTexts.{longest_text, document_of}
+use Rattle.cg_format.specs.declared.format.Format.TheVariants.{Two}
+use Rattle.cg_print.specs.Documents.{cgroup_table, process_table, tree_document}
+use Rattle.cg_print.specs.Carried.{IsNamedRow, IsNamedProcess, IsKept, IsCarried}
+use Rattle.cg_print.proofs.Entries.{entries_there, held_there}
 use Rattle.cg_print.proofs.FormBack.{cgroup_in_form, process_in_form, top_in_form}
 use Rattle.cg_print.proofs.SaidBack.{path_back, enabled_back, entry_back, value_back, files_back, pid_back, uid_back, place_back, format_back, controllers_back, cgroups_back, processes_back}
 
@@ -63,22 +60,45 @@ path_ties row said is path =
 pub pid_ties : (row : Members) (said : ℕ) → pid_said row ≡ Some said → (pid : ℕ) → has_pid pid row ≡ eq_by_cmp nat_cmp pid said
 pid_ties row said is pid = ap (λ (o : Option ℕ). elim o [ None ↦ false | Some said ↦ nat_eq pid said ]) is ∙ unsigned_ties pid said
 
-module _ {K X : Type 0} {R : K → K → Ordering} (total : IsTotalOrder R) (same : IsAntisymmetric R) (m : FinMap R X) where
-  entries_fresh : IsFresh total same (λ (e : K × X). e) (entries m)
-  entries_fresh = fresh_once total same (λ (e : K × X). e) (entries m) (λ i e inside is.
-      ap (find R e.0) (map-id (take i (entries m)))
-      ∙ ap (λ (x : K × X). find R x.0 (take i (entries m))) is
-      ∙ none_before R total (entries m) (finite.entries_sorted m) i e inside)
+module _ {K X : Type 0} {R : K → K → Ordering} (total : IsTotalOrder R) (write : K × X → Members) (test : Members → Bool) (q : K) where
+  abbrev Ties : List (K × X) → Type 0
+  Ties es = AllByRecursion (λ (e : K × X). test (write e) ≡ eq_by_cmp R q e.0) es
 
-  each_once : (write : K × X → Members) (test : Members → Bool) (q : K)
-      → AllByRecursion (λ (e : K × X). test (write e) ≡ eq_by_cmp R q e.0) (entries m)
-      → count_by test (map_list write (entries m)) ≡ cond (is_some (get m q)) 1 0
-  each_once write test q ties =
-      sym (counted_is test (map_list write (entries m)))
-      ∙ counted-map test write (entries m)
-      ∙ counted_same (λ e. test (write e)) (λ e. eq_by_cmp R q e.0) (entries m) ties
-      ∙ once_counted total same (λ (e : K × X). e) q (entries m) entries_fresh
-      ∙ ap (λ o. cond (is_some o) 1 0) (ap (find R q) (map-id (entries m)) ∙ sym (finite.get-entries m q))
+  abbrev passing : List (K × X) → List Members
+  passing es = filter test (map_list write es)
+
+  unfound : (es : List (K × X)) → Ties es → find R q es ≡ None → length (passing es) ≡ 0
+  unfound [] ties none = refl
+  unfound (e ∷ es) ties none =
+      elim (eq_by_cmp R q e.0) as (λ b. test (write e) ≡ b → cond b (Some e.1) (find R q es) ≡ None → length (passing (e ∷ es)) ≡ 0) [
+        | true ↦ λ _ some. absurd (true≢false (ap is_some some))
+        | false ↦ λ no none. ap (λ b. length (cond b (write e ∷ passing es) (passing es))) no ∙ unfound es ties.1 none
+      ] ties.0 none
+
+  -- a key that ties with one below all isn't found
+  none_below : (top : K) (es : List (K × X)) → R q top ≡ Equal → T (below_all R top es) → find R q es ≡ None
+  none_below top [] tie below = refl
+  none_below top (e ∷ es) tie below =
+      ap (λ r. cond (is_eq r) (Some e.1) (find R q es)) (total.congr q top e.0 tie ∙ is_less _ (first_of_both _ _ below))
+      ∙ none_below top es tie (second_of_both _ _ below)
+
+  found_once : (es : List (K × X)) → T (is_sorted R es) → Ties es → length (passing es) ≡ cond (is_some (find R q es)) 1 0
+  found_once [] sorted ties = refl
+  found_once (e ∷ es) sorted ties =
+      elim (eq_by_cmp R q e.0) as (λ b. eq_by_cmp R q e.0 ≡ b → test (write e) ≡ b
+      → length (passing (e ∷ es)) ≡ cond (is_some (cond b (Some e.1) (find R q es))) 1 0) [
+        | true ↦ λ tie yes.
+            ap (λ b. length (cond b (write e ∷ passing es) (passing es))) yes
+            ∙ ap suc (unfound es ties.1 (none_below e.0 es ((Equal-is _).0 tie) (first_of_both _ _ sorted)))
+        | false ↦ λ _ no.
+            ap (λ b. length (cond b (write e ∷ passing es) (passing es))) no ∙ found_once es (second_of_both _ _ sorted) ties.1
+      ] refl ties.0
+
+  -- the table of an entry comes once
+  each_once : (m : FinMap R X) → Ties (entries m) → count_by test (map_list write (entries m)) ≡ cond (is_some (get m q)) 1 0
+  each_once m ties =
+      sym (length-filter test (map_list write (entries m))) ∙ found_once (entries m) (finite.entries_sorted m) ties
+      ∙ ap (λ o. cond (is_some o) 1 0) (sym (finite.get-entries m q))
 
 -- ---- the whole
 
@@ -153,11 +173,11 @@ module _ (st : State) (kept : IsKept st) where
         controllers = controllers_back st;
         cgroups = subst (AllByRecursion (IsRowOf Two st)) (sym rows_are) (all_written row_written (IsRowOf Two st) cgroups rows);
         paths = λ path. ap (count_by (has_path path)) rows_are
-            ∙ each_once path_cmp_total path_cmp-IsAntisymmetric st.rows row_written (has_path path) path
+            ∙ each_once path_cmp_total row_written (has_path path) path st.rows
             (all-each _ _ (λ (e : Names × Cgroup) at. path_ties (row_written e) e.0 (path_back e.0 e.1 at) path) cgroups kept.rows);
         processes = subst (AllByRecursion (IsProcessOf st)) (sym lives_are) (all_written process_written (IsProcessOf st) live processes);
         pids = λ pid. ap (count_by (has_pid pid)) lives_are
-            ∙ each_once nat_cmp_total nat_cmp-IsAntisymmetric st.live process_written (has_pid pid) pid
+            ∙ each_once nat_cmp_total process_written (has_pid pid) pid st.live
             (all-each _ _ (λ (e : ℕ × Process) at. pid_ties (process_written e) e.0 (pid_back e.0 e.1 at) pid) live kept.live);
         used = carried.used;
         formed = kept.formed;
@@ -169,34 +189,3 @@ pub text_back : (text : List ℕ) (st : State) → document_of text ≡ Some (tr
     → length text ≤ longest_text → IsTextOf st text
 text_back text st parsed kept carried short =
     record { short = short; document = tree_document st; parsed = parsed; says = document_back st kept carried }
-
-passes : (n m : ℕ) → nat_le n m ≡ true → n ≤ m
-passes n m is = grind (arith, nat_tests)
-
-fails : (n m : ℕ) → nat_le n m ≡ false → m < n
-fails n m is = grind (arith, nat_tests)
-
--- what a reader may answer of a text that has a state, unless it is too long
-abbrev IsAnswer : State → Result State TreeFault → Type 0
-IsAnswer st result = MatchResult result (λ rows. rows ≡ st) (λ fault. fault ≢ NoMemory → (fault ≡ TooLong) × IsTooLong st)
-
--- what is read of a text
-abbrev IsRead : List ℕ → Result State TreeFault → Type 0
-IsRead text result = MatchResult result (λ rows. IsTextOf rows text) (λ fault. fault ≢ NoMemory → first (text_faults text) ≡ Some fault)
-
--- a text is of one state, and then has no fault
-module _ (text : List ℕ) (st : State) (one : (rows other : State) → IsTextOf rows text → IsTextOf other text → rows ≡ other)
-    (no_fault : IsTextOf st text → text_faults text ≡ []) where
-  by_read : (result : Result State TreeFault) → IsTextOf st text → IsRead text result → IsAnswer st result
-  by_read (Ok rows) is read = one rows st read is
-  by_read (Err fault) is read = λ other. absurd (true≢false (ap is_some (sym (read other) ∙ ap first (no_fault is))))
-
-  pub read_again : (result : Result State TreeFault) → IsSpelled st text → (length text ≤ longest_text → IsTextOf st text)
-      → (longest_text < length text → result ≡ Err TooLong) → IsRead text result → IsAnswer st result
-  read_again result spelled state too_long read =
-      elim (nat_le (length text) longest_text) as (λ b. nat_le (length text) longest_text ≡ b → IsAnswer st result) [
-        | true ↦ λ is. by_read result (state (passes (length text) longest_text is)) read
-        | false ↦ λ is.
-            let over = fails (length text) longest_text is in
-            subst (IsAnswer st) (sym (too_long over)) (λ _. (refl, (text, spelled, over)))
-      ] refl

@@ -1,5 +1,5 @@
--- The entries of a map in turn: each is found by its key, and by none before it.
-use Rattle.std.proofs.Common.{◌≡◌, ℕ, ◌+◌, ◌<◌, ◌≤◌, true, cond, T, zero, suc, List, [], ◌∷◌, ◌++◌, length, get_or, take, map as map_list, Some, None, is_some, option_map, subst, Ordering, Less, Equal, Greater, is_eq, refl, sym, ap, ◌∙◌, arith}
+-- The entries of a map in turn: each is found by its key.
+use Rattle.std.proofs.Common.{◌≡◌, ℕ, ◌+◌, ◌<◌, ◌≤◌, true, cond, T, zero, suc, List, [], ◌∷◌, ◌++◌, length, get_or, take, map as map_list, Some, is_some, option_map, subst, Ordering, Less, Equal, Greater, is_eq, refl, sym, ap, ◌∙◌, arith}
 use Rattle.std.proofs.lemmas.List.{take_more, take_all, map-append, get_or-map, length-map}
 use Rattle.std.specs.List.{AllByRecursion}
 use Rattle.std.specs.Ordering.{is_lt, ordering_reverse}
@@ -29,15 +29,6 @@ module _ {K X : Type 0} (R : K → K → Ordering) (o : IsTotalOrder R) where
       ap (λ r. cond (is_eq r) (Some e.1) (find R (get_or es i d).0 es))
       (above e.0 es (first_of_both (below_all R e.0 es) (is_sorted R es) sorted) i d (omega arith))
       ∙ found_at es (second_of_both (below_all R e.0 es) (is_sorted R es) sorted) i d (omega arith)
-
-  pub none_before : (es : List (K × X)) → T (is_sorted R es) → (i : ℕ) (d : K × X) → i < length es
-      → find R (get_or es i d).0 (take i es) ≡ None
-  none_before [] sorted i d inside = absurd (omega arith)
-  none_before (e ∷ es) sorted zero d inside = refl
-  none_before (e ∷ es) sorted (suc i) d inside =
-      ap (λ r. cond (is_eq r) (Some e.1) (find R (get_or es i d).0 (take i es)))
-      (above e.0 es (first_of_both (below_all R e.0 es) (is_sorted R es) sorted) i d (omega arith))
-      ∙ none_before es (second_of_both (below_all R e.0 es) (is_sorted R es) sorted) i d (omega arith)
 
   -- the entry at a place is found by its key
   pub entry_found : (m : FinMap R X) (i : ℕ) (d : K × X) → i < length (entries m)
@@ -71,6 +62,12 @@ module _ {K X : Type 0} {R : K → K → Ordering} (same : IsAntisymmetric R) (P
   held_there m all key held is = held_in (entries m) all key held (sym (finite.get-entries m key) ∙ is)
 
 -- ---- the entries so far
+
+-- the tables of the first i entries were written, which are named
+pub record AreWritten {K X : Type 0} {R : K → K → Ordering} (m : FinMap R X) (write : K → X → Data) (P : K → X → Type 0) (i : ℕ)
+    (values : List Value) : Type 0 where
+  pub written : map_list view values ≡ map_list (λ (e : K × X). write e.0 e.1) (take i (entries m))
+  pub named : AllByRecursion (λ (e : K × X). P e.0 e.1) (take i (entries m))
 
 nth : {A : Type 0} (xs : List A) (i : ℕ) → i < length xs → (x : A) × ((d : A) → get_or xs i d ≡ x)
 nth [] i inside = absurd (omega arith)
@@ -106,39 +103,32 @@ module _ {K X : Type 0} {R : K → K → Ordering} (o : IsTotalOrder R) (m : Fin
   pub there : is_some (get m key) ≡ true
   there = ap is_some entry.1
 
-  pub more_written : (write : K → X → Data) (values after : List Value) (value : Value) → after ≡ values ++ value ∷ []
-      → map_list view values ≡ take i (map_list (λ (e : K × X). write e.0 e.1) (entries m))
-      → Some (view value) ≡ option_map (write key) (get m key)
-      → map_list view after ≡ take (i + 1) (map_list (λ (e : K × X). write e.0 e.1) (entries m))
-  more_written write values after value grown kept seen =
-      let all : List Data = map_list (λ (e : K × X). write e.0 e.1) (entries m) in
-      let long : i < length all = omega (arith, within, length-map (entries m) (λ (e : K × X). write e.0 e.1)) in
-      let shown : view value ≡ get_or all i (view value) =
-      same_some (view value) (write key entry.0) (seen ∙ ap (option_map (write key)) entry.1)
-      ∙ sym (get_or-map (λ (e : K × X). write e.0 e.1) (entries m) i (key, entry.0) (view value) within
-      ∙ ap (λ (e : K × X). write e.0 e.1) (entry.2 (key, entry.0))) in
-      ap (map_list view) grown ∙ map-append view values (value ∷ []) ∙ (λ k. kept k ++ shown k ∷ [])
-      ∙ sym (take_more all i (view value) long)
-
-  pub more_named : (P : K → X → Type 0) → AllByRecursion (λ (e : K × X). P e.0 e.1) (take i (entries m))
-      → ((x : X) → get m key ≡ Some x → P key x) → AllByRecursion (λ (e : K × X). P e.0 e.1) (take (i + 1) (entries m))
-  more_named P kept named =
+  -- one more entry, whose table was written and which is named
+  pub more : (write : K → X → Data) (P : K → X → Type 0) (values after : List Value) (value : Value) → after ≡ values ++ value ∷ []
+      → AreWritten m write P i values → Some (view value) ≡ option_map (write key) (get m key)
+      → ((x : X) → get m key ≡ Some x → P key x) → AreWritten m write P (i + 1) after
+  more write P values after value grown kept seen named =
       let one : take (i + 1) (entries m) ≡ take i (entries m) ++ (key, entry.0) ∷ [] =
       take_more (entries m) i (key, entry.0) within ∙ ap (λ (e : K × X). take i (entries m) ++ e ∷ []) (entry.2 (key, entry.0)) in
-      subst (AllByRecursion (λ (e : K × X). P e.0 e.1)) (sym one)
-      (all_push (λ (e : K × X). P e.0 e.1) (take i (entries m)) (key, entry.0) kept (named entry.0 entry.1))
+      let shown : view value ≡ write key entry.0 =
+      same_some (view value) (write key entry.0) (seen ∙ ap (option_map (write key)) entry.1) in
+      record {
+        written =
+            ap (map_list view) grown ∙ map-append view values (value ∷ []) ∙ (λ k. kept.written k ++ shown k ∷ [])
+            ∙ sym (ap (map_list (λ (e : K × X). write e.0 e.1)) one
+            ∙ map-append (λ (e : K × X). write e.0 e.1) (take i (entries m)) ((key, entry.0) ∷ []));
+        named =
+            subst (AllByRecursion (λ (e : K × X). P e.0 e.1)) (sym one)
+            (all_push (λ (e : K × X). P e.0 e.1) (take i (entries m)) (key, entry.0) kept.named (named entry.0 entry.1));
+      }
 
-module _ {K X : Type 0} {R : K → K → Ordering} (m : FinMap R X) (keys : List K) (same : keys ≡ finite.keys m) (i : ℕ)
-    (ended : length keys ≤ i) where
-  past : length (entries m) ≤ i
-  past = omega (arith, ap length same, length-map (entries m) (λ (e : K × X). e.0))
-
-  pub all_written : (write : K → X → Data)
-      → take i (map_list (λ (e : K × X). write e.0 e.1) (entries m)) ≡ map_list (λ (e : K × X). write e.0 e.1) (entries m)
-  all_written write =
-      take_all i (map_list (λ (e : K × X). write e.0 e.1) (entries m))
-      (omega (arith, past, length-map (entries m) (λ (e : K × X). write e.0 e.1)))
-
-  pub all_named : (P : K → X → Type 0) → AllByRecursion (λ (e : K × X). P e.0 e.1) (take i (entries m))
-      → AllByRecursion (λ (e : K × X). P e.0 e.1) (entries m)
-  all_named P named = subst (AllByRecursion (λ (e : K × X). P e.0 e.1)) (take_all i (entries m) past) named
+-- all entries
+pub all_written : {K X : Type 0} {R : K → K → Ordering} (m : FinMap R X) (keys : List K) → keys ≡ finite.keys m → (i : ℕ)
+    → length keys ≤ i → (write : K → X → Data) (P : K → X → Type 0) (values : List Value) → AreWritten m write P i values
+    → (map_list view values ≡ map_list (λ (e : K × X). write e.0 e.1) (entries m)) × AllByRecursion (λ (e : K × X). P e.0 e.1) (entries m)
+all_written {K = K} {X = X} m keys same i ended write P values are =
+    let past : length (entries m) ≤ i = omega (arith, ap length same, length-map (entries m) (λ (e : K × X). e.0)) in
+    let all : take i (entries m) ≡ entries m = take_all i (entries m) past in (
+      are.written ∙ ap (map_list (λ (e : K × X). write e.0 e.1)) all,
+      subst (AllByRecursion (λ (e : K × X). P e.0 e.1)) all are.named,
+    )

@@ -17,8 +17,8 @@ use Rattle.cg_cgroup.specs.declared.cgroup.Cgroup.{Cgroup}
 use Rattle.cg_cgroup.specs.declared.process.Process.{Process}
 use Rattle.cg_cgroup.proofs.AllFiles.{each_passes, all_pass}
 use Rattle.cg_model.specs.States.{State}
-use Rattle.cg_text.specs.Form.{Key, fits_at, may_have, are_among, is_table, are_texts, document_keys, owner_keys, limit_keys, file_keys_of, row_keys, live_keys}
-use Rattle.cg_text.specs.declared.tree.format.Format.TheVariants.{Two}
+use Rattle.cg_format.specs.Form.{Key, fits_at, may_have, are_among, is_table, are_texts, document_keys, owner_keys, limit_keys, file_keys_of, row_keys, live_keys}
+use Rattle.cg_format.specs.declared.format.Format.TheVariants.{Two}
 use Rattle.cg_print.specs.Keys.{with_key}
 use Rattle.cg_print.specs.Documents.{names_in, texts_array, entry_table, value_written, limit_table, table_of_file, with_file, files_table, cgroup_table, process_table, tree_document}
 use Rattle.cg_print.proofs.KeyLaws.{AsksEach, only-with_key, only-with_optional, or_none, look, get-with_key, get-with_optional}

@@ -10,10 +10,10 @@ use Rattle.toml.specs.Data.{Data, Members, as_table}
 use Rattle.cg_cgroup.proofs.PathOrder.{path_cmp_total, path_cmp-IsAntisymmetric}
 use Rattle.cg_model.specs.States.{State}
 use Rattle.cg_steps.proofs.Lists.{all-each}
-use Rattle.cg_text.specs.Said.{elements_at, tables_at, has_path}
-use Rattle.cg_text.specs.TextOf.{IsRowOf, IsProcessOf, has_pid, IsTextOf}
-use Rattle.cg_text.specs.declared.tree.format.Format.{Format}
-use Rattle.cg_text.proofs.OnceLaws.{counted, counted_is}
+use Rattle.cg_format.specs.Said.{elements_at, tables_at, has_path}
+use Rattle.cg_format.specs.TextOf.{IsRowOf, IsProcessOf, has_pid, IsTextOf}
+use Rattle.cg_format.specs.declared.format.Format.{Format}
+use Rattle.cg_format.proofs.Cuts.{any_counted}
 use Rattle.cg_print.specs.Carried.{IsCarried}
 use Rattle.cg_print.proofs.DocumentBack.{path_ties, pid_ties}
 
@@ -27,16 +27,6 @@ tables_at_most : (values : List Data) → length (filter_map as_table values) �
 tables_at_most [] = omega arith
 tables_at_most (value ∷ values) =
     omega (arith, one_at_most (as_table value) (filter_map as_table values) (length values) (tables_at_most values))
-
--- what comes once is there, and what comes never isn't
-any_counted : {A : Type 0} (p : A → Bool) (xs : List A) (b : Bool) → counted p xs ≡ cond b 1 0 → list_any p xs ≡ b
-any_counted p [] true is = absurd (omega (arith, is))
-any_counted p [] false is = refl
-any_counted p (x ∷ xs) b is =
-    elim (p x) as (λ t. cond t (1 + counted p xs) (counted p xs) ≡ cond b 1 0 → (t || list_any p xs) ≡ b) [
-      | true ↦ elim b as (λ b. 1 + counted p xs ≡ cond b 1 0 → true ≡ b) [ true ↦ λ _. refl | false ↦ λ more. absurd (omega (arith, more)) ]
-      | false ↦ λ later. any_counted p xs b later
-    ] is
 
 -- ---- the entries of a map
 
@@ -94,7 +84,7 @@ module _ {K X : Type 0} {R : K → K → Ordering} (m : FinMap R X) (test : K �
     entries_at_most rows all counts =
         let made : FinMap R X = finite.from_entries (entries_of rows all) in
         let stands : (q : K) → list_any (test q) rows ≡ is_some (get m q) =
-        λ q. any_counted (test q) rows (is_some (get m q)) (counted_is (test q) rows ∙ counts q) in
+        λ q. any_counted (test q) rows (is_some (get m q)) (counts q) in
         let found : (q : K) → get made q ≡ get m q =
         λ q. finite.get-from_entries total (entries_of rows all) q ∙ find-entries_of q rows all
         ∙ ap (λ b. cond b (get m q) None) (stands q) ∙ where_there (get m q) in

@@ -22,9 +22,9 @@ use Rattle.cg_cgroup.proofs.Options.{mapped_from, is_some-mapped}
 use Rattle.cg_cgroup.proofs.PathAt.{path_at-text}
 use Rattle.cg_model.specs.States.{State}
 use Rattle.cg_model.specs.WellFormed.{IsFormedRow}
-use Rattle.cg_text.specs.Form.{elements}
-use Rattle.cg_text.specs.Said.{elements_at, id_read, mode_read, accepted, controllers_read, limit_of, path_said, controllers_said, format_said, owner_said, limit_said, mode_missing, table_of, entry_said, value_said, is_named, pid_said, uid_said}
-use Rattle.cg_text.specs.declared.tree.format.Format.TheVariants.{Two}
+use Rattle.cg_format.specs.Form.{elements}
+use Rattle.cg_format.specs.Said.{elements_at, id_read, mode_read, accepted, controllers_read, limit_of, path_said, controllers_said, format_said, owner_said, limit_said, mode_missing, table_of, entry_said, value_said, is_named, pid_said, uid_said}
+use Rattle.cg_format.specs.declared.format.Format.TheVariants.{Two}
 use Rattle.cg_print.specs.Keys.{with_key}
 use Rattle.cg_print.specs.Documents.{names_in, entry_table, value_written, limit_table, table_of_file, cgroup_table, process_table, cgroups_written, processes_written, tree_document}
 use Rattle.cg_print.specs.Carried.{IsId, HasIds, IsNamedRow, IsNamedProcess}

@@ -13,8 +13,8 @@ use Rattle.cg_cgroup.specs.declared.cgroup.Cgroup.{Cgroup}
 use Rattle.cg_cgroup.specs.declared.process.Process.{Process}
 use Rattle.cg_model.specs.States.{State, process_at, is_used}
 use Rattle.cg_model.specs.WellFormed.{IsWellFormed}
-use Rattle.cg_text.specs.Form.{most_rows}
-use Rattle.cg_text.specs.TreeTexts.{longest_text}
+use Rattle.cg_format.specs.Form.{most_rows}
+use Rattle.cg_format.specs.TreeTexts.{longest_text}
 use Rattle.cg_print.specs.Documents.{IsSpelled}
 
 -- a uid or a gid

@@ -1,8 +1,8 @@
 //! The text of a tree.
 ghost use Rattle.std.specs.Prelude.{◌≡◌, ◌≤◌, length, Some, IfOk};
 ghost use Rattle.toml.specs.View.{table_view};
-ghost use Rattle.cg_text.specs.TreeTexts.{longest_text, document_of};
-ghost use Rattle.cg_text.specs.TextOf.{IsTextOf};
+ghost use Rattle.cg_format.specs.TreeTexts.{longest_text, document_of};
+ghost use Rattle.cg_format.specs.TextOf.{IsTextOf};
 ghost use Rattle.cg_print.specs.Carried.{IsKept, IsCarried};
 ghost use Rattle.cg_print.specs.Documents.{tree_document, IsSpelled};
 

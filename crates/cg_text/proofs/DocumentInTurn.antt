@@ -11,15 +11,15 @@ use Rattle.cg_model.specs.Clauses.{unless, absent, present, first}
 use Rattle.cg_model.specs.States.{State}
 use Rattle.cg_steps.proofs.ClauseLaws.{first_none, first_some}
 use Rattle.cg_text.specs.Faults.{or_fault}
-use Rattle.cg_text.specs.Form.{Key, is_table}
-use Rattle.cg_text.specs.Said.{tables_at, controllers_said, format_said}
-use Rattle.cg_text.specs.TextOf.{IsInForm, IsDocumentOf, IsTextOf}
-use Rattle.cg_text.specs.TextFaults.{each_cgroup, each_process, form_faults, row_faults, cgroup_faults, process_faults, said_faults, document_faults, text_faults}
-use Rattle.cg_text.specs.TreeTexts.{longest_text, document_of}
-use Rattle.cg_text.specs.declared.tree.fault.Place.TheVariants.{Top}
-use Rattle.cg_text.specs.declared.tree.fault.TreeFault.{TreeFault}
-use Rattle.cg_text.specs.declared.tree.fault.TreeFault.TheVariants.{TooLong, NotToml, BadController, NoMemory}
-use Rattle.cg_text.specs.declared.tree.format.Format.{Format}
+use Rattle.cg_format.specs.Form.{Key, is_table}
+use Rattle.cg_format.specs.Said.{tables_at, controllers_said, format_said}
+use Rattle.cg_format.specs.TextOf.{IsInForm, IsDocumentOf, IsTextOf}
+use Rattle.cg_format.specs.TextFaults.{each_cgroup, each_process, form_faults, row_faults, cgroup_faults, process_faults, said_faults, document_faults, text_faults}
+use Rattle.cg_format.specs.TreeTexts.{longest_text, document_of}
+use Rattle.cg_format.specs.declared.fault.Place.TheVariants.{Top}
+use Rattle.cg_format.specs.declared.fault.TreeFault.{TreeFault}
+use Rattle.cg_format.specs.declared.fault.TreeFault.TheVariants.{TooLong, NotToml, BadController, NoMemory}
+use Rattle.cg_format.specs.declared.format.Format.{Format}
 use Rattle.cg_text.proofs.EachRow.{first_or}
 
 -- ---- faults

@@ -7,16 +7,16 @@ use Rattle.std.proofs.lemmas.Bool.{and_parts, true≢false, true_from_ne_false}
 use Rattle.std.proofs.lemmas.List.Folds.{list_all_at}
 use Rattle.std.proofs.lemmas.List.{drop_more, take_more, take_all, drop_all, length-map, get_or-map}
 use Rattle.cg_cgroup.proofs.Options.{some_value}
-use Rattle.cg_text.specs.Form.{Key, is_table}
-use Rattle.cg_text.specs.TextFaults.{each}
+use Rattle.cg_format.specs.Form.{Key, is_table}
+use Rattle.cg_format.specs.TextFaults.{each}
 use Rattle.toml.specs.Data.{Data, Members, no_members, as_table}
 use Rattle.toml.specs.View.{view}
 use Rattle.toml.specs.declared.value.Value.{Value}
 use Rattle.cg_model.specs.Clauses.{first, unless}
 use Rattle.cg_steps.proofs.ClauseLaws.{first_none, first_some}
-use Rattle.cg_text.specs.declared.tree.fault.Place.{Place}
-use Rattle.cg_text.specs.declared.tree.fault.TreeFault.{TreeFault}
-use Rattle.cg_text.specs.declared.tree.fault.TreeFault.TheVariants.{Shape}
+use Rattle.cg_format.specs.declared.fault.Place.{Place}
+use Rattle.cg_format.specs.declared.fault.TreeFault.{TreeFault}
+use Rattle.cg_format.specs.declared.fault.TreeFault.TheVariants.{Shape}
 
 -- ---- clauses, one after another
 

@@ -24,14 +24,15 @@ use Rattle.cg_cgroup.specs.declared.cgroup.LimitEntry.{LimitEntry}
 use Rattle.cg_cgroup.specs.declared.cgroup.Cgroup.{Cgroup}
 use Rattle.cg_cgroup.proofs.Options.{same_some}
 use Rattle.cg_cgroup.proofs.PathOrder.{path_cmp_total, same_path-ties, same_path_refl}
-use Rattle.cg_text.specs.Said.{has_path}
-use Rattle.cg_text.specs.TextFaults.{over}
+use Rattle.cg_format.specs.Said.{has_path}
+use Rattle.cg_format.specs.TextFaults.{over}
+use Rattle.cg_format.specs.Tables.{IsEntryOf, AreEntriesOf}
 use Rattle.cg_text.specs.Rows.{IsReadAs, AreReadAs}
-use Rattle.cg_text.specs.Walk.{has_met, over_in, fitted_to, entries_from, HasTested, least_fault, AreInOrder, IsNext, IsEntryOf, AreEntriesOf}
-use Rattle.cg_text.specs.declared.tree.format.Format.{Format}
+use Rattle.cg_text.specs.Walk.{has_met, over_in, fitted_to, entries_from, HasTested, least_fault, AreInOrder, IsNext}
+use Rattle.cg_format.specs.declared.format.Format.{Format}
 use Rattle.cg_text.specs.declared.tree.row.Row.{Row}
 use Rattle.cg_text.specs.declared.tree.walk.Least.{Least}
-use Rattle.cg_text.proofs.Cuts.{head_of, find_filter, any_filter}
+use Rattle.cg_format.proofs.Cuts.{head_of, find_filter, any_filter}
 use Rattle.cg_text.proofs.LeastLaws.{at_path, AreMatched, read_found, there_is, over_is, AreSameRows, same_rows, AreOnce, once_from, once_moved, over_before}
 
 -- ---- the keys of the entries
@@ -113,7 +114,7 @@ stands : (b : Bool) (o : Option LimitEntry) → is_some o ≡ true → is_some (
 stands b o is = grind arith
 
 -- a row's cgroup, with the files that stand under what is over it
-pub read_entry : (format : Format) (tables : List Members) (number : ℕ) (table : Members) (row : Row) → IsReadAs format number table row
+read_entry : (format : Format) (tables : List Members) (number : ℕ) (table : Members) (row : Row) → IsReadAs format number table row
     → (above : ControllerSet) → ((other : ControllerSet) → over (Some no_controllers) tables row.path ≡ Some other → other ≡ above)
     → IsEntryOf format tables table (fitted_to above row.cgroup)
 read_entry format tables number table row read above same = record {

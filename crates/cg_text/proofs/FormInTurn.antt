@@ -9,16 +9,16 @@ use Rattle.toml.specs.View.{view}
 use Rattle.toml.specs.declared.value.Value.{Value}
 use Rattle.cg_model.specs.Clauses.{unless, absent, present, first}
 use Rattle.cg_steps.proofs.ClauseLaws.{none_of_first}
-use Rattle.cg_text.specs.Form.{most_rows, is_table, document_keys, row_keys, live_keys}
-use Rattle.cg_text.specs.Said.{elements_at, format_said}
-use Rattle.cg_text.specs.TextOf.{IsInForm}
-use Rattle.cg_text.specs.TextFaults.{each_cgroup, each_process, has_few, form_faults}
-use Rattle.cg_text.specs.declared.tree.fault.TreeFault.{TreeFault}
-use Rattle.cg_text.specs.declared.tree.fault.TreeFault.TheVariants.{Shape, Format as BadFormat, TooMany}
-use Rattle.cg_text.specs.declared.tree.fault.Place.TheVariants.{Top}
-use Rattle.cg_text.specs.declared.tree.format.Format.{Format}
+use Rattle.cg_format.specs.Form.{most_rows, is_table, document_keys, row_keys, live_keys}
+use Rattle.cg_format.specs.Said.{elements_at, format_said}
+use Rattle.cg_format.specs.TextOf.{IsInForm}
+use Rattle.cg_format.specs.TextFaults.{each_cgroup, each_process, has_few, form_faults}
+use Rattle.cg_format.specs.declared.fault.TreeFault.{TreeFault}
+use Rattle.cg_format.specs.declared.fault.TreeFault.TheVariants.{Shape, Format as BadFormat, TooMany}
+use Rattle.cg_format.specs.declared.fault.Place.TheVariants.{Top}
+use Rattle.cg_format.specs.declared.format.Format.{Format}
 use Rattle.cg_text.proofs.EachRow.{first_or}
-use Rattle.cg_text.proofs.FormClauses.{in_form}
+use Rattle.cg_format.proofs.FormClauses.{in_form}
 
 few_are : (some : List Value) (all : List Data) → map view some ≡ all → length some ≤ most_rows → nat_le (length all) most_rows ≡ true
 few_are some all are few = le-leb (length all) most_rows (omega (arith, ap length are, length-map some view))

@@ -20,20 +20,20 @@ use Rattle.cg_cgroup.proofs.PathParents.{inside-take, is_root-is, parent-other}
 use Rattle.cg_cgroup.proofs.PathLaws.{inside-first}
 use Rattle.cg_model.specs.Clauses.{unless, present, first}
 use Rattle.cg_steps.proofs.ClauseLaws.{first_none, first_some}
-use Rattle.cg_text.specs.Said.{controllers_said, has_path, is_named}
-use Rattle.cg_text.specs.TextFaults.{each, is_there, over, cgroup_faults}
+use Rattle.cg_format.specs.Said.{controllers_said, has_path, is_named}
+use Rattle.cg_format.specs.TextFaults.{each, is_there, over, cgroup_faults}
 use Rattle.cg_text.specs.Rows.{IsReadAs, AreReadAs}
 use Rattle.cg_text.specs.Walk.{has_met, enabled_by, over_in, entries_from, is_orphan, is_past, is_not_within, has_no_file, IsLeast, least_fault, has_root, HasTested, AreInOrder}
-use Rattle.cg_text.specs.declared.tree.fault.Place.{Place}
-use Rattle.cg_text.specs.declared.tree.fault.Place.TheVariants.{Cgroup as AtCgroup}
-use Rattle.cg_text.specs.declared.tree.fault.TreeFault.{TreeFault}
-use Rattle.cg_text.specs.declared.tree.fault.TreeFault.TheVariants.{Duplicate, NoRoot, NoParent, TopDown, NoSuchFile}
-use Rattle.cg_text.specs.declared.tree.format.Format.{Format}
+use Rattle.cg_format.specs.declared.fault.Place.{Place}
+use Rattle.cg_format.specs.declared.fault.Place.TheVariants.{Cgroup as AtCgroup}
+use Rattle.cg_format.specs.declared.fault.TreeFault.{TreeFault}
+use Rattle.cg_format.specs.declared.fault.TreeFault.TheVariants.{Duplicate, NoRoot, NoParent, TopDown, NoSuchFile}
+use Rattle.cg_format.specs.declared.format.Format.{Format}
 use Rattle.cg_text.specs.declared.tree.row.Row.{Row}
 use Rattle.cg_text.specs.declared.tree.walk.Least.{Least}
 use Rattle.cg_text.proofs.EachRow.{first_or}
-use Rattle.cg_text.proofs.CgroupClauses.{CgroupClause, twice_clause, orphan_clause, within_clause, files_clause}
-use Rattle.cg_text.proofs.Cuts.{not_empty, head_of, find_filter, is_some-find, any_filter, filter_reverse, filter_none, cut_moved, once_kept}
+use Rattle.cg_format.proofs.CgroupClauses.{CgroupClause, twice_clause, orphan_clause, within_clause, files_clause}
+use Rattle.cg_format.proofs.Cuts.{not_empty, head_of, find_filter, is_some-find, any_filter, filter_reverse, filter_none, cut_moved, once_kept}
 
 -- ---- rows as their tables say them
 

@@ -8,7 +8,7 @@ use Rattle.cg_cgroup.specs.declared.files.ControllerSet.{ControllerSet}
 use Rattle.cg_text.specs.Walk.{has_met, over_in, is_orphan, is_past, is_not_within, has_no_file, IsLeast, noted, least_behind, HasTested}
 use Rattle.cg_text.specs.declared.tree.row.Row.{Row}
 use Rattle.cg_text.specs.declared.tree.walk.Least.{Least}
-use Rattle.cg_text.proofs.Cuts.{not_empty, cut_last}
+use Rattle.cg_format.proofs.Cuts.{not_empty, cut_last}
 
 -- ---- the lesser of two numbers
 

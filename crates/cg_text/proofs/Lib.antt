@@ -1,12 +1,7 @@
 pub mod SaidLaws
 pub mod TextLaws
-pub mod OnceLaws
-pub mod KeysOnce
-pub mod TablesSay
 pub mod TakenLaws
-pub mod CgroupClauses
 pub mod LiveLaws
-pub mod DocumentOfLaws
 pub mod DocumentInTurn
 pub mod RowLaws
 pub mod EachRow
@@ -14,14 +9,6 @@ pub mod TakesLaws
 pub mod FormInTurn
 pub mod WalkFronts
 pub mod EntriesLaws
-pub mod Cuts
 pub mod LeastNumbers
 pub mod LeastLaws
 pub mod WalkEnd
-pub mod PairsOf
-pub mod FormClauses
-pub mod SaidRanges
-pub mod StateOf
-pub mod ReadingLaws
-pub mod OneState
-pub mod NoFaults

@@ -29,18 +29,19 @@ use Rattle.cg_rows.specs.Processes.{LiveAndUsed}
 use Rattle.cg_rows.proofs.StdMaps.{get-shown}
 use Rattle.cg_model.specs.Clauses.{unless, absent, present, first}
 use Rattle.cg_steps.proofs.ClauseLaws.{none_of_first}
-use Rattle.cg_text.specs.Said.{path_said, has_path, pid_said}
-use Rattle.cg_text.specs.TextOf.{has_pid}
-use Rattle.cg_text.specs.TextFaults.{each_process, enabled_there, process_faults}
-use Rattle.cg_text.specs.Live.{IsAmong, IsLive, AreLive, AreProcesses, place_faults}
-use Rattle.cg_text.specs.declared.tree.fault.Place.{Place}
-use Rattle.cg_text.specs.declared.tree.fault.Place.TheVariants.{Process as AtProcess}
-use Rattle.cg_text.specs.declared.tree.fault.TreeFault.{TreeFault}
-use Rattle.cg_text.specs.declared.tree.fault.TreeFault.TheVariants.{NoSuchPlace, InternalProcess}
+use Rattle.cg_format.specs.Said.{path_said, has_path, pid_said}
+use Rattle.cg_format.specs.TextOf.{has_pid}
+use Rattle.cg_format.specs.TextFaults.{each_process, enabled_there, process_faults}
+use Rattle.cg_format.specs.Tables.{IsAmong, IsLive, AreProcesses}
+use Rattle.cg_text.specs.Live.{AreLive, place_faults}
+use Rattle.cg_format.specs.declared.fault.Place.{Place}
+use Rattle.cg_format.specs.declared.fault.Place.TheVariants.{Process as AtProcess}
+use Rattle.cg_format.specs.declared.fault.TreeFault.{TreeFault}
+use Rattle.cg_format.specs.declared.fault.TreeFault.TheVariants.{NoSuchPlace, InternalProcess}
 use Rattle.cg_text.proofs.EachRow.{HavePassed, none_passed, IsNextTable, table_taken, table_passed, table_found, tables_passed, tables_taken}
-use Rattle.cg_text.proofs.Cuts.{is_some-find}
-use Rattle.cg_text.proofs.KeysOnce.{find_past}
-use Rattle.cg_text.proofs.TablesSay.{process_says}
+use Rattle.cg_format.proofs.Cuts.{is_some-find}
+use Rattle.cg_format.proofs.KeysOnce.{find_past}
+use Rattle.cg_format.proofs.TablesSay.{process_says}
 
 -- ---- the place of a process
 
@@ -199,7 +200,7 @@ module _ (tables : List Members) (elements : List Value) (are : list_all (λ hel
 
 pub are_processes : (rows : List Members) (live : BTreeMap ℕ Process) (used : BTreeSet ℕ) (all : LiveAndUsed) → AreLive rows live
     → all.live ≡ map.from_entries live.entries → all.used ≡ set.from_list used.keys
-    → IsFromIterResult nat_cmp (keys live) used → AreProcesses rows all
+    → IsFromIterResult nat_cmp (keys live) used → AreProcesses rows all.live all.used
 are_processes tables live used all had live_is used_is made =
     let got : (pid : ℕ) → map.get all.live pid ≡ get nat_cmp live pid = λ pid. ap (λ m. map.get m pid) live_is
     ∙ get-shown nat_cmp_total live.entries pid in

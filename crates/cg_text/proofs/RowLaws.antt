@@ -6,9 +6,8 @@ use Rattle.std.specs.Option.{ok_or}
 use Rattle.std.specs.Result.{IsErr, IsErrAnd}
 use Rattle.std.specs.List.{list_all}
 use Rattle.std.proofs.lemmas.Bool.{false_from_ne_true}
-use Rattle.std.proofs.lemmas.List.Sums.{list_all-from_AllPass}
 use Rattle.cg_cgroup.proofs.AllFiles.{each_passes}
-use Rattle.cg_text.proofs.TablesSay.{each_entry}
+use Rattle.cg_format.proofs.TablesSay.{all_so, each_entry}
 use Rattle.std.proofs.lemmas.List.{length-take-le}
 use Rattle.std.proofs.lemmas.List.Folds.{list_all_at}
 use Rattle.toml.specs.Data.{Members, no_members, as_table}
@@ -28,15 +27,15 @@ use Rattle.cg_cgroup.specs.declared.files.EntryName.TheVariants.{Dir, Procs, Sub
 use Rattle.cg_cgroup.specs.declared.cgroup.LimitEntry.{LimitEntry}
 use Rattle.cg_cgroup.specs.declared.cgroup.Cgroup.{Cgroup}
 use Rattle.cg_model.specs.Clauses.{first, unless, absent}
-use Rattle.cg_text.specs.Said.{table_at, path_said, controllers_said, owner_said, limit_said, table_of, mode_missing}
-use Rattle.cg_text.specs.Said.{entry_said, value_said, is_named}
-use Rattle.cg_text.specs.TextFaults.{row_faults}
+use Rattle.cg_format.specs.Said.{table_at, path_said, controllers_said, owner_said, limit_said, table_of, mode_missing}
+use Rattle.cg_format.specs.Said.{entry_said, value_said, is_named}
+use Rattle.cg_format.specs.TextFaults.{row_faults}
 use Rattle.cg_text.specs.Faults.{or_fault, Passes}
 use Rattle.cg_text.specs.Rows.{table_in, owner_in, limit_in, entry_with, names, needed_by, entry_faults, IsCgroupOf, IsReadAs, AreReadAs}
-use Rattle.cg_text.specs.declared.tree.fault.Place.TheVariants.{Cgroup as AtCgroup}
-use Rattle.cg_text.specs.declared.tree.fault.TreeFault.{TreeFault}
-use Rattle.cg_text.specs.declared.tree.fault.TreeFault.TheVariants.{BadPath, BadController, BadEntry, BadValue, NoMemory}
-use Rattle.cg_text.specs.declared.tree.format.Format.{Format}
+use Rattle.cg_format.specs.declared.fault.Place.TheVariants.{Cgroup as AtCgroup}
+use Rattle.cg_format.specs.declared.fault.TreeFault.{TreeFault}
+use Rattle.cg_format.specs.declared.fault.TreeFault.TheVariants.{BadPath, BadController, BadEntry, BadValue, NoMemory}
+use Rattle.cg_format.specs.declared.format.Format.{Format}
 use Rattle.cg_text.specs.declared.tree.row.Entries.{Entries}
 use Rattle.cg_text.specs.declared.tree.row.Row.{Row}
 use Rattle.cg_text.proofs.EachRow.{IsNextTable, tables_counted, table_taken}
@@ -62,9 +61,6 @@ passed_on P fault (Ok x) found is expected = absurd is.1
 passed_on P fault (Err other) found is expected = λ memory. rw is.1 (expected (rw is.1 at memory))
 
 -- ---- all entries and all limit files
-
-pub all_so : {A : Type 0} (p : A → Bool) → ((x : A) → p x ≡ true) → (xs : List A) → list_all p xs ≡ true
-all_so p each xs = list_all-from_AllPass p xs (λ k d inside. each (get_or xs k d))
 
 file_failed : (p : LimitFile → Bool) (file : LimitFile) → p file ≡ false → list_all p all_files ≡ false
 file_failed p file is = false_from_ne_true (list_all p all_files) (λ all. true≢false (sym (each_passes p all file) ∙ is))

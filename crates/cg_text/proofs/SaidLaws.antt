@@ -3,7 +3,7 @@ use Rattle.std.proofs.Common.{◌≡◌, ◌&&◌, List, [], ◌∷◌, map, ref
 use Rattle.std.specs.List.{list_all}
 use Rattle.toml.specs.View.{view, items_view}
 use Rattle.toml.specs.declared.value.Value.{Value}
-use Rattle.cg_text.specs.Form.{is_text, elements}
+use Rattle.cg_format.specs.Form.{is_text, elements}
 
 pub elements_view : (values : List Value) → elements (items_view values) ≡ map view values
 elements_view [] = refl

@@ -12,8 +12,8 @@ use Rattle.toml.specs.Data.{Data, Items, Members, get_member, as_array}
 use Rattle.toml.specs.View.{view, array_view, members_view}
 use Rattle.toml.specs.declared.value.Value.{Value}
 use Rattle.toml.proofs.Views.{view-lookup}
-use Rattle.cg_text.specs.Form.{elements}
-use Rattle.cg_text.specs.Said.{elements_at}
+use Rattle.cg_format.specs.Form.{elements}
+use Rattle.cg_format.specs.Said.{elements_at}
 use Rattle.cg_text.proofs.SaidLaws.{elements_view}
 
 unlike : {A : Type 0} (o : Ordering) (rest here : A) → is_eq o ≡ false → match_ordering o rest here rest ≡ rest

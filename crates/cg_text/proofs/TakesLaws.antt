@@ -21,10 +21,10 @@ use Rattle.cg_cgroup.specs.Texts as texts
 use Rattle.cg_cgroup.specs.declared.files.LimitFile.{LimitFile}
 use Rattle.cg_cgroup.specs.declared.files.EntryName.{EntryName}
 use Rattle.cg_cgroup.specs.declared.files.EntryName.TheVariants.{Dir, Procs, SubtreeControl, File}
-use Rattle.cg_text.specs.Form.{Key, must_have, may_have, are_among, fits_at, is_table, document_keys, owner_keys, limit_keys, file_keys_of, row_keys, live_keys, is_text, is_integer, are_texts}
+use Rattle.cg_format.specs.Form.{Key, must_have, may_have, are_among, fits_at, is_table, owner_keys, limit_keys, file_keys_of, row_keys, is_text}
 use Rattle.cg_text.specs.Keys.{flat_keys, takes, takes_all, allows_at, allows, allows_table}
-use Rattle.cg_text.specs.declared.tree.format.Format.{Format}
-use Rattle.cg_text.specs.declared.tree.format.Format.TheVariants.{One, Two}
+use Rattle.cg_format.specs.declared.format.Format.{Format}
+use Rattle.cg_format.specs.declared.format.Format.TheVariants.{One, Two}
 use Rattle.cg_text.specs.declared.tree.form.FlatTable.{FlatTable}
 use Rattle.cg_text.specs.declared.tree.form.FlatTable.TheVariants.{Document, Process, Owner, Limit}
 
@@ -193,13 +193,6 @@ needed_at inside name test = grind arith
 one_needed : (w a p r : Bool) → (w && ((a && p) && r)) ≡ ((w && (a && r)) && p)
 one_needed w a p r = grind arith
 
-two_needed : (w a p b q r : Bool) → (w && ((a && p) && ((b && q) && r))) ≡ ((w && (a && (b && r))) && (p && q))
-two_needed w a p b q r = grind arith
-
-three_needed : (w a p b q c r : Bool) → (w && ((a && p) && ((b && q) && ((c && r) && true))))
-    ≡ ((w && (a && (b && (c && true)))) && (p && (q && r)))
-three_needed w a p b q c r = grind arith
-
 -- a key that the map of a table has
 pub has_key : (name : List ℕ) (es : List (String Global × Value))
     → is_some (lookup (is_at (λ key. slice_cmp nat_cmp name (string_bytes key))) es) ≡ is_some (get_member name (members_view es))
@@ -224,33 +217,6 @@ pub cgroup_is : (format : Format) (value : Value) (held : BTreeMap (String Globa
 cgroup_is format value held fits has is fit had =
     (λ i. fit i && had i) ∙ sym (row_is format (table_view held))
     ∙ sym (ap (λ value. is_table (row_keys format) (view value)) is ∙ ap (is_table (row_keys format)) (view-Table held))
-
-pub live_is : (members : Members)
-    → is_table live_keys (table members)
-    ≡ (allows live_keys members && (is_some (get_member (codes "pid") members) &&
-    (is_some (get_member (codes "uid") members) && is_some (get_member (codes "at") members))))
-live_is members =
-    let at : Key → Bool = allows_at members in
-    let pid = needed_at members (codes "pid") is_integer in
-    let uid = needed_at members (codes "uid") is_integer in
-    let place = needed_at members (codes "at") is_text in
-    (λ i. are_among live_keys members && (pid i && (uid i && (place i && true))))
-    ∙ three_needed (are_among live_keys members) (at (must_have (codes "pid") is_integer)) (is_some (get_member (codes "pid") members))
-    (at (must_have (codes "uid") is_integer)) (is_some (get_member (codes "uid") members))
-    (at (must_have (codes "at") is_text)) (is_some (get_member (codes "at") members))
-
-pub document_is : (members : Members)
-    → is_table document_keys (table members)
-    ≡ (allows document_keys members &&
-    (is_some (get_member (codes "format") members) && is_some (get_member (codes "controllers") members)))
-document_is members =
-    let at : Key → Bool = allows_at members in
-    let format = needed_at members (codes "format") is_integer in
-    let controllers = needed_at members (codes "controllers") are_texts in
-    (λ i. are_among document_keys members && (format i && (controllers i && list_all at (drop 2 document_keys))))
-    ∙ two_needed (are_among document_keys members) (at (must_have (codes "format") is_integer))
-    (is_some (get_member (codes "format") members)) (at (must_have (codes "controllers") are_texts))
-    (is_some (get_member (codes "controllers") members)) (list_all at (drop 2 document_keys))
 
 -- ---- the keys of a table of files
 

@@ -4,7 +4,7 @@ use Rattle.std.proofs.lemmas.Str.{IsUtf8-from_is_utf8, is_utf8-from_IsUtf8}
 use Rattle.std.specs.Str.{IsUtf8, is_utf8}
 use Rattle.toml.specs.Data.{Members}
 use Rattle.toml.specs.Parse.{parse_document}
-use Rattle.cg_text.specs.TreeTexts.{document_of}
+use Rattle.cg_format.specs.TreeTexts.{document_of}
 
 pub document_is : (bytes : List ℕ) (document : Members) → IsUtf8 bytes × (parse_document bytes ≡ Some document)
     → document_of bytes ≡ Some document

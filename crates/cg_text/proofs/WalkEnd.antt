@@ -8,11 +8,12 @@ use Rattle.cg_cgroup.specs.declared.path.Path.{Path}
 use Rattle.cg_cgroup.specs.declared.cgroup.Cgroup.{Cgroup}
 use Rattle.cg_model.specs.Clauses.{first}
 use Rattle.cg_text.specs.Faults.{Passes}
-use Rattle.cg_text.specs.TextFaults.{cgroup_faults}
+use Rattle.cg_format.specs.TextFaults.{cgroup_faults}
 use Rattle.cg_text.specs.Rows.{AreReadAs}
-use Rattle.cg_text.specs.Walk.{entries_from, least_fault, has_root, AreInOrder, AreEntriesOf, HasMet}
-use Rattle.cg_text.specs.declared.tree.fault.TreeFault.{TreeFault}
-use Rattle.cg_text.specs.declared.tree.format.Format.{Format}
+use Rattle.cg_format.specs.Tables.{AreEntriesOf}
+use Rattle.cg_text.specs.Walk.{entries_from, least_fault, has_root, AreInOrder, HasMet}
+use Rattle.cg_format.specs.declared.fault.TreeFault.{TreeFault}
+use Rattle.cg_format.specs.declared.format.Format.{Format}
 use Rattle.cg_text.specs.declared.tree.row.Row.{Row}
 use Rattle.cg_text.specs.declared.tree.walk.Walk.{Walk}
 use Rattle.cg_text.proofs.EntriesLaws.{entries_of_tables}

@@ -22,7 +22,7 @@ use Rattle.cg_text.specs.declared.tree.walk.Walk.{Walk}
 use Rattle.cg_text.specs.Walk.{HasMet, HasTested, has_met, enabled_by, over_in, over_at, fitted_to, entries_from, last_of, front_at, fronts_below, met_at, fronts_above, fronts, is_front, AreInOrder, IsNext}
 use Rattle.cg_text.specs.declared.tree.row.Row.{Row}
 use Rattle.cg_text.specs.declared.tree.walk.Above.{Above}
-use Rattle.cg_text.proofs.Cuts.{not_empty, is_some-find}
+use Rattle.cg_format.proofs.Cuts.{not_empty, is_some-find}
 
 -- ---- rows in order
 

@@ -1,8 +1,8 @@
 -- How it is read and written: nobody has to believe it.
 -- The faults of a tree text, and what a call that may run out of memory answers.
 use Rattle.std.specs.Prelude.{◌≡◌, ◌≢◌, Option, Some, None, Result, Ok, Err}
-use Rattle.cg_text.specs.declared.tree.fault.TreeFault.{TreeFault}
-use Rattle.cg_text.specs.declared.tree.fault.TreeFault.TheVariants.{NoMemory}
+use Rattle.cg_format.specs.declared.fault.TreeFault.{TreeFault}
+use Rattle.cg_format.specs.declared.fault.TreeFault.TheVariants.{NoMemory}
 
 abbrev pub or_fault : {A : Type 0} → Option A → TreeFault → Result A TreeFault
 or_fault None fault = Err fault

@@ -4,7 +4,7 @@ use Rattle.std.specs.Prelude.{ℕ, Bool, true, false, ◌&&◌, List, Some, None
 use Rattle.std.specs.List.{list_all}
 use Rattle.cg_cgroup.specs.Paths.{same_name}
 use Rattle.toml.specs.Data.{Data, table, Members, no_members, member, get_member}
-use Rattle.cg_text.specs.Form.{Key, are_among, document_keys, live_keys, owner_keys, limit_keys}
+use Rattle.cg_format.specs.Form.{Key, are_among, document_keys, live_keys, owner_keys, limit_keys}
 use Rattle.cg_text.specs.declared.tree.form.FlatTable.{FlatTable}
 use Rattle.cg_text.specs.declared.tree.form.FlatTable.TheVariants.{Document, Process, Owner, Limit}
 

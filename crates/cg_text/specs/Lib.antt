@@ -1,10 +1,4 @@
 pub mod Faults
-pub mod Form
-pub mod Said
-pub mod TreeTexts
-pub mod TextOf
-pub mod TextFaults
-pub mod Readings
 pub mod Keys
 pub mod Rows
 pub mod Walk

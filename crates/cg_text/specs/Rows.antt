@@ -21,10 +21,10 @@ use Rattle.cg_cgroup.specs.declared.files.EntryName.TheVariants.{Dir, File}
 use Rattle.cg_cgroup.specs.declared.cgroup.LimitEntry.{LimitEntry}
 use Rattle.cg_cgroup.specs.declared.cgroup.Cgroup.{Cgroup}
 use Rattle.cg_model.specs.Clauses.{unless}
-use Rattle.cg_text.specs.Said.{table_at, path_said, controllers_said, owner_said, limit_said, mode_missing, entry_said, value_said, is_named}
-use Rattle.cg_text.specs.declared.tree.format.Format.{Format}
-use Rattle.cg_text.specs.declared.tree.fault.TreeFault.{TreeFault}
-use Rattle.cg_text.specs.declared.tree.fault.TreeFault.TheVariants.{BadEntry, BadValue}
+use Rattle.cg_format.specs.Said.{table_at, path_said, controllers_said, owner_said, limit_said, mode_missing, entry_said, value_said, is_named}
+use Rattle.cg_format.specs.declared.format.Format.{Format}
+use Rattle.cg_format.specs.declared.fault.TreeFault.{TreeFault}
+use Rattle.cg_format.specs.declared.fault.TreeFault.TheVariants.{BadEntry, BadValue}
 use Rattle.cg_text.specs.declared.tree.row.Entries.{Entries}
 use Rattle.cg_text.specs.declared.tree.row.Row.{Row}
 

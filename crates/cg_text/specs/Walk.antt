@@ -1,28 +1,19 @@
 -- How it is read and written: nobody has to believe it.
 -- The reader's walk over rows in the order of their paths: what is above each, and which test it fails. Own.
-use Rattle.std.specs.Prelude.{◌≡◌, ℕ, ◌-◌, option_and_then, ◌≤◌, nat_lt, nat_eq, Bool, true, false, ◌&&◌, not, cond, List, [], ◌∷◌, ◌++◌, length, take, Option, Some, None, is_some, unwrap_or, find, reverse, codes, slice_get, zero, suc}
+use Rattle.std.specs.Prelude.{◌≡◌, ℕ, ◌-◌, option_and_then, ◌≤◌, nat_lt, nat_eq, Bool, true, false, ◌&&◌, not, cond, List, [], ◌∷◌, ◌++◌, length, take, Option, Some, None, is_some, unwrap_or, find, reverse, slice_get, zero, suc}
 use Rattle.std.specs.Option.{option_map}
 use Rattle.std.specs.List.{list_any}
-use Rattle.std.specs.Map.{lookup}
 use Rattle.std.specs.List.Sorted.{IsSortedByKey}
-use Rattle.std.specs.FinMap.{is_sorted}
-use Rattle.toml.specs.Data.{Members}
 use Rattle.cg_cgroup.specs.Paths.{Names, path_cmp, same_path, is_root, parent, inside}
 use Rattle.cg_cgroup.specs.Files.{no_controllers, is_within, stands_under}
-use Rattle.cg_cgroup.specs.Cgroups.{file_of, entry_in}
-use Rattle.cg_cgroup.specs.declared.user.Entry.{Entry}
 use Rattle.cg_cgroup.specs.declared.files.ControllerSet.{ControllerSet}
-use Rattle.cg_cgroup.specs.declared.files.EntryName.{EntryName}
 use Rattle.cg_cgroup.specs.declared.files.LimitFile.{LimitFile}
 use Rattle.cg_cgroup.specs.declared.files.LimitFile.TheVariants.{CpuWeight, MemoryMin, MemoryLow, MemoryHigh, MemoryMax, PidsMax}
 use Rattle.cg_cgroup.specs.declared.cgroup.LimitEntry.{LimitEntry}
 use Rattle.cg_cgroup.specs.declared.cgroup.Cgroup.{Cgroup}
-use Rattle.cg_text.specs.Said.{path_said, controllers_said, entry_said, value_said, has_path}
-use Rattle.cg_text.specs.TextFaults.{is_there, over}
-use Rattle.cg_text.specs.declared.tree.format.Format.{Format}
-use Rattle.cg_text.specs.declared.tree.fault.Place.TheVariants.{Cgroup as AtCgroup}
-use Rattle.cg_text.specs.declared.tree.fault.TreeFault.{TreeFault}
-use Rattle.cg_text.specs.declared.tree.fault.TreeFault.TheVariants.{Duplicate, NoRoot, NoParent, TopDown, NoSuchFile}
+use Rattle.cg_format.specs.declared.fault.Place.TheVariants.{Cgroup as AtCgroup}
+use Rattle.cg_format.specs.declared.fault.TreeFault.{TreeFault}
+use Rattle.cg_format.specs.declared.fault.TreeFault.TheVariants.{Duplicate, NoRoot, NoParent, TopDown, NoSuchFile}
 use Rattle.cg_text.specs.declared.tree.row.Row.{Row}
 use Rattle.cg_text.specs.declared.tree.walk.Above.{Above}
 use Rattle.cg_text.specs.declared.tree.walk.Least.{Least}
@@ -174,19 +165,3 @@ AreInOrder rows = IsSortedByKey (λ row. row.path) path_cmp rows
 -- the rows are in order, and so they are with this one behind them
 abbrev pub IsNext : List Row → Row → Type 0
 IsNext met row = AreInOrder (met ++ row ∷ [])
-
--- ---- what the walk leads to
-
--- a cgroup as a table says it, with the files that stand at it
-pub record IsEntryOf (format : Format) (tables : List Members) (table : Members) (cgroup : Cgroup) : Type 0 where
-  pub enabled : controllers_said (codes "enabled") table ≡ Some cgroup.enabled
-  pub entries : (name : EntryName) (entry : Entry) → entry_in cgroup name ≡ Some entry → entry_said format table name ≡ Some entry
-  pub values : (file : LimitFile) (held : LimitEntry) → file_of cgroup file ≡ Some held → value_said table file ≡ Some held.value
-  pub files : (path : Names) (above : ControllerSet) → path_said (codes "path") table ≡ Some path → over (Some no_controllers) tables path ≡ Some above
-      → (file : LimitFile) → is_some (file_of cgroup file) ≡ stands_under above file
-
--- the entries rise by their paths, and are those of the tables
-pub record AreEntriesOf (format : Format) (tables : List Members) (entries : List (Names × Cgroup)) : Type 0 where
-  pub sorted : is_sorted path_cmp entries ≡ true
-  pub there : (path : Names) → is_some (lookup (same_path path) entries) ≡ is_there tables path
-  pub each : (path : Names) (cgroup : Cgroup) (table : Members) → lookup (same_path path) entries ≡ Some cgroup → find (has_path path) tables ≡ Some table → IsEntryOf format tables table cgroup

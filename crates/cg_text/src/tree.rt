@@ -2,24 +2,22 @@
 ghost use Rattle.std.specs.Prelude.{◌≡◌, ◌≢◌, ◌<◌, length, Some, Err, MatchResult};
 ghost use Rattle.toml.specs.View.{table_view};
 ghost use Rattle.cg_text.specs.Faults.{Reads, or_fault};
-ghost use Rattle.cg_text.specs.TreeTexts.{longest_text, document_of};
+ghost use Rattle.cg_format.specs.TreeTexts.{longest_text, document_of};
 ghost use Rattle.cg_model.specs.Clauses.{first};
-ghost use Rattle.cg_text.specs.TextOf.{IsDocumentOf, IsTextOf};
-ghost use Rattle.cg_text.specs.TextFaults.{document_faults, text_faults};
-ghost use Rattle.cg_text.specs.declared.tree.fault.TreeFault.TheVariants.{NotToml};
+ghost use Rattle.cg_format.specs.TextOf.{IsDocumentOf, IsTextOf};
+ghost use Rattle.cg_format.specs.TextFaults.{document_faults, text_faults};
+ghost use Rattle.cg_format.specs.declared.fault.TreeFault.TheVariants.{NotToml};
 
-mod fault;
 mod form;
-mod format;
 pub mod laws;
 mod processes;
 mod row;
 mod said;
 mod walk;
 
+pub use cg_format::fault::{Place, TreeFault};
 use cg_rows::rows::Rows;
 use cg_rows::tables::path_table::PathTable;
-pub use fault::{Place, TreeFault};
 use form::in_form;
 use processes::processes_of;
 use row::rows_of;

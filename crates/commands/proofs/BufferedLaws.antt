@@ -7,7 +7,7 @@ use Rattle.arguments.specs.declared.request.Request.{Request}
 use Rattle.arguments.specs.declared.request.Request.TheVariants as request
 use Rattle.arguments.specs.Given.{ids_of, tree_file}
 use Rattle.cg_model.specs.Listed.{Listed}
-use Rattle.cg_text.specs.Readings.{Reading}
+use Rattle.cg_format.specs.Readings.{Reading}
 use Rattle.cg_cli.specs.AllPairs.{all_report, ReportsPairs}
 use Rattle.cg_cli.specs.Audits.{audit_report}
 use Rattle.cg_cli.specs.Upgrades.{Upgrades}

@@ -1,7 +1,7 @@
 //! Operation lines that a reader gives.
 ghost use Rattle.std.specs.Prelude.{◌≡◌, ◌+◌, ◌≤◌, OnOk, IfOk, IfErr, Err};
 ghost use Rattle.std.specs.Option.{option_map};
-ghost use Rattle.cg_text.specs.Readings.{OnText};
+ghost use Rattle.cg_format.specs.Readings.{OnText};
 ghost use Rattle.cg_cli.specs.Arguments.{user_read};
 ghost use Rattle.cg_cli.specs.Courses.{HasMade, came_to};
 ghost use Rattle.cg_cli.specs.Replays.{closed, lines_report};

@@ -4,17 +4,17 @@ ghost use Rattle.std.specs.List.{list_all};
 ghost use Rattle.cg_model.specs.Clauses.{first, unless};
 ghost use Rattle.toml.specs.Data.{table, get_member};
 ghost use Rattle.toml.specs.View.{view, table_view};
-ghost use Rattle.cg_text.specs.declared.tree.fault.TreeFault.TheVariants.{Shape};
-ghost use Rattle.cg_text.specs.Form.{is_text, are_texts, document_keys, owner_keys, limit_keys, file_keys_of, row_keys, live_keys, is_table};
-ghost use Rattle.cg_text.specs.TextFaults.{each_cgroup, each_process, form_faults};
-ghost use Rattle.cg_text.specs.TextOf.{IsInForm};
+ghost use Rattle.cg_format.specs.declared.fault.TreeFault.TheVariants.{Shape};
+ghost use Rattle.cg_format.specs.Form.{is_text, are_texts, document_keys, owner_keys, limit_keys, file_keys_of, row_keys, live_keys, is_table};
+ghost use Rattle.cg_format.specs.TextFaults.{each_cgroup, each_process, form_faults};
+ghost use Rattle.cg_format.specs.TextOf.{IsInForm};
 ghost use Rattle.cg_text.specs.Faults.{Passes};
 ghost use Rattle.cg_text.specs.Keys.{flat_keys, takes, allows, allows_table};
 
-use crate::tree::fault::{Place, TreeFault};
-use crate::tree::format::Format;
 use crate::tree::said::{elements_at, format_at};
 use cg_cgroup::files::EntryName;
+use cg_format::fault::{Place, TreeFault};
+use cg_format::format::Format;
 use toml::{Table, Value};
 
 /// The largest number of cgroups, and of processes.

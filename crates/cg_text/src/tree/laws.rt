@@ -1,28 +1,2 @@
 //! What holds of every tree text.
-ghost use Rattle.std.specs.Prelude.{◌≡◌, ℕ, true, List, [], is_some};
-ghost use Rattle.cg_cgroup.specs.Paths.{Names, IsPath};
-ghost use Rattle.cg_cgroup.specs.Numbers.{is_pid};
-ghost use Rattle.cg_model.specs.States.{State, process_at};
-ghost use Rattle.cg_model.specs.WellFormed.{has_row};
-ghost use Rattle.cg_text.specs.TextOf.{IsTextOf};
-ghost use Rattle.cg_text.specs.TextFaults.{text_faults};
-ghost use Rattle.cg_text.specs.Readings.{Reading, IsReading};
-
-/// A text is of a state exactly where none of the clauses finds a fault in it, and of one at most.
-pub fn texts_are_of_states()
-    ensures fault { (bytes : List ℕ) (st : State) → IsTextOf st bytes → text_faults bytes ≡ [] }
-    ensures state { (bytes : List ℕ) → text_faults bytes ≡ [] → (st : State) × IsTextOf st bytes }
-    ensures one { (bytes : List ℕ) (st other : State) → IsTextOf st bytes → IsTextOf other bytes → st ≡ other }
-{}
-
-/// A text is read as one thing: the state that it is of, or the first of its faults.
-pub fn texts_are_read()
-    ensures some { (bytes : List ℕ) → (tree : Reading) × IsReading bytes tree }
-    ensures one { (bytes : List ℕ) (tree other : Reading) → IsReading bytes tree → IsReading bytes other → tree ≡ other }
-{}
-
-/// In the state of a text each cgroup stands at a path, and each live process has a PID.
-pub fn states_are_named()
-    ensures paths { (bytes : List ℕ) (st : State) (path : Names) → IsTextOf st bytes → has_row st path ≡ true → IsPath path }
-    ensures pids { (bytes : List ℕ) (st : State) (pid : ℕ) → IsTextOf st bytes → is_some (process_at st pid) ≡ true → is_pid pid ≡ true }
-{}
+pub use cg_format::laws::{states_are_named, texts_are_of_states, texts_are_read};

@@ -7,18 +7,19 @@ ghost use Rattle.toml.specs.Data.{Members, as_table};
 ghost use Rattle.toml.specs.View.{view, table_view};
 ghost use Rattle.cg_cgroup.specs.Paths.{path_at};
 ghost use Rattle.cg_model.specs.Clauses.{first};
-ghost use Rattle.cg_text.specs.Said.{pid_said, uid_said, path_said};
-ghost use Rattle.cg_text.specs.TextFaults.{each_process, process_faults};
+ghost use Rattle.cg_format.specs.Said.{pid_said, uid_said, path_said};
+ghost use Rattle.cg_format.specs.TextFaults.{each_process, process_faults};
 ghost use Rattle.cg_text.specs.Faults.{Passes};
-ghost use Rattle.cg_text.specs.Live.{IsAmong, AreEarlier, IsLive, AreLive, AreProcesses, place_faults};
+ghost use Rattle.cg_format.specs.Tables.{IsAmong, IsLive, AreProcesses};
+ghost use Rattle.cg_text.specs.Live.{AreEarlier, AreLive, place_faults};
 
-use crate::tree::fault::{Place, TreeFault};
 use crate::tree::form::row_number;
 use crate::tree::said::{id_read, integer_at, path_at, pid_read};
 use crate::tree::walk::is_root;
 use cg_cgroup::cgroup::Cgroup;
 use cg_cgroup::path::Path;
 use cg_cgroup::process::{Pid, Process};
+use cg_format::fault::{Place, TreeFault};
 use cg_rows::processes::Processes;
 use cg_rows::tables::path_table::PathTable;
 use std::alloc::Global;
@@ -111,7 +112,7 @@ pub fn processes_of(
     requires few { length elements.now ≤ 4096 }
     requires tables { list_all (λ held. is_some (as_table (view held))) elements.now ≡ true }
     ensures { (tables : List Members) → IsAmong tables cgroups.now
-        → Passes (AreProcesses (filter_map as_table (map view elements.now)))
+        → Passes (λ all. AreProcesses (filter_map as_table (map view elements.now)) all.live all.used)
         (first (each_process (process_faults tables) (filter_map as_table (map view elements.now)))) result }
 {
     let live = live_of(alloc, cgroups, elements)?;

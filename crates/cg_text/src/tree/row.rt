@@ -6,20 +6,20 @@ ghost use Rattle.toml.specs.Data.{Members, as_table};
 ghost use Rattle.toml.specs.View.{view, table_view};
 ghost use Rattle.cg_cgroup.specs.declared.files.EntryName.TheVariants.{File};
 ghost use Rattle.cg_model.specs.Clauses.{first};
-ghost use Rattle.cg_text.specs.declared.tree.fault.Place.TheVariants.{Cgroup as AtCgroup};
-ghost use Rattle.cg_text.specs.declared.tree.fault.TreeFault.TheVariants.{BadEntry, BadValue};
-ghost use Rattle.cg_text.specs.TextFaults.{each_cgroup, row_faults};
+ghost use Rattle.cg_format.specs.declared.fault.Place.TheVariants.{Cgroup as AtCgroup};
+ghost use Rattle.cg_format.specs.declared.fault.TreeFault.TheVariants.{BadEntry, BadValue};
+ghost use Rattle.cg_format.specs.TextFaults.{each_cgroup, row_faults};
 ghost use Rattle.cg_text.specs.Faults.{Passes, or_fault};
 ghost use Rattle.cg_text.specs.Rows.{table_in, owner_in, limit_in, entry_with, needed_by, entry_faults, IsCgroupOf, IsReadAs, AreReadAs};
 
-use crate::tree::fault::{Place, TreeFault};
 use crate::tree::form::row_number;
-use crate::tree::format::Format;
 use crate::tree::said::{controllers_at, limit_of, owner_of, path_at, table_at};
 use cg_cgroup::cgroup::{Cgroup, LimitEntry};
 use cg_cgroup::files::{ControllerSet, EntryName, LimitFile};
 use cg_cgroup::path::Path;
 use cg_cgroup::user::{Entry, Mode};
+use cg_format::fault::{Place, TreeFault};
+use cg_format::format::Format;
 use std::alloc::Global;
 use toml::{Table, Value};
 

@@ -6,19 +6,20 @@ ghost use Rattle.cg_cgroup.specs.Paths.{path_cmp, is_root};
 ghost use Rattle.cg_cgroup.specs.Files.{stands_under};
 ghost use Rattle.cg_cgroup.specs.declared.files.ControllerSet.{ControllerSet};
 ghost use Rattle.cg_model.specs.Clauses.{first};
-ghost use Rattle.cg_text.specs.declared.tree.format.Format.{Format};
+ghost use Rattle.cg_format.specs.declared.format.Format.{Format};
 ghost use Rattle.cg_text.specs.declared.tree.row.Row.{Row};
-ghost use Rattle.cg_text.specs.TextFaults.{cgroup_faults};
+ghost use Rattle.cg_format.specs.TextFaults.{cgroup_faults};
+ghost use Rattle.cg_format.specs.Tables.{AreEntriesOf};
 ghost use Rattle.cg_text.specs.Faults.{Passes};
 ghost use Rattle.cg_text.specs.Rows.{AreReadAs};
-ghost use Rattle.cg_text.specs.Walk.{has_met, is_past, over_at, fitted_to, entries_from, noted, least_behind, least_fault, has_root, is_front, fronts_above, HasMet, AreInOrder, IsNext, AreEntriesOf};
+ghost use Rattle.cg_text.specs.Walk.{has_met, is_past, over_at, fitted_to, entries_from, noted, least_behind, least_fault, has_root, is_front, fronts_above, HasMet, AreInOrder, IsNext};
 
-use crate::tree::fault::{Place, TreeFault};
 use crate::tree::row::Row;
 use cg_cgroup::cgroup::{Cgroup, LimitEntry};
 use cg_cgroup::files::{ControllerSet, LimitFile};
 use cg_cgroup::memory::NoMemory;
 use cg_cgroup::path::Path;
+use cg_format::fault::{Place, TreeFault};
 use std::alloc::{AllocError, Global};
 
 /// A cgroup above others: how many names its path has, and what it enables.

@@ -1,5 +1,5 @@
 use Rattle.std.proofs.Common.{subst, rules}
-use Rattle.cg_text.specs.Readings.{IsReading}
+use Rattle.cg_format.specs.Readings.{IsReading}
 use Rattle.cg_cli.proofs.ReadingOf.{on_text}
 use Rattle.cg_cli.proofs.UpgradeReports.{written_anew, nothing_written}
 use Rattle.cg_print.proofs.ReadCarried.{read_carried}

@@ -5,7 +5,7 @@ use Rattle.toml.proofs.Views.{view-Array}
 use Rattle.cg_cgroup.proofs.PathOrder.{path_cmp_total}
 use Rattle.cg_print.specs.Carried.{IsNamedRow}
 use Rattle.cg_print.specs.Documents.{cgroup_table}
-use Rattle.cg_print.proofs.Entries.{there, more_written, more_named, all_written, all_named}
+use Rattle.cg_print.proofs.Entries.{there, more, all_written}
 use Rattle.cg_print.proofs.cgroups.cgroups_array.Goals as goal
 
 pub cgroup_value-requires : goal.cgroup_value-requires
@@ -16,26 +16,16 @@ cgroup_value-requires g c =
 
 pub loop-path-preserved : goal.loop-path-preserved
 loop-path-preserved g c =
-    let rows = (g.H.Hierarchy.state c.args.tree.now).rows in
-    let paths = c.deref-path-items.result.now in
-    let same = c.deref-path-items.ensures.value ∙ c.in_ok-paths.ensures in
-    record {
-      written = more_written path_cmp_total rows paths same c.loop-path.path-index c.path-item.result c.loop-path-test.true c.path-item.is
-          (λ path row. table (cgroup_table path row)) c.loop-path.values.items c.push.new.self.items c.in_ok-cgroup_value.field-0
-          c.in_ok-push.ensures.items c.loop-path.invariant.written c.in_ok-cgroup_value.ensures.written;
-      named =
-          more_named path_cmp_total rows paths same c.loop-path.path-index c.path-item.result c.loop-path-test.true c.path-item.is
-          IsNamedRow c.loop-path.invariant.named c.in_ok-cgroup_value.ensures.named;
-    }
+    more path_cmp_total (g.H.Hierarchy.state c.args.tree.now).rows c.deref-path-items.result.now
+    (c.deref-path-items.ensures.value ∙ c.in_ok-paths.ensures) c.loop-path.path-index c.path-item.result c.loop-path-test.true
+    c.path-item.is (λ path row. table (cgroup_table path row)) IsNamedRow c.loop-path.values.items c.push.new.self.items
+    c.in_ok-cgroup_value.field-0 c.in_ok-push.ensures.items c.loop-path.invariant
+    c.in_ok-cgroup_value.ensures.written c.in_ok-cgroup_value.ensures.named
 
 pub returns : goal.returns
 returns g c =
-    let rows = (g.H.Hierarchy.state c.args.tree.now).rows in
-    let paths = c.deref-path-items.result.now in
-    let same = c.deref-path-items.ensures.value ∙ c.in_ok-paths.ensures in
-    record {
-      written = view-Array c.loop-path.values
-          ∙ ap (λ ds. array (items_of ds)) (c.loop-path.invariant.written
-          ∙ all_written rows paths same c.loop-path.path-index c.loop-path-test.false (λ path row. table (cgroup_table path row)));
-      named = all_named rows paths same c.loop-path.path-index c.loop-path-test.false IsNamedRow c.loop-path.invariant.named;
-    }
+    let all =
+    all_written (g.H.Hierarchy.state c.args.tree.now).rows c.deref-path-items.result.now
+    (c.deref-path-items.ensures.value ∙ c.in_ok-paths.ensures) c.loop-path.path-index c.loop-path-test.false
+    (λ path row. table (cgroup_table path row)) IsNamedRow c.loop-path.values.items c.loop-path.invariant in
+    record { written = view-Array c.loop-path.values ∙ ap (λ ds. array (items_of ds)) all.0; named = all.1 }

@@ -1,12 +1,10 @@
-use Rattle.std.proofs.Common.{◌≡◌, map, take}
-use Rattle.std.specs.FinMap as finite
-use Rattle.toml.specs.View.{view}
-use Rattle.cg_print.specs.Carried.{AreNamedRows}
-use Rattle.cg_print.specs.Documents.{cgroups_written}
+use Rattle.toml.specs.Data.{table}
+use Rattle.cg_print.specs.Carried.{IsNamedRow}
+use Rattle.cg_print.specs.Documents.{cgroup_table}
+use Rattle.cg_print.proofs.Entries.{AreWritten}
 use Rattle.cg_print.proofs.cgroups.cgroups_array.Given as goal
 
 abbrev pub invariant-loop-path : goal.invariant-loop-path
-invariant-loop-path g l = record {
-  written : map view l.values.items ≡ take l.path-index (cgroups_written (g.H.Hierarchy.state l.tree));
-  named : AreNamedRows (take l.path-index (finite.entries (g.H.Hierarchy.state l.tree).rows));
-}
+invariant-loop-path g l =
+    AreWritten (g.H.Hierarchy.state l.tree).rows (λ path row. table (cgroup_table path row)) IsNamedRow
+    l.path-index l.values.items

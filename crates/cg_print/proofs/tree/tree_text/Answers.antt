@@ -3,7 +3,7 @@ use Rattle.std.proofs.lemmas.Str.{IsUtf8-string_bytes, is_utf8-from_IsUtf8}
 use Rattle.toml.specs.Data.{Members, members_depth}
 use Rattle.toml.specs.Parse.{parse_document}
 use Rattle.toml.specs.Text.{IsDocumentText}
-use Rattle.cg_text.specs.TreeTexts.{document_of}
+use Rattle.cg_format.specs.TreeTexts.{document_of}
 use Rattle.cg_print.specs.Documents.{tree_document, IsSpelled}
 use Rattle.cg_print.proofs.Depths.{tree_depth}
 use Rattle.cg_print.proofs.DocumentBack.{text_back}

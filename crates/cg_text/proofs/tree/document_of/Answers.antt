@@ -1,6 +1,6 @@
 use Rattle.std.proofs.Common.{ap, sym, true≢false}
 use Rattle.cg_text.specs.Faults.{or_fault}
-use Rattle.cg_text.specs.declared.tree.fault.TreeFault.TheVariants.{NotToml}
+use Rattle.cg_format.specs.declared.fault.TreeFault.TheVariants.{NotToml}
 use Rattle.cg_text.proofs.TextLaws.{document_is, no_document}
 use Rattle.cg_text.proofs.tree.document_of.Goals as goal
 

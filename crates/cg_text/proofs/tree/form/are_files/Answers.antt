@@ -1,7 +1,7 @@
 use Rattle.std.proofs.Common.{ap, sym, ◌∙◌}
 use Rattle.toml.specs.View.{view, table_view}
 use Rattle.toml.proofs.Views.{view-Table}
-use Rattle.cg_text.specs.Form.{is_table, file_keys_of}
+use Rattle.cg_format.specs.Form.{is_table, file_keys_of}
 use Rattle.cg_text.proofs.TakesLaws.{files_allowed}
 use Rattle.cg_text.proofs.tree.form.are_files.Goals as goal
 

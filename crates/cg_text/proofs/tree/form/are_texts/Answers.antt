@@ -2,7 +2,7 @@ use Rattle.std.proofs.Common.{ap, sym, ◌∙◌}
 use Rattle.std.specs.List.{list_all}
 use Rattle.toml.specs.View.{view}
 use Rattle.toml.proofs.Views.{view-Array}
-use Rattle.cg_text.specs.Form.{is_text, are_texts}
+use Rattle.cg_format.specs.Form.{is_text, are_texts}
 use Rattle.cg_text.proofs.SaidLaws.{texts_view}
 use Rattle.cg_text.proofs.tree.form.are_texts.Goals as goal
 

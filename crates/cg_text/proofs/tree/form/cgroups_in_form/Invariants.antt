@@ -1,5 +1,5 @@
-use Rattle.cg_text.specs.Form.{row_keys}
-use Rattle.cg_text.specs.declared.tree.fault.Place.TheVariants.{Cgroup}
+use Rattle.cg_format.specs.Form.{row_keys}
+use Rattle.cg_format.specs.declared.fault.Place.TheVariants.{Cgroup}
 use Rattle.cg_text.proofs.EachRow.{AreShaped}
 use Rattle.cg_text.proofs.tree.form.cgroups_in_form.Given as goal
 

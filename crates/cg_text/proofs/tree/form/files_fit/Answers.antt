@@ -1,4 +1,4 @@
-use Rattle.cg_text.specs.Form.{file_keys_of}
+use Rattle.cg_format.specs.Form.{file_keys_of}
 use Rattle.cg_text.proofs.TakesLaws.{not_taken, all_taken, file_apart}
 use Rattle.cg_text.proofs.tree.form.files_fit.Goals as goal
 

@@ -1,6 +1,6 @@
 use Rattle.std.proofs.Common.{◌≡◌}
 use Rattle.toml.specs.View.{table_view, members_view}
-use Rattle.cg_text.specs.Form.{file_keys_of}
+use Rattle.cg_format.specs.Form.{file_keys_of}
 use Rattle.cg_text.specs.Keys.{takes_all}
 use Rattle.cg_text.proofs.tree.form.files_fit.Given as goal
 

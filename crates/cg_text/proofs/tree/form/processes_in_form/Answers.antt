@@ -1,7 +1,7 @@
 use Rattle.toml.specs.View.{view}
 use Rattle.std.proofs.Common.{map}
-use Rattle.cg_text.specs.Form.{live_keys}
-use Rattle.cg_text.specs.declared.tree.fault.Place.TheVariants.{Process}
+use Rattle.cg_format.specs.Form.{live_keys}
+use Rattle.cg_format.specs.declared.fault.Place.TheVariants.{Process}
 use Rattle.cg_text.proofs.EachRow.{none_passed, more_shaped, misshapen, all_shaped}
 use Rattle.cg_text.proofs.tree.form.processes_in_form.Goals as goal
 

@@ -1,4 +1,4 @@
-use Rattle.cg_text.specs.Form.{row_keys}
+use Rattle.cg_format.specs.Form.{row_keys}
 use Rattle.cg_text.proofs.TakesLaws.{not_taken, all_taken, row_apart}
 use Rattle.cg_text.proofs.tree.form.row_fits.Goals as goal
 

@@ -1,6 +1,6 @@
 use Rattle.std.proofs.Common.{◌≡◌}
 use Rattle.toml.specs.View.{table_view, members_view}
-use Rattle.cg_text.specs.Form.{row_keys}
+use Rattle.cg_format.specs.Form.{row_keys}
 use Rattle.cg_text.specs.Keys.{takes_all}
 use Rattle.cg_text.proofs.tree.form.row_fits.Given as goal
 

@@ -1,6 +1,6 @@
 use Rattle.std.proofs.Common.{sym, ap, ◌∙◌}
 use Rattle.toml.specs.View.{view}
-use Rattle.cg_text.specs.Form.{row_keys}
+use Rattle.cg_format.specs.Form.{row_keys}
 use Rattle.cg_text.specs.Keys.{takes}
 use Rattle.cg_text.proofs.TakesLaws.{owner_allowed}
 use Rattle.cg_text.proofs.tree.form.takes_row.Goals as goal

@@ -1,7 +1,7 @@
 use Rattle.std.proofs.Common.{List, map, filter_map, take, refl}
 use Rattle.toml.specs.Data.{Members, as_table}
 use Rattle.toml.specs.View.{view, table_view}
-use Rattle.cg_text.specs.declared.tree.fault.TreeFault.TheVariants.{NoMemory}
+use Rattle.cg_format.specs.declared.fault.TreeFault.TheVariants.{NoMemory}
 use Rattle.cg_text.proofs.EachRow.{IsNextTable}
 use Rattle.cg_text.proofs.RowLaws.{passed_on}
 use Rattle.cg_text.proofs.LiveLaws.{none_read, read_more, read_fails, all_read}

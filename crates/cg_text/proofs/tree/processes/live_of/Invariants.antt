@@ -1,7 +1,7 @@
 use Rattle.std.proofs.Common.{List, map, filter_map}
 use Rattle.toml.specs.Data.{Members, as_table}
 use Rattle.toml.specs.View.{view}
-use Rattle.cg_text.specs.Live.{IsAmong}
+use Rattle.cg_format.specs.Tables.{IsAmong}
 use Rattle.cg_text.proofs.LiveLaws.{HasRead}
 use Rattle.cg_text.proofs.tree.processes.live_of.Given as goal
 

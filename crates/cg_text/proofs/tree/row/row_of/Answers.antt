@@ -1,10 +1,10 @@
 -- A row without a path, without controllers, or with a fault of its entries or values; else it is read.
 use Rattle.std.proofs.Common.{◌≡◌, Some, codes, is_some, refl, ap, sym, ◌∙◌}
 use Rattle.toml.specs.View.{table_view}
-use Rattle.cg_text.specs.Said.{path_said, controllers_said}
+use Rattle.cg_format.specs.Said.{path_said, controllers_said}
 use Rattle.cg_text.specs.declared.tree.row.Entries.{Entries}
-use Rattle.cg_text.specs.declared.tree.fault.Place.TheVariants.{Cgroup as AtCgroup}
-use Rattle.cg_text.specs.declared.tree.fault.TreeFault.TheVariants.{BadController}
+use Rattle.cg_format.specs.declared.fault.Place.TheVariants.{Cgroup as AtCgroup}
+use Rattle.cg_format.specs.declared.fault.TreeFault.TheVariants.{BadController}
 use Rattle.cg_text.proofs.RowLaws.{ok_of, err_of, ok_or_is, passed_on, no_path, no_enabled, faults_behind, row_read}
 use Rattle.cg_text.proofs.tree.row.row_of.Goals as goal
 use Rattle.cg_text.proofs.tree.row.row_of.Goals.{In_ok-enabled}

@@ -7,11 +7,11 @@ use Rattle.toml.specs.Data.{Members, as_table}
 use Rattle.toml.specs.View.{view}
 use Rattle.toml.specs.declared.value.Value.{Value}
 use Rattle.cg_text.specs.Rows.{AreReadAs}
-use Rattle.cg_text.specs.TextFaults.{row_faults}
-use Rattle.cg_text.specs.declared.tree.fault.Place.{Place}
-use Rattle.cg_text.specs.declared.tree.fault.Place.TheVariants.{Cgroup}
-use Rattle.cg_text.specs.declared.tree.fault.TreeFault.{TreeFault}
-use Rattle.cg_text.specs.declared.tree.fault.TreeFault.TheVariants.{NoMemory}
+use Rattle.cg_format.specs.TextFaults.{row_faults}
+use Rattle.cg_format.specs.declared.fault.Place.{Place}
+use Rattle.cg_format.specs.declared.fault.Place.TheVariants.{Cgroup}
+use Rattle.cg_format.specs.declared.fault.TreeFault.{TreeFault}
+use Rattle.cg_format.specs.declared.fault.TreeFault.TheVariants.{NoMemory}
 use Rattle.cg_text.proofs.EachRow.{none_passed, HavePassed, IsNextTable, table_at, table_passed, table_found, tables_passed, tables_taken}
 use Rattle.cg_text.proofs.RowLaws.{passed_on, row_added}
 use Rattle.cg_text.proofs.tree.row.rows_of.Goals as goal

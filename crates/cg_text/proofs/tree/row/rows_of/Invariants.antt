@@ -2,8 +2,8 @@ use Rattle.std.proofs.Common.{◌≡◌, length, take, map, filter_map}
 use Rattle.toml.specs.Data.{as_table}
 use Rattle.toml.specs.View.{view}
 use Rattle.cg_text.specs.Rows.{AreReadAs}
-use Rattle.cg_text.specs.TextFaults.{row_faults}
-use Rattle.cg_text.specs.declared.tree.fault.Place.TheVariants.{Cgroup}
+use Rattle.cg_format.specs.TextFaults.{row_faults}
+use Rattle.cg_format.specs.declared.fault.Place.TheVariants.{Cgroup}
 use Rattle.cg_text.proofs.EachRow.{HavePassed}
 use Rattle.cg_text.proofs.tree.row.rows_of.Given as goal
 

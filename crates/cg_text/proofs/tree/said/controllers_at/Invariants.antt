@@ -1,7 +1,7 @@
 use Rattle.std.proofs.Common.{◌≡◌, drop, map, filter_map}
 use Rattle.toml.specs.Data.{as_str}
 use Rattle.toml.specs.View.{view, table_view}
-use Rattle.cg_text.specs.Said.{controllers_from, controllers_said}
+use Rattle.cg_format.specs.Said.{controllers_from, controllers_said}
 use Rattle.cg_text.proofs.tree.said.controllers_at.Given as goal
 
 abbrev pub invariant-loop-element : goal.invariant-loop-element

@@ -1,5 +1,5 @@
 use Rattle.std.proofs.Common.{[], sym, rules}
-use Rattle.cg_text.proofs.Cuts.{not_empty}
+use Rattle.cg_format.proofs.Cuts.{not_empty}
 use Rattle.cg_text.proofs.LeastNumbers.{least_none}
 use Rattle.cg_text.proofs.tree.walk.Walk.new.Goals as goal
 

@@ -5,8 +5,8 @@ use Rattle.cg_cgroup.specs.Paths.{same_name}
 use Rattle.cg_cgroup.specs.Files.{all_files, file_name}
 use Rattle.cg_cgroup.specs.Texts as texts
 use Rattle.toml.specs.Data.{Data, array, table, Items, no_items, item, Members, no_members, member, get_member, as_str, as_integer, as_array}
-use Rattle.cg_text.specs.declared.tree.format.Format.{Format}
-use Rattle.cg_text.specs.declared.tree.format.Format.TheVariants.{One, Two}
+use Rattle.cg_format.specs.declared.format.Format.{Format}
+use Rattle.cg_format.specs.declared.format.Format.TheVariants.{One, Two}
 
 abbrev pub is_two : Format → Bool
 is_two One = false

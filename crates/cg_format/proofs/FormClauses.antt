@@ -7,15 +7,15 @@ use Rattle.std.proofs.lemmas.Bool.Decides.{nat_tests}
 use Rattle.toml.specs.Data.{Data, Members}
 use Rattle.cg_model.specs.Clauses.{unless}
 use Rattle.cg_steps.proofs.ClauseLaws.{no_parts, no_unless}
-use Rattle.cg_text.specs.Form.{Key, most_rows, row_keys, live_keys, is_table}
-use Rattle.cg_text.specs.Said.{elements_at}
-use Rattle.cg_text.specs.TextOf.{IsInForm}
-use Rattle.cg_text.specs.TextFaults.{each, form_faults}
-use Rattle.cg_text.specs.declared.tree.format.Format.{Format}
-use Rattle.cg_text.specs.declared.tree.fault.Place.{Place}
-use Rattle.cg_text.specs.declared.tree.fault.Place.TheVariants.{Cgroup as AtCgroup, Process as AtProcess}
-use Rattle.cg_text.specs.declared.tree.fault.TreeFault.TheVariants.{Shape}
-use Rattle.cg_text.proofs.KeysOnce.{five_none, absent_none}
+use Rattle.cg_format.specs.Form.{Key, most_rows, row_keys, live_keys, is_table}
+use Rattle.cg_format.specs.Said.{elements_at}
+use Rattle.cg_format.specs.TextOf.{IsInForm}
+use Rattle.cg_format.specs.TextFaults.{each, form_faults}
+use Rattle.cg_format.specs.declared.format.Format.{Format}
+use Rattle.cg_format.specs.declared.fault.Place.{Place}
+use Rattle.cg_format.specs.declared.fault.Place.TheVariants.{Cgroup as AtCgroup, Process as AtProcess}
+use Rattle.cg_format.specs.declared.fault.TreeFault.TheVariants.{Shape}
+use Rattle.cg_format.proofs.KeysOnce.{five_none, absent_none}
 
 pub at_most : (n most : ℕ) → nat_le n most ≡ true → n ≤ most
 at_most n most is = grind (arith, nat_tests)

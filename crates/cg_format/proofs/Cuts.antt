@@ -1,7 +1,9 @@
 -- Lists cut at an element, and what a filter keeps of one.
 use Rattle.std.proofs.Common.{◌≡◌, ℕ, ◌<◌, zero, suc, Bool, true, false, cond, ◌||◌, ◌⊎◌, inl, inr, ⊎_elim, List, [], ◌∷◌, ◌++◌, length, get_or, reverse, find, filter, Option, Some, None, is_some, refl, sym, ap, ◌∙◌, true≢false, append-nil, length-append, arith}
 use Rattle.std.specs.Option.{option_to_list}
+use Rattle.std.specs.Prelude.{count_by}
 use Rattle.std.specs.List.{list_any}
+use Rattle.std.proofs.lemmas.List.Sums.{length-filter}
 use Rattle.std.proofs.lemmas.List.{reverse-append}
 use Rattle.std.proofs.lemmas.List.Elements.{filter-append}
 
@@ -51,6 +53,13 @@ module _ {A : Type 0} (p : A → Bool) where
 
   pub any_filter : (xs : List A) → list_any p xs ≡ is_some (head_of (filter p xs))
   any_filter xs = sym (is_some-find xs) ∙ ap is_some (find_filter xs)
+
+  -- what comes once is there, and what comes never isn't
+  pub any_counted : (xs : List A) (b : Bool) → count_by p xs ≡ cond b 1 0 → list_any p xs ≡ b
+  any_counted xs b is = any_filter xs ∙ of_length (filter p xs) b (length-filter p xs ∙ is)
+    where
+      of_length : (some : List A) (b : Bool) → length some ≡ cond b 1 0 → is_some (head_of some) ≡ b
+      of_length some b is = grind arith
 
   pub filter_reverse : (xs : List A) → filter p (reverse xs) ≡ reverse (filter p xs)
   filter_reverse [] = refl

@@ -13,9 +13,9 @@ use Rattle.cg_cgroup.specs.declared.files.LimitFile.{LimitFile}
 use Rattle.cg_cgroup.specs.declared.files.EntryName.{EntryName}
 use Rattle.cg_cgroup.specs.declared.files.EntryName.TheVariants.{Dir, File}
 use Rattle.toml.specs.Data.{Data, string, integer, Members, no_members, get_member, as_str, as_integer, as_array, as_table}
-use Rattle.cg_text.specs.Form.{is_two, elements}
-use Rattle.cg_text.specs.declared.tree.format.Format.{Format}
-use Rattle.cg_text.specs.declared.tree.format.Format.TheVariants.{One, Two}
+use Rattle.cg_format.specs.Form.{is_two, elements}
+use Rattle.cg_format.specs.declared.format.Format.{Format}
+use Rattle.cg_format.specs.declared.format.Format.TheVariants.{One, Two}
 
 -- ---- numbers and names
 

@@ -9,10 +9,10 @@ use Rattle.std.proofs.lemmas.List.Sums.{length-filter}
 use Rattle.cg_cgroup.proofs.Options.{some_value, none_value, same_some}
 use Rattle.cg_model.specs.Clauses.{absent}
 use Rattle.cg_steps.proofs.ClauseLaws.{no_parts, no_absent}
-use Rattle.cg_text.specs.TextFaults.{each}
-use Rattle.cg_text.specs.declared.tree.fault.Place.{Place}
-use Rattle.cg_text.specs.declared.tree.fault.TreeFault.{TreeFault}
-use Rattle.cg_text.proofs.Cuts.{head_of, is_some-find, any_filter, once_kept}
+use Rattle.cg_format.specs.TextFaults.{each}
+use Rattle.cg_format.specs.declared.fault.Place.{Place}
+use Rattle.cg_format.specs.declared.fault.TreeFault.{TreeFault}
+use Rattle.cg_format.proofs.Cuts.{head_of, is_some-find, any_filter, once_kept}
 
 -- ---- clauses
 

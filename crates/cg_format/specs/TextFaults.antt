@@ -7,15 +7,15 @@ use Rattle.cg_cgroup.specs.Files.{all_files, all_entries, no_controllers, enable
 use Rattle.cg_cgroup.specs.declared.files.ControllerSet.{ControllerSet}
 use Rattle.cg_cgroup.specs.declared.files.EntryName.TheVariants.{File}
 use Rattle.cg_model.specs.Clauses.{unless, absent, present}
-use Rattle.cg_text.specs.Form.{most_rows, document_keys, row_keys, live_keys, is_table}
-use Rattle.cg_text.specs.Said.{elements_at, tables_at, path_said, controllers_said, format_said, entry_said, value_said, is_named, has_path, pid_said, uid_said}
-use Rattle.cg_text.specs.TextOf.{has_pid}
-use Rattle.cg_text.specs.TreeTexts.{longest_text, document_of}
-use Rattle.cg_text.specs.declared.tree.format.Format.{Format}
-use Rattle.cg_text.specs.declared.tree.fault.Place.{Place}
-use Rattle.cg_text.specs.declared.tree.fault.Place.TheVariants.{Top, Cgroup, Process}
-use Rattle.cg_text.specs.declared.tree.fault.TreeFault.{TreeFault}
-use Rattle.cg_text.specs.declared.tree.fault.TreeFault.TheVariants.{TooLong, NotToml, Shape, Format as BadFormat, TooMany, BadController, BadPath, BadEntry, BadValue, Duplicate, NoRoot, NoParent, TopDown, NoSuchFile, BadPid, DuplicatePid, NoSuchPlace, InternalProcess}
+use Rattle.cg_format.specs.Form.{most_rows, document_keys, row_keys, live_keys, is_table}
+use Rattle.cg_format.specs.Said.{elements_at, tables_at, path_said, controllers_said, format_said, entry_said, value_said, is_named, has_path, pid_said, uid_said}
+use Rattle.cg_format.specs.TextOf.{has_pid}
+use Rattle.cg_format.specs.TreeTexts.{longest_text, document_of}
+use Rattle.cg_format.specs.declared.format.Format.{Format}
+use Rattle.cg_format.specs.declared.fault.Place.{Place}
+use Rattle.cg_format.specs.declared.fault.Place.TheVariants.{Top, Cgroup, Process}
+use Rattle.cg_format.specs.declared.fault.TreeFault.{TreeFault}
+use Rattle.cg_format.specs.declared.fault.TreeFault.TheVariants.{TooLong, NotToml, Shape, Format as BadFormat, TooMany, BadController, BadPath, BadEntry, BadValue, Duplicate, NoRoot, NoParent, TopDown, NoSuchFile, BadPid, DuplicatePid, NoSuchPlace, InternalProcess}
 
 -- the faults of rows in turn, the first of which has the number i; a row may be held against those before it
 abbrev pub each : {A : Type 0} → (List A → Place → A → List TreeFault) → (ℕ → Place) → ℕ → List A → List A → List TreeFault

@@ -1,9 +1,9 @@
 use Rattle.std.proofs.Common.{ℕ, ◌≤◌, List, length, sym, subst}
-use Rattle.cg_text.specs.TreeTexts.{longest_text}
-use Rattle.cg_text.specs.TextOf.{IsTextOf}
+use Rattle.cg_format.specs.TreeTexts.{longest_text}
+use Rattle.cg_format.specs.TextOf.{IsTextOf}
 use Rattle.cg_print.specs.Documents.{IsSpelled}
-use Rattle.cg_print.proofs.DocumentBack.{read_again}
-use Rattle.cg_print.proofs.laws.written_is_read.Goals as goal
+use Rattle.cg_cli.proofs.WrittenRead.{read_again}
+use Rattle.cg_cli.proofs.laws.written_is_read.Goals as goal
 
 pub returns-in-Ok : goal.returns-in-Ok
 returns-in-Ok g c =

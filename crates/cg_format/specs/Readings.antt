@@ -2,9 +2,9 @@
 use Rattle.std.specs.Prelude.{◌≡◌, ℕ, List, Some, Result, Ok, Err}
 use Rattle.cg_model.specs.States.{State}
 use Rattle.cg_model.specs.Clauses.{first}
-use Rattle.cg_text.specs.TextOf.{IsTextOf}
-use Rattle.cg_text.specs.TextFaults.{text_faults}
-use Rattle.cg_text.specs.declared.tree.fault.TreeFault.{TreeFault}
+use Rattle.cg_format.specs.TextOf.{IsTextOf}
+use Rattle.cg_format.specs.TextFaults.{text_faults}
+use Rattle.cg_format.specs.declared.fault.TreeFault.{TreeFault}
 
 abbrev pub Reading : Type 0
 Reading = Result State TreeFault

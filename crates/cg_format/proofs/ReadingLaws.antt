@@ -3,13 +3,13 @@ use Rattle.std.proofs.Common.{◌≡◌, ℕ, List, [], ◌∷◌, Some, is_some
 use Rattle.cg_model.specs.Clauses.{first}
 use Rattle.cg_model.specs.States.{State}
 use Rattle.cg_cgroup.proofs.Options.{same_some}
-use Rattle.cg_text.specs.Readings.{Reading, IsReading}
-use Rattle.cg_text.specs.TextOf.{IsTextOf}
-use Rattle.cg_text.specs.TextFaults.{text_faults}
-use Rattle.cg_text.specs.declared.tree.fault.TreeFault.{TreeFault}
-use Rattle.cg_text.proofs.OneState.{one_state}
-use Rattle.cg_text.proofs.StateOf.{state_of_text}
-use Rattle.cg_text.proofs.NoFaults.{no_faults}
+use Rattle.cg_format.specs.Readings.{Reading, IsReading}
+use Rattle.cg_format.specs.TextOf.{IsTextOf}
+use Rattle.cg_format.specs.TextFaults.{text_faults}
+use Rattle.cg_format.specs.declared.fault.TreeFault.{TreeFault}
+use Rattle.cg_format.proofs.OneState.{one_state}
+use Rattle.cg_format.proofs.NoFaults.{no_faults}
+use Rattle.cg_format.proofs.StateOf.{state_of_text}
 
 pub a_reading : (bytes : List ℕ) → (tree : Reading) × IsReading bytes tree
 a_reading bytes =

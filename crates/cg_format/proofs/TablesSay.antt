@@ -1,9 +1,10 @@
 -- What the tables of a document say, where the clauses on them find nothing.
-use Rattle.std.proofs.Common.{◌≡◌, ℕ, Bool, true, false, not, ◌||◌, List, [], ◌∷◌, ◌++◌, codes, Option, Some, None, is_some, option_and_then, refl, sym, ap, ◌∙◌}
+use Rattle.std.proofs.Common.{◌≡◌, ℕ, Bool, true, false, not, ◌||◌, List, [], ◌∷◌, ◌++◌, codes, get_or, Option, Some, None, is_some, option_and_then, refl, sym, ap, ◌∙◌}
 use Rattle.std.specs.Prelude.{find}
 use Rattle.std.specs.List.{list_all, list_any}
 use Rattle.std.proofs.lemmas.Bool.{not-true, and_parts}
 use Rattle.std.proofs.lemmas.List.Folds.{list_all-map}
+use Rattle.std.proofs.lemmas.List.Sums.{list_all-from_AllPass}
 use Rattle.toml.specs.Data.{Members}
 use Rattle.cg_cgroup.specs.Paths.{Names, is_root, parent}
 use Rattle.cg_cgroup.specs.Files.{all_files, all_entries, no_controllers, enables_nothing, is_within, stands_under}
@@ -16,15 +17,15 @@ use Rattle.cg_cgroup.specs.declared.files.EntryName.{EntryName}
 use Rattle.cg_cgroup.specs.declared.files.EntryName.TheVariants.{Dir, Procs, SubtreeControl, File}
 use Rattle.cg_cgroup.specs.declared.files.LimitFile.{LimitFile}
 use Rattle.cg_steps.proofs.ClauseLaws.{no_unless}
-use Rattle.cg_text.specs.Said.{path_said, controllers_said, entry_said, value_said, is_named, has_path, pid_said, uid_said}
-use Rattle.cg_text.specs.TextOf.{has_pid}
-use Rattle.cg_text.specs.TextFaults.{row_faults, is_there, enabled_there, over, cgroup_faults, process_faults}
-use Rattle.cg_text.specs.declared.tree.fault.Place.{Place}
-use Rattle.cg_text.specs.declared.tree.fault.Place.TheVariants.{Cgroup as AtCgroup}
-use Rattle.cg_text.specs.declared.tree.format.Format.{Format}
-use Rattle.cg_text.proofs.CgroupClauses.{twice_clause, orphan_clause, within_clause, files_clause}
-use Rattle.cg_text.proofs.Cuts.{is_some-find}
-use Rattle.cg_text.proofs.KeysOnce.{five_none, absent_none, none_at}
+use Rattle.cg_format.specs.Said.{path_said, controllers_said, entry_said, value_said, is_named, has_path, pid_said, uid_said}
+use Rattle.cg_format.specs.TextOf.{has_pid}
+use Rattle.cg_format.specs.TextFaults.{row_faults, is_there, enabled_there, over, cgroup_faults, process_faults}
+use Rattle.cg_format.specs.declared.fault.Place.{Place}
+use Rattle.cg_format.specs.declared.fault.Place.TheVariants.{Cgroup as AtCgroup}
+use Rattle.cg_format.specs.declared.format.Format.{Format}
+use Rattle.cg_format.proofs.CgroupClauses.{twice_clause, orphan_clause, within_clause, files_clause}
+use Rattle.cg_format.proofs.Cuts.{is_some-find}
+use Rattle.cg_format.proofs.KeysOnce.{five_none, absent_none, none_at}
 
 -- ---- a cgroup's table
 
@@ -38,6 +39,10 @@ pub record SaysCgroup (format : Format) (row : Members) : Type 0 where
   pub owned : (name : EntryName) → entry_said format row name ≡ Some (owner name)
   pub value : LimitFile → Limit
   pub valued : (file : LimitFile) → value_said row file ≡ Some (value file)
+
+-- what all pass
+pub all_so : {A : Type 0} (p : A → Bool) → ((x : A) → p x ≡ true) → (xs : List A) → list_all p xs ≡ true
+all_so p each xs = list_all-from_AllPass p xs (λ k d inside. each (get_or xs k d))
 
 pub each_entry : (p : EntryName → Bool) → list_all p all_entries ≡ true → (name : EntryName) → p name ≡ true
 each_entry p all name =

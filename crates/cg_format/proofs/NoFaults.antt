@@ -22,21 +22,21 @@ use Rattle.cg_model.specs.Clauses.{unless, absent, present}
 use Rattle.cg_model.specs.States.{State, row_at, process_at}
 use Rattle.cg_model.specs.WellFormed.{has_row, enabled_at, enabled_above, IsWellFormed}
 use Rattle.cg_steps.proofs.FormedParts.{may_hold-row}
-use Rattle.cg_text.specs.Form.{Key, most_rows, row_keys, live_keys, is_table}
-use Rattle.cg_text.specs.Said.{elements_at, tables_at, controllers_said, owner_said, limit_said, table_of, entry_said, value_said, is_named, has_path}
-use Rattle.cg_text.specs.TextOf.{IsInForm, IsRowOf, IsProcessOf, has_pid, IsDocumentOf, IsTextOf}
-use Rattle.cg_text.specs.TextFaults.{each, each_cgroup, each_process, has_few, form_faults, row_faults, is_there, enabled_there, over, cgroup_faults, process_faults, said_faults, document_faults, text_faults}
-use Rattle.cg_text.specs.TreeTexts.{longest_text}
-use Rattle.cg_text.specs.declared.tree.fault.Place.{Place}
-use Rattle.cg_text.specs.declared.tree.fault.Place.TheVariants.{Top, Cgroup as AtCgroup, Process as AtProcess}
-use Rattle.cg_text.specs.declared.tree.fault.TreeFault.{TreeFault}
-use Rattle.cg_text.specs.declared.tree.fault.TreeFault.TheVariants.{TooLong, NotToml, Shape, Format as BadFormat, TooMany, BadController, BadPath, BadEntry, BadValue, NoRoot, NoSuchFile, InternalProcess}
-use Rattle.cg_text.specs.declared.tree.format.Format.{Format}
-use Rattle.cg_text.specs.declared.tree.format.Format.TheVariants.{One, Two}
-use Rattle.cg_text.proofs.RowLaws.{all_so}
-use Rattle.cg_text.proofs.CgroupClauses.{twice_clause, orphan_clause, within_clause, files_clause}
-use Rattle.cg_text.proofs.Cuts.{head_of, is_some-find, any_filter, filter_cut}
-use Rattle.cg_text.proofs.OneState.{Passes, one_passes, path_is, enabled_in}
+use Rattle.cg_format.specs.Form.{Key, most_rows, row_keys, live_keys, is_table}
+use Rattle.cg_format.specs.Said.{elements_at, tables_at, controllers_said, owner_said, limit_said, table_of, entry_said, value_said, is_named, has_path}
+use Rattle.cg_format.specs.TextOf.{IsInForm, IsRowOf, IsProcessOf, has_pid, IsDocumentOf, IsTextOf}
+use Rattle.cg_format.specs.TextFaults.{each, each_cgroup, each_process, has_few, form_faults, row_faults, is_there, enabled_there, over, cgroup_faults, process_faults, said_faults, document_faults, text_faults}
+use Rattle.cg_format.specs.TreeTexts.{longest_text}
+use Rattle.cg_format.specs.declared.fault.Place.{Place}
+use Rattle.cg_format.specs.declared.fault.Place.TheVariants.{Top, Cgroup as AtCgroup, Process as AtProcess}
+use Rattle.cg_format.specs.declared.fault.TreeFault.{TreeFault}
+use Rattle.cg_format.specs.declared.fault.TreeFault.TheVariants.{TooLong, NotToml, Shape, Format as BadFormat, TooMany, BadController, BadPath, BadEntry, BadValue, NoRoot, NoSuchFile, InternalProcess}
+use Rattle.cg_format.specs.declared.format.Format.{Format}
+use Rattle.cg_format.specs.declared.format.Format.TheVariants.{One, Two}
+use Rattle.cg_format.proofs.TablesSay.{all_so}
+use Rattle.cg_format.proofs.CgroupClauses.{twice_clause, orphan_clause, within_clause, files_clause}
+use Rattle.cg_format.proofs.Cuts.{head_of, is_some-find, any_filter, filter_cut}
+use Rattle.cg_format.proofs.OneState.{Passes, one_passes, path_is, enabled_in}
 
 -- ---- clauses that find nothing
 

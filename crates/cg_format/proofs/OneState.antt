@@ -1,12 +1,11 @@
 -- A text is of one state at most. In it each cgroup stands at a path, and each live process has a PID.
-use Rattle.std.proofs.Common.{◌≡◌, ℕ, ◌<◌, Bool, true, false, cond, List, [], ◌∷◌, length, filter, codes, Option, Some, None, is_some, option_map, option_and_then, refl, sym, ap, subst, ◌∙◌, true≢false, arith}
+use Rattle.std.proofs.Common.{◌≡◌, ℕ, Bool, true, false, cond, List, codes, Option, Some, None, is_some, option_map, option_and_then, refl, sym, ap, subst, ◌∙◌, true≢false, arith}
 use Rattle.std.specs.Prelude.{count_by, nat_eq, find}
 use Rattle.std.specs.List.{AllByRecursion}
 use Rattle.std.specs.Cmp.{nat_cmp_total}
 use Rattle.std.specs.FinMap.{nat_cmp-IsAntisymmetric, same_map}
 use Rattle.std.specs.FinSet.{same_set}
 use Rattle.std.proofs.lemmas.Bool.Decides.{nat_tests}
-use Rattle.std.proofs.lemmas.List.Sums.{length-filter}
 use Rattle.cg_steps.proofs.Lists.{all-both, find-all, find-passes}
 use Rattle.toml.specs.Data.{Members}
 use Rattle.cg_cgroup.specs.Paths.{Names, IsPath, same_path, is_root, parent, path_at}
@@ -26,11 +25,11 @@ use Rattle.cg_cgroup.proofs.PathOrder.{path_cmp_total, path_cmp-IsAntisymmetric,
 use Rattle.cg_cgroup.proofs.CgroupLaws.{SameRest, same_cgroup}
 use Rattle.cg_model.specs.States.{State, row_at, process_at}
 use Rattle.cg_model.specs.WellFormed.{has_row, enabled_at, enabled_above, IsWellFormed}
-use Rattle.cg_text.specs.Said.{tables_at, text_at, integer_at, path_said, pid_said, pid_read, number_or, has_path}
-use Rattle.cg_text.specs.TextOf.{IsRowOf, IsProcessOf, has_pid, IsDocumentOf, IsTextOf}
-use Rattle.cg_text.specs.declared.tree.format.Format.{Format}
-use Rattle.cg_text.proofs.Cuts.{head_of, find_filter}
-use Rattle.cg_text.proofs.SaidRanges.{passed}
+use Rattle.cg_format.specs.Said.{tables_at, text_at, integer_at, path_said, pid_said, pid_read, number_or, has_path}
+use Rattle.cg_format.specs.TextOf.{IsRowOf, IsProcessOf, has_pid, IsDocumentOf, IsTextOf}
+use Rattle.cg_format.specs.declared.format.Format.{Format}
+use Rattle.cg_format.proofs.Cuts.{is_some-find, any_counted}
+use Rattle.cg_format.proofs.SaidRanges.{passed}
 
 -- ---- what is found
 
@@ -46,13 +45,8 @@ Passes {A = A} P p xs = (x : A) × P x × (p x ≡ true) × (find p xs ≡ Some 
 pub one_passes : {A : Type 0} (P : A → Type 0) (p : A → Bool) (xs : List A) (b : Bool) → AllByRecursion P xs
     → count_by p xs ≡ cond b 1 0 → b ≡ true → Passes P p xs
 one_passes P p xs b all count is =
-    let one : length (filter p xs) ≡ 1 = length-filter p xs ∙ count ∙ ap (λ b. cond b 1 0) is in
-    let found = some_value (find p xs) (ap is_some (find_filter p xs) ∙ has_head (filter p xs) (omega (arith, one))) in
+    let found = some_value (find p xs) (is_some-find p xs ∙ any_counted p xs b count ∙ is) in
     (found.0, find-all P p xs all found.0 found.1, find-passes p xs found.0 found.1, found.1)
-  where
-    has_head : {A : Type 0} (xs : List A) → 0 < length xs → is_some (head_of xs) ≡ true
-    has_head [] some = absurd (omega arith)
-    has_head (x ∷ xs) some = refl
 
 same_test : (a b : Bool) → cond {A = ℕ} a 1 0 ≡ cond b 1 0 → a ≡ b
 same_test a b is = grind arith

@@ -12,10 +12,10 @@ use Rattle.cg_cgroup.specs.declared.cgroup.Cgroup.{Cgroup}
 use Rattle.cg_cgroup.specs.declared.process.Process.{Process}
 use Rattle.cg_model.specs.States.{State, row_at, process_at, is_used}
 use Rattle.cg_model.specs.WellFormed.{has_row, IsWellFormed}
-use Rattle.cg_text.specs.Form.{most_rows, document_keys, row_keys, live_keys, is_table}
-use Rattle.cg_text.specs.Said.{elements_at, tables_at, path_said, controllers_said, format_said, entry_said, value_said, is_named, has_path, pid_said, uid_said}
-use Rattle.cg_text.specs.TreeTexts.{longest_text, document_of}
-use Rattle.cg_text.specs.declared.tree.format.Format.{Format}
+use Rattle.cg_format.specs.Form.{most_rows, document_keys, row_keys, live_keys, is_table}
+use Rattle.cg_format.specs.Said.{elements_at, tables_at, path_said, controllers_said, format_said, entry_said, value_said, is_named, has_path, pid_said, uid_said}
+use Rattle.cg_format.specs.TreeTexts.{longest_text, document_of}
+use Rattle.cg_format.specs.declared.format.Format.{Format}
 
 -- The document has the keys and the types of its format, and not too many rows.
 pub record IsInForm (kind : Format) (document : Members) : Type 0 where

@@ -10,9 +10,9 @@ use Rattle.cg_cgroup.specs.Files.{accepts}
 use Rattle.cg_cgroup.specs.declared.user.Entry.{Entry}
 use Rattle.cg_cgroup.specs.declared.files.Limit.{Limit}
 use Rattle.cg_cgroup.specs.declared.files.LimitFile.{LimitFile}
-use Rattle.cg_text.specs.Form.{is_two}
-use Rattle.cg_text.specs.Said.{number_or, passing, mode_read, accepted}
-use Rattle.cg_text.specs.declared.tree.format.Format.{Format}
+use Rattle.cg_format.specs.Form.{is_two}
+use Rattle.cg_format.specs.Said.{number_or, passing, mode_read, accepted}
+use Rattle.cg_format.specs.declared.format.Format.{Format}
 
 pub passed : (test : ℕ → Bool) (found : Option ℕ) (number : ℕ) → passing test found ≡ Some number → test number ≡ true
 passed test found number is = grind arith

@@ -1,5 +1,5 @@
 -- A text without a fault is of a state: the cgroups and the processes that its tables say.
-use Rattle.std.proofs.Common.{◌≡◌, ℕ, Bool, true, false, ◌||◌, T, List, [], length, map as map_list, codes, Option, Some, is_some, option_map, unwrap_or, refl, sym, ap, subst, ◌∙◌}
+use Rattle.std.proofs.Common.{◌≡◌, ℕ, Bool, true, false, T, List, [], length, map as map_list, codes, Option, Some, is_some, option_map, unwrap_or, cond, None, arith, refl, sym, ap, subst, ◌∙◌}
 use Rattle.std.specs.Prelude.{find, nat_eq}
 use Rattle.std.specs.List.{AllByRecursion}
 use Rattle.std.specs.Map.{lookup}
@@ -12,7 +12,7 @@ use Rattle.std.specs.FinSet as set
 use Rattle.std.specs.FinSet.{contains-from_list}
 use Rattle.toml.specs.Data.{Members}
 use Rattle.cg_cgroup.specs.Paths.{Names, path_cmp, same_path}
-use Rattle.cg_cgroup.specs.Files.{no_controllers}
+use Rattle.cg_cgroup.specs.Files.{no_controllers, stands_under}
 use Rattle.cg_cgroup.specs.Cgroups.{file_of, entry_in}
 use Rattle.cg_cgroup.proofs.Options.{same_some}
 use Rattle.cg_cgroup.proofs.PathOrder.{path_cmp_total, path_cmp-IsAntisymmetric, same_path-ties}
@@ -21,95 +21,92 @@ use Rattle.cg_cgroup.specs.declared.files.EntryName.{EntryName}
 use Rattle.cg_cgroup.specs.declared.files.EntryName.TheVariants.{Dir, Procs, SubtreeControl, File}
 use Rattle.cg_cgroup.specs.declared.files.LimitFile.{LimitFile}
 use Rattle.cg_cgroup.specs.declared.files.LimitFile.TheVariants.{MaxDescendants, MaxDepth, CpuWeight, MemoryMin, MemoryLow, MemoryHigh, MemoryMax, PidsMax}
+use Rattle.cg_cgroup.specs.declared.user.Entry.{Entry}
+use Rattle.cg_cgroup.specs.declared.files.Limit.{Limit}
 use Rattle.cg_cgroup.specs.declared.cgroup.LimitEntry.{LimitEntry}
 use Rattle.cg_cgroup.specs.declared.cgroup.Cgroup.{Cgroup}
 use Rattle.cg_cgroup.specs.declared.process.Process.{Process}
 use Rattle.cg_model.specs.Clauses.{present, first}
 use Rattle.cg_model.specs.States.{State}
 use Rattle.cg_steps.proofs.ClauseLaws.{no_parts, no_unless}
-use Rattle.cg_rows.specs.Processes.{LiveAndUsed}
-use Rattle.cg_rows.specs.RowsForm.{state_of_tables}
-use Rattle.cg_text.specs.Said.{tables_at, path_said, format_said, entry_said, is_named, has_path, pid_said}
-use Rattle.cg_text.specs.TextOf.{has_pid, IsDocumentOf, IsTextOf}
-use Rattle.cg_text.specs.TextFaults.{form_faults, said_faults, row_faults, over, cgroup_faults, process_faults, document_faults, text_faults}
-use Rattle.cg_text.specs.TreeTexts.{longest_text}
-use Rattle.cg_text.specs.Rows.{IsReadAs}
-use Rattle.cg_text.specs.Walk.{fitted_to, IsEntryOf, AreEntriesOf}
-use Rattle.cg_text.specs.Live.{IsLive, AreProcesses}
-use Rattle.cg_text.specs.declared.tree.format.Format.{Format}
-use Rattle.cg_text.specs.declared.tree.row.Row.{Row}
-use Rattle.cg_text.specs.declared.tree.fault.Place.TheVariants.{Cgroup as AtCgroup, Process as AtProcess}
-use Rattle.cg_text.proofs.KeysOnce.{five_none, absent_none, none_say}
-use Rattle.cg_text.proofs.TablesSay.{SaysCgroup, row_says, SaysProcess, process_says}
-use Rattle.cg_text.proofs.FormClauses.{at_most, in_form}
-use Rattle.cg_text.proofs.PairsOf.{pairs_of, pair_there, pair_found}
-use Rattle.cg_text.proofs.EntriesLaws.{read_entry}
-use Rattle.cg_text.proofs.DocumentOfLaws.{found_by_path, document_is_of}
+use Rattle.cg_format.specs.Said.{tables_at, path_said, format_said, entry_said, value_said, has_path, pid_said}
+use Rattle.cg_format.specs.TextOf.{has_pid, IsDocumentOf, IsTextOf}
+use Rattle.cg_format.specs.TextFaults.{form_faults, said_faults, row_faults, over, cgroup_faults, process_faults, document_faults, text_faults}
+use Rattle.cg_format.specs.TreeTexts.{longest_text}
+use Rattle.cg_format.specs.Tables.{IsEntryOf, AreEntriesOf, IsLive, AreProcesses}
+use Rattle.cg_format.specs.declared.format.Format.{Format}
+use Rattle.cg_format.specs.declared.fault.Place.TheVariants.{Cgroup as AtCgroup, Process as AtProcess}
+use Rattle.cg_format.proofs.KeysOnce.{five_none, absent_none, none_say}
+use Rattle.cg_format.proofs.TablesSay.{SaysCgroup, row_says, SaysProcess, process_says}
+use Rattle.cg_format.proofs.FormClauses.{at_most, in_form}
+use Rattle.cg_format.proofs.PairsOf.{pairs_of, pair_there, pair_found}
+use Rattle.cg_format.proofs.DocumentOfLaws.{state_with, found_by_path, document_is_of}
 
 -- ---- a cgroup's table
 
-module _ (format : Format) (row : Members) (says : SaysCgroup format row) where
+had : {A B : Type 0} (g : A → B) (b : Bool) (x : A) (y : B) → option_map g (cond b (Some x) None) ≡ Some y → g x ≡ y
+had g b x y is = grind arith
+
+stands : {A : Type 0} (b : Bool) (x : A) → is_some (cond b (Some x) None) ≡ b
+stands b x = grind arith
+
+module _ (format : Format) (row : Members) (says : SaysCgroup format row) (above : ControllerSet) where
   abbrev held : LimitFile → LimitEntry
   held file = record { entry = says.owner (File file); value = says.value file }
 
-  -- the row of the table, whose cgroup has all files
-  abbrev row_of : Row
-  row_of = record {
-    number = 1;
-    path = says.path;
-    cgroup = record {
-      dir = says.owner Dir;
-      procs = says.owner Procs;
-      subtree_control = says.owner SubtreeControl;
-      max_descendants = held MaxDescendants;
-      max_depth = held MaxDepth;
-      cpu_weight = Some (held CpuWeight);
-      memory_min = Some (held MemoryMin);
-      memory_low = Some (held MemoryLow);
-      memory_high = Some (held MemoryHigh);
-      memory_max = Some (held MemoryMax);
-      pids_max = Some (held PidsMax);
-      enabled = says.enabled;
-    };
-    needed = record {
-      cpu = is_named (File CpuWeight) row;
-      memory =
-          is_named (File MemoryMin) row || is_named (File MemoryLow) row
-          || is_named (File MemoryHigh) row || is_named (File MemoryMax) row;
-      pids = is_named (File PidsMax) row;
-    };
+  -- a limit file, where it stands
+  abbrev standing : LimitFile → Option LimitEntry
+  standing file = cond (stands_under above file) (Some (held file)) None
+
+  -- the cgroup of the table, under a parent that enables these controllers
+  abbrev cgroup_of : Cgroup
+  cgroup_of = record {
+    dir = says.owner Dir;
+    procs = says.owner Procs;
+    subtree_control = says.owner SubtreeControl;
+    max_descendants = held MaxDescendants;
+    max_depth = held MaxDepth;
+    cpu_weight = standing CpuWeight;
+    memory_min = standing MemoryMin;
+    memory_low = standing MemoryLow;
+    memory_high = standing MemoryHigh;
+    memory_max = standing MemoryMax;
+    pids_max = standing PidsMax;
+    enabled = says.enabled;
   }
 
-  has_file : (file : LimitFile) → file_of row_of.cgroup file ≡ Some (held file)
-  has_file MaxDescendants = refl
-  has_file MaxDepth = refl
-  has_file CpuWeight = refl
-  has_file MemoryMin = refl
-  has_file MemoryLow = refl
-  has_file MemoryHigh = refl
-  has_file MemoryMax = refl
-  has_file PidsMax = refl
+  file_is : (file : LimitFile) → file_of cgroup_of file ≡ standing file
+  file_is MaxDescendants = refl
+  file_is MaxDepth = refl
+  file_is file = refl
 
-  has_entry : (name : EntryName) → entry_said format row name ≡ entry_in row_of.cgroup name
-  has_entry Dir = says.owned Dir
-  has_entry Procs = says.owned Procs
-  has_entry SubtreeControl = says.owned SubtreeControl
-  has_entry (File file) = says.owned (File file) ∙ sym (ap (option_map (λ (f : LimitEntry). f.entry)) (has_file file))
+  owned : (name : EntryName) (entry : Entry) → entry_in cgroup_of name ≡ Some entry → entry_said format row name ≡ Some entry
+  owned Dir entry is = says.owned Dir ∙ is
+  owned Procs entry is = says.owned Procs ∙ is
+  owned SubtreeControl entry is = says.owned SubtreeControl ∙ is
+  owned (File file) entry is =
+      let entry_at : LimitEntry → Entry = λ held. held.entry in
+      says.owned (File file)
+      ∙ ap Some (had entry_at (stands_under above file) (held file) entry (ap (option_map entry_at) (sym (file_is file)) ∙ is))
 
-  read_as : IsReadAs format 1 row row_of
-  read_as = record {
-    number = refl;
-    path = says.named;
+  valued : (file : LimitFile) (found : LimitEntry) → file_of cgroup_of file ≡ Some found → value_said row file ≡ Some found.value
+  valued file found is =
+      let value_at : LimitEntry → Limit = λ held. held.value in
+      says.valued file
+      ∙ ap Some (had value_at (stands_under above file) (held file) found.value (ap (option_map value_at) (sym (file_is file) ∙ is)))
+
+  entry_of : (tables : List Members) → ((other : ControllerSet) → over (Some no_controllers) tables says.path ≡ Some other → other ≡ above)
+      → IsEntryOf format tables row cgroup_of
+  entry_of tables same = record {
     enabled = says.enables;
-    entries = has_entry;
-    values = λ file. says.valued file ∙ sym (ap (option_map (λ (f : LimitEntry). f.value)) (has_file file));
-    cpu = refl;
-    memory = refl;
-    pids = refl;
-    files = λ file. ap is_some (has_file file);
+    entries = owned;
+    values = valued;
+    files = λ path other said is file.
+        let own : path ≡ says.path = same_some path says.path (sym said ∙ says.named) in
+        let sets : other ≡ above = same other (ap (over (Some no_controllers) tables) (sym own) ∙ is) in
+        ap is_some (file_is file) ∙ stands (stands_under above file) (held file)
+        ∙ ap (λ (set : ControllerSet). stands_under set file) (sym sets);
   }
-
--- ---- the cgroups
 
 -- ---- the cgroups
 
@@ -122,7 +119,7 @@ module _ (format : Format) (tables : List Members) where
   above path = unwrap_or (over (Some no_controllers) tables path) no_controllers
 
   abbrev pair_of : (row : Members) → SaysCgroup format row → Names × Cgroup
-  pair_of row says = (says.path, fitted_to (above says.path) (row_of format row says).cgroup)
+  pair_of row says = (says.path, cgroup_of format row says (above says.path))
 
   module _ (all : AllByRecursion (SaysCgroup format) tables) where
     abbrev pairs : List (Names × Cgroup)
@@ -141,7 +138,7 @@ module _ (format : Format) (tables : List Members) where
 
     entry_read : (row : Members) (says : SaysCgroup format row) → IsEntryOf format tables row (pair_of row says).1
     entry_read row says =
-        read_entry format tables 1 row (row_of format row says) (read_as format row says) (above says.path)
+        entry_of format row says (above says.path) tables
         (λ other is. sym (ap (λ (o : Option ControllerSet). unwrap_or o no_controllers) is))
 
     each_is : (path : Names) (cgroup : Cgroup) (row : Members) → lookup (same_path path) entries ≡ Some cgroup
@@ -177,13 +174,16 @@ module _ (tables : List Members) where
     lives = pairs_of nat_cmp-IsAntisymmetric pid_said nat_eq unsigned_ties Says live_of (λ row says. says.1.numbered) rows all
 
     -- the processes that the tables say, and their PIDs
-    abbrev processes : LiveAndUsed
-    processes = record { live = map.from_entries lives; used = set.from_list (map_list (λ live. live.0) lives) }
+    abbrev live : map.FinMap nat_cmp Process
+    live = map.from_entries lives
 
-    live_found : (pid : ℕ) → map.get processes.live pid ≡ map.find nat_cmp pid lives
+    abbrev used : set.FinSet nat_cmp
+    used = set.from_list (map_list (λ live. live.0) lives)
+
+    live_found : (pid : ℕ) → map.get live pid ≡ map.find nat_cmp pid lives
     live_found pid = get-from_entries nat_cmp_total lives pid
 
-    live_is : (pid : ℕ) (process : Process) → map.get processes.live pid ≡ Some process
+    live_is : (pid : ℕ) (process : Process) → map.get live pid ≡ Some process
         → (row : Members) × (find (has_pid pid) rows ≡ Some row) × IsLive row (pid, process)
     live_is pid process is =
         let gives = pair_found nat_cmp-IsAntisymmetric pid_said nat_eq unsigned_ties Says live_of (λ row says. says.1.numbered)
@@ -198,7 +198,7 @@ module _ (tables : List Members) where
           },
         )
 
-    are_processes : AreProcesses rows processes
+    are_processes : AreProcesses rows live used
     are_processes = record {
       pids = λ pid.
           ap is_some (live_found pid)
@@ -226,10 +226,11 @@ state_of_document document none =
     let lives_say = none_say (process_faults tables) AtProcess (Says tables)
     (λ earlier at row none. (earlier, process_says tables earlier at row none)) rows said.4 in
     let made : List (Names × Cgroup) = entries format tables cgroups_say in
-    let live : LiveAndUsed = processes tables rows lives_say in (
-      state_of_tables (map.from_sorted made) live top.0,
-      document_is_of format document top.0 made (ap first said.2) (ap first together, are_entries format tables cgroups_say) live
-          (ap first said.4, are_processes tables rows lives_say) (map.from_sorted made) refl form.1 top.1 _ refl,
+    let living = live tables rows lives_say in
+    let pids = used tables rows lives_say in (
+      state_with (map.from_sorted made) living pids top.0,
+      document_is_of format document top.0 made (ap first said.2) (ap first together, are_entries format tables cgroups_say) living pids
+          (ap first said.4, are_processes tables rows lives_say) (map.from_sorted made) refl form.1 top.1,
     )
 
 pub state_of_text : (bytes : List ℕ) → text_faults bytes ≡ [] → (st : State) × IsTextOf st bytes

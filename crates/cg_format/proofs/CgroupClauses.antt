@@ -7,11 +7,11 @@ use Rattle.cg_cgroup.specs.Files.{all_files, no_controllers, is_within, stands_u
 use Rattle.cg_cgroup.specs.declared.files.ControllerSet.{ControllerSet}
 use Rattle.cg_cgroup.specs.declared.files.EntryName.TheVariants.{File}
 use Rattle.cg_model.specs.Clauses.{unless, present}
-use Rattle.cg_text.specs.Said.{path_said, controllers_said, is_named}
-use Rattle.cg_text.specs.TextFaults.{is_there, over, on_path}
-use Rattle.cg_text.specs.declared.tree.fault.Place.{Place}
-use Rattle.cg_text.specs.declared.tree.fault.TreeFault.{TreeFault}
-use Rattle.cg_text.specs.declared.tree.fault.TreeFault.TheVariants.{Duplicate, NoParent, TopDown, NoSuchFile}
+use Rattle.cg_format.specs.Said.{path_said, controllers_said, is_named}
+use Rattle.cg_format.specs.TextFaults.{is_there, over, on_path}
+use Rattle.cg_format.specs.declared.fault.Place.{Place}
+use Rattle.cg_format.specs.declared.fault.TreeFault.{TreeFault}
+use Rattle.cg_format.specs.declared.fault.TreeFault.TheVariants.{Duplicate, NoParent, TopDown, NoSuchFile}
 
 abbrev pub CgroupClause : Type 0
 CgroupClause = List Members → Place → Members → List TreeFault

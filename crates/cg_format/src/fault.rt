@@ -1,6 +1,6 @@
 //! What is wrong with a tree text.
 ghost use Rattle.std.specs.Prelude.{◌≡◌};
-ghost use Rattle.cg_text.specs.declared.tree.fault.TreeFault.TheVariants.{NoMemory as OutOfMemory};
+ghost use Rattle.cg_format.specs.declared.fault.TreeFault.TheVariants.{NoMemory as OutOfMemory};
 
 use cg_cgroup::memory::NoMemory;
 use std::alloc::{AllocError, AllocFailed};

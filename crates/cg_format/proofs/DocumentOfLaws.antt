@@ -4,10 +4,12 @@ use Rattle.std.specs.Prelude.{find, count_by, nat_eq}
 use Rattle.std.specs.Bool.{passes}
 use Rattle.std.specs.List.{AllByRecursion, list_any}
 use Rattle.std.specs.Map.{lookup}
+use Rattle.std.specs.Ordering.{nat_cmp}
 use Rattle.std.specs.FinMap as map
+use Rattle.std.specs.FinSet as set
 use Rattle.toml.specs.Data.{Data, Members, no_members, get_member}
 use Rattle.cg_cgroup.specs.Paths.{Names, path_cmp, same_path, is_root, parent}
-use Rattle.cg_cgroup.specs.Files.{no_controllers, default_value, accepts, enables_nothing, is_within, stands_under}
+use Rattle.cg_cgroup.specs.Files.{no_controllers, default_value, accepts, is_within, stands_under}
 use Rattle.cg_cgroup.specs.Cgroups.{file_of, entry_in}
 use Rattle.cg_cgroup.proofs.CgroupLaws.{accepts-default_value}
 use Rattle.cg_cgroup.proofs.Options.{some_value, none_value, same_some, is_some-mapped}
@@ -26,19 +28,17 @@ use Rattle.cg_model.specs.Clauses.{first}
 use Rattle.cg_model.specs.States.{State, row_at, process_at}
 use Rattle.cg_model.specs.WellFormed.{has_row, enabled_at, enabled_above, available_at, may_hold, IsFormedRow, IsWellFormed}
 use Rattle.cg_steps.proofs.ClauseLaws.{none_of_first}
-use Rattle.cg_rows.specs.Processes.{LiveAndUsed}
-use Rattle.cg_rows.specs.RowsForm.{state_of_tables}
-use Rattle.cg_text.specs.Said.{tables_at, integer_at, path_said, controllers_said, mode_missing, limit_of, accepted, id_read, mode_read, table_of, entry_said, value_said, is_named, has_path, pid_said}
-use Rattle.cg_text.specs.TextOf.{IsInForm, IsRowOf, IsProcessOf, has_pid, IsDocumentOf}
-use Rattle.cg_text.specs.TextFaults.{each_cgroup, each_process, row_faults, is_there, enabled_there, over, cgroup_faults, process_faults}
-use Rattle.cg_text.specs.Walk.{IsEntryOf, AreEntriesOf}
-use Rattle.cg_text.specs.Live.{IsAmong, IsLive, AreProcesses}
-use Rattle.cg_text.specs.declared.tree.fault.Place.TheVariants.{Cgroup as AtCgroup, Process as AtProcess}
-use Rattle.cg_text.specs.declared.tree.format.Format.{Format}
-use Rattle.cg_text.proofs.Cuts.{is_some-find}
-use Rattle.cg_text.proofs.SaidRanges.{mode_small, entry_as, accepted_is}
-use Rattle.cg_text.proofs.KeysOnce.{none_at, all_rows, found_at, IsOnce, key_had, once_found, once_counted}
-use Rattle.cg_text.proofs.TablesSay.{row_says, StandsAmong, stands_among, root_there, SaysProcess, process_says}
+use Rattle.cg_steps.proofs.FormedParts.{row-may_hold}
+use Rattle.cg_format.specs.Said.{tables_at, integer_at, path_said, controllers_said, mode_missing, limit_of, accepted, id_read, mode_read, table_of, entry_said, value_said, is_named, has_path, pid_said}
+use Rattle.cg_format.specs.TextOf.{IsInForm, IsRowOf, IsProcessOf, has_pid, IsDocumentOf}
+use Rattle.cg_format.specs.TextFaults.{each_cgroup, each_process, row_faults, is_there, enabled_there, over, cgroup_faults, process_faults}
+use Rattle.cg_format.specs.Tables.{IsEntryOf, AreEntriesOf, IsAmong, IsLive, AreProcesses}
+use Rattle.cg_format.specs.declared.fault.Place.TheVariants.{Cgroup as AtCgroup, Process as AtProcess}
+use Rattle.cg_format.specs.declared.format.Format.{Format}
+use Rattle.cg_format.proofs.Cuts.{is_some-find}
+use Rattle.cg_format.proofs.SaidRanges.{mode_small, entry_as, accepted_is}
+use Rattle.cg_format.proofs.KeysOnce.{none_at, all_rows, found_at, IsOnce, key_had, once_found, once_counted}
+use Rattle.cg_format.proofs.TablesSay.{row_says, StandsAmong, stands_among, root_there, SaysProcess, process_says}
 
 -- ---- what is said is in range
 
@@ -64,6 +64,10 @@ value_accepted file row value is = found_accepted file (get_member (codes "value
     is
 
 -- ---- look-ups
+
+-- the state of these cgroups and processes
+abbrev pub state_with : map.FinMap path_cmp Cgroup → map.FinMap nat_cmp Process → set.FinSet nat_cmp → ControllerSet → State
+state_with rows live used controllers = record { rows = rows; live = live; used = used; controllers = controllers }
 
 pub found_by_path : {X : Type 0} (path : Names) (es : List (Names × X)) → map.find path_cmp path es ≡ lookup (same_path path) es
 found_by_path path [] = refl
@@ -149,9 +153,9 @@ module _ (format : Format) (document : Members) (controllers : ControllerSet) (e
         entry = are.each path cgroup table.0 (sym (get_is path) ∙ is) table.1;
       }
 
-  module _ (processes : LiveAndUsed) where
+  module _ (live : map.FinMap nat_cmp Process) (used : set.FinSet nat_cmp) where
     abbrev st : State
-    st = state_of_tables cgroups processes controllers
+    st = state_with cgroups live used controllers
 
     over_is : (at_root : ControllerSet) (path : Names) → (is_root path || is_there tables (parent path)) ≡ true
         → over (Some at_root) tables path ≡ Some (cond (is_root path) at_root (enabled_at st (parent path)))
@@ -227,16 +231,16 @@ module _ (format : Format) (document : Members) (controllers : ControllerSet) (e
 
     -- ---- processes
 
-    module _ (live : (first (each_process (process_faults tables) (tables_at (codes "process") document)) ≡ None)
-        × AreProcesses (tables_at (codes "process") document) processes) where
+    module _ (made_of : (first (each_process (process_faults tables) (tables_at (codes "process") document)) ≡ None)
+        × AreProcesses (tables_at (codes "process") document) live used) where
       abbrev lives : List Members
       lives = tables_at (codes "process") document
 
       living : each_process (process_faults tables) lives ≡ []
-      living = none_of_first _ live.0
+      living = none_of_first _ made_of.0
 
-      abbrev these : AreProcesses lives processes
-      these = live.1
+      abbrev these : AreProcesses lives live used
+      these = made_of.1
 
       said_at : (before : List Members) (row : Members) (after : List Members) → before ++ row ∷ after ≡ lives
           → SaysProcess tables before row
@@ -259,9 +263,7 @@ module _ (format : Format) (document : Members) (controllers : ControllerSet) (e
           let same : process.place ≡ says.place = same_some process.place says.place (sym of_row.2.place ∙ says.placed) in
           let cgroup = some_value (map.get cgroups says.place) (among.there says.place ∙ says.there) in
           let enabled = sym (among.enabled says.place) ∙ ap (option_map (λ (c : Cgroup). c.enabled)) cgroup.1 in
-          ap (may_hold st) same
-          ∙ ap (λ (o : Option Cgroup). elim o [ None ↦ false | Some row ↦ is_root says.place || enables_nothing row.enabled ]) cgroup.1
-          ∙ says.free cgroup.0.enabled enabled
+          ap (may_hold st) same ∙ row-may_hold st says.place cgroup.0 cgroup.1 (says.free cgroup.0.enabled enabled)
 
       formed : IsWellFormed st
       formed = record {
@@ -297,14 +299,11 @@ module _ (format : Format) (document : Members) (controllers : ControllerSet) (e
       -- ---- as the reader has them
 
       module _ (found : map.FinMap path_cmp Cgroup) (made : found ≡ cgroups) where
-        pub formed_of : IsWellFormed (state_of_tables found processes controllers)
-        formed_of = subst (λ cgroups. IsWellFormed (state_of_tables cgroups processes controllers)) (sym made) formed
-
         -- the document is of these cgroups and processes
         pub document_is_of : IsInForm format document → controllers_said (codes "controllers") document ≡ Some controllers
-            → (whole : State) → whole ≡ state_of_tables found processes controllers → IsDocumentOf whole document
-        document_is_of form said whole is =
-            subst (λ whole. IsDocumentOf whole document) (sym (is ∙ ap (λ cgroups. state_of_tables cgroups processes controllers) made))
+            → IsDocumentOf (state_with found live used controllers) document
+        document_is_of form said =
+            subst (λ cgroups. IsDocumentOf (state_with cgroups live used controllers) document) (sym made)
             (record {
               format = format;
               form = form;

@@ -1,0 +1,43 @@
+-- What is read of a text that a tree was written to.
+use Rattle.std.proofs.Common.{◌≡◌, ◌≢◌, ℕ, ◌≤◌, ◌<◌, true, false, nat_le, List, [], length, Some, is_some, Result, Ok, Err, MatchResult, refl, sym, ap, subst, ◌∙◌, true≢false, arith}
+use Rattle.std.proofs.lemmas.Bool.Decides.{nat_tests}
+use Rattle.cg_model.specs.States.{State}
+use Rattle.cg_model.specs.Clauses.{first}
+use Rattle.cg_format.specs.TextOf.{IsTextOf}
+use Rattle.cg_format.specs.TextFaults.{text_faults}
+use Rattle.cg_format.specs.TreeTexts.{longest_text}
+use Rattle.cg_format.specs.declared.fault.TreeFault.{TreeFault}
+use Rattle.cg_format.specs.declared.fault.TreeFault.TheVariants.{TooLong, NoMemory}
+use Rattle.cg_print.specs.Documents.{IsSpelled}
+use Rattle.cg_print.specs.Carried.{IsTooLong}
+
+passes : (n m : ℕ) → nat_le n m ≡ true → n ≤ m
+passes n m is = grind (arith, nat_tests)
+
+fails : (n m : ℕ) → nat_le n m ≡ false → m < n
+fails n m is = grind (arith, nat_tests)
+
+-- what a reader may answer of a text that has a state, unless it is too long
+abbrev IsAnswer : State → Result State TreeFault → Type 0
+IsAnswer st result = MatchResult result (λ rows. rows ≡ st) (λ fault. fault ≢ NoMemory → (fault ≡ TooLong) × IsTooLong st)
+
+-- what is read of a text
+abbrev IsRead : List ℕ → Result State TreeFault → Type 0
+IsRead text result = MatchResult result (λ rows. IsTextOf rows text) (λ fault. fault ≢ NoMemory → first (text_faults text) ≡ Some fault)
+
+-- a text is of one state, and then has no fault
+module _ (text : List ℕ) (st : State) (one : (rows other : State) → IsTextOf rows text → IsTextOf other text → rows ≡ other)
+    (no_fault : IsTextOf st text → text_faults text ≡ []) where
+  by_read : (result : Result State TreeFault) → IsTextOf st text → IsRead text result → IsAnswer st result
+  by_read (Ok rows) is read = one rows st read is
+  by_read (Err fault) is read = λ other. absurd (true≢false (ap is_some (sym (read other) ∙ ap first (no_fault is))))
+
+  pub read_again : (result : Result State TreeFault) → IsSpelled st text → (length text ≤ longest_text → IsTextOf st text)
+      → (longest_text < length text → result ≡ Err TooLong) → IsRead text result → IsAnswer st result
+  read_again result spelled state too_long read =
+      elim (nat_le (length text) longest_text) as (λ b. nat_le (length text) longest_text ≡ b → IsAnswer st result) [
+        | true ↦ λ is. by_read result (state (passes (length text) longest_text is)) read
+        | false ↦ λ is.
+            let over = fails (length text) longest_text is in
+            subst (IsAnswer st) (sym (too_long over)) (λ _. (refl, (text, spelled, over)))
+      ] refl

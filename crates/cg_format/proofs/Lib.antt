@@ -1,0 +1,12 @@
+pub mod Cuts
+pub mod KeysOnce
+pub mod CgroupClauses
+pub mod TablesSay
+pub mod FormClauses
+pub mod SaidRanges
+pub mod OneState
+pub mod NoFaults
+pub mod PairsOf
+pub mod DocumentOfLaws
+pub mod StateOf
+pub mod ReadingLaws

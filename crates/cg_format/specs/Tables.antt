@@ -1,0 +1,59 @@
+-- How it is read and written: nobody has to believe it.
+-- Cgroups and processes, held against what the tables of a document say.
+use Rattle.std.specs.Prelude.{◌≡◌, ℕ, true, List, codes, Some, is_some, find}
+use Rattle.std.specs.Option.{option_map}
+use Rattle.std.specs.List.{list_any}
+use Rattle.std.specs.Map.{lookup}
+use Rattle.std.specs.Ordering.{nat_cmp}
+use Rattle.std.specs.FinMap as map
+use Rattle.std.specs.FinMap.{is_sorted}
+use Rattle.std.specs.FinSet as set
+use Rattle.toml.specs.Data.{Members}
+use Rattle.cg_cgroup.specs.Paths.{Names, path_cmp, same_path}
+use Rattle.cg_cgroup.specs.Files.{no_controllers, stands_under}
+use Rattle.cg_cgroup.specs.Cgroups.{file_of, entry_in}
+use Rattle.cg_cgroup.specs.declared.user.Entry.{Entry}
+use Rattle.cg_cgroup.specs.declared.files.ControllerSet.{ControllerSet}
+use Rattle.cg_cgroup.specs.declared.files.EntryName.{EntryName}
+use Rattle.cg_cgroup.specs.declared.files.LimitFile.{LimitFile}
+use Rattle.cg_cgroup.specs.declared.cgroup.LimitEntry.{LimitEntry}
+use Rattle.cg_cgroup.specs.declared.cgroup.Cgroup.{Cgroup}
+use Rattle.cg_cgroup.specs.declared.process.Process.{Process}
+use Rattle.cg_format.specs.Said.{path_said, controllers_said, entry_said, value_said, has_path, pid_said, uid_said}
+use Rattle.cg_format.specs.TextOf.{has_pid}
+use Rattle.cg_format.specs.TextFaults.{is_there, enabled_there, over}
+use Rattle.cg_format.specs.declared.format.Format.{Format}
+
+-- ---- cgroups
+
+-- a cgroup as a table says it, with the files that stand at it
+pub record IsEntryOf (format : Format) (tables : List Members) (table : Members) (cgroup : Cgroup) : Type 0 where
+  pub enabled : controllers_said (codes "enabled") table ≡ Some cgroup.enabled
+  pub entries : (name : EntryName) (entry : Entry) → entry_in cgroup name ≡ Some entry → entry_said format table name ≡ Some entry
+  pub values : (file : LimitFile) (held : LimitEntry) → file_of cgroup file ≡ Some held → value_said table file ≡ Some held.value
+  pub files : (path : Names) (above : ControllerSet) → path_said (codes "path") table ≡ Some path → over (Some no_controllers) tables path ≡ Some above
+      → (file : LimitFile) → is_some (file_of cgroup file) ≡ stands_under above file
+
+-- the entries rise by their paths, and are those of the tables
+pub record AreEntriesOf (format : Format) (tables : List Members) (entries : List (Names × Cgroup)) : Type 0 where
+  pub sorted : is_sorted path_cmp entries ≡ true
+  pub there : (path : Names) → is_some (lookup (same_path path) entries) ≡ is_there tables path
+  pub each : (path : Names) (cgroup : Cgroup) (table : Members) → lookup (same_path path) entries ≡ Some cgroup → find (has_path path) tables ≡ Some table → IsEntryOf format tables table cgroup
+
+-- the cgroups are those of these tables, and enable what these say
+pub record IsAmong (tables : List Members) (cgroups : map.FinMap path_cmp Cgroup) : Type 0 where
+  pub there : (path : Names) → is_some (map.get cgroups path) ≡ is_there tables path
+  pub enabled : (path : Names) → option_map (λ cgroup. cgroup.enabled) (map.get cgroups path) ≡ enabled_there tables path
+
+-- ---- processes
+
+pub record IsLive (row : Members) (live : ℕ × Process) : Type 0 where
+  pub pid : pid_said row ≡ Some live.0
+  pub uid : uid_said row ≡ Some live.1.uid
+  pub place : path_said (codes "at") row ≡ Some live.1.place
+
+-- the processes of these tables, whose PIDs are those that are taken
+pub record AreProcesses (rows : List Members) (live : map.FinMap nat_cmp Process) (taken : set.FinSet nat_cmp) : Type 0 where
+  pub pids : (pid : ℕ) → is_some (map.get live pid) ≡ list_any (has_pid pid) rows
+  pub processes : (pid : ℕ) (process : Process) → map.get live pid ≡ Some process → (row : Members) × (find (has_pid pid) rows ≡ Some row) × IsLive row (pid, process)
+  pub used : (pid : ℕ) → set.contains taken pid ≡ is_some (map.get live pid)

@@ -1,0 +1,6 @@
+//! What tree texts mean: their two formats, their faults, and what holds of every text by the definitions alone.
+#![tactic(auto)]
+
+pub mod fault;
+pub mod format;
+pub mod laws;

@@ -1,8 +1,0 @@
-use Rattle.cg_text.proofs.ReadingLaws.{a_reading, one_reading}
-use Rattle.cg_text.proofs.tree.laws.texts_are_read.Goals as goal
-
-pub returns : goal.returns
-returns c = record {
-  some = a_reading;
-  one = one_reading;
-}
