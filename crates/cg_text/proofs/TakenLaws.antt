@@ -1,5 +1,5 @@
 -- What a table says once one of its keys is taken out of it.
-use Rattle.std.proofs.Common.{◌≡◌, ℕ, false, true, cond, List, [], ◌∷◌, map, unwrap_or, Option, None, Some, option_and_then, Ordering, Less, Equal, Greater, String, Vec, string_bytes, nat_cmp, is_eq, Global, refl, sym, ap, ◌∙◌}
+use Rattle.std.proofs.Common.{◌≡◌, ℕ, false, cond, List, [], ◌∷◌, map, unwrap_or, Option, None, Some, option_and_then, Ordering, Less, Equal, Greater, String, Vec, string_bytes, nat_cmp, is_eq, Global, refl, sym, ap, ◌∙◌}
 use Rattle.std.proofs.lemmas.Bool.{true≢false}
 use Rattle.std.proofs.lemmas.Cmp.{nat_list_cmp_total}
 use Rattle.std.specs.Cmp.{alike_right, tied_back}

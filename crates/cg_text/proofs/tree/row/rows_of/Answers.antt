@@ -1,11 +1,10 @@
 -- Each element is a table, which is read into the next row or has the first fault.
-use Rattle.std.proofs.Common.{◌≡◌, ◌+◌, ◌<◌, ◌≤◌, is_some, ◌++◌, ◌∷◌, List, [], length, get_or, take, refl, sym, ap, subst, ◌∙◌, map, filter_map, Some, rules, arith}
+use Rattle.std.proofs.Common.{◌≡◌, ◌+◌, ◌<◌, ◌≤◌, is_some, ◌∷◌, List, [], length, get_or, take, refl, sym, ap, subst, ◌∙◌, map, filter_map, Some, rules, arith}
 use Rattle.std.proofs.lemmas.List.{length-append}
 use Rattle.std.proofs.lemmas.Iterator.Consumers.{YieldsList-turn, YieldsList-end}
 use Rattle.std.proofs.lemmas.Iterator.Adapters.{YieldsList-from_vec}
 use Rattle.toml.specs.Data.{Members, as_table}
 use Rattle.toml.specs.View.{view}
-use Rattle.toml.specs.declared.value.Value.{Value}
 use Rattle.cg_text.specs.Rows.{AreReadAs}
 use Rattle.cg_format.specs.TextFaults.{row_faults}
 use Rattle.cg_format.specs.declared.fault.Place.{Place}
