@@ -145,3 +145,10 @@ kept_ends text ends path k e = rw (← e) k.ended
 
 pub kept_length : (text ends : List ℕ) (path : Names) → IsKept text ends → names_of text ≡ path → length ends ≡ length path
 kept_length text ends path k e = ap length (kept_ends text ends path k e) ∙ length-ends_from 0 path
+
+-- of the ends, the first ones are those of the first names
+pub kept_front : (text ends : List ℕ) (path : Names) (len : ℕ) → IsKept text ends → names_of text ≡ path → len ≤ length path
+    → len ≡ length (take len ends)
+kept_front text ends path len k e h =
+    let inside : len ≤ length ends = omega (arith, kept_length text ends path k e) in
+    sym (length-take-le len ends inside)

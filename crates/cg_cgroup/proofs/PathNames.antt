@@ -10,7 +10,7 @@ use Rattle.std.proofs.lemmas.List.Elements.{All-nil, All-cons}
 use Rattle.std.proofs.lemmas.List.Splits.{slice_split_none, slice_split_at}
 use Rattle.cg_cgroup.specs.Paths.{Name, Names, names_of, path_text, is_name, is_name_byte, is_path, IsPath}
 use Rattle.cg_cgroup.specs.PathText.{names_text, ends_from, IsKept}
-use Rattle.cg_cgroup.proofs.PathEnds.{is_name-bytes, path_names, path_bytes, end_le}
+use Rattle.cg_cgroup.proofs.PathEnds.{is_name-bytes, path_names, path_bytes, end_le, kept_ends}
 
 no_slash : (name : Name) → list_all is_name_byte name ≡ true → All (λ (b : ℕ). (b == 47) ≡ false) name
 no_slash [] h = All-nil (λ (b : ℕ). (b == 47) ≡ false)
@@ -63,11 +63,16 @@ IsKept-at text ends path h t e = rw (t, e) (IsKept-from path h)
 pub names_of-at : (text : List ℕ) (path : Names) → IsPath path → text ≡ names_text path → names_of text ≡ path
 names_of-at text path h t = ap names_of t ∙ names_of-text path (path_names path h)
 
-pub take-ends_from : (path : Names) (start len : ℕ) → take len (ends_from start path) ≡ ends_from start (take len path)
+take-ends_from : (path : Names) (start len : ℕ) → take len (ends_from start path) ≡ ends_from start (take len path)
 take-ends_from path start zero = refl
 take-ends_from [] start (suc len) = refl
 take-ends_from (name ∷ path) start (suc len) =
     ap (λ (x : List ℕ). (start + (length name + 1)) ∷ x) (take-ends_from path (start + (length name + 1)) len)
+
+-- of the ends that are kept, the first ones are those of the first names
+pub first_ends : (text ends slice : List ℕ) (path : Names) (len : ℕ) → IsKept text ends → names_of text ≡ path → slice ≡ ends
+    → take len slice ≡ ends_from 0 (take len path)
+first_ends text ends slice path len k e s = ap (take len) (s ∙ kept_ends text ends path k e) ∙ take-ends_from path 0 len
 
 pub ends_from-push : (start : ℕ) (path : Names) (name : Name)
     → ends_from start (path ++ name ∷ []) ≡ ends_from start path ++ (start + length (names_text (path ++ name ∷ []))) ∷ []

@@ -1,10 +1,11 @@
 -- Where the names of a text end: where its slashes stand, and at its end.
-use Rattle.std.proofs.Common.{◌≡◌, ℕ, ◌+◌, ◌<◌, zero, suc, arith, cond, List, [], ◌∷◌, ◌++◌, length, take, get_or, refl, sym, ap, ◌∙◌, ⊎_elim, zero-add}
+use Rattle.std.proofs.Common.{◌≡◌, ℕ, ◌+◌, ◌<◌, ◌≤◌, true, false, zero, suc, arith, cond, List, [], ◌∷◌, ◌++◌, length, take, get_or, refl, sym, ap, ◌∙◌, ⊎_elim, zero-add}
 use Rattle.std.specs.Prelude.{◌==◌}
-use Rattle.std.specs.List.{slice_split, onto_first}
+use Rattle.std.specs.List.{count_by, slice_split, onto_first}
 use Rattle.std.proofs.lemmas.Bool.{cases_Bool, eqb-true}
 use Rattle.std.proofs.lemmas.List.Splits.{slice_split-cons_no, slice_split-cons_yes, length-slice_split}
 use Rattle.std.proofs.lemmas.List.{append-nil}
+use Rattle.std.proofs.lemmas.List.Sums.{sum_by-cons}
 use Rattle.cg_cgroup.specs.Paths.{Names}
 use Rattle.cg_cgroup.specs.PathText.{ends_from}
 
@@ -76,6 +77,20 @@ other_read i text inside differs =
     ap (λ (n : ℕ). slashes 0 (take n text)) next ∙ slashes_more 0 i text inside
     ∙ ap (λ c. slashes 0 (take i text) ++ cond c ((0 + (i + 1)) ∷ []) []) other ∙ append-nil (slashes 0 (take i text)))
     (cases_Bool (get_or text i 0 == 47))
+
+-- at the first bytes no more slashes stand than at all of them
+pub slashes_fit : (start i : ℕ) (text : List ℕ) → length (slashes start (take i text)) ≤ count_by (λ b. b == 47) text
+slashes_fit start zero text = omega arith
+slashes_fit start (suc i) [] = omega arith
+slashes_fit start (suc i) (b ∷ text) =
+    let rest = slashes_fit (start + 1) i text in
+    let found = slashes (start + 1) (take i text) in
+    let fits : length (cond (b == 47) ((start + 1) ∷ found) found) ≤ cond (b == 47) 1 0 + count_by (λ b. b == 47) text =
+    elim (b == 47) as (λ c. length (cond c ((start + 1) ∷ found) found) ≤ cond c 1 0 + count_by (λ b. b == 47) text) [
+      | true ↦ omega arith
+      | false ↦ omega arith
+    ] in
+    omega (arith, sum_by-cons (λ (b : ℕ). cond (b == 47) 1 0) b text)
 
 pub ends_at_slashes : (text : List ℕ) → slashes 0 text ++ (length text + 1) ∷ [] ≡ ends_from 0 (slice_split (λ b. b == 47) text)
 ends_at_slashes text = ap (λ (n : ℕ). slashes 0 text ++ n ∷ []) (sym (zero-add (length text + 1))) ∙ sym (ends_are_slashes 0 text)

@@ -1,8 +1,13 @@
 //! `Indexed`: a tree kept by places, with kept counts.
 ghost use Rattle.std.specs.Prelude.{◌≡◌, IfOk};
+ghost use Rattle.std.specs.Coded.{codes};
+ghost use Rattle.std.specs.FinMap as map;
+ghost use Rattle.std.specs.FinSet as set;
+ghost use Rattle.cg_model.specs.States.{State};
 ghost use Rattle.cg_rows.specs.RowsForm.{IsRoot, state_of_root};
 ghost use Rattle.cg_places.specs.Values.{map_values};
 ghost use Rattle.cg_counts.specs.Kept.{new_held};
+ghost use Rattle.cg_indexed.specs.Indexed.{state_of, IsIndexed};
 
 use cg_cgroup::cgroup::Cgroup;
 use cg_cgroup::files::{Controller, ControllerSet, EntryName, Limit, LimitFile};
@@ -30,16 +35,9 @@ pub struct Indexed {
 }
 
 impl Model for Indexed {
-    ghost use Rattle.std.specs.Coded.{codes};
-    ghost use Rattle.std.specs.FinMap as map;
-    ghost use Rattle.std.specs.FinSet as set;
-    ghost use Rattle.cg_model.specs.States.{State};
-
     ghost Value = { State };
 
     ghost coded = { Prim.hlevel (codes, map.code, set.code) };
-
-    ghost use Rattle.cg_indexed.specs.Indexed.{state_of, IsIndexed};
 
     ghost view = { λ t. state_of t.cgroups t.processes t.controllers };
 
@@ -102,17 +100,11 @@ impl Hierarchy for Indexed {
     }
 
     fn place(&self, pid: Pid) -> Option<&Path> {
-        match self.processes.get(pid) {
-            Some(process) => Some(&process.place),
-            None => None,
-        }
+        self.processes.place(pid)
     }
 
     fn owner(&self, pid: Pid) -> Option<u32> {
-        match self.processes.get(pid) {
-            Some(process) => Some(process.uid),
-            None => None,
-        }
+        self.processes.owner(pid)
     }
 
     fn is_used(&self, pid: Pid) -> bool {

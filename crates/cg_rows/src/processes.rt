@@ -1,8 +1,10 @@
 //! The processes of a tree.
 ghost use Rattle.std.specs.Prelude.{◌≡◌, ◌≤◌, ◌<◌, ◌^◌, true, false, option_copied, is_some, OnOk, OnErr, IfOk};
+ghost use Rattle.std.specs.Option.{option_map};
+ghost use Rattle.std.specs.Coded.{codes};
 ghost use Rattle.std.specs.FinMap as map;
 ghost use Rattle.std.specs.FinSet as set;
-ghost use Rattle.cg_rows.specs.Processes.{no_processes, with_new, without, with_place_of};
+ghost use Rattle.cg_rows.specs.Processes.{LiveAndUsed, no_processes, with_new, without, with_place_of};
 
 use crate::tables::TryClone;
 use cg_cgroup::memory::NoMemory;
@@ -21,12 +23,6 @@ pub struct Processes {
 }
 
 impl Model for Processes {
-    ghost use Rattle.std.specs.Ordering.{nat_cmp};
-    ghost use Rattle.std.specs.Coded.{codes};
-    ghost use Rattle.std.specs.FinMap as map;
-    ghost use Rattle.std.specs.FinSet as set;
-    ghost use Rattle.cg_rows.specs.Processes.{LiveAndUsed};
-
     ghost Value = { LiveAndUsed };
 
     ghost coded = { Prim.hlevel (codes, map.code, set.code) };
@@ -66,6 +62,26 @@ impl Processes {
         ensures { option_copied result ≡ map.get self.now.live pid }
     {
         self.live.get(&pid)
+    }
+
+    /// Where a live process is.
+    pub fn place(&self, pid: Pid) -> Option<&Path>
+        ensures { option_copied result ≡ option_map (λ process. process.place) (map.get self.now.live pid) }
+    {
+        match self.get(pid) {
+            Some(process) => Some(&process.place),
+            None => None,
+        }
+    }
+
+    /// The uid of a live process.
+    pub fn owner(&self, pid: Pid) -> Option<u32>
+        ensures { result ≡ option_map (λ process. process.uid) (map.get self.now.live pid) }
+    {
+        match self.get(pid) {
+            Some(process) => Some(process.uid),
+            None => None,
+        }
     }
 
     /// Whether a PID was ever used.

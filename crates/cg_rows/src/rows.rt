@@ -1,6 +1,9 @@
 //! `Rows`: a tree kept as tables.
 ghost use Rattle.std.specs.Prelude.{◌≡◌, ◌≤◌, length, IfOk};
+ghost use Rattle.std.specs.Coded.{codes};
 ghost use Rattle.std.specs.FinMap as map;
+ghost use Rattle.std.specs.FinSet as set;
+ghost use Rattle.cg_model.specs.States.{State};
 ghost use Rattle.cg_rows.specs.RowsForm.{IsRoot, state_of_root, state_of_tables};
 ghost use Rattle.cg_model.specs.WellFormed.{IsWellFormed};
 ghost use Rattle.cg_tree.specs.Limits.{is_full};
@@ -32,17 +35,9 @@ pub struct Rows {
 }
 
 impl Model for Rows {
-    ghost use Rattle.std.specs.Coded.{codes};
-    ghost use Rattle.std.specs.FinMap as map;
-    ghost use Rattle.std.specs.FinSet as set;
-    ghost use Rattle.cg_model.specs.States.{State};
-
     ghost Value = { State };
 
     ghost coded = { Prim.hlevel (codes, map.code, set.code) };
-
-    ghost use Rattle.cg_rows.specs.RowsForm.{state_of_tables};
-    ghost use Rattle.cg_model.specs.WellFormed.{IsWellFormed};
 
     ghost view = { λ t. state_of_tables t.rows t.processes t.controllers };
 
@@ -129,17 +124,11 @@ impl Hierarchy for Rows {
     }
 
     fn place(&self, pid: Pid) -> Option<&Path> {
-        match self.processes.get(pid) {
-            Some(process) => Some(&process.place),
-            None => None,
-        }
+        self.processes.place(pid)
     }
 
     fn owner(&self, pid: Pid) -> Option<u32> {
-        match self.processes.get(pid) {
-            Some(process) => Some(process.uid),
-            None => None,
-        }
+        self.processes.owner(pid)
     }
 
     fn is_used(&self, pid: Pid) -> bool {

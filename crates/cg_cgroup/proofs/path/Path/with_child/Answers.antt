@@ -1,10 +1,9 @@
-use Rattle.std.proofs.Common.{◌≡◌, ◌≤◌, ◌+◌, ◌++◌, ◌∷◌, [], length, take, ap, sym, ◌∙◌, ℕ, List, arith, inl, inr, subst}
+use Rattle.std.proofs.Common.{◌≡◌, ◌+◌, ◌++◌, ◌∷◌, [], length, take, ap, sym, ◌∙◌, ℕ, List, arith, inl, inr, subst}
 use Rattle.std.specs.String.{string_bytes}
-use Rattle.std.proofs.lemmas.List.{length-take-le}
 use Rattle.cg_cgroup.specs.Paths.{IsPath, is_name}
 use Rattle.cg_cgroup.specs.PathText.{names_text}
-use Rattle.cg_cgroup.proofs.PathEnds.{kept_ends, kept_length}
-use Rattle.cg_cgroup.proofs.PathNames.{IsPath-take, IsKept-at, names_of-at, take-ends_from, ends_push, names_text-push, IsPath-push, not_path-push}
+use Rattle.cg_cgroup.proofs.PathEnds.{kept_front}
+use Rattle.cg_cgroup.proofs.PathNames.{IsPath-take, IsKept-at, names_of-at, first_ends, ends_push, names_text-push, IsPath-push, not_path-push}
 use Rattle.cg_cgroup.proofs.path.Path.with_child.Goals as goal
 use Rattle.cg_cgroup.proofs.path.Path.with_child.Goals.{then-end-gt-LONGEST_TEXT-via-then-end-gt-LONGEST_TEXT, then-end-gt-LONGEST_TEXT-via-else-end-gt-LONGEST_TEXT+then-not-is_name}
 
@@ -21,9 +20,7 @@ returns-then-end-gt-LONGEST_TEXT-clause-bad c =
 
 pub slice_bounds-from_slice-end : goal.slice_bounds-from_slice-end
 slice_bounds-from_slice-end c =
-    let n = kept_length _ _ _ c.self.invariant c.self.view_is in
-    let h : c.args.len ≤ length c.as_slice.result.now = omega (arith, ap length c.as_slice.ensures.value) in
-    sym (length-take-le c.args.len c.as_slice.result.now h)
+    rw c.as_slice.ensures.value (kept_front _ _ c.args.self.now c.args.len c.self.invariant c.self.view_is c.requires)
 
 good : (c : goal.In_ok-push) → IsPath (take c.args.len c.args.self.now ++ c.args.name.now ∷ [])
 good c =
@@ -40,9 +37,7 @@ text c =
 pub invariant_of-result : goal.invariant_of-result
 invariant_of-result c =
     let path = c.args.self.now in
-    let ends =
-    c.in_ok-ends.ensures.items ∙ ap (take c.args.len) (c.as_slice.ensures.value ∙ kept_ends _ _ path c.self.invariant c.self.view_is)
-    ∙ take-ends_from path 0 c.args.len in
+    let ends = c.in_ok-ends.ensures.items ∙ first_ends _ _ _ path c.args.len c.self.invariant c.self.view_is c.as_slice.ensures.value in
     IsKept-at _ _ (take c.args.len path ++ c.args.name.now ∷ []) (good c) (text c)
     (c.in_ok-push.ensures.items ∙ ends_push (take c.args.len path) c.args.name.now _ _ ends
     (ap (λ (x : List ℕ). length x + 1 + length c.args.name.now) c.front-parent.ensures.text))

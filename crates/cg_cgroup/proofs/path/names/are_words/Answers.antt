@@ -1,26 +1,18 @@
-use Rattle.std.proofs.Common.{◌≡◌, ◌==◌, ◌&&◌, false, get_or, sym, ◌∙◌}
-use Rattle.std.proofs.lemmas.Bool.{ne_eqb, and_left, and_right}
-use Rattle.std.proofs.lemmas.List.{at_drop_all}
-use Rattle.cg_cgroup.proofs.Words.{has_length, words_from, words_of, words_stop}
+use Rattle.std.proofs.Common.{◌==◌, ◌&&◌, sym, ap, ◌∙◌}
+use Rattle.std.specs.List.{list_all, slice_split}
+use Rattle.cg_cgroup.proofs.Words.{is_short, words_are}
 use Rattle.cg_cgroup.proofs.path.names.are_words.Goals as goal
-use Rattle.cg_cgroup.proofs.path.names.are_words.Goals.{else-byte-eq47-via-then-byte-eq47+else-is_word_length, else-byte-eq47-via-else-byte-eq47}
 
-pub returns-else-byte-eq47 : goal.returns-else-byte-eq47
-returns-else-byte-eq47 c =
-    let len = c.loop-byte.len in
-    let at = c.loop-byte.byte-index in
-    let text = c.args.text.now in
-    let byte = sym c.is_name_byte.ensures ∙ c.if-is_name_byte.false in
-    let ends : ((get_or text at 0 == 47) && has_length len) ≡ false = elim c.else-byte-eq47.branch [
-      | else-byte-eq47-via-then-byte-eq47+else-is_word_length w ↦
-          and_right (get_or text at 0 == 47) (has_length len) (sym w.is_word_length.ensures ∙ w.if-is_word_length.false)
-      | else-byte-eq47-via-else-byte-eq47 w ↦
-          and_left (get_or text at 0 == 47) (has_length len) (ne_eqb (get_or text at 0) 47 w.if-byte-eq47.false)
-    ] in
-    sym (words_stop len at text c.loop-byte-test.true c.loop-byte.invariant.1 byte ends)
+pub returns-then-are_filled : goal.returns-then-are_filled
+returns-then-are_filled c =
+    let parts = slice_split (λ b. b == 47) c.args.text.now in
+    c.are_short.ensures
+    ∙ ap (λ filled. filled && list_all is_short parts) (sym c.if-are_filled.true ∙ c.are_filled.ensures)
+    ∙ sym (words_are parts)
 
-pub returns : goal.returns
-returns c =
-    c.is_word_length-2.ensures
-    ∙ sym (words_of c.args.text.now ∙ c.loop-byte.invariant.1
-    ∙ at_drop_all (words_from c.loop-byte.len) c.args.text.now c.loop-byte.byte-index c.loop-byte-test.false)
+pub returns-else-are_filled : goal.returns-else-are_filled
+returns-else-are_filled c =
+    let parts = slice_split (λ b. b == 47) c.args.text.now in
+    c.if-are_filled.false
+    ∙ ap (λ filled. filled && list_all is_short parts) (sym c.if-are_filled.false ∙ c.are_filled.ensures)
+    ∙ sym (words_are parts)
