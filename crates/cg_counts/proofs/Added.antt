@@ -31,7 +31,7 @@ use Rattle.cg_places.proofs.Counted.{count-none}
 use Rattle.cg_counts.proofs.Counts.{uses-insert, few_kept, no_uses-childless, recount_exact, is_child-parents, below-insert}
 use Rattle.cg_places.proofs.Values.{get-put, values_same, values_put, value_none}
 use Rattle.cg_counts.proofs.Limits.{parent_take}
-use Rattle.cg_counts.proofs.Climb.{changed_at, changed_keeps, placed_changed, changed_length, not_inside_parent}
+use Rattle.cg_counts.proofs.Climb.{link_tallied, tallied_keeps, placed_changed, changed_length, not_inside_parent}
 use Rattle.cg_counts.proofs.Changed.{node_set, kept_of_node, kept_reread}
 use Rattle.cg_places.proofs.Puts.{put_here, put_other, put_longer, put_within, put_paired}
 
@@ -187,9 +187,7 @@ module _ (places : FinMap path_cmp ℕ) (links : List Link) (nodes : List Node) 
   -- each link after the climb, and each node after the recount
   link_after : (q : Names) (j : ℕ) → map.get next q ≡ Some j
       → link_at after_links j ≡ cond (inside q (parent p)) ((tallied_link More) (link_at pushed_links j)) (link_at pushed_links j)
-  link_after q j is =
-      changed_at (tallied_link More) (λ n. refl) next (length p) (parent p) i pushed_links placed_next parent_next (length-parent p root) q
-      j is
+  link_after = link_tallied next pushed_links placed_next p root i parent_next More
 
   node_after : (q : Names) (j : ℕ) → map.get next q ≡ Some j → node_at after_nodes j
       ≡ cond (same_path q (parent p)) (recounted no_controllers row.enabled (node_at pushed_nodes i)) (node_at pushed_nodes j)
@@ -201,9 +199,7 @@ module _ (places : FinMap path_cmp ℕ) (links : List Link) (nodes : List Node) 
   -- what neither changes
   kept_link : {A : Type 0} (g : Link → A) → ((l : Link) → g ((tallied_link More) l) ≡ g l) → (q : Names) (j : ℕ) → map.get next q ≡ Some j
       → g (link_at after_links j) ≡ g (link_at pushed_links j)
-  kept_link g same =
-      changed_keeps (tallied_link More) (λ n. refl) next g same (length p) (parent p) i pushed_links placed_next parent_next
-      (length-parent p root)
+  kept_link = tallied_keeps next pushed_links placed_next p root i parent_next More
 
   kept_of : {A : Type 0} (g : Node → A) → g (recounted no_controllers row.enabled (node_at pushed_nodes i)) ≡ g (node_at pushed_nodes i)
       → (q : Names) (j : ℕ) → map.get next q ≡ Some j → g (node_at after_nodes j) ≡ g (node_at pushed_nodes j)

@@ -22,7 +22,7 @@ use Rattle.cg_places.specs.declared.links.Tally.TheVariants.{Fewer}
 use Rattle.cg_counts.proofs.Kin.{kin_reread}
 use Rattle.cg_counts.proofs.Counts.{uses-remove, recount_fewer, is_child-parents, below-remove}
 use Rattle.cg_places.proofs.Values.{get-without, values_gone, value_there}
-use Rattle.cg_counts.proofs.Climb.{changed_at, changed_keeps, placed_changed, changed_length}
+use Rattle.cg_counts.proofs.Climb.{link_tallied, tallied_keeps, placed_changed, changed_length}
 use Rattle.cg_counts.proofs.Changed.{node_set, kept_of_node, kept_reread}
 
 module _ (places : FinMap path_cmp ℕ) (links : List Link) (nodes : List Node) (kept : AreKept places links nodes) (p : Names)
@@ -82,8 +82,7 @@ module _ (places : FinMap path_cmp ℕ) (links : List Link) (nodes : List Node) 
 
   link_after : (q : Names) (j : ℕ) → map.get next q ≡ Some j
       → link_at after_links j ≡ cond (inside q (parent p)) ((tallied_link Fewer) (link_at links j)) (link_at links j)
-  link_after q j has =
-      changed_at (tallied_link Fewer) (λ n. refl) next (length p) (parent p) i links placed_next parent_left (length-parent p root) q j has
+  link_after = link_tallied next links placed_next p root i parent_left Fewer
 
   node_after : (q : Names) (j : ℕ) → map.get next q ≡ Some j
       → node_at after_nodes j ≡ cond (same_path q (parent p)) (recounted enabled no_controllers (node_at nodes i)) (node_at nodes j)
@@ -94,9 +93,7 @@ module _ (places : FinMap path_cmp ℕ) (links : List Link) (nodes : List Node) 
   -- what neither changes
   kept_link : {A : Type 0} (g : Link → A) → ((l : Link) → g ((tallied_link Fewer) l) ≡ g l) → (q : Names) (j : ℕ) → map.get next q ≡ Some j
       → g (link_at after_links j) ≡ g (link_at links j)
-  kept_link g same =
-      changed_keeps (tallied_link Fewer) (λ n. refl) next g same (length p) (parent p) i links placed_next parent_left
-      (length-parent p root)
+  kept_link = tallied_keeps next links placed_next p root i parent_left Fewer
 
   kept_of : {A : Type 0} (g : Node → A) → g (recounted enabled no_controllers (node_at nodes i)) ≡ g (node_at nodes i) → (q : Names) (j : ℕ)
       → map.get next q ≡ Some j → g (node_at after_nodes j) ≡ g (node_at nodes j)

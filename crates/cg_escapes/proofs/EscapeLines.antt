@@ -36,6 +36,7 @@ use Rattle.cg_model.specs.Limits.{limits}
 use Rattle.cg_model.specs.Guards.{Guarded, ancestors, limit_files, parent_control, parent_dir, guarded_entries, guarded_entry, IsSubtree, failures}
 use Rattle.cg_model.specs.Tries.{other_value, set_tries, change_of, control_tries, across, move_tries, probe, free_probe, is_inside, probe_tries_at, probe_tries, plain_tries, opening_of, opening, with_opening, tries}
 use Rattle.cg_model.specs.Escapes.{breaks, first_escape}
+use Rattle.cg_tries.proofs.Controls.{all-control_tries}
 use Rattle.cg_tries.proofs.ProbeNames.{is_name-probe, length-probe}
 use Rattle.cg_model.specs.Answers.{answer}
 use Rattle.cg_model.specs.declared.answer.Answer.TheVariants.{Escapes}
@@ -118,17 +119,10 @@ module _ (st : State) (user : Identity) (subtree : Names) (formed : IsWellFormed
       all-present AreWritten (limits st subtree file) (λ value. (Set subtree file (other_value file value) ∷ []) ∷ []) (λ value is.
       (((((path, other_held file value), tt), tt), omega arith), tt)))
 
-  written-control : (on : Bool) (controller : Controller) → AreWritten (Control (parent subtree) (change_of on controller ∷ []) ∷ [])
-  written-control on controller = (((IsPath-take subtree (length subtree - 1) path, omega arith), tt), omega arith)
-
   written-controls : AllByRecursion AreWritten (control_tries subtree)
-  written-controls = (
-    written-control false Cpu,
-    (
-      written-control true Cpu,
-      (written-control false Memory, (written-control true Memory, (written-control false Pids, (written-control true Pids, tt)))),
-    ),
-  )
+  written-controls =
+      all-control_tries AreWritten subtree (λ on controller.
+      (((IsPath-take subtree (length subtree - 1) path, omega arith), tt), omega arith))
 
   written-moves : AllByRecursion AreWritten (move_tries st subtree)
   written-moves =
