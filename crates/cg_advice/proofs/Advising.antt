@@ -7,7 +7,7 @@ use Rattle.cg_cgroup.specs.Paths.{Names, same_path}
 use Rattle.cg_cgroup.specs.Identity.{Identity}
 use Rattle.cg_cgroup.specs.Users.{IsUser, reaches}
 use Rattle.cg_cgroup.specs.Files.{same_entry, accepts}
-use Rattle.cg_cgroup.specs.Cgroups.{entry_in, value_in}
+use Rattle.cg_cgroup.specs.Cgroups.{entry_in}
 use Rattle.cg_cgroup.specs.declared.user.Entry.{Entry}
 use Rattle.cg_cgroup.specs.declared.files.Limit.{Limit}
 use Rattle.cg_cgroup.specs.declared.files.Limit.TheVariants.{At}
@@ -23,6 +23,7 @@ use Rattle.cg_steps.proofs.StateEntries.{enabled_at-with_mode, enabled_at-with_v
 use Rattle.cg_steps.proofs.FormedLaws.{formed-with_mode, formed-with_value}
 use Rattle.cg_model.specs.Clauses.{unless, present}
 use Rattle.cg_steps.proofs.ClauseLaws.{no_parts, no_unless, none_each, each_none}
+use Rattle.cg_steps.proofs.LimitLaws.{fits_in, descendants-limit, depth-limit}
 use Rattle.cg_model.specs.Limits.{is_within_limit, fits_descendants, fits_depth}
 use Rattle.cg_model.specs.Guards.{Guarded, guarded_entries, guarded_entry, entry_failures, over_failures, GuardsHold, found, standing}
 use Rattle.cg_model.specs.declared.guard.Failed.{Failed}
@@ -89,22 +90,6 @@ is_advised st user subtree =
     }
 
 -- ---- the counts and the limits
-
--- whether so many are within a limit that may not stand
-abbrev fits_in : ℕ → Option Limit → Bool
-fits_in count None = true
-fits_in count (Some limit) = is_within_limit count limit
-
-descendants-limit : (st : State) (path : Names) → fits_descendants st path ≡ fits_in (count_below st path) (value_at st path MaxDescendants)
-descendants-limit st path =
-    elim (row_at st path) as (λ found.
-    elim found [ None ↦ true | Some row ↦ is_within_limit (count_below st path) row.max_descendants.value ]
-    ≡ fits_in (count_below st path) (option_and_then (λ row. value_in row MaxDescendants) found)) [ None ↦ refl | Some row ↦ refl ]
-
-depth-limit : (st : State) (path : Names) → fits_depth st path ≡ fits_in (depth_below st path) (value_at st path MaxDepth)
-depth-limit st path =
-    elim (row_at st path) as (λ found. elim found [ None ↦ true | Some row ↦ is_within_limit (depth_below st path) row.max_depth.value ]
-    ≡ fits_in (depth_below st path) (option_and_then (λ row. value_in row MaxDepth) found)) [ None ↦ refl | Some row ↦ refl ]
 
 itself : (n : ℕ) → is_within_limit n (At n) ≡ true
 itself n = le-leb n n (omega arith)

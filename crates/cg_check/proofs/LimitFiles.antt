@@ -28,6 +28,7 @@ use Rattle.cg_model.specs.Bars.{bars, missing_bars}
 use Rattle.cg_model.specs.Steps.{after, after_all}
 use Rattle.cg_model.specs.declared.operation.Op.{Op}
 use Rattle.cg_model.specs.declared.operation.Op.TheVariants.{Set, Chmod}
+use Rattle.cg_model.specs.declared.outcome.Refusal.{Refusal}
 use Rattle.cg_model.specs.declared.outcome.Refusal.TheVariants.{NoSuchCgroup, NoSuchFile, NoAccess, BadValue, NotOwner}
 use Rattle.cg_steps.proofs.ClauseLaws.{no_parts, no_unless, no_present}
 use Rattle.cg_steps.proofs.StepFormed.{after-allowed}
@@ -78,6 +79,18 @@ none-passes p (x ∷ xs) none =
       | false ↦ λ fails rest. (fails, none-passes p xs rest)
     ] refl none
 
+-- ---- what is read in a cgroup's row is there, and so is the row
+
+module _ {A : Type 0} (f : Cgroup → Option A) (x : A) where
+  row-there : (missing : Refusal) (found : Option Cgroup) → option_and_then f found ≡ Some x → absent found missing ≡ []
+  row-there missing None none = absurd (none-some x none)
+  row-there missing (Some row) here = refl
+
+  none-there : (bars : Cgroup → List Refusal) → ((row : Cgroup) → f row ≡ Some x → bars row ≡ []) → (found : Option Cgroup)
+      → option_and_then f found ≡ Some x → present found bars ≡ []
+  none-there bars none None gone = absurd (none-some x gone)
+  none-there bars none (Some row) here = none row here
+
 -- ---- an entry that the user owns is written once it is opened
 
 missing-none : (row : Cgroup) (name : EntryName) (entry : Entry) → entry_in row name ≡ Some entry → missing_bars row name ≡ []
@@ -95,24 +108,11 @@ module _ (st : State) (user : Identity) (at : Names) (name : EntryName) (entry :
     (owned : owns user entry ≡ true) where
   chmod-free : (mode : ℕ) → bars st user (Chmod at name mode) ≡ []
   chmod-free mode =
-      both_none _ _ (both_none _ _ row_there row_named)
+      both_none _ _
+      (both_none _ _ (row-there (λ row. entry_in row name) entry (NoSuchCgroup (length at)) (row_at st at) is)
+      (none-there (λ row. entry_in row name) entry (λ row. missing_bars row name) (λ row here. missing-none row name entry here)
+      (row_at st at) is))
       (ap (λ found. present found (λ e. unless (owns user e) (NotOwner name))) is ∙ ap (λ b. unless b (NotOwner name)) owned)
-    where
-      row_there : absent (row_at st at) (NoSuchCgroup (length at)) ≡ []
-      row_there =
-          elim (row_at st at) as
-          (λ found. option_and_then (λ row. entry_in row name) found ≡ Some entry → absent found (NoSuchCgroup (length at)) ≡ []) [
-            | None ↦ λ none. absurd (none-some entry none)
-            | Some row ↦ λ _. refl
-          ] is
-
-      row_named : present (row_at st at) (λ row. missing_bars row name) ≡ []
-      row_named =
-          elim (row_at st at) as
-          (λ found. option_and_then (λ row. entry_in row name) found ≡ Some entry → present found (λ row. missing_bars row name) ≡ []) [
-            | None ↦ λ none. absurd (none-some entry none)
-            | Some row ↦ λ here. missing-none row name entry here
-          ] is
 
   chmod-opens : (mode : ℕ) → entry_at (after st user (Chmod at name mode)) at name ≡ Some (with_mode_of mode entry)
   chmod-opens mode =
@@ -208,27 +208,14 @@ module _ (st : State) (user : Identity) (subtree : Names) (file : LimitFile) (he
     (can : writes user held.entry ≡ true) where
   set-free : bars st user (Set subtree file (other_value file held.value)) ≡ []
   set-free =
-      both_none _ _ (both_none _ _ (both_none _ _ row_there file_there)
+      both_none _ _ (both_none _ _
+      (both_none _ _ (row-there (λ row. file_of row file) held (NoSuchCgroup (length subtree)) (row_at st subtree) is)
+      (none-there (λ row. file_of row file) held (λ row. absent (file_of row file) (NoSuchFile file))
+      (λ row here. ap (λ found. absent found (NoSuchFile file)) here) (row_at st subtree) is))
       (ap (λ found. present found (λ f. unless (writes user f.entry) (NoAccess (length subtree) (File file)))) is
       ∙ ap (λ b. unless b (NoAccess (length subtree) (File file))) can))
       (ap (λ found. present found (λ f. unless (accepts file (other_value file held.value)) (BadValue file))) is
       ∙ ap (λ b. unless b (BadValue file)) (other-taken file held.value))
-    where
-      row_there : absent (row_at st subtree) (NoSuchCgroup (length subtree)) ≡ []
-      row_there =
-          elim (row_at st subtree) as
-          (λ found. option_and_then (λ row. file_of row file) found ≡ Some held → absent found (NoSuchCgroup (length subtree)) ≡ []) [
-            | None ↦ λ none. absurd (none-some held none)
-            | Some row ↦ λ _. refl
-          ] is
-
-      file_there : present (row_at st subtree) (λ row. absent (file_of row file) (NoSuchFile file)) ≡ []
-      file_there =
-          elim (row_at st subtree) as (λ found. option_and_then (λ row. file_of row file) found ≡ Some held
-          → present found (λ row. absent (file_of row file) (NoSuchFile file)) ≡ []) [
-            | None ↦ λ none. absurd (none-some held none)
-            | Some row ↦ λ here. ap (λ found. absent found (NoSuchFile file)) here
-          ] is
 
   set-breaks : breaks st user subtree (Set subtree file (other_value file held.value) ∷ []) ≡ true
   set-breaks =

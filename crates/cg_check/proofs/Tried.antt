@@ -6,22 +6,20 @@ use Rattle.std.specs.List.{AllByRecursion}
 use Rattle.cg_cgroup.specs.Paths.{Name, Names, parent, inside, path_text}
 use Rattle.cg_cgroup.specs.Identity.{Identity}
 use Rattle.cg_cgroup.specs.Files.{all_files}
-use Rattle.cg_cgroup.specs.declared.files.Controller.{Controller}
-use Rattle.cg_cgroup.specs.declared.files.Controller.TheVariants.{Cpu, Memory, Pids}
 use Rattle.cg_model.specs.States.{State, place_at, paths_of, pids_of}
 use Rattle.cg_model.specs.WellFormed.{IsWellFormed, has_row, enabled_at}
 use Rattle.cg_model.specs.declared.operation.Op.{Op}
 use Rattle.cg_model.specs.declared.operation.Op.TheVariants.{Move, Control, Mkdir, Rmdir, Set, Fork, Exit, Chmod}
 use Rattle.cg_model.specs.Limits.{limits}
 use Rattle.cg_model.specs.Guards.{IsSubtree}
-use Rattle.cg_model.specs.Tries.{other_value, set_tries, change_of, control_tries, across, move_tries, probe, numbers_from, free_probe, is_inside, probe_tries_at, probe_tries, plain_tries}
+use Rattle.cg_model.specs.Tries.{other_value, set_tries, control_tries, across, move_tries, probe, numbers_from, free_probe, is_inside, probe_tries_at, probe_tries, plain_tries}
 use Rattle.cg_model.specs.Escapes.{breaks}
 use Rattle.cg_tries.specs.Escapes.{IsUnbroken}
 use Rattle.cg_ops.specs.Moves.{passes_at}
 use Rattle.cg_tries.specs.Finding.{allowed}
 use Rattle.cg_tries.proofs.Seen.{is_empty, breaks-run}
 use Rattle.cg_tries.proofs.Single.{set_try, rmdir_try, move_try}
-use Rattle.cg_tries.proofs.Controls.{changes_enabled, control_try}
+use Rattle.cg_tries.proofs.Controls.{changes_enabled, control_try, all-control_tries}
 use Rattle.cg_check.specs.Opened.{is_free}
 use Rattle.cg_steps.proofs.Lists.{all-append, all-flat_map, all-present, all-map_filter, find-passes}
 use Rattle.cg_tries.proofs.Probes.{probe_try}
@@ -67,17 +65,10 @@ module _ (st : State) (user : Identity) (subtree : Names) (whole : IsUnbroken st
       all-present Exact (limits st subtree file) (λ value. (Set subtree file (other_value file value) ∷ []) ∷ []) (λ value is.
       (record { exact = with_true _ _ (set_try st user subtree file value whole is); tried = tt }, tt)))
 
-  exact-control : (on : Bool) (controller : Controller) → Exact (Control (parent subtree) (change_of on controller ∷ []) ∷ [])
-  exact-control on controller = record { exact = control_try st user subtree on controller whole formed sub; tried = tt }
-
   exact-controls : AllByRecursion Exact (control_tries subtree)
-  exact-controls = (
-    exact-control false Cpu,
-    (
-      exact-control true Cpu,
-      (exact-control false Memory, (exact-control true Memory, (exact-control false Pids, (exact-control true Pids, tt)))),
-    ),
-  )
+  exact-controls =
+      all-control_tries Exact subtree (λ on controller.
+      record { exact = control_try st user subtree on controller whole formed sub; tried = tt })
 
   exact-moves : AllByRecursion Exact (move_tries st subtree)
   exact-moves =

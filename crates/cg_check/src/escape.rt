@@ -4,6 +4,7 @@ ghost use Rattle.cg_model.specs.WellFormed.{IsWellFormed};
 ghost use Rattle.cg_model.specs.Guards.{IsSubtree};
 ghost use Rattle.cg_model.specs.Steps.{after_all};
 ghost use Rattle.cg_model.specs.Held.{by_user};
+ghost use Rattle.cg_model.specs.Tries.{opening};
 ghost use Rattle.cg_model.specs.Escapes.{first_escape};
 ghost use Rattle.cg_tries.specs.Escapes.{IsUnbroken};
 ghost use Rattle.cg_check.specs.Opened.{is_free};
@@ -36,35 +37,37 @@ pub fn first_escape<H: Hierarchy + Drop>(
     if is_over(tree, subtree) {
         return Ok(Some(Operations::new(alloc)));
     }
-    first_unbroken_escape(alloc, tree, user, subtree)
+    let chmods = opening(alloc, tree, user, subtree)?;
+    first_unbroken_escape(alloc, tree, user, subtree, chmods)
 }
 
-/// The same of a subtree of which nothing is broken yet. The tree is copied at most once.
+/// The same of a subtree of which nothing is broken yet, from its opening on. The tree is copied at most once.
 fn first_unbroken_escape<H: Hierarchy + Drop>(
     alloc: Global,
     tree: &H,
     user: &User,
     subtree: &Path,
+    mut chmods: Operations,
 ) -> Result<Option<Operations>, NoMemory>
     requires formed { IsWellFormed (H.state tree.now) }
     requires subtree { IsSubtree (H.state tree.now) subtree.now }
     requires unbroken { IsUnbroken (H.state tree.now) subtree.now }
+    requires opening { chmods ≡ opening (H.state tree.now) user.now subtree.now }
     ensures { IfOk result (λ found. found ≡ first_escape (H.state tree.now) user.now subtree.now) }
 {
-    let mut opening = opening(alloc, tree, user, subtree)?;
-    if opening.as_slice().is_empty() {
+    if chmods.as_slice().is_empty() {
         return first_plain_try(alloc, tree, user, subtree);
     }
     let mut opened = tree.try_clone(alloc)?;
-    carry_out(alloc, &mut opened, user, opening.as_slice())?;
+    carry_out(alloc, &mut opened, user, chmods.as_slice())?;
     let Some(found) = first_plain_try(alloc, &opened, user, subtree)? else {
         return Ok(None);
     };
     if is_free(tree, user, found.as_slice()) {
         return Ok(Some(found));
     }
-    opening.append(found)?;
-    Ok(Some(opening))
+    chmods.append(found)?;
+    Ok(Some(chmods))
 }
 
 /// Carries operations of a user out, one after another.

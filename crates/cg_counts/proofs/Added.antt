@@ -1,5 +1,5 @@
 -- A cgroup more.
-use Rattle.std.proofs.Common.{◌≡◌, ℕ, zero, suc, ◌+◌, ◌-◌, ◌<◌, ◌≤◌, ◌≢◌, true, false, cond, ◌&&◌, not, nat_eq, eq-eqb, eqb-true, List, length, count_by, take, refl, sym, ap, ◌∙◌, true≢false, Some, None, Option, is_some, option_map, arith, ◌⊎◌, ⊎_elim, inl, inr}
+use Rattle.std.proofs.Common.{◌≡◌, ℕ, zero, suc, ◌+◌, ◌-◌, ◌<◌, ◌≤◌, ◌≢◌, true, false, cond, ◌&&◌, not, nat_eq, eq-eqb, eqb-true, List, length, count_by, take, refl, sym, ap, ◌∙◌, true≢false, Some, None, Option, is_some, arith, ◌⊎◌, ⊎_elim, inl, inr}
 use Rattle.std.specs.Prelude.{slice_set}
 use Rattle.std.specs.List.{list_any}
 use Rattle.std.proofs.lemmas.Bool.{cases_Bool}
@@ -14,27 +14,24 @@ use Rattle.cg_cgroup.specs.declared.files.Controller.{Controller}
 use Rattle.cg_cgroup.specs.declared.files.Controller.TheVariants.{Cpu, Memory, Pids}
 use Rattle.cg_cgroup.specs.declared.files.ControllerSet.{ControllerSet}
 use Rattle.cg_cgroup.specs.declared.cgroup.Cgroup.{Cgroup}
-use Rattle.cg_model.specs.States.{with_row}
 use Rattle.cg_cgroup.proofs.PathOrder.{path_cmp_total, same_path-is, same_path-not, same_path_refl, same_path-other}
 use Rattle.cg_cgroup.proofs.PathParents.{length-parent, parent-is_child}
 use Rattle.cg_cgroup.proofs.PathLaws.{inside_decides, inside-length}
 use Rattle.cg_cgroup.proofs.Options.{same_some, some_value}
 use Rattle.cg_steps.proofs.MapLaws.{any_entry, list_any-map}
-use Rattle.cg_steps.proofs.StateCounts.{count_below-with_row}
 use Rattle.cg_places.specs.Links.{no_link, link_at, new_link, put_at, ArePlaced, tallied_link, tallied_up}
 use Rattle.cg_places.specs.Nodes.{Node, IsKin, new_node, no_cgroup, node_at, no_uses, uses_of, recounted}
 use Rattle.cg_places.specs.Values.{values_of}
-use Rattle.cg_counts.specs.Kept.{Held, held_of, enabled_of, child_uses, AreKept, new_held, tree_of}
+use Rattle.cg_counts.specs.Kept.{Held, held_of, enabled_of, child_uses, AreKept, new_held}
 use Rattle.cg_places.specs.declared.links.Link.{Link}
 use Rattle.std.specs.Cmp.Derive.{both_true}
 use Rattle.cg_places.specs.declared.links.Tally.TheVariants.{More}
 use Rattle.cg_counts.proofs.Kin.{kin_reread}
 use Rattle.cg_places.proofs.Counted.{count-none}
-use Rattle.cg_counts.proofs.Counts.{uses-insert, few_uses, no_uses-childless, recount_exact, is_child-parents}
-use Rattle.cg_places.proofs.Values.{values-insert, get-put, values_same, values_put, value_none, keys-values}
-use Rattle.cg_counts.proofs.Read.{paths_are, row_is}
+use Rattle.cg_counts.proofs.Counts.{uses-insert, few_kept, no_uses-childless, recount_exact, is_child-parents, below-insert}
+use Rattle.cg_places.proofs.Values.{get-put, values_same, values_put, value_none}
 use Rattle.cg_counts.proofs.Limits.{parent_take}
-use Rattle.cg_counts.proofs.Climb.{changed_at, changed_keeps, placed_changed, changed_length, below_parent, not_inside_parent}
+use Rattle.cg_counts.proofs.Climb.{link_tallied, tallied_keeps, placed_changed, changed_length, not_inside_parent}
 use Rattle.cg_counts.proofs.Changed.{node_set, kept_of_node, kept_reread}
 use Rattle.cg_places.proofs.Puts.{put_here, put_other, put_longer, put_within, put_paired}
 
@@ -190,9 +187,7 @@ module _ (places : FinMap path_cmp ℕ) (links : List Link) (nodes : List Node) 
   -- each link after the climb, and each node after the recount
   link_after : (q : Names) (j : ℕ) → map.get next q ≡ Some j
       → link_at after_links j ≡ cond (inside q (parent p)) ((tallied_link More) (link_at pushed_links j)) (link_at pushed_links j)
-  link_after q j is =
-      changed_at (tallied_link More) (λ n. refl) next (length p) (parent p) i pushed_links placed_next parent_next (length-parent p root) q
-      j is
+  link_after = link_tallied next pushed_links placed_next p root i parent_next More
 
   node_after : (q : Names) (j : ℕ) → map.get next q ≡ Some j → node_at after_nodes j
       ≡ cond (same_path q (parent p)) (recounted no_controllers row.enabled (node_at pushed_nodes i)) (node_at pushed_nodes j)
@@ -204,9 +199,7 @@ module _ (places : FinMap path_cmp ℕ) (links : List Link) (nodes : List Node) 
   -- what neither changes
   kept_link : {A : Type 0} (g : Link → A) → ((l : Link) → g ((tallied_link More) l) ≡ g l) → (q : Names) (j : ℕ) → map.get next q ≡ Some j
       → g (link_at after_links j) ≡ g (link_at pushed_links j)
-  kept_link g same =
-      changed_keeps (tallied_link More) (λ n. refl) next g same (length p) (parent p) i pushed_links placed_next parent_next
-      (length-parent p root)
+  kept_link = tallied_keeps next pushed_links placed_next p root i parent_next More
 
   kept_of : {A : Type 0} (g : Node → A) → g (recounted no_controllers row.enabled (node_at pushed_nodes i)) ≡ g (node_at pushed_nodes i)
       → (q : Names) (j : ℕ) → map.get next q ≡ Some j → g (node_at after_nodes j) ≡ g (node_at pushed_nodes j)
@@ -234,23 +227,6 @@ module _ (places : FinMap path_cmp ℕ) (links : List Link) (nodes : List Node) 
 
   sets_next : values_of enabled_of next after_nodes ≡ map.insert (values_of enabled_of places nodes) p row.enabled
   sets_next = map_next enabled_of (λ q j is. ap (λ (h : Held). h.cgroup.enabled) (row_after q j is))
-
-  -- counting afresh after the change
-  count_next : (q : Names) → count_by (below q) (map.keys next)
-      ≡ cond (inside q (parent p)) (1 + count_by (below q) (map.keys places)) (count_by (below q) (map.keys places))
-  count_next q =
-      let old = values_of held_of places nodes in
-      let rows = λ (m : FinMap path_cmp Held). (tree_of m).rows in
-      ap (count_by (below q)) (sym (keys_next))
-      ∙ count_below-with_row (tree_of old) p row
-      (ap is_some (row_is places nodes old refl p ∙ ap (option_map (λ j. (node_at nodes j).cgroup)) none)) q
-      ∙ (λ t. cond (below_parent q p root t) (1 + count_by (below q) (paths_are places nodes old refl t))
-      (count_by (below q) (paths_are places nodes old refl t)))
-    where
-      keys_next : map.keys (with_row (tree_of (values_of held_of places nodes)) p row).rows ≡ map.keys next
-      keys_next =
-          sym (ap map.keys (values-insert (λ (h : Held). h.cgroup) (values_of held_of places nodes) p (new_held row)))
-          ∙ ap (λ m. map.keys (tree_of m).rows) (sym held_next) ∙ paths_are next after_nodes (values_of held_of next after_nodes) refl
 
   few_below : (q : Names) → count_by (below q) (map.keys places) < 9223372036854775808
   few_below q =
@@ -281,21 +257,6 @@ module _ (places : FinMap path_cmp ℕ) (links : List Link) (nodes : List Node) 
   abbrev sets : FinMap path_cmp ControllerSet
   sets = values_of enabled_of places nodes
 
-  few_before : (q : Names) (controller : Controller) → child_uses sets q controller < 9223372036854775808
-  few_before q controller =
-      let most = few_uses sets q q controller in
-      let same : map.len sets ≡ map.len places =
-      let long = ap length (keys-values enabled_of places nodes) in
-      omega (
-        arith,
-        long,
-        length-map (map.entries sets) (λ e. e.0),
-        length-map (map.entries places) (λ e. e.0),
-        map.len-entries sets,
-        map.len-entries places,
-      ) in
-      omega arith
-
   uses_next : (q : Names) (j : ℕ) → map.get next q ≡ Some j → (controller : Controller)
       → uses_of (node_at after_nodes j).uses controller ≡ child_uses (values_of enabled_of next after_nodes) q controller
   uses_next q j is controller =
@@ -312,7 +273,7 @@ module _ (places : FinMap path_cmp ℕ) (links : List Link) (nodes : List Node) 
             let at_parent : map.get places q ≡ Some i = ap (map.get places) (same_path-is q (parent p) e) ∙ parent_is in
             let was = ap (λ n. uses_of n.uses controller) (old_node q i at_parent) ∙ kept.uses q i at_parent controller in
             recount_exact no_controllers row.enabled (node_at pushed_nodes i).uses controller u (was ∙ sym (none_enabled controller u))
-            (few_before q controller)
+            (few_kept places nodes few q controller)
         | false ↦ λ e.
             ⊎_elim
             (λ h.
@@ -374,7 +335,7 @@ module _ (places : FinMap path_cmp ℕ) (links : List Link) (nodes : List Node) 
         length-set pushed_nodes i (recounted no_controllers row.enabled (node_at pushed_nodes i))
         ∙ paired_more places links nodes kept k free (new_link i row) (new_node row share)
         ∙ sym (changed_length (tallied_link More) (λ n. refl) (length p) i pushed_links);
-    below = λ q j is. ap (λ n. n.below) (link_after q j is) ∙ counts q j is ∙ sym (count_next q);
+    below = λ q j is. ap (λ n. n.below) (link_after q j is) ∙ counts q j is ∙ sym (below-insert places p root k none q);
     descendants = limit_next (λ l. l.max_descendants) (λ r. r.max_descendants.value) (λ l. refl) refl kept.descendants;
     depths = limit_next (λ l. l.max_depth) (λ r. r.max_depth.value) (λ l. refl) refl kept.depths;
     uses = uses_next;

@@ -11,8 +11,9 @@ use Rattle.cg_cgroup.proofs.PathOrder.{same_path-is, same_path-other}
 use Rattle.cg_cgroup.proofs.PathParents.{length-parent, is_root-is}
 use Rattle.cg_cgroup.proofs.PathLaws.{inside_refl, inside_decides, inside-length}
 use Rattle.cg_cgroup.proofs.Options.{same_some}
-use Rattle.cg_places.specs.Links.{no_link, link_at, ArePlaced, changed_up}
+use Rattle.cg_places.specs.Links.{no_link, link_at, ArePlaced, changed_up, tallied_link, tallied_up}
 use Rattle.cg_places.specs.declared.links.Link.{Link}
+use Rattle.cg_places.specs.declared.links.Tally.{Tally}
 
 -- ---- inside a path and inside its parent
 
@@ -194,3 +195,16 @@ module _ (f : Link → Link) (keeps : (n : Link) → (f n).above ≡ n.above) wh
     changed_keeps g same n p i links placed is size q j has =
         ap g (changed_at n p i links placed is size q j has) ∙ elim (inside q p) as
         (λ b. g (cond b (f (link_at links j)) (link_at links j)) ≡ g (link_at links j)) [ true ↦ same (link_at links j) | false ↦ refl ]
+
+-- a tally at the parent of a path and above it
+module _ (places : FinMap path_cmp ℕ) (links : List Link) (placed : ArePlaced places links) (p : Names) (root : is_root p ≡ false) (i : ℕ)
+    (is : map.get places (parent p) ≡ Some i) (tally : Tally) where
+  pub link_tallied : (q : Names) (j : ℕ) → map.get places q ≡ Some j → link_at (tallied_up tally links i (length p)) j
+      ≡ cond (inside q (parent p)) (tallied_link tally (link_at links j)) (link_at links j)
+  link_tallied =
+      changed_at (tallied_link tally) (λ n. refl) places (length p) (parent p) i links placed is (length-parent p root)
+
+  pub tallied_keeps : {A : Type 0} (g : Link → A) → ((l : Link) → g (tallied_link tally l) ≡ g l) → (q : Names) (j : ℕ)
+      → map.get places q ≡ Some j → g (link_at (tallied_up tally links i (length p)) j) ≡ g (link_at links j)
+  tallied_keeps g same =
+      changed_keeps (tallied_link tally) (λ n. refl) places g same (length p) (parent p) i links placed is (length-parent p root)

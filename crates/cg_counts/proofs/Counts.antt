@@ -1,11 +1,12 @@
 -- Counts of the children that enable a controller, and how they follow changes.
-use Rattle.std.proofs.Common.{◌≡◌, ℕ, ◌+◌, ◌<◌, ◌≤◌, Bool, true, false, cond, ◌&&◌, refl, sym, ap, ◌∙◌, true≢false, Some, None, is_some, arith}
+use Rattle.std.proofs.Common.{◌≡◌, ℕ, ◌+◌, ◌<◌, ◌≤◌, Bool, true, false, cond, ◌&&◌, List, length, count_by, refl, sym, ap, ◌∙◌, true≢false, Some, None, is_some, arith}
 use Rattle.std.specs.List.{list_any}
+use Rattle.std.proofs.lemmas.List.{length-map}
 use Rattle.std.proofs.lemmas.List.Sums.{count_by-le-length}
 use Rattle.std.specs.Cmp.{first_so}
 use Rattle.std.specs.FinMap as map
 use Rattle.std.specs.FinMap.{FinMap}
-use Rattle.cg_cgroup.specs.Paths.{Names, path_cmp, same_path, is_child, parent, is_root}
+use Rattle.cg_cgroup.specs.Paths.{Names, path_cmp, same_path, inside, below, is_child, parent, is_root}
 use Rattle.cg_cgroup.specs.Files.{enables, no_controllers}
 use Rattle.cg_cgroup.specs.declared.files.Controller.{Controller}
 use Rattle.cg_cgroup.specs.declared.files.Controller.TheVariants.{Cpu, Memory, Pids}
@@ -14,11 +15,14 @@ use Rattle.cg_cgroup.proofs.PathOrder.{path_cmp_total, path_cmp-IsAntisymmetric,
 use Rattle.cg_cgroup.proofs.PathParents.{is_child-parent, parent-is_child}
 use Rattle.cg_steps.proofs.MapLaws.{any_entry}
 use Rattle.cg_steps.proofs.MapFolds.{gathered, gathered-insert, gathered-remove, insert-remove, get-remove-same}
-use Rattle.cg_steps.proofs.StateCounts.{one_more, one_more-Commutes}
+use Rattle.cg_steps.proofs.StateCounts.{gathered-map, one_more, one_more-Commutes}
 use Rattle.cg_places.proofs.Counted.{gathered-count, count-none}
-use Rattle.cg_places.specs.Nodes.{more_if, less_if, uses_of, uses_after}
-use Rattle.cg_counts.specs.Kept.{child_uses}
+use Rattle.cg_places.specs.Nodes.{Node, more_if, less_if, uses_of, uses_after}
+use Rattle.cg_places.specs.Values.{values_of}
+use Rattle.cg_places.proofs.Values.{keys-values}
+use Rattle.cg_counts.specs.Kept.{enabled_of, child_uses}
 use Rattle.cg_places.specs.declared.nodes.Uses.{Uses}
+use Rattle.cg_counts.proofs.Climb.{below_parent}
 
 -- ---- children that enable a controller
 
@@ -55,7 +59,7 @@ module _ (sets : FinMap path_cmp ControllerSet) (p : Names) where
       (get-remove-same path_cmp_total sets p)
       ∙ ap (one_more test (p, s)) (gathered-count test (map.entries (map.remove sets p)))
 
-  pub few_uses : (q : Names) (controller : Controller) → child_uses sets q controller ≤ map.len sets
+  few_uses : (q : Names) (controller : Controller) → child_uses sets q controller ≤ map.len sets
   few_uses q controller =
       let most = count_by-le-length (enabling_child q controller) (map.entries sets) in
       omega (arith, most, map.len-entries sets)
@@ -116,3 +120,47 @@ is_child-parents q p root =
         | false ↦ λ c. refl
       ] refl
     ] refl
+
+-- fewer than there are places
+pub few_kept : (places : FinMap path_cmp ℕ) (nodes : List Node) → map.len places < 9223372036854775808
+    → (q : Names) (controller : Controller) → child_uses (values_of enabled_of places nodes) q controller < 9223372036854775808
+few_kept places nodes few q controller =
+    let sets = values_of enabled_of places nodes in
+    let most = few_uses sets q q controller in
+    let long = ap length (keys-values enabled_of places nodes) in
+    omega (
+      arith,
+      few,
+      most,
+      long,
+      length-map (map.entries sets) (λ e. e.0),
+      length-map (map.entries places) (λ e. e.0),
+      map.len-entries sets,
+      map.len-entries places,
+    )
+
+-- ---- paths that lie below one
+
+keys_below : {X : Type 0} (m : FinMap path_cmp X) (q : Names)
+    → gathered (λ e. one_more (below q) e.0) 0 (map.entries m) ≡ count_by (below q) (map.keys m)
+keys_below m q = sym (gathered-map (one_more (below q)) 0 (λ e. e.0) (map.entries m)) ∙ gathered-count (below q) (map.keys m)
+
+module _ {X : Type 0} (places : FinMap path_cmp X) (p : Names) (root : is_root p ≡ false) (v : X) where
+  -- where a path comes to others
+  pub below-insert : map.get places p ≡ None → (q : Names) → count_by (below q) (map.keys (map.insert places p v))
+      ≡ cond (inside q (parent p)) (1 + count_by (below q) (map.keys places)) (count_by (below q) (map.keys places))
+  below-insert none q =
+      sym (keys_below (map.insert places p v) q)
+      ∙ gathered-insert path_cmp_total (λ e. one_more (below q) e.0) 0 (λ x y. one_more-Commutes (below q) x.0 y.0) places p v none
+      ∙ (λ t. cond (below_parent q p root t) (1 + keys_below places q t) (keys_below places q t))
+
+  -- and where it goes
+  pub below-remove : map.get places p ≡ Some v → (q : Names) → count_by (below q) (map.keys places)
+      ≡ cond (inside q (parent p)) (1 + count_by (below q) (map.keys (map.remove places p)))
+      (count_by (below q) (map.keys (map.remove places p)))
+  below-remove is q =
+      let left = keys_below (map.remove places p) q in
+      sym (keys_below places q)
+      ∙ gathered-remove path_cmp_total (λ e. one_more (below q) e.0) 0 (λ x y. one_more-Commutes (below q) x.0 y.0) path_cmp-IsAntisymmetric
+      places p v is
+      ∙ (λ t. cond (below_parent q p root t) (1 + left t) (left t))

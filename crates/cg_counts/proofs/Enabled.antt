@@ -1,7 +1,7 @@
 -- What a cgroup enables changes, and with it the files of its children.
 use Rattle.std.proofs.Common.{◌≡◌, ℕ, ◌+◌, ◌<◌, Bool, true, false, cond, ◌&&◌, not, nat_eq, nat_lt, List, length, refl, sym, ap, ◌∙◌, true≢false, Some, None, Option, is_some, unwrap_or, arith, eq-eqb, eqb-true}
 use Rattle.std.specs.Prelude.{slice_set}
-use Rattle.std.proofs.lemmas.List.{length-set, length-map}
+use Rattle.std.proofs.lemmas.List.{length-set}
 use Rattle.std.specs.Cmp.{first_so, second_so}
 use Rattle.std.specs.FinMap as map
 use Rattle.std.specs.FinMap.{FinMap}
@@ -30,8 +30,8 @@ use Rattle.cg_counts.specs.Kept.{held_of, enabled_of, child_uses, AreKept, enabl
 use Rattle.cg_places.specs.declared.links.Link.{Link}
 use Rattle.cg_counts.proofs.Kin.{kin_of_either}
 use Rattle.cg_places.proofs.Counted.{any-count}
-use Rattle.cg_counts.proofs.Counts.{uses-remove, uses-put, few_uses, recount_exact, is_child-parents}
-use Rattle.cg_places.proofs.Values.{values_each, values_put, value_there, keys-values}
+use Rattle.cg_counts.proofs.Counts.{uses-remove, uses-put, few_kept, recount_exact, is_child-parents}
+use Rattle.cg_places.proofs.Values.{values_each, values_put, value_there}
 use Rattle.cg_counts.proofs.Changed.{node_set}
 
 -- a child lies below
@@ -190,19 +190,8 @@ module _ (places : FinMap path_cmp ℕ) (links : List Link) (nodes : List Node) 
 
   few_without : (q : Names) (controller : Controller) → without q controller < 9223372036854775808
   few_without q controller =
-      let most = few_uses sets q q controller in
-      let long = ap length (keys-values enabled_of places nodes) in
-      let same : map.len sets ≡ map.len places =
-      omega (
-        arith,
-        long,
-        length-map (map.entries sets) (λ e. e.0),
-        length-map (map.entries places) (λ e. e.0),
-        map.len-entries sets,
-        map.len-entries places,
-      ) in
       fewer (is_child q p && enables had controller) (without q controller) (child_uses sets q controller) (before q controller)
-      (omega arith)
+      (few_kept places nodes few q controller)
     where
       fewer : (b : Bool) (r n : ℕ) → n ≡ cond b (1 + r) r → n < 9223372036854775808 → r < 9223372036854775808
       fewer true r n h l = omega (arith, h, l)

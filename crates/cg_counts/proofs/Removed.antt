@@ -1,5 +1,5 @@
 -- A cgroup fewer.
-use Rattle.std.proofs.Common.{◌≡◌, ℕ, ◌+◌, ◌≢◌, true, false, cond, ◌&&◌, List, length, count_by, refl, sym, ap, ◌∙◌, true≢false, Some, None, is_some, option_map, arith}
+use Rattle.std.proofs.Common.{◌≡◌, ℕ, ◌+◌, ◌≢◌, true, false, cond, ◌&&◌, List, length, count_by, refl, sym, ap, ◌∙◌, true≢false, Some, None, is_some, arith}
 use Rattle.std.specs.Prelude.{slice_set}
 use Rattle.std.specs.List.{list_any}
 use Rattle.std.proofs.lemmas.List.{length-set, get_or-set_other}
@@ -10,22 +10,19 @@ use Rattle.cg_cgroup.specs.Files.{no_controllers, enables}
 use Rattle.cg_cgroup.specs.declared.files.Controller.{Controller}
 use Rattle.cg_cgroup.specs.declared.files.ControllerSet.{ControllerSet}
 use Rattle.cg_cgroup.specs.declared.cgroup.Cgroup.{Cgroup}
-use Rattle.cg_model.specs.States.{without_row}
 use Rattle.cg_cgroup.proofs.PathOrder.{same_path-is, same_path-not, same_path-other, path_cmp-IsAntisymmetric}
 use Rattle.cg_cgroup.proofs.PathParents.{length-parent, is_child-parent, parent-root}
 use Rattle.cg_steps.proofs.MapLaws.{entry_any, list_any-map}
-use Rattle.cg_steps.proofs.StateCounts.{count_below-without_row}
 use Rattle.cg_places.specs.Links.{no_link, link_at, to_nowhere, ArePlaced, tallied_link, tallied_up}
 use Rattle.cg_places.specs.Nodes.{Node, node_at, uses_of, recounted}
 use Rattle.cg_places.specs.Values.{values_of}
-use Rattle.cg_counts.specs.Kept.{Held, held_of, enabled_of, child_uses, AreKept, tree_of}
+use Rattle.cg_counts.specs.Kept.{Held, held_of, enabled_of, child_uses, AreKept}
 use Rattle.cg_places.specs.declared.links.Link.{Link}
 use Rattle.cg_places.specs.declared.links.Tally.TheVariants.{Fewer}
 use Rattle.cg_counts.proofs.Kin.{kin_reread}
-use Rattle.cg_counts.proofs.Counts.{uses-remove, recount_fewer, is_child-parents}
-use Rattle.cg_places.proofs.Values.{values-remove, get-without, values_gone, value_there}
-use Rattle.cg_counts.proofs.Read.{paths_are, row_is}
-use Rattle.cg_counts.proofs.Climb.{changed_at, changed_keeps, placed_changed, changed_length, below_parent}
+use Rattle.cg_counts.proofs.Counts.{uses-remove, recount_fewer, is_child-parents, below-remove}
+use Rattle.cg_places.proofs.Values.{get-without, values_gone, value_there}
+use Rattle.cg_counts.proofs.Climb.{link_tallied, tallied_keeps, placed_changed, changed_length}
 use Rattle.cg_counts.proofs.Changed.{node_set, kept_of_node, kept_reread}
 
 module _ (places : FinMap path_cmp ℕ) (links : List Link) (nodes : List Node) (kept : AreKept places links nodes) (p : Names)
@@ -85,8 +82,7 @@ module _ (places : FinMap path_cmp ℕ) (links : List Link) (nodes : List Node) 
 
   link_after : (q : Names) (j : ℕ) → map.get next q ≡ Some j
       → link_at after_links j ≡ cond (inside q (parent p)) ((tallied_link Fewer) (link_at links j)) (link_at links j)
-  link_after q j has =
-      changed_at (tallied_link Fewer) (λ n. refl) next (length p) (parent p) i links placed_next parent_left (length-parent p root) q j has
+  link_after = link_tallied next links placed_next p root i parent_left Fewer
 
   node_after : (q : Names) (j : ℕ) → map.get next q ≡ Some j
       → node_at after_nodes j ≡ cond (same_path q (parent p)) (recounted enabled no_controllers (node_at nodes i)) (node_at nodes j)
@@ -97,9 +93,7 @@ module _ (places : FinMap path_cmp ℕ) (links : List Link) (nodes : List Node) 
   -- what neither changes
   kept_link : {A : Type 0} (g : Link → A) → ((l : Link) → g ((tallied_link Fewer) l) ≡ g l) → (q : Names) (j : ℕ) → map.get next q ≡ Some j
       → g (link_at after_links j) ≡ g (link_at links j)
-  kept_link g same =
-      changed_keeps (tallied_link Fewer) (λ n. refl) next g same (length p) (parent p) i links placed_next parent_left
-      (length-parent p root)
+  kept_link = tallied_keeps next links placed_next p root i parent_left Fewer
 
   kept_of : {A : Type 0} (g : Node → A) → g (recounted enabled no_controllers (node_at nodes i)) ≡ g (node_at nodes i) → (q : Names) (j : ℕ)
       → map.get next q ≡ Some j → g (node_at after_nodes j) ≡ g (node_at nodes j)
@@ -121,21 +115,6 @@ module _ (places : FinMap path_cmp ℕ) (links : List Link) (nodes : List Node) 
   sets_left : values_of enabled_of next after_nodes ≡ map.remove (values_of enabled_of places nodes) p
   sets_left = map_left enabled_of (λ q j has. ap (λ (h : Held). h.cgroup.enabled) (row_after q j has))
 
-  -- counting afresh before the change
-  count_before : (q : Names) → count_by (below q) (map.keys places)
-      ≡ cond (inside q (parent p)) (1 + count_by (below q) (map.keys next)) (count_by (below q) (map.keys next))
-  count_before q =
-      let old = values_of held_of places nodes in
-      ap (count_by (below q)) (sym (paths_are places nodes old refl))
-      ∙ count_below-without_row (tree_of old) p (node_at nodes here).cgroup
-      (row_is places nodes old refl p ∙ ap (option_map (λ j. (node_at nodes j).cgroup)) is) q
-      ∙ (λ t. cond (below_parent q p root t) (1 + count_by (below q) (keys_left t)) (count_by (below q) (keys_left t)))
-    where
-      keys_left : map.keys (without_row (tree_of (values_of held_of places nodes)) p).rows ≡ map.keys next
-      keys_left =
-          sym (ap map.keys (values-remove (λ (h : Held). h.cgroup) (values_of held_of places nodes) p))
-          ∙ ap (λ m. map.keys (tree_of m).rows) (sym held_left) ∙ paths_are next after_nodes (values_of held_of next after_nodes) refl
-
   counts : (q : Names) (j : ℕ) → map.get places q ≡ Some j
       → (cond (inside q (parent p)) ((tallied_link Fewer) (link_at links j)) (link_at links j)).below ≡ count_by (below q) (map.keys next)
   counts q j has =
@@ -145,7 +124,7 @@ module _ (places : FinMap path_cmp ℕ) (links : List Link) (nodes : List Node) 
       → (cond b ((tallied_link Fewer) (link_at links j)) (link_at links j)).below ≡ count_by (below q) (map.keys next)) [
         | true ↦ λ h. omega (arith, old, h)
         | false ↦ λ h. old ∙ h
-      ] (count_before q)
+      ] (below-remove places p root here is q)
 
   abbrev sets : FinMap path_cmp ControllerSet
   sets = values_of enabled_of places nodes

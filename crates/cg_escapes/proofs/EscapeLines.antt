@@ -1,5 +1,5 @@
 -- Each operation of a try has a line, and a try has few.
-use Rattle.std.proofs.Common.{◌≡◌, ℕ, zero, suc, ◌+◌, ◌≤◌, Bool, true, false, cond, not, ◌&&◌, List, [], ◌∷◌, ◌++◌, length, length-append, map, filter, take, Option, Some, None, is_some, option_map, option_and_then, refl, ap, ◌∙◌, arith, flat_map, nat_le, nat_eq, Ordering, ◌-◌, ◌||◌, codes, decimal}
+use Rattle.std.proofs.Common.{◌≡◌, ℕ, zero, suc, ◌+◌, ◌≤◌, Bool, true, false, cond, not, ◌&&◌, List, [], ◌∷◌, ◌++◌, length, length-append, map, filter, take, Option, Some, None, is_some, option_and_then, refl, ap, ◌∙◌, arith, flat_map, nat_le, nat_eq, Ordering, ◌-◌, ◌||◌, codes, decimal}
 use Rattle.std.proofs.lemmas.Bool.{leb-true, le-leb}
 use Rattle.std.proofs.Math.Bool.{or-true}
 use Rattle.std.specs.List.{AllByRecursion, list_any}
@@ -7,7 +7,7 @@ use Rattle.std.specs.Ordering.{eq_by_cmp, is_eq}
 use Rattle.std.specs.Cmp.{IsTotalOrder, tied_itself, nat_cmp_total}
 use Rattle.std.specs.FinMap as finite
 use Rattle.std.specs.FinMap.Entries.{is_some-find}
-use Rattle.cg_cgroup.specs.Paths.{Names, IsPath, inside, parent, path_text}
+use Rattle.cg_cgroup.specs.Paths.{Names, IsPath, inside, path_text}
 use Rattle.cg_cgroup.specs.PathText.{names_text}
 use Rattle.cg_cgroup.specs.Identity.{Identity}
 use Rattle.cg_cgroup.specs.Numbers.{is_pid}
@@ -19,8 +19,6 @@ use Rattle.cg_cgroup.specs.declared.files.Limit.TheVariants.{Max, At}
 use Rattle.cg_cgroup.specs.declared.files.LimitFile.{LimitFile}
 use Rattle.cg_cgroup.specs.declared.files.LimitFile.TheVariants.{CpuWeight}
 use Rattle.cg_cgroup.specs.declared.files.EntryName.{EntryName}
-use Rattle.cg_cgroup.specs.declared.files.Controller.{Controller}
-use Rattle.cg_cgroup.specs.declared.files.Controller.TheVariants.{Cpu, Memory, Pids}
 use Rattle.cg_cgroup.specs.declared.cgroup.Cgroup.{Cgroup}
 use Rattle.cg_cgroup.specs.declared.user.Entry.{Entry}
 use Rattle.cg_cgroup.proofs.PathOrder.{path_cmp_total}
@@ -31,11 +29,12 @@ use Rattle.cg_model.specs.States.{State, row_at, place_at, paths_of, pids_of}
 use Rattle.cg_model.specs.WellFormed.{IsWellFormed}
 use Rattle.cg_model.specs.Clauses.{present}
 use Rattle.cg_model.specs.declared.operation.Op.{Op}
-use Rattle.cg_model.specs.declared.operation.Op.TheVariants.{Move, Control, Mkdir, Rmdir, Set, Chmod}
+use Rattle.cg_model.specs.declared.operation.Op.TheVariants.{Move, Mkdir, Rmdir, Set, Chmod}
 use Rattle.cg_model.specs.Limits.{limits}
 use Rattle.cg_model.specs.Guards.{Guarded, ancestors, limit_files, parent_control, parent_dir, guarded_entries, guarded_entry, IsSubtree, failures}
-use Rattle.cg_model.specs.Tries.{other_value, set_tries, change_of, control_tries, across, move_tries, probe, free_probe, is_inside, probe_tries_at, probe_tries, plain_tries, opening_of, opening, with_opening, tries}
+use Rattle.cg_model.specs.Tries.{other_value, set_tries, control_tries, across, move_tries, probe, free_probe, is_inside, probe_tries_at, probe_tries, plain_tries, opening_of, opening, with_opening, tries}
 use Rattle.cg_model.specs.Escapes.{breaks, first_escape}
+use Rattle.cg_tries.proofs.Controls.{all-control_tries}
 use Rattle.cg_tries.proofs.ProbeNames.{is_name-probe, length-probe}
 use Rattle.cg_model.specs.Answers.{answer}
 use Rattle.cg_model.specs.declared.answer.Answer.TheVariants.{Escapes}
@@ -118,17 +117,10 @@ module _ (st : State) (user : Identity) (subtree : Names) (formed : IsWellFormed
       all-present AreWritten (limits st subtree file) (λ value. (Set subtree file (other_value file value) ∷ []) ∷ []) (λ value is.
       (((((path, other_held file value), tt), tt), omega arith), tt)))
 
-  written-control : (on : Bool) (controller : Controller) → AreWritten (Control (parent subtree) (change_of on controller ∷ []) ∷ [])
-  written-control on controller = (((IsPath-take subtree (length subtree - 1) path, omega arith), tt), omega arith)
-
   written-controls : AllByRecursion AreWritten (control_tries subtree)
-  written-controls = (
-    written-control false Cpu,
-    (
-      written-control true Cpu,
-      (written-control false Memory, (written-control true Memory, (written-control false Pids, (written-control true Pids, tt)))),
-    ),
-  )
+  written-controls =
+      all-control_tries AreWritten subtree (λ on controller.
+      (((IsPath-take subtree (length subtree - 1) path, omega arith), tt), omega arith))
 
   written-moves : AllByRecursion AreWritten (move_tries st subtree)
   written-moves =

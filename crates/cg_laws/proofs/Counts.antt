@@ -16,40 +16,23 @@ use Rattle.cg_steps.proofs.StateCounts.{paths_of-with_value, paths_of-with_mode,
 use Rattle.cg_model.specs.Changes.{enabled_after}
 use Rattle.cg_model.specs.Clauses.{unless}
 use Rattle.cg_model.specs.Bars.{bars, level_bars, limit_bars, row_above, mkdir_bars}
-use Rattle.cg_model.specs.Limits.{is_under, Limits, limits, is_within_limit, fits_descendants, fits_depth}
+use Rattle.cg_model.specs.Limits.{is_under, Limits, limits, fits_descendants, fits_depth}
 use Rattle.cg_model.specs.Next.{next}
 use Rattle.cg_model.specs.Steps.{after}
 use Rattle.cg_model.specs.declared.operation.Op.{Op}
 use Rattle.cg_model.specs.declared.operation.Op.TheVariants.{Move, Control, Mkdir, Rmdir, Set, Fork, Exit, Chmod}
 use Rattle.cg_model.specs.declared.outcome.Refusal.TheVariants.{DescendantLimit, DepthLimit}
 use Rattle.cg_steps.proofs.ClauseLaws.{no_parts, no_unless, no_present}
+use Rattle.cg_steps.proofs.LimitLaws.{fits_in, descendants-limit, depth-limit}
 use Rattle.cg_steps.proofs.Allowed.{allowed_mkdir, allowed_rmdir}
 use Rattle.cg_steps.proofs.StepFormed.{after-allowed}
 use Rattle.cg_steps.proofs.StepEffects.{fork-by}
 
 -- ---- limits that may stand or not
 
--- whether so many are within a limit that may not stand
-abbrev fits_in : ℕ → Option Limit → Bool
-fits_in count None = true
-fits_in count (Some limit) = is_within_limit count limit
-
 abbrev FitIn : State → Names → Limits → Type 0
 FitIn st subtree values =
     (fits_in (count_below st subtree) (values MaxDescendants) ≡ true) × (fits_in (depth_below st subtree) (values MaxDepth) ≡ true)
-
-descendants-limit : (st : State) (subtree : Names)
-    → fits_descendants st subtree ≡ fits_in (count_below st subtree) (limits st subtree MaxDescendants)
-descendants-limit st subtree =
-    elim (row_at st subtree) as (λ found.
-    elim found [ None ↦ true | Some row ↦ is_within_limit (count_below st subtree) row.max_descendants.value ]
-    ≡ fits_in (count_below st subtree) (option_and_then (λ row. value_in row MaxDescendants) found)) [ None ↦ refl | Some row ↦ refl ]
-
-depth-limit : (st : State) (subtree : Names) → fits_depth st subtree ≡ fits_in (depth_below st subtree) (limits st subtree MaxDepth)
-depth-limit st subtree =
-    elim (row_at st subtree) as (λ found.
-    elim found [ None ↦ true | Some row ↦ is_within_limit (depth_below st subtree) row.max_depth.value ]
-    ≡ fits_in (depth_below st subtree) (option_and_then (λ row. value_in row MaxDepth) found)) [ None ↦ refl | Some row ↦ refl ]
 
 in-most : (count : ℕ) (limit : Option Limit) → fits_in count limit ≡ true → (most : ℕ) → limit ≡ Some (At most) → count ≤ most
 in-most count limit h most is = leb-true count most (sym (ap (fits_in count) is) ∙ h)

@@ -1,10 +1,6 @@
 -- No process crosses the edge of a subtree where the user writes no cgroup.procs above it.
-use Rattle.std.proofs.Common.{◌≡◌, ◌≢◌, ℕ, ◌<◌, Bool, true, false, cond, not, ◌||◌, List, [], ◌∷◌, length, take, filter, nat_eq, refl, sym, ap, ◌∙◌, true≢false, Option, Some, None, is_some, option_map, option_and_then, ⊎_elim, arith, take-take, eqb-true}
+use Rattle.std.proofs.Common.{◌≡◌, ℕ, ◌<◌, true, false, cond, not, [], length, take, nat_eq, refl, sym, ap, ◌∙◌, true≢false, Option, Some, None, is_some, option_map, option_and_then, ⊎_elim, arith, take-take, eqb-true}
 use Rattle.std.proofs.lemmas.Bool.{cases_lt, true_from_ne_false, false_from_ne_true}
-use Rattle.std.specs.List.{list_any}
-use Rattle.std.specs.Ordering.{nat_cmp, eq_by_cmp}
-use Rattle.std.specs.Cmp.{unsigned_ties}
-use Rattle.std.specs.FinMap.{contains_key-keys}
 use Rattle.cg_cgroup.specs.Paths.{Names, inside, common}
 use Rattle.cg_cgroup.specs.Identity.{Identity}
 use Rattle.cg_cgroup.specs.Users.{writes}
@@ -14,7 +10,7 @@ use Rattle.cg_cgroup.specs.declared.process.Process.{Process}
 use Rattle.cg_cgroup.proofs.Options.{some_value, none_value}
 use Rattle.cg_cgroup.proofs.PathParents.{inside-is, inside-take}
 use Rattle.cg_cgroup.proofs.PathLaws.{inside_trans, common-inside_second, common-take_first, common_comm}
-use Rattle.cg_model.specs.States.{State, row_at, process_at, place_at, is_used, placed_at, pids_of, with_place, without_process}
+use Rattle.cg_model.specs.States.{State, row_at, process_at, place_at, is_used, placed_at, with_place, without_process}
 use Rattle.cg_steps.proofs.StateLaws.{process_at-with_place, process_at-without_process}
 use Rattle.cg_model.specs.Clauses.{unless}
 use Rattle.cg_model.specs.Bars.{bars, move_bars, passes}
@@ -27,13 +23,13 @@ use Rattle.cg_steps.proofs.ClauseLaws.{no_parts, no_unless, no_present}
 use Rattle.cg_steps.proofs.Allowed.{allowed_fork}
 use Rattle.cg_steps.proofs.StepFormed.{after-allowed}
 use Rattle.cg_steps.proofs.StepEffects.{process_at-after}
-use Rattle.cg_model.specs.Edge.{is_crossed, crossing}
+use Rattle.cg_model.specs.Edge.{is_crossed}
 use Rattle.cg_model.specs.Guards.{ancestor, ancestors, IsSubtree}
 use Rattle.cg_laws.specs.Guarding.{AreUnreached}
 use Rattle.cg_laws.specs.Sound.{IsSound}
 use Rattle.cg_laws.proofs.Sound.{take-there}
 use Rattle.cg_laws.proofs.GuardedEntries.{ancestors-has, never_written}
-use Rattle.cg_steps.proofs.Edges.{stays-there, none-crosses, none-crosses-same}
+use Rattle.cg_steps.proofs.Edges.{stays-there}
 
 -- ---- paths
 

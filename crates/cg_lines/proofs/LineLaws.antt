@@ -18,7 +18,7 @@ use Rattle.cg_model.specs.declared.changes.Change.{Change}
 use Rattle.cg_model.specs.declared.operation.Op.{Op}
 use Rattle.cg_model.specs.declared.operation.Op.TheVariants.{Move, Control, Mkdir, Rmdir, Set, Fork, Exit, Chmod}
 use Rattle.cg_lines.specs.OperationLines.{change_word, limit_word, mode_word, words, spelling, IsInRange, IsLimitInRange}
-use Rattle.cg_lines.specs.LineReading.{is_space, cut, pid_at, limit_at, mode_at, changes_at, move_at, control_from, control_at, mkdir_at, rmdir_at, set_at, fork_at, exit_at, chmod_at, operation_named, operation_at, ReadsAs}
+use Rattle.cg_lines.specs.LineReading.{is_space, cut, two_words, three_words, pid_at, limit_at, mode_at, changes_at, move_at, control_from, control_at, mkdir_at, rmdir_at, set_at, fork_at, exit_at, chmod_at, operation_named, operation_at, ReadsAs}
 use Rattle.cg_cgroup.specs.Options.{◌>>=◌}
 use Rattle.cg_lines.specs.declared.lines.fault.LineFault.{LineFault}
 use Rattle.cg_lines.specs.declared.lines.fault.LineFault.TheVariants.{BadWord}
@@ -80,26 +80,9 @@ limits = record { takes = limit_takes; again = limit_again; one = limit_is_word 
 modes : Spelled mode_at mode_word (λ mode. is_mode mode ≡ true)
 modes = record { takes = mode_takes; again = mode_again; one = mode_is_word }
 
--- what is read of one word, of two and of three
+-- what is read of one word
 abbrev one_word : {A : Type 0} → (List ℕ → Option A) → (A → Op) → List ℕ → Option Op
 one_word read made text = read text >>= λ a. Some (made a)
-
-abbrev two_words : {A B : Type 0} → (List ℕ → Option A) → (List ℕ → Option B) → (A → B → Op) → List ℕ → Option Op
-two_words first second made text = do
-  words ← cut text
-  a ← first words.0
-  b ← second words.1
-  Some (made a b)
-
-abbrev three_words : {A B C : Type 0} → (List ℕ → Option A) → (List ℕ → Option B) → (List ℕ → Option C)
-    → (A → B → C → Op) → List ℕ → Option Op
-three_words first second third made text = do
-  words ← cut text
-  others ← cut words.1
-  a ← first words.0
-  b ← second others.0
-  c ← third others.1
-  Some (made a b c)
 
 from_text : (name text other : List ℕ) (made op : Op) → text ≡ other → Some made ≡ Some op → Takes name other made → Takes name text op
 from_text name text other made op e f h = subst (λ t. Takes name t op) (sym e) (subst (Takes name other) (same_Some made op f) h)

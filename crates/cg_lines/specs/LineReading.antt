@@ -72,14 +72,29 @@ changes_at (word ∷ others) = do
   changes ← changes_at others
   Some (change ∷ changes)
 
+-- what is made of two words, where each is read
+abbrev pub two_words : {A B : Type 0} → (List ℕ → Option A) → (List ℕ → Option B) → (A → B → Op) → List ℕ → Option Op
+two_words first second made text = do
+  words ← cut text
+  a ← first words.0
+  b ← second words.1
+  Some (made a b)
+
+-- and of three
+abbrev pub three_words : {A B C : Type 0} → (List ℕ → Option A) → (List ℕ → Option B) → (List ℕ → Option C)
+    → (A → B → C → Op) → List ℕ → Option Op
+three_words first second third made text = do
+  words ← cut text
+  others ← cut words.1
+  a ← first words.0
+  b ← second others.0
+  c ← third others.1
+  Some (made a b c)
+
 -- what follows the name of each operation
 
 unfoldable pub move_at : List ℕ → Option Op
-move_at text = do
-  words ← cut text
-  pid ← pid_at words.0
-  to ← path_at words.1
-  Some (Move pid to)
+move_at text = two_words pid_at path_at Move text
 
 abbrev pub control_from : List ℕ → Option (List ℕ × List ℕ) → Option Op
 control_from text None = path_at text >>= λ at. Some (Control at [])
@@ -98,32 +113,16 @@ unfoldable pub rmdir_at : List ℕ → Option Op
 rmdir_at text = path_at text >>= λ path. Some (Rmdir path)
 
 unfoldable pub set_at : List ℕ → Option Op
-set_at text = do
-  words ← cut text
-  others ← cut words.1
-  at ← path_at words.0
-  file ← file_named others.0
-  value ← limit_at others.1
-  Some (Set at file value)
+set_at text = three_words path_at file_named limit_at Set text
 
 unfoldable pub fork_at : List ℕ → Option Op
-fork_at text = do
-  words ← cut text
-  parent ← pid_at words.0
-  child ← pid_at words.1
-  Some (Fork parent child)
+fork_at text = two_words pid_at pid_at Fork text
 
 unfoldable pub exit_at : List ℕ → Option Op
 exit_at text = pid_at text >>= λ pid. Some (Exit pid)
 
 unfoldable pub chmod_at : List ℕ → Option Op
-chmod_at text = do
-  words ← cut text
-  others ← cut words.1
-  at ← path_at words.0
-  entry ← entry_named others.0
-  mode ← mode_at others.1
-  Some (Chmod at entry mode)
+chmod_at text = three_words path_at entry_named mode_at Chmod text
 
 unfoldable pub operation_named : List ℕ → List ℕ → Option Op
 operation_named name text =

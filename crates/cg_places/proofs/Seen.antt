@@ -4,6 +4,8 @@ use Rattle.std.specs.Prelude.{slice_set, is_none}
 use Rattle.std.proofs.lemmas.List.{map-set, length-map, length-append, length-set, ext_get_or, get_or_append_left, get_or_at, get_or-set_same, get_or-set_other}
 use Rattle.std.proofs.lemmas.Bool.{ltb-true, ltb-false}
 use Rattle.std.proofs.Math.ListN as seq
+use Rattle.std.specs.Global.{Vec}
+use Rattle.std.specs.Vec.{with_items}
 use Rattle.std.specs.Cmp.{first_so}
 use Rattle.cg_cgroup.specs.declared.files.ControllerSet.{ControllerSet}
 use Rattle.cg_cgroup.specs.declared.cgroup.Cgroup.{Cgroup}
@@ -13,7 +15,7 @@ use Rattle.cg_places.specs.declared.links.Link.{Link}
 use Rattle.cg_places.specs.declared.nodes.Shared.{Shared}
 use Rattle.cg_places.specs.declared.nodes.Slot.{Slot}
 use Rattle.cg_places.specs.declared.nodes.Uses.{Uses}
-use Rattle.cg_places.proofs.Puts.{put_mapped}
+use Rattle.cg_places.proofs.Puts.{put_mapped, set_through}
 
 pub node_seen : (shared : List Shared) (slots : List Slot) (i : ℕ) → node_at (nodes_of shared slots) i ≡ node_of shared (slot_at slots i)
 node_seen shared slots i = seq.get_or-map (node_of shared) slots i (new_slot no_cgroup None)
@@ -35,6 +37,14 @@ pub changed_seen : (shared : List Shared) (slots new : List Slot) (old : List No
 changed_seen shared slots new old i f g view same set =
     ap (nodes_of shared) set ∙ set_seen shared slots i (f (slot_at slots i)) g (same (slot_at slots i))
     ∙ ap (λ nodes. slice_set nodes i (g (node_at nodes i))) view
+
+-- and one changed through a slice of a vector
+pub through_seen : (shared : List Shared) (slots : Vec Slot) (now new : List Slot) (old : List Node) (i : ℕ) (f : Slot → Slot)
+    (g : Node → Node) → nodes_of shared slots.items ≡ old → ((slot : Slot) → node_of shared (f slot) ≡ g (node_of shared slot))
+    → now ≡ slots.items → length new ≡ length now → new ≡ slice_set now i (f (slot_at now i))
+    → nodes_of shared (with_items slots new).items ≡ slice_set old i (g (node_at old i))
+through_seen shared slots now new old i f g view same is long set =
+    changed_seen shared slots.items _ old i f g view same (set_through slots i f (new_slot no_cgroup None) now new is long set)
 
 pub no_share : {A : Type 0} (k : ℕ) → None ≡ Some k → A
 no_share k h = absurd (true≢false (ap is_none h))

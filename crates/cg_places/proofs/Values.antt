@@ -96,14 +96,19 @@ module _ {A : Type 0} (g : Node → A) where
       → map.get (values_of g places nodes) q ≡ None
   value_none places nodes q is = get-values places nodes q ∙ ap (option_map (λ i. g (node_at nodes i))) is
 
+  -- what is read at the place of a path where that is as it was
+  read_same : (places : FinMap path_cmp ℕ) (ns ms : List Node) (q : Names)
+      → ((j : ℕ) → map.get places q ≡ Some j → g (node_at ms j) ≡ g (node_at ns j))
+      → option_map (λ i. g (node_at ms i)) (map.get places q) ≡ map.get (values_of g places ns) q
+  read_same places ns ms q same =
+      elim (map.get places q) as (λ o. map.get places q ≡ o → option_map (λ i. g (node_at ms i)) o ≡ option_map (λ i. g (node_at ns i)) o)
+      [ None ↦ λ e. refl | Some j ↦ λ e. ap Some (same j e) ] refl
+      ∙ sym (get-values places ns q)
+
   pub values_same : (places : FinMap path_cmp ℕ) (ns ms : List Node)
       → ((q : Names) (j : ℕ) → map.get places q ≡ Some j → g (node_at ns j) ≡ g (node_at ms j))
       → values_of g places ns ≡ values_of g places ms
-  values_same places ns ms same = same_maps _ _ (λ q.
-      get-values places ns q
-      ∙ elim (map.get places q) as (λ o. map.get places q ≡ o → option_map (λ i. g (node_at ns i)) o ≡ option_map (λ i. g (node_at ms i)) o)
-      [ None ↦ λ e. refl | Some j ↦ λ e. ap Some (same q j e) ] refl
-      ∙ sym (get-values places ms q))
+  values_same places ns ms same = same_maps _ _ (λ q. get-values places ns q ∙ read_same places ms ns q (same q))
 
   -- each changed by its path
   pub values_each : (f : Names → A → A) (places : FinMap path_cmp ℕ) (ns ms : List Node)
@@ -126,11 +131,7 @@ module _ {A : Type 0} (g : Node → A) where
       ∙ elim (same_path q p) as (λ b. same_path q p ≡ b
       → option_map (λ j. g (node_at ms j)) (cond b (Some i) (map.get places q)) ≡ cond b (Some v) (map.get (values_of g places ns) q)) [
         | true ↦ λ e. ap Some new
-        | false ↦ λ e.
-            elim (map.get places q) as
-            (λ o. map.get places q ≡ o → option_map (λ j. g (node_at ms j)) o ≡ option_map (λ j. g (node_at ns j)) o)
-            [ None ↦ λ h. refl | Some j ↦ λ h. ap Some (same q j e h) ] refl
-            ∙ sym (get-values places ns q)
+        | false ↦ λ e. read_same places ns ms q (λ j has. same q j e has)
       ] refl
       ∙ sym (get-put (values_of g places ns) p v q))
 
@@ -143,11 +144,7 @@ module _ {A : Type 0} (g : Node → A) where
       ∙ elim (same_path q p) as (λ b. same_path q p ≡ b
       → option_map (λ j. g (node_at ms j)) (cond b None (map.get places q)) ≡ cond b None (map.get (values_of g places ns) q)) [
         | true ↦ λ e. refl
-        | false ↦ λ e.
-            elim (map.get places q) as
-            (λ o. map.get places q ≡ o → option_map (λ j. g (node_at ms j)) o ≡ option_map (λ j. g (node_at ns j)) o)
-            [ None ↦ λ h. refl | Some j ↦ λ h. ap Some (same q j e h) ] refl
-            ∙ sym (get-values places ns q)
+        | false ↦ λ e. read_same places ns ms q (λ j has. same q j e has)
       ] refl
       ∙ sym (get-without (values_of g places ns) p q))
 

@@ -1,11 +1,15 @@
--- The test of two limit maps tells whether they are the same.
-use Rattle.std.proofs.Common.{◌≡◌, true, Option, Some, None, refl, ap}
+-- Limits that may stand or not: the test of two maps of them tells whether they are the same, and a cgroup's own two.
+use Rattle.std.proofs.Common.{◌≡◌, ℕ, Bool, true, Option, Some, None, option_and_then, refl, ap}
 use Rattle.std.proofs.lemmas.Bool.{false≢true, eqb-true, eq-eqb}
+use Rattle.cg_cgroup.specs.Paths.{Names}
 use Rattle.cg_cgroup.specs.Files.{all_files}
+use Rattle.cg_cgroup.specs.Cgroups.{value_in}
 use Rattle.cg_cgroup.proofs.AllFiles.{each_passes, all_pass}
 use Rattle.cg_cgroup.specs.declared.files.Limit.{Limit}
 use Rattle.cg_cgroup.specs.declared.files.Limit.TheVariants.{Max, At}
-use Rattle.cg_model.specs.Limits.{Limits, same_value, same_limits}
+use Rattle.cg_cgroup.specs.declared.files.LimitFile.TheVariants.{MaxDescendants, MaxDepth}
+use Rattle.cg_model.specs.States.{State, row_at, value_at, count_below, depth_below}
+use Rattle.cg_model.specs.Limits.{Limits, same_value, same_limits, is_within_limit, fits_descendants, fits_depth}
 
 same_value-is : (value other : Option Limit) → same_value value other ≡ true → value ≡ other
 same_value-is None None h = refl
@@ -27,3 +31,22 @@ same_limits-is these those h =
 
 pub same_limits-itself : (these : Limits) → same_limits these these ≡ true
 same_limits-itself these = all_pass (λ file. same_value (these file) (these file)) (λ file. same_value-itself (these file)) all_files
+
+-- ---- the two limits of what lies below
+
+-- whether so many are within a limit that may not stand
+abbrev pub fits_in : ℕ → Option Limit → Bool
+fits_in count None = true
+fits_in count (Some limit) = is_within_limit count limit
+
+pub descendants-limit : (st : State) (path : Names)
+    → fits_descendants st path ≡ fits_in (count_below st path) (value_at st path MaxDescendants)
+descendants-limit st path =
+    elim (row_at st path) as (λ found.
+    elim found [ None ↦ true | Some row ↦ is_within_limit (count_below st path) row.max_descendants.value ]
+    ≡ fits_in (count_below st path) (option_and_then (λ row. value_in row MaxDescendants) found)) [ None ↦ refl | Some row ↦ refl ]
+
+pub depth-limit : (st : State) (path : Names) → fits_depth st path ≡ fits_in (depth_below st path) (value_at st path MaxDepth)
+depth-limit st path =
+    elim (row_at st path) as (λ found. elim found [ None ↦ true | Some row ↦ is_within_limit (depth_below st path) row.max_depth.value ]
+    ≡ fits_in (depth_below st path) (option_and_then (λ row. value_in row MaxDepth) found)) [ None ↦ refl | Some row ↦ refl ]

@@ -43,7 +43,7 @@ module _ (st new : State) (same : paths_of new ≡ paths_of st) (q : Names) wher
 
 -- ---- counts from the front
 
-gathered-map : {A B C : Type 0} (step : B → C → C) (start : C) (g : A → B) (xs : List A)
+pub gathered-map : {A B C : Type 0} (step : B → C → C) (start : C) (g : A → B) (xs : List A)
     → gathered step start (map g xs) ≡ gathered (λ x. step (g x)) start xs
 gathered-map step start g [] = refl
 gathered-map step start g (x ∷ xs) = ap (step (g x)) (gathered-map step start g xs)

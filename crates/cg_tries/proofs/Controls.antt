@@ -1,5 +1,6 @@
 -- A change of one controller at the parent breaks where it is allowed and changes what the parent enables.
 use Rattle.std.proofs.Common.{◌≡◌, Bool, true, false, cond, not, ◌&&◌, List, [], ◌∷◌, is_some, option_map, option_and_then, refl, sym, ap, ◌∙◌, true≢false}
+use Rattle.std.specs.List.{AllByRecursion}
 use Rattle.cg_cgroup.specs.Paths.{Names, parent, is_root}
 use Rattle.cg_cgroup.specs.Identity.{Identity}
 use Rattle.cg_cgroup.specs.Files.{enables, stands_under, no_controllers}
@@ -25,7 +26,7 @@ use Rattle.cg_model.specs.Guards.{IsSubtree}
 use Rattle.cg_model.specs.Limits.{limits}
 use Rattle.cg_model.specs.Verdicts.{broken}
 use Rattle.cg_model.specs.declared.verdict.Clause.{Clause}
-use Rattle.cg_model.specs.Tries.{change_of}
+use Rattle.cg_model.specs.Tries.{change_of, control_tries}
 use Rattle.cg_model.specs.Escapes.{breaks}
 use Rattle.cg_tries.specs.Escapes.{IsUnbroken}
 use Rattle.cg_tries.specs.Finding.{allowed}
@@ -150,3 +151,12 @@ module _ (st : State) (user : Identity) (subtree : Names) (on : Bool) (controlle
   pub control_try : breaks st user subtree (op ∷ []) ≡ (allowed st user op && changes_enabled on controller above)
   control_try = one_operation st user subtree op whole
       ∙ where_so (allowed st user op) _ _ (λ free. breaks_where (nothing_bars st user op free))
+
+-- what holds of each change of one controller holds of all that are tried
+pub all-control_tries : (P : List Op → Type 0) (subtree : Names)
+    → ((on : Bool) (controller : Controller) → P (Control (parent subtree) (change_of on controller ∷ []) ∷ []))
+    → AllByRecursion P (control_tries subtree)
+all-control_tries P subtree each = (
+  each false Cpu,
+  (each true Cpu, (each false Memory, (each true Memory, (each false Pids, (each true Pids, tt))))),
+)

@@ -1,6 +1,7 @@
 //! Operations that break a subtree, looked for among stated tries.
 #![tactic(auto)]
 
+mod asker;
 pub mod laws;
 mod move_tries;
 pub mod plain;

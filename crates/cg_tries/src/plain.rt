@@ -6,6 +6,7 @@ ghost use Rattle.cg_model.specs.Escapes.{breaks};
 ghost use Rattle.cg_tries.specs.Escapes.{IsUnbroken};
 ghost use Rattle.cg_tries.specs.Finding.{first_passage};
 
+use crate::asker::Asker;
 use crate::move_tries::{first_move, passes_above};
 use crate::probe_tries::first_probe;
 use crate::write_tries::first_write;
@@ -17,20 +18,15 @@ use cg_tree::hierarchy::Hierarchy;
 use std::alloc::Global;
 
 /// The first move over the edge, or new cgroup above with a move there, that breaks the subtree.
-fn first_passage<H: Hierarchy>(
-    alloc: Global,
-    tree: &H,
-    user: &User,
-    subtree: &Path,
-) -> Result<Option<Operations>, NoMemory>
-    ensures { IfOk result (λ found. found ≡ first_passage (H.state tree.now) user.now subtree.now) }
+fn first_passage<H: Hierarchy>(asker: &Asker<H>) -> Result<Option<Operations>, NoMemory>
+    ensures { IfOk result (λ found. found ≡ first_passage (H.state asker.now.tree.now) asker.now.user.now asker.now.subtree.now) }
 {
-    let paths = tree.paths(alloc)?;
-    let pids = tree.pids(alloc)?;
-    if let Some(found) = first_move(alloc, tree, user, subtree, &paths, &pids)? {
+    let paths = asker.tree.paths(asker.alloc)?;
+    let pids = asker.tree.pids(asker.alloc)?;
+    if let Some(found) = first_move(asker, &paths, &pids)? {
         return Ok(Some(found));
     }
-    first_probe(alloc, tree, user, subtree, &paths, &pids)
+    first_probe(asker, paths.len() + 1, &pids)
 }
 
 /// The first of the plain tries that breaks a subtree of which nothing is broken at the start. None is carried out: each
@@ -49,11 +45,17 @@ pub fn first_plain_try<H: Hierarchy>(
     let Some(cgroup) = tree.get(subtree, subtree.depth()) else {
         unreachable!()
     };
-    if let Some(found) = first_write(alloc, tree, user, subtree, cgroup)? {
+    let asker = Asker {
+        alloc,
+        tree,
+        user,
+        subtree,
+    };
+    if let Some(found) = first_write(&asker, cgroup)? {
         return Ok(Some(found));
     }
-    if !passes_above(tree, user, subtree) {
+    if !passes_above(&asker) {
         return Ok(None);
     }
-    first_passage(alloc, tree, user, subtree)
+    first_passage(&asker)
 }

@@ -6,11 +6,11 @@ ghost use Rattle.cg_model.specs.WellFormed.{has_row};
 ghost use Rattle.cg_model.specs.Tries.{is_inside};
 ghost use Rattle.cg_tries.specs.Finding.{lets_in, lowered, writes_both, short_probe, free_path, first_probe_path, first_inside, first_probe};
 
+use crate::asker::Asker;
 use cg_cgroup::files::Limit;
 use cg_cgroup::memory::NoMemory;
 use cg_cgroup::path::{Path, PathFault};
 use cg_cgroup::process::Pid;
-use cg_cgroup::user::User;
 use cg_model::operation::Op;
 use cg_model::operations::Operations;
 use cg_tree::hierarchy::Hierarchy;
@@ -18,12 +18,12 @@ use cg_tree::limits::is_under;
 use std::alloc::Global;
 
 /// The first of these processes that is inside the subtree.
-fn first_inside<H: Hierarchy>(tree: &H, subtree: &Path, pids: &[Pid]) -> Option<Pid>
-    ensures { result ≡ find (is_inside (H.state tree.now) subtree.now) pids.now }
+fn first_inside<H: Hierarchy>(asker: &Asker<H>, pids: &[Pid]) -> Option<Pid>
+    ensures { result ≡ find (is_inside (H.state asker.now.tree.now) asker.now.subtree.now) pids.now }
 {
     for pid in pids {
-        if let Some(place) = tree.place(*pid) {
-            if subtree.is_prefix_of(place) {
+        if let Some(place) = asker.tree.place(*pid) {
+            if asker.subtree.is_prefix_of(place) {
                 return Some(*pid);
             }
         }
@@ -43,20 +43,24 @@ fn lowered(level: usize, at: usize, limit: Limit) -> usize
 }
 
 /// How many of the subtree's proper ancestors, from the root down, let in a new child as far as limits go.
-fn open_levels<H: Hierarchy>(tree: &H, subtree: &Path) -> usize
-    ensures within { result ≤ length subtree.now }
-    ensures path { IsPath subtree.now }
-    ensures open { (len : ℕ) → len < length subtree.now → lets_in (H.state tree.now) subtree.now len ≡ nat_lt len result }
+fn open_levels<H: Hierarchy>(asker: &Asker<H>) -> usize
+    ensures within { result ≤ length asker.now.subtree.now }
+    ensures path { IsPath asker.now.subtree.now }
+    ensures open { (len : ℕ) → len < length asker.now.subtree.now
+        → lets_in (H.state asker.now.tree.now) asker.now.subtree.now len ≡ nat_lt len result }
 {
-    let mut level = subtree.depth();
-    for at in 0..subtree.depth() {
+    let mut level = asker.subtree.depth();
+    for at in 0..asker.subtree.depth() {
         if level <= at {
             return level;
         }
-        let Some(cgroup) = tree.get(subtree, at) else {
+        let Some(cgroup) = asker.tree.get(asker.subtree, at) else {
             continue;
         };
-        if !is_under(tree.count_below(subtree, at), cgroup.max_descendants.value) {
+        if !is_under(
+            asker.tree.count_below(asker.subtree, at),
+            cgroup.max_descendants.value,
+        ) {
             return at;
         }
         level = lowered(level, at, cgroup.max_depth.value);
@@ -64,13 +68,13 @@ fn open_levels<H: Hierarchy>(tree: &H, subtree: &Path) -> usize
     level
 }
 
-/// Whether the user writes the directory and the `cgroup.procs` of the cgroup of the first `len` names.
-fn writes_both<H: Hierarchy>(tree: &H, user: &User, path: &Path, len: usize) -> bool
-    requires { len ≤ length path.now }
-    ensures { result ≡ writes_both (H.state tree.now) user.now (take len path.now) }
+/// Whether the user writes the directory and the `cgroup.procs` of the ancestor of `len` names.
+fn writes_both<H: Hierarchy>(asker: &Asker<H>, len: usize) -> bool
+    requires { len ≤ length asker.now.subtree.now }
+    ensures { result ≡ writes_both (H.state asker.now.tree.now) asker.now.user.now (take len asker.now.subtree.now) }
 {
-    match tree.get(path, len) {
-        Some(cgroup) => user.may_write(&cgroup.dir) && user.may_write(&cgroup.procs),
+    match asker.tree.get(asker.subtree, len) {
+        Some(cgroup) => asker.user.may_write(&cgroup.dir) && asker.user.may_write(&cgroup.procs),
         None => false,
     }
 }
@@ -100,22 +104,20 @@ fn is_there<H: Hierarchy>(tree: &H, path: &Path) -> bool
 /// The path of the first probe that isn't there, of numbers below `count`, at the ancestor of `len` names; none where it
 /// would be too long.
 fn free_path<H: Hierarchy>(
-    alloc: Global,
-    tree: &H,
-    subtree: &Path,
+    asker: &Asker<H>,
     len: usize,
     count: usize,
 ) -> Result<Option<Path>, NoMemory>
-    requires within { len ≤ length subtree.now }
-    requires path { IsPath subtree.now }
-    requires count { count ≡ length (paths_of (H.state tree.now)) + 1 }
-    ensures { IfOk result (λ found. found ≡ free_path (H.state tree.now) (take len subtree.now)) }
+    requires within { len ≤ length asker.now.subtree.now }
+    requires path { IsPath asker.now.subtree.now }
+    requires count { count ≡ length (paths_of (H.state asker.now.tree.now)) + 1 }
+    ensures { IfOk result (λ found. found ≡ free_path (H.state asker.now.tree.now) (take len asker.now.subtree.now)) }
 {
     for number in 0..count {
-        let Some(path) = probe(alloc, subtree, len, number)? else {
+        let Some(path) = probe(asker.alloc, asker.subtree, len, number)? else {
             return Ok(None);
         };
-        if !is_there(tree, &path) {
+        if !is_there(asker.tree, &path) {
             return Ok(Some(path));
         }
     }
@@ -123,19 +125,14 @@ fn free_path<H: Hierarchy>(
 }
 
 /// The path of the first probe that breaks, where a process is inside: at the nearest ancestor first.
-fn first_probe_path<H: Hierarchy>(
-    alloc: Global,
-    tree: &H,
-    user: &User,
-    subtree: &Path,
-    count: usize,
-) -> Result<Option<Path>, NoMemory>
-    requires count { count ≡ length (paths_of (H.state tree.now)) + 1 }
-    ensures { IfOk result (λ found. found ≡ first_probe_path (H.state tree.now) user.now subtree.now (length subtree.now)) }
+fn first_probe_path<H: Hierarchy>(asker: &Asker<H>, count: usize) -> Result<Option<Path>, NoMemory>
+    requires count { count ≡ length (paths_of (H.state asker.now.tree.now)) + 1 }
+    ensures { IfOk result (λ found. found
+        ≡ first_probe_path (H.state asker.now.tree.now) asker.now.user.now asker.now.subtree.now (length asker.now.subtree.now)) }
 {
-    for len in (0..open_levels(tree, subtree)).rev() {
-        if writes_both(tree, user, subtree, len) {
-            if let Some(path) = free_path(alloc, tree, subtree, len, count)? {
+    for len in (0..open_levels(asker)).rev() {
+        if writes_both(asker, len) {
+            if let Some(path) = free_path(asker, len, count)? {
                 return Ok(Some(path));
             }
         }
@@ -143,27 +140,25 @@ fn first_probe_path<H: Hierarchy>(
     Ok(None)
 }
 
-/// The first probe that breaks: a new cgroup above the subtree, and the first process from inside moved there.
+/// The first probe that breaks: a new cgroup above the subtree, and the first process from inside moved there. One number
+/// more is asked than there are cgroups.
 pub fn first_probe<H: Hierarchy>(
-    alloc: Global,
-    tree: &H,
-    user: &User,
-    subtree: &Path,
-    paths: &[Path],
+    asker: &Asker<H>,
+    count: usize,
     pids: &[Pid],
 ) -> Result<Option<Operations>, NoMemory>
-    requires paths { paths.now ≡ paths_of (H.state tree.now) }
-    requires pids { pids.now ≡ pids_of (H.state tree.now) }
-    ensures { IfOk result (λ found. found ≡ first_probe (H.state tree.now) user.now subtree.now) }
+    requires count { count ≡ length (paths_of (H.state asker.now.tree.now)) + 1 }
+    requires pids { pids.now ≡ pids_of (H.state asker.now.tree.now) }
+    ensures { IfOk result (λ found. found ≡ first_probe (H.state asker.now.tree.now) asker.now.user.now asker.now.subtree.now) }
 {
-    let Some(pid) = first_inside(tree, subtree, pids) else {
+    let Some(pid) = first_inside(asker, pids) else {
         return Ok(None);
     };
-    let Some(to) = first_probe_path(alloc, tree, user, subtree, paths.len() + 1)? else {
+    let Some(to) = first_probe_path(asker, count)? else {
         return Ok(None);
     };
-    let path = to.try_clone(alloc)?;
-    let mut operations = Operations::only(alloc, Op::Mkdir { path })?;
+    let path = to.try_clone(asker.alloc)?;
+    let mut operations = Operations::only(asker.alloc, Op::Mkdir { path })?;
     operations.push(Op::Move { pid, to })?;
     Ok(Some(operations))
 }

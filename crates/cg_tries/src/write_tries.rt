@@ -7,31 +7,24 @@ ghost use Rattle.cg_model.specs.WellFormed.{enabled_at};
 ghost use Rattle.cg_model.specs.Tries.{other_value};
 ghost use Rattle.cg_tries.specs.Finding.{if_allowed, set_of, first_set, control_of, first_control, first_write};
 
+use crate::asker::Asker;
 use cg_cgroup::cgroup::Cgroup;
 use cg_cgroup::files::{Controller, Limit, LimitFile};
 use cg_cgroup::memory::NoMemory;
-use cg_cgroup::path::Path;
-use cg_cgroup::user::User;
 use cg_model::changes::{Change, Changes};
 use cg_model::operation::Op;
 use cg_model::operations::Operations;
 use cg_ops::refusal;
 use cg_tree::hierarchy::Hierarchy;
-use std::alloc::Global;
 
 /// An operation alone, where nothing refuses it.
-fn if_allowed<H: Hierarchy>(
-    alloc: Global,
-    tree: &H,
-    user: &User,
-    op: Op,
-) -> Result<Option<Operations>, NoMemory>
-    ensures { IfOk result (λ found. found ≡ if_allowed (H.state tree.now) user.now op) }
+fn if_allowed<H: Hierarchy>(asker: &Asker<H>, op: Op) -> Result<Option<Operations>, NoMemory>
+    ensures { IfOk result (λ found. found ≡ if_allowed (H.state asker.now.tree.now) asker.now.user.now op) }
 {
-    if refusal(tree, user, &op).is_some() {
+    if refusal(asker.tree, asker.user, &op).is_some() {
         return Ok(None);
     }
-    Ok(Some(Operations::only(alloc, op)?))
+    Ok(Some(Operations::only(asker.alloc, op)?))
 }
 
 /// Another value that the file accepts.
@@ -48,37 +41,31 @@ fn other_value(file: LimitFile, value: Limit) -> Limit
 
 /// A limit of the subtree to another value, where the user may set it.
 fn set_of<H: Hierarchy>(
-    alloc: Global,
-    tree: &H,
-    user: &User,
-    subtree: &Path,
+    asker: &Asker<H>,
     cgroup: &Cgroup,
     file: LimitFile,
 ) -> Result<Option<Operations>, NoMemory>
-    requires { row_at (H.state tree.now) subtree.now ≡ Some cgroup.now }
-    ensures { IfOk result (λ found. found ≡ set_of (H.state tree.now) user.now subtree.now file) }
+    requires { row_at (H.state asker.now.tree.now) asker.now.subtree.now ≡ Some cgroup.now }
+    ensures { IfOk result (λ found. found ≡ set_of (H.state asker.now.tree.now) asker.now.user.now asker.now.subtree.now file) }
 {
     let Some(held) = cgroup.file(file) else {
         return Ok(None);
     };
-    let at = subtree.try_clone(alloc)?;
+    let at = asker.subtree.try_clone(asker.alloc)?;
     let value = other_value(file, held.value);
-    if_allowed(alloc, tree, user, Op::Set { at, file, value })
+    if_allowed(asker, Op::Set { at, file, value })
 }
 
 /// The first limit of the subtree that the user may set to another value.
 fn first_set<H: Hierarchy>(
-    alloc: Global,
-    tree: &H,
-    user: &User,
-    subtree: &Path,
+    asker: &Asker<H>,
     cgroup: &Cgroup,
 ) -> Result<Option<Operations>, NoMemory>
-    requires { row_at (H.state tree.now) subtree.now ≡ Some cgroup.now }
-    ensures { IfOk result (λ found. found ≡ first_set (H.state tree.now) user.now subtree.now) }
+    requires { row_at (H.state asker.now.tree.now) asker.now.subtree.now ≡ Some cgroup.now }
+    ensures { IfOk result (λ found. found ≡ first_set (H.state asker.now.tree.now) asker.now.user.now asker.now.subtree.now) }
 {
     for file in LimitFile::ALL {
-        if let Some(found) = set_of(alloc, tree, user, subtree, cgroup, file)? {
+        if let Some(found) = set_of(asker, cgroup, file)? {
             return Ok(Some(found));
         }
     }
@@ -87,11 +74,11 @@ fn first_set<H: Hierarchy>(
 
 /// Whether the subtree's parent enables a controller.
 #[tactic(auto, using(cg_steps::proofs::Prefixes::take_parent))]
-fn is_enabled_above<H: Hierarchy>(tree: &H, subtree: &Path, controller: Controller) -> bool
-    requires { is_root subtree.now ≡ false }
-    ensures { result ≡ enables (enabled_at (H.state tree.now) (parent subtree.now)) controller }
+fn is_enabled_above<H: Hierarchy>(asker: &Asker<H>, controller: Controller) -> bool
+    requires { is_root asker.now.subtree.now ≡ false }
+    ensures { result ≡ enables (enabled_at (H.state asker.now.tree.now) (parent asker.now.subtree.now)) controller }
 {
-    match tree.get(subtree, subtree.parent_len()) {
+    match asker.tree.get(asker.subtree, asker.subtree.parent_len()) {
         Some(parent) => parent.enabled.contains(controller),
         None => false,
     }
@@ -100,34 +87,28 @@ fn is_enabled_above<H: Hierarchy>(tree: &H, subtree: &Path, controller: Controll
 /// The change of a controller that has an effect at the subtree's parent, where the user may make it.
 #[tactic(auto, using(cg_steps::proofs::Prefixes::take_parent))]
 fn control_of<H: Hierarchy>(
-    alloc: Global,
-    tree: &H,
-    user: &User,
-    subtree: &Path,
+    asker: &Asker<H>,
     controller: Controller,
 ) -> Result<Option<Operations>, NoMemory>
-    requires { is_root subtree.now ≡ false }
-    ensures { IfOk result (λ found. found ≡ control_of (H.state tree.now) user.now subtree.now controller) }
+    requires { is_root asker.now.subtree.now ≡ false }
+    ensures { IfOk result (λ found. found ≡ control_of (H.state asker.now.tree.now) asker.now.user.now asker.now.subtree.now controller) }
 {
-    let on = !is_enabled_above(tree, subtree, controller);
-    let mut changes = Changes::new(alloc);
+    let on = !is_enabled_above(asker, controller);
+    let mut changes = Changes::new(asker.alloc);
     changes.push(Change { on, controller })?;
-    let at = subtree.try_prefix(alloc, subtree.parent_len())?;
-    if_allowed(alloc, tree, user, Op::Control { at, changes })
+    let at = asker
+        .subtree
+        .try_prefix(asker.alloc, asker.subtree.parent_len())?;
+    if_allowed(asker, Op::Control { at, changes })
 }
 
 /// The first change of one controller, at the subtree's parent, that the user may make and that has an effect.
-fn first_control<H: Hierarchy>(
-    alloc: Global,
-    tree: &H,
-    user: &User,
-    subtree: &Path,
-) -> Result<Option<Operations>, NoMemory>
-    requires { is_root subtree.now ≡ false }
-    ensures { IfOk result (λ found. found ≡ first_control (H.state tree.now) user.now subtree.now) }
+fn first_control<H: Hierarchy>(asker: &Asker<H>) -> Result<Option<Operations>, NoMemory>
+    requires { is_root asker.now.subtree.now ≡ false }
+    ensures { IfOk result (λ found. found ≡ first_control (H.state asker.now.tree.now) asker.now.user.now asker.now.subtree.now) }
 {
     for controller in Controller::ALL {
-        if let Some(found) = control_of(alloc, tree, user, subtree, controller)? {
+        if let Some(found) = control_of(asker, controller)? {
             return Ok(Some(found));
         }
     }
@@ -136,22 +117,19 @@ fn first_control<H: Hierarchy>(
 
 /// The first write that breaks the subtree: to one of its limits, to its parent's `cgroup.subtree_control`, or its removal.
 pub fn first_write<H: Hierarchy>(
-    alloc: Global,
-    tree: &H,
-    user: &User,
-    subtree: &Path,
+    asker: &Asker<H>,
     cgroup: &Cgroup,
 ) -> Result<Option<Operations>, NoMemory>
-    requires row { row_at (H.state tree.now) subtree.now ≡ Some cgroup.now }
-    requires not_root { is_root subtree.now ≡ false }
-    ensures { IfOk result (λ found. found ≡ first_write (H.state tree.now) user.now subtree.now) }
+    requires row { row_at (H.state asker.now.tree.now) asker.now.subtree.now ≡ Some cgroup.now }
+    requires not_root { is_root asker.now.subtree.now ≡ false }
+    ensures { IfOk result (λ found. found ≡ first_write (H.state asker.now.tree.now) asker.now.user.now asker.now.subtree.now) }
 {
-    if let Some(set) = first_set(alloc, tree, user, subtree, cgroup)? {
+    if let Some(set) = first_set(asker, cgroup)? {
         return Ok(Some(set));
     }
-    if let Some(control) = first_control(alloc, tree, user, subtree)? {
+    if let Some(control) = first_control(asker)? {
         return Ok(Some(control));
     }
-    let path = subtree.try_clone(alloc)?;
-    if_allowed(alloc, tree, user, Op::Rmdir { path })
+    let path = asker.subtree.try_clone(asker.alloc)?;
+    if_allowed(asker, Op::Rmdir { path })
 }

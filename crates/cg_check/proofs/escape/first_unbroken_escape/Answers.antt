@@ -11,7 +11,7 @@ pub returns-then-is_empty : goal.returns-then-is_empty
 returns-then-is_empty g c =
     let P : Option (List Op) → Type 0 = λ e. IfOk c.first_plain_try.result (λ found. found ≡ e) in
     let none =
-    sym c.in_ok-opening.ensures ∙ sym c.as_slice.ensures
+    sym c.requires.opening ∙ sym c.as_slice.ensures
     ∙ no_length c.as_slice.result.now (sym c.is_empty.ensures ∙ c.if-is_empty.true) in
     subst P (sym (escape-unopened (g.H.Hierarchy.state c.args.tree.now) c.args.user.now c.args.subtree.now none)) c.first_plain_try.ensures
 
@@ -20,8 +20,8 @@ opened : (g : given.Over) (c : In_ok-carry_out g) → g.H.Hierarchy.state c.carr
     ≡ opened_state (g.H.Hierarchy.state c.args.tree.now) c.args.user.now c.args.subtree.now
 opened g c =
     opened-is (g.H.Hierarchy.state c.args.tree.now) (g.H.Hierarchy.state c.in_ok-opened.opened) (g.H.Hierarchy.state c.carry_out.new.tree)
-    c.args.user.now c.args.subtree.now c.in_ok-opening.opening c.as_slice-2.result.now
-    c.in_ok-carry_out.ensures c.in_ok-opened.ensures c.as_slice-2.ensures c.in_ok-opening.ensures
+    c.args.user.now c.args.subtree.now c.args.chmods c.as_slice-2.result.now
+    c.in_ok-carry_out.ensures c.in_ok-opened.ensures c.as_slice-2.ensures c.requires.opening
 
 pub first_plain_try-requires-2-clause-subtree : goal.first_plain_try-requires-2-clause-subtree
 first_plain_try-requires-2-clause-subtree g c =
@@ -50,7 +50,7 @@ returns-then-is_free g c =
 
 pub returns : goal.returns
 returns g c =
-    ap Some (c.in_ok-append.ensures.ok ∙ ap (λ chmods. chmods ++ c.in-Some.found) c.in_ok-opening.ensures)
+    ap Some (c.in_ok-append.ensures.ok ∙ ap (λ chmods. chmods ++ c.in-Some.found) c.requires.opening)
     ∙ escape-joined (g.H.Hierarchy.state c.args.tree.now) c.args.user.now c.args.subtree.now c.requires.unbroken c.requires.formed
     c.requires.subtree (g.H.Hierarchy.state c.carry_out.new.tree) (opened g (goal.at.returns g c).In_ok-carry_out)
     c.in-Some.found (sym c.in-Some.is ∙ c.in_ok-found.ensures) (ap (is_free (g.H.Hierarchy.state c.args.tree.now) c.args.user.now)

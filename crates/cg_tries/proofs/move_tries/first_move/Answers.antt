@@ -6,9 +6,9 @@ use Rattle.cg_tries.proofs.move_tries.first_move.Goals as goal
 
 pub returns : goal.returns
 returns g c =
-    let st = g.H.Hierarchy.state c.args.tree.now in
-    let user = c.args.user.now in
-    let subtree = c.args.subtree.now in
+    let st = g.H.Hierarchy.state c.args.asker.now.tree.now in
+    let user = c.args.asker.now.user.now in
+    let subtree = c.args.asker.now.subtree.now in
     let out = c.first_to_leave_to-out.ensures ∙ ap (find (can_leave_to st user subtree)) c.requires.paths in
     let into = c.first_to_enter_at-into.ensures ∙ ap (find (can_enter_at st user subtree)) c.requires.paths in
     subst (λ (moved : Option (List Op)). IfOk c.first_moved.result (λ found. found ≡ moved))

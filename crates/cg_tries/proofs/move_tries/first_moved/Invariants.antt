@@ -5,6 +5,6 @@ use Rattle.cg_tries.proofs.move_tries.first_moved.Given as goal
 -- the first is among those that are still to come
 abbrev pub invariant-loop-pid : goal.invariant-loop-pid
 invariant-loop-pid g l =
-    first_given (move_of (g.H.Hierarchy.state l.tree) l.user l.subtree (option_copied l.out) (option_copied l.into))
-    (drop l.pid-index l.pids)
-    ≡ first_given (move_of (g.H.Hierarchy.state l.tree) l.user l.subtree (option_copied l.out) (option_copied l.into)) l.pids
+    let moves =
+    move_of (g.H.Hierarchy.state l.asker.tree.now) l.asker.user.now l.asker.subtree.now (option_copied l.out) (option_copied l.into) in
+    first_given moves (drop l.pid-index l.pids) ≡ first_given moves l.pids

@@ -4,4 +4,5 @@ use Rattle.cg_tries.proofs.move_tries.passes_above.Given as goal
 
 -- none so far
 abbrev pub invariant-loop-len : goal.invariant-loop-len
-invariant-loop-len g l = (k : ℕ) → k < l.len → passes_at (g.H.Hierarchy.state l.tree) l.user (take k l.subtree) ≡ false
+invariant-loop-len g l =
+    (k : ℕ) → k < l.len → passes_at (g.H.Hierarchy.state l.asker.tree.now) l.asker.user.now (take k l.asker.subtree.now) ≡ false

@@ -6,22 +6,23 @@ use Rattle.cg_tries.proofs.probe_tries.open_levels.Goals as goal
 
 pub returns-then-level-at-clause-open : goal.returns-then-level-at-clause-open
 returns-then-level-at-clause-open g c =
-    open_barred (g.H.Hierarchy.state c.args.tree.now) c.args.subtree.now c.loop-at.at c.loop-at.level (omega arith)
+    open_barred (g.H.Hierarchy.state c.args.asker.now.tree.now) c.args.asker.now.subtree.now c.loop-at.at c.loop-at.level (omega arith)
     c.loop-at.invariant.open_above
 
 pub returns-then-not-is_under-clause-open : goal.returns-then-not-is_under-clause-open
 returns-then-not-is_under-clause-open g c =
     let limit = c.in-Some.cgroup.now.max_descendants.value in
-    open_full (g.H.Hierarchy.state c.args.tree.now) c.args.subtree.now c.loop-at.at c.loop-at.level c.in-Some.cgroup.now (omega arith)
-    c.loop-at.invariant.open_above (sym c.in-Some.ensures.row)
+    open_full (g.H.Hierarchy.state c.args.asker.now.tree.now) c.args.asker.now.subtree.now c.loop-at.at c.loop-at.level
+    c.in-Some.cgroup.now (omega arith) c.loop-at.invariant.open_above (sym c.in-Some.ensures.row)
     (ap (λ n. is_under n limit) (sym c.count_below.ensures) ∙ sym c.is_under.ensures ∙ c.if-not-is_under.true)
 
 pub loop-at-preserved : goal.loop-at-preserved
 loop-at-preserved g c =
-    let st = g.H.Hierarchy.state c.args.tree.now in
+    let st = g.H.Hierarchy.state c.args.asker.now.tree.now in
     let limit = c.in-Some.cgroup.now.max_descendants.value in
     let next =
-    open_row st c.args.subtree.now c.loop-at.at c.loop-at.level c.in-Some.cgroup.now (omega arith) c.loop-at.invariant.open_above
+    open_row st c.args.asker.now.subtree.now c.loop-at.at c.loop-at.level c.in-Some.cgroup.now (omega arith)
+    c.loop-at.invariant.open_above
     (sym c.in-Some.ensures.row)
     (ap (λ n. is_under n limit) (sym c.count_below.ensures) ∙ sym c.is_under.ensures ∙ c.if-not-is_under.false) in
     record {
@@ -30,13 +31,15 @@ loop-at-preserved g c =
           let h = c.lowered-level.ensures in
           let w = c.loop-at.invariant.within in
           omega (arith, l, h, w);
-      open_above = subst (λ (level : ℕ). OpenAbove st c.args.subtree.now (c.loop-at.at + 1) level) (sym c.lowered-level.ensures) next;
+      open_above =
+          subst (λ (level : ℕ). OpenAbove st c.args.asker.now.subtree.now (c.loop-at.at + 1) level) (sym c.lowered-level.ensures) next;
     }
 
 pub loop-at-preserved-in_default : goal.loop-at-preserved-in_default
 loop-at-preserved-in_default g c = record {
   within = c.loop-at.invariant.within;
   open_above =
-      open_gone (g.H.Hierarchy.state c.args.tree.now) c.args.subtree.now c.loop-at.at c.loop-at.level c.loop-at.invariant.open_above
+      open_gone (g.H.Hierarchy.state c.args.asker.now.tree.now) c.args.asker.now.subtree.now c.loop-at.at c.loop-at.level
+      c.loop-at.invariant.open_above
       (sym c.get.ensures.row ∙ ap option_copied c.in_default.is);
 }

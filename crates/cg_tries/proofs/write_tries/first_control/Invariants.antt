@@ -6,5 +6,5 @@ use Rattle.cg_tries.proofs.write_tries.first_control.Given as goal
 -- the first is among those that are still to come
 abbrev pub invariant-loop-controller : goal.invariant-loop-controller
 invariant-loop-controller g l =
-    first_given (control_of (g.H.Hierarchy.state l.tree) l.user l.subtree) (drop l.controller-index all_controllers)
-    ≡ first_given (control_of (g.H.Hierarchy.state l.tree) l.user l.subtree) all_controllers
+    let change = control_of (g.H.Hierarchy.state l.asker.tree.now) l.asker.user.now l.asker.subtree.now in
+    first_given change (drop l.controller-index all_controllers) ≡ first_given change all_controllers

@@ -7,6 +7,6 @@ use Rattle.cg_tries.proofs.write_tries.first_set.Goals as goal
 
 pub loop-file-preserved : goal.loop-file-preserved
 loop-file-preserved g c =
-    given_past (set_of (g.H.Hierarchy.state c.args.tree.now) c.args.user.now c.args.subtree.now) all_files c.loop-file.file-index
-    MaxDescendants c.loop-file-test.true (sym c.in_ok-found.ensures ∙ c.in_default.is)
+    given_past (set_of (g.H.Hierarchy.state c.args.asker.now.tree.now) c.args.asker.now.user.now c.args.asker.now.subtree.now)
+    all_files c.loop-file.file-index MaxDescendants c.loop-file-test.true (sym c.in_ok-found.ensures ∙ c.in_default.is)
     ∙ c.loop-file.invariant
