@@ -48,6 +48,13 @@ pub with_true : (b c : Bool) → b ≡ c → b ≡ (c && true)
 with_true b true e = e
 with_true b false e = e
 
+-- what holds of each try to enable or disable a controller
+pub all-controls : (subtree : Names) (P : List Op → Type 0)
+    → ((on : Bool) (controller : Controller) → P (Control (parent subtree) (change_of on controller ∷ []) ∷ []))
+    → AllByRecursion P (control_tries subtree)
+all-controls subtree P each =
+    (each false Cpu, (each true Cpu, (each false Memory, (each true Memory, (each false Pids, (each true Pids, tt))))))
+
 pub parent-append : (path : Names) (name : Name) → parent (path ++ name ∷ []) ≡ path
 parent-append path name =
     let e : length (path ++ name ∷ []) - 1 ≡ length path = omega (arith, length-append path (name ∷ [])) in
@@ -71,13 +78,7 @@ module _ (st : State) (user : Identity) (subtree : Names) (whole : IsUnbroken st
   exact-control on controller = record { exact = control_try st user subtree on controller whole formed sub; tried = tt }
 
   exact-controls : AllByRecursion Exact (control_tries subtree)
-  exact-controls = (
-    exact-control false Cpu,
-    (
-      exact-control true Cpu,
-      (exact-control false Memory, (exact-control true Memory, (exact-control false Pids, (exact-control true Pids, tt)))),
-    ),
-  )
+  exact-controls = all-controls subtree Exact exact-control
 
   exact-moves : AllByRecursion Exact (move_tries st subtree)
   exact-moves =
