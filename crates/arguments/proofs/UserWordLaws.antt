@@ -1,5 +1,5 @@
 -- What the words of users say, step by step.
-use Rattle.std.proofs.Common.{◌≡◌, ◌≢◌, ℕ, ◌^◌, ◌<◌, Bool, true, false, cond, List, [], ◌∷◌, ◌++◌, length, get_or, refl, ap, sym, ◌∙◌, arith, append_assoc}
+use Rattle.std.proofs.Common.{◌≡◌, ◌≢◌, ℕ, ◌^◌, ◌<◌, Bool, true, cond, List, [], ◌∷◌, ◌++◌, length, get_or, refl, ap, sym, ◌∙◌, arith, append_assoc}
 use Rattle.std.specs.Prelude.{◌&&◌, nat_lt, Option, Some, None, Result, Ok, Err, option_and_then}
 use Rattle.std.specs.Option.{option_map, ok_or}
 use Rattle.std.specs.Result.{result_ok, OkIff}
@@ -7,7 +7,6 @@ use Rattle.std.specs.List.{slice_split, position_or_len, before_first, after_fir
 use Rattle.std.specs.Str.{all_ascii_digits}
 use Rattle.std.specs.Str.Parse.{ParsesUnsigned, IsNumeral, digits_value}
 use Rattle.std.proofs.lemmas.Bool.{and_parts, and_from, lt-ltb, ltb-true, ltb-false, cond_both}
-use Rattle.std.proofs.lemmas.Option.{cond_some, none-some}
 use Rattle.std.proofs.lemmas.List.Sums.{fails_before_first}
 use Rattle.std.proofs.lemmas.List.Splits.{slice_split_none, slice_split_first}
 use Rattle.std.proofs.lemmas.Str.Parse.{IsNumeralModel, numerals_by_value, tells_all_ascii_digits, not_in_digits, parse_plain}
@@ -58,22 +57,21 @@ id_read {E} word (Err e) h = sym (id_none word (λ p. h ((p.1, own.to word p.0),
 abbrev pub with_front : {A : Type 0} → List A → Option (List A) → Option (List A)
 with_front front read = option_map (λ others. front ++ others) read
 
-split_cut : (text : List ℕ) (parts : List ℕ × List ℕ) → cut_at is_comma text ≡ Some parts
-    → slice_split is_comma text ≡ parts.0 ∷ slice_split is_comma parts.1
-split_cut text parts h =
-    let at = position_or_len is_comma text in
-    let p = cond_some (nat_lt at (length text)) (before_first is_comma text, after_first is_comma text) parts h in
-    slice_split_first is_comma text 0 (ltb-true at (length text) p.0) ∙ ap (λ (w : List ℕ × List ℕ). w.0 ∷ slice_split is_comma w.1) p.1
+abbrev words_by : List ℕ → Option (List ℕ × List ℕ) → List (List ℕ)
+words_by text None = text ∷ []
+words_by text (Some parts) = parts.0 ∷ slice_split is_comma parts.1
 
-not_cut : {A : Type 0} (b : Bool) (x : A) → cond b (Some x) None ≡ None → b ≡ false
-not_cut true x h = absurd (none-some x (sym h))
-not_cut false x h = refl
-
-split_whole : (text : List ℕ) → cut_at is_comma text ≡ None → slice_split is_comma text ≡ text ∷ []
-split_whole text h =
+-- the words of a text, by whether it is cut at a comma
+split_by : (text : List ℕ) (cut : Option (List ℕ × List ℕ)) → cut_at is_comma text ≡ cut → slice_split is_comma text ≡ words_by text cut
+split_by text cut is =
     let at = position_or_len is_comma text in
-    let l = ltb-false at (length text) (not_cut (nat_lt at (length text)) (before_first is_comma text, after_first is_comma text) h) in
-    slice_split_none is_comma text (λ k d s. fails_before_first is_comma text k d (omega (arith, l)))
+    cond_both (nat_lt at (length text)) (Some (before_first is_comma text, after_first is_comma text)) None
+    (λ found. slice_split is_comma text ≡ words_by text found)
+    (λ there. slice_split_first is_comma text 0 (ltb-true at (length text) there))
+    (λ none.
+    let whole = ltb-false at (length text) none in
+    slice_split_none is_comma text (λ k d s. fails_before_first is_comma text k d (omega (arith, whole))))
+    ∙ ap (words_by text) is
 
 -- a step of the loop over the words
 pub ids_more : (front text : List ℕ) (parts : List ℕ × List ℕ) (id : ℕ) (read : Option (List ℕ)) → cut_at is_comma text ≡ Some parts
@@ -87,7 +85,7 @@ ids_more front text parts id read e f h =
     ]
     ∙ ap (λ (first : Option ℕ).
     with_front front (option_and_then (λ i. option_map (λ ids. i ∷ ids) (ids_at (slice_split is_comma parts.1))) first)) (sym f)
-    ∙ ap (λ (ws : List (List ℕ)). with_front front (ids_at ws)) (sym (split_cut text parts e))
+    ∙ ap (λ (ws : List (List ℕ)). with_front front (ids_at ws)) (sym (split_by text (Some parts) e))
     ∙ h
 
 -- the last word
@@ -95,7 +93,7 @@ pub ids_last : (front text : List ℕ) (id : ℕ) (read : Option (List ℕ)) →
     → with_front front (ids_at (slice_split is_comma text)) ≡ read → read ≡ Some (front ++ (id ∷ []))
 ids_last front text id read e f h =
     sym h
-    ∙ ap (λ (ws : List (List ℕ)). with_front front (ids_at ws)) (split_whole text e)
+    ∙ ap (λ (ws : List (List ℕ)). with_front front (ids_at ws)) (split_by text None e)
     ∙ ap (λ (first : Option ℕ). with_front front (option_and_then (λ i. Some (i ∷ [])) first)) f
 
 -- a word that is no id
@@ -103,7 +101,7 @@ pub ids_bad : (front text : List ℕ) (parts : List ℕ × List ℕ) (read : Opt
     → id_at parts.0 ≡ None → with_front front (ids_at (slice_split is_comma text)) ≡ read → read ≡ None
 ids_bad front text parts read e f h =
     sym h
-    ∙ ap (λ (ws : List (List ℕ)). with_front front (ids_at ws)) (split_cut text parts e)
+    ∙ ap (λ (ws : List (List ℕ)). with_front front (ids_at ws)) (split_by text (Some parts) e)
     ∙ ap (λ (first : Option ℕ).
     with_front front (option_and_then (λ i. option_map (λ ids. i ∷ ids) (ids_at (slice_split is_comma parts.1))) first)) f
 
@@ -111,7 +109,7 @@ pub ids_last_bad : (front text : List ℕ) (read : Option (List ℕ)) → cut_at
     → with_front front (ids_at (slice_split is_comma text)) ≡ read → read ≡ None
 ids_last_bad front text read e f h =
     sym h
-    ∙ ap (λ (ws : List (List ℕ)). with_front front (ids_at ws)) (split_whole text e)
+    ∙ ap (λ (ws : List (List ℕ)). with_front front (ids_at ws)) (split_by text None e)
     ∙ ap (λ (first : Option ℕ). with_front front (option_and_then (λ i. Some (i ∷ [])) first)) f
 
 pub ok_or_some : {E : Type 0} (o : Option ℕ) (x : ℕ) (fault : E) → Ok x ≡ ok_or o fault → o ≡ Some x

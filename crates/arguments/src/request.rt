@@ -3,7 +3,7 @@ ghost use Rattle.std.specs.Prelude.{◌≡◌, ◌≢◌, ◌⊎◌, Some, None,
 ghost use Rattle.std.specs.Option.{option_map};
 ghost use Rattle.clap.specs.Matches.{found_of, first_value, values_left};
 ghost use Rattle.arguments.specs.UserWords.{all_read, user_at};
-ghost use Rattle.arguments.specs.Given.{number_read, words_at, file_named, file_at, NamesNoFile, number_at, numbers_at, user_given, users_given, ids_of, IsMay, IsCheck, IsAudit, tree_file, ops_file, IsReplay, IsUpgrade, IsOf};
+ghost use Rattle.arguments.specs.Given.{number_read, words_at, file_named, file_at, NamesNoFile, number_at, numbers_at, user_given, users_given, ids_of, IsMay, IsCheck, IsAudit, tree_file, ops_file, IsReplay, IsUpgrade, command_of, Holds, IsOf};
 
 use crate::command::command;
 use crate::fault::ArgumentsFault;
@@ -42,12 +42,27 @@ impl<'a> Request<'a> {
         ensures { IfOk result (IsOf matches.now) }
     {
         match matches.subcommand() {
-            Some(("may", given)) => Ok(Request::May(May::from_matches(alloc, given)?)),
-            Some(("check", given)) => Ok(Request::Check(Check::from_matches(alloc, given)?)),
-            Some(("audit", given)) => Ok(Request::Audit(Audit::from_matches(alloc, given)?)),
-            Some(("advise", given)) => Ok(Request::Advise(Check::from_matches(alloc, given)?)),
-            Some(("replay", given)) => Ok(Request::Replay(Replay::from_matches(alloc, given)?)),
-            Some(("upgrade", given)) => Ok(Request::Upgrade(Upgrade::from_matches(given))),
+            Some((name, given)) => Request::of_command(alloc, name, given),
+            None => Err(ArgumentsFault::Usage),
+        }
+    }
+
+    /// The request of a command, by what it was given.
+    fn of_command(
+        alloc: Global,
+        name: &str,
+        given: &ArgMatches<'a>,
+    ) -> Result<Request<'a>, ArgumentsFault>
+        ensures name { IfOk result (λ asked. command_of asked ≡ Some name.now) }
+        ensures given { IfOk result (Holds (found_of given.now)) }
+    {
+        match name {
+            "may" => Ok(Request::May(May::from_matches(alloc, given)?)),
+            "check" => Ok(Request::Check(Check::from_matches(alloc, given)?)),
+            "audit" => Ok(Request::Audit(Audit::from_matches(alloc, given)?)),
+            "advise" => Ok(Request::Advise(Check::from_matches(alloc, given)?)),
+            "replay" => Ok(Request::Replay(Replay::from_matches(alloc, given)?)),
+            "upgrade" => Ok(Request::Upgrade(Upgrade::from_matches(given))),
             _ => Err(ArgumentsFault::Usage),
         }
     }

@@ -33,7 +33,7 @@ use Rattle.cg_cli.specs.Written.{AppendsPart}
 use Rattle.cg_cli.specs.AllPairs.{is_escape, pairs_status, worse, listing_text, WritesPairs, read_then, pairs_found, all_report, ReportsPairs, UnlistedAreContained}
 use Rattle.cg_cli.specs.declared.fault.CliFault.{CliFault}
 use Rattle.cg_cli.specs.declared.fault.CliFault.TheVariants.{Write, NoMemory}
-use Rattle.cg_cli.proofs.NamedReads.{read_together}
+use Rattle.cg_cli.proofs.NamedReads.{regrouped}
 use Rattle.cg_cli.proofs.ReplayEnds.{part_behind}
 use Rattle.cg_cli.proofs.ReportLaws.{handed_on, same_Ok, call_takes}
 
@@ -305,8 +305,9 @@ module _ (tree : Reading) (given : List (ℕ × List ℕ)) (texts : List (List �
 
   by_all : all_report tree given texts ≡ read_then read next
   by_all =
-      read_together (λ users subtrees st. pairs_found st (once same_user users) (once same_path subtrees)) (users_read given)
-      (paths_read texts) (tree_read tree)
+      regrouped (λ X found next. read_then found next) (λ fault. Err fault) (λ X x next. refl) (λ X fault next. refl)
+      (λ users subtrees st. pairs_found st (once same_user users) (once same_path subtrees)) (users_read given) (paths_read texts)
+      (tree_read tree)
 
   pub fault_reports : (fault : CliFault) → IsMet read fault → (known : Option (List ℕ)) (result : Result ℕ CliFault)
       → IsErrAnd result (λ found. found ≡ fault) → ReportsPairs (all_report tree given texts) known known result

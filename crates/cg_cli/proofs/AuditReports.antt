@@ -11,7 +11,7 @@ use Rattle.cg_cli.specs.Audits.{users_read, paths_read, audit_answer_report, pai
 use Rattle.cg_cli.specs.Containment.{in_call}
 use Rattle.cg_cli.specs.May.{tree_read}
 use Rattle.cg_cli.specs.Once.{once, same_user}
-use Rattle.cg_cli.specs.Reports.{Reports, report_on, takes_memory}
+use Rattle.cg_cli.specs.Reports.{Reports, fault_report, report_on, takes_memory}
 use Rattle.cg_cli.specs.declared.fault.CliFault.{CliFault}
 use Rattle.cg_cli.proofs.AuditOnce.{said_once, contained_once, some_once, same_user-is}
 use Rattle.cg_cli.proofs.NamedReads.{regrouped}
@@ -27,7 +27,9 @@ module _ (tree : Reading) (given : List (ℕ × List ℕ)) (texts : List (List �
   read = named_read given texts tree
 
   by_all : audit_report tree given texts ≡ report_on read (λ all. pairs_report all.2 all.0 all.1)
-  by_all = regrouped (λ users subtrees st. pairs_report st users subtrees) (users_read given) (paths_read texts) (tree_read tree)
+  by_all =
+      regrouped (λ X found next. report_on found next) fault_report (λ X x next. refl) (λ X fault next. refl)
+      (λ users subtrees st. pairs_report st users subtrees) (users_read given) (paths_read texts) (tree_read tree)
 
   -- a fault before the tree is asked
   pub fault_said : (fault : CliFault) → IsMet read fault → (known : Option (List ℕ)) (result : Result ℕ CliFault)

@@ -10,8 +10,8 @@ use Rattle.cg_format.specs.Readings.{Reading}
 use Rattle.cg_format.specs.declared.fault.TreeFault.{TreeFault}
 use Rattle.cg_format.specs.declared.fault.TreeFault.TheVariants.{NoMemory as TreeNoMemory}
 use Rattle.cg_cli.specs.Arguments.{or_fault, user_read, path_read}
-use Rattle.cg_cli.specs.Asking.{asked_report, read_takes_memory, IsMet}
-use Rattle.cg_cli.specs.Containment.{in_call, answer_report, subtree_report, check_report}
+use Rattle.cg_cli.specs.Asking.{read_takes_memory, IsMet}
+use Rattle.cg_cli.specs.Containment.{in_call, answer_report, subtree_report, asked_report, check_report}
 use Rattle.cg_cli.specs.Faults.{lifted}
 use Rattle.cg_cli.specs.May.{tree_read}
 use Rattle.cg_cli.specs.Reports.{Report, Reports, report_on, takes_memory}

@@ -8,13 +8,12 @@ use Rattle.cg_model.specs.States.{State}
 use Rattle.cg_format.specs.Readings.{Reading}
 use Rattle.cg_format.specs.declared.fault.TreeFault.{TreeFault}
 use Rattle.cg_format.specs.declared.fault.TreeFault.TheVariants.{NoMemory as TreeNoMemory}
-use Rattle.cg_cli.specs.AllPairs.{read_then}
 use Rattle.cg_cli.specs.Arguments.{or_fault, user_read, path_read}
 use Rattle.cg_cli.specs.Asking.{read_in_turn, named_read, read_takes_memory, IsMet, IsKeptOnce}
 use Rattle.cg_cli.specs.Audits.{read_before, each_read, users_read, paths_read}
 use Rattle.cg_cli.specs.Faults.{lifted}
 use Rattle.cg_cli.specs.May.{tree_read}
-use Rattle.cg_cli.specs.Reports.{Said, report_on, takes_memory}
+use Rattle.cg_cli.specs.Reports.{takes_memory}
 use Rattle.cg_cli.specs.declared.fault.CliFault.{CliFault}
 use Rattle.cg_cli.specs.declared.fault.CliFault.TheVariants.{Uid, Gids, BadPath, Write, NoMemory}
 use Rattle.cg_cli.proofs.ReportLaws.{tree_takes, tree_met}
@@ -69,24 +68,17 @@ all_take (Ok x) (Ok y) (Err fault) one two three = three
 all_take (Ok x) (Err fault) third one two three = two
 all_take (Err fault) second third one two three = one
 
--- a report on what was read one after another is one on all of it
-pub regrouped : {A B C D : Type 0} (next : A → B → C → Said D) (first : Result A CliFault) (second : Result B CliFault)
-    (third : Result C CliFault)
-    → report_on first (λ x. report_on second (λ y. report_on third (λ z. next x y z)))
-    ≡ report_on (read_in_turn first second third) (λ all. next all.0 all.1 all.2)
-regrouped next (Ok x) (Ok y) (Ok z) = refl
-regrouped next (Ok x) (Ok y) (Err fault) = refl
-regrouped next (Ok x) (Err fault) third = refl
-regrouped next (Err fault) second third = refl
-
-pub read_together : {A B C D : Type 0} (next : A → B → C → Result D CliFault) (first : Result A CliFault) (second : Result B CliFault)
-    (third : Result C CliFault)
-    → read_then first (λ x. read_then second (λ y. read_then third (λ z. next x y z)))
-    ≡ read_then (read_in_turn first second third) (λ all. next all.0 all.1 all.2)
-read_together next (Ok x) (Ok y) (Ok z) = refl
-read_together next (Ok x) (Ok y) (Err fault) = refl
-read_together next (Ok x) (Err fault) third = refl
-read_together next (Err fault) second third = refl
+-- what follows on three things that are read one after another follows on all of them
+pub regrouped : {A B C R : Type 0} (follows : (X : Type 0) → Result X CliFault → (X → R) → R) (ends : CliFault → R)
+    → ((X : Type 0) (x : X) (next : X → R) → follows X (Ok x) next ≡ next x)
+    → ((X : Type 0) (fault : CliFault) (next : X → R) → follows X (Err fault) next ≡ ends fault)
+    → (next : A → B → C → R) (first : Result A CliFault) (second : Result B CliFault) (third : Result C CliFault)
+    → follows A first (λ x. follows B second (λ y. follows C third (λ z. next x y z)))
+    ≡ follows (A × B × C) (read_in_turn first second third) (λ all. next all.0 all.1 all.2)
+regrouped follows ends goes stops next (Ok x) (Ok y) (Ok z) = goes _ x _ ∙ goes _ y _ ∙ goes _ z _ ∙ sym (goes _ (x, y, z) _)
+regrouped follows ends goes stops next (Ok x) (Ok y) (Err fault) = goes _ x _ ∙ goes _ y _ ∙ stops _ fault _ ∙ sym (stops _ fault _)
+regrouped follows ends goes stops next (Ok x) (Err fault) third = goes _ x _ ∙ stops _ fault _ ∙ sym (stops _ fault _)
+regrouped follows ends goes stops next (Err fault) second third = stops _ fault _ ∙ sym (stops _ fault _)
 
 met : {A : Type 0} (read : Result A CliFault) (fault : CliFault) → fault ≢ Write → (fault ≢ NoMemory → read ≡ Err fault)
     → (fault ≡ NoMemory → read_takes_memory read ≡ true) → IsMet read fault

@@ -8,10 +8,8 @@ use Rattle.cg_model.specs.declared.fault.CheckFault.{CheckFault}
 use Rattle.cg_advice.specs.AdviceLines.{advice_lines}
 use Rattle.cg_model.specs.Checks.{subtree_faults, unless_fault}
 use Rattle.cg_format.specs.Readings.{Reading}
-use Rattle.cg_cli.specs.Arguments.{user_read, path_read}
 use Rattle.cg_cli.specs.Reports.{Report, report_on}
-use Rattle.cg_cli.specs.Containment.{in_call}
-use Rattle.cg_cli.specs.May.{tree_read}
+use Rattle.cg_cli.specs.Containment.{in_call, asked_report}
 
 abbrev pub contained_line : List ℕ
 contained_line = codes "contained\n"
@@ -28,9 +26,5 @@ advised st user subtree = unless_fault (first (subtree_faults st subtree)) (advi
 abbrev pub advice_report : State → Identity → Names → Report
 advice_report st user subtree = report_on (in_call (advised st user subtree)) lines_report
 
--- The user is looked at first, then the path, the tree's text, and whether the subtree is one that can be checked.
 abbrev pub advise_report : Reading → ℕ → List ℕ → List ℕ → Report
-advise_report tree uid gids subtree =
-    report_on (user_read uid gids) (λ user.
-    report_on (path_read subtree) (λ path.
-    report_on (tree_read tree) (λ st. advice_report st user path)))
+advise_report tree uid gids subtree = asked_report advice_report tree uid gids subtree

@@ -1,23 +1,17 @@
 -- How it is read and written: nobody has to believe it.
--- What calls read before they ask a tree, and what is said then.
+-- What calls read before they ask a tree.
 use Rattle.std.specs.Prelude.{◌≡◌, ℕ, Bool, true, List, Result, Ok, Err}
 use Rattle.cg_cgroup.specs.Paths.{Names, same_path}
 use Rattle.cg_cgroup.specs.Identity.{Identity}
 use Rattle.cg_model.specs.States.{State}
 use Rattle.cg_format.specs.Readings.{Reading}
 use Rattle.cg_cli.specs.AllPairs.{read_then}
-use Rattle.cg_cli.specs.Arguments.{user_read, path_read}
 use Rattle.cg_cli.specs.Audits.{users_read, paths_read}
 use Rattle.cg_cli.specs.May.{tree_read}
 use Rattle.cg_cli.specs.Once.{once, same_user}
-use Rattle.cg_cli.specs.Reports.{Report, report_on, takes_memory}
+use Rattle.cg_cli.specs.Reports.{takes_memory}
 use Rattle.cg_cli.specs.declared.fault.CliFault.{CliFault}
 use Rattle.cg_cli.specs.declared.fault.CliFault.TheVariants.{Write, NoMemory}
-
--- of a question about a user and a subtree
-abbrev pub asked_report : (State → Identity → Names → Report) → Reading → ℕ → List ℕ → List ℕ → Report
-asked_report report tree uid gids subtree =
-    report_on (user_read uid gids) (λ user. report_on (path_read subtree) (λ path. report_on (tree_read tree) (λ st. report st user path)))
 
 -- three things that are read one after another, or the first fault
 abbrev pub read_in_turn : {A B C : Type 0} → Result A CliFault → Result B CliFault → Result C CliFault → Result (A × B × C) CliFault

@@ -1,13 +1,8 @@
 //! What to change so that a subtree is contained against a user.
-ghost use Rattle.std.specs.Prelude.{◌≡◌, Ok, Some, IfOk};
-ghost use Rattle.cg_cgroup.specs.Identity.{Identity};
-ghost use Rattle.cg_cgroup.specs.Paths.{Names, path_at};
-ghost use Rattle.cg_cgroup.specs.Users.{user_of};
-ghost use Rattle.cg_model.specs.States.{State};
-ghost use Rattle.cg_model.specs.Held.{IsContained};
+ghost use Rattle.std.specs.Prelude.{◌≡◌, IfOk};
 ghost use Rattle.cg_format.specs.Readings.{OnText};
-ghost use Rattle.cg_format.specs.TextOf.{IsTextOf};
 ghost use Rattle.cg_cli.specs.Advising.{contained_line, advice_report, advise_report};
+ghost use Rattle.cg_cli.specs.Containment.{MeansContained};
 ghost use Rattle.cg_cli.specs.Reports.{Reports};
 
 use crate::arguments::UserIds;
@@ -38,9 +33,7 @@ pub fn advise_bytes<W: Write>(
 ) -> Result<u8, CliFault>
     ensures report { OnText tree.now (λ read. Reports (advise_report read user.entry.uid user.entry.gids.now subtree.now)
         (W.contents out.old) (W.contents out.new) result) }
-    ensures contained { result ≡ Ok 0 → (st : State) (who : Identity) (path : Names)
-        → IsTextOf st tree.now → user_of user.entry.uid user.entry.gids.now ≡ Some who → path_at subtree.now ≡ Some path
-        → IsContained st who path }
+    ensures contained { MeansContained tree.now user.entry.uid user.entry.gids.now subtree.now result }
 {
     ask(alloc, &Advice, tree, user, subtree, out)
 }

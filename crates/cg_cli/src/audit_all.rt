@@ -52,74 +52,68 @@ pub fn audit_all_bytes<W: Write>(
         → paths_read (map (λ subtree. subtree.now) subtrees.now) ≡ Ok paths → UnlistedAreContained st (once same_user who) (once same_path paths)) }
 {
     let named = read_named(alloc, tree, users, subtrees)?;
-    write_listing(
+    let listing = Listing {
         alloc,
-        &named.tree,
-        named.users.as_slice(),
-        named.subtrees.as_slice(),
-        out,
-    )
+        tree: &named.tree,
+        subtrees: named.subtrees.as_slice(),
+    };
+    listing.write(named.users.as_slice(), out)
 }
 
-/// Writes all pairs that aren't contained, or that there is none.
-fn write_listing<H: Hierarchy + Drop, W: Write>(
+/// What a listing of pairs is asked of.
+#[derive(Drop)]
+struct Listing<'t, H> {
     alloc: Global,
-    tree: &H,
-    users: &[User],
-    subtrees: &[Path],
-    out: &mut W,
-) -> Result<u8, CliFault>
-    ensures report { ReportsPairs (pairs_found (H.state tree.now) users.now subtrees.now)
-        (W.contents out.old) (W.contents out.new) result }
-    ensures unlisted { IfOk result (λ status. UnlistedAreContained (H.state tree.now) users.now subtrees.now) }
-{
-    if let Some(fault) = first_fault(tree, subtrees) {
-        return Err(CliFault::from(fault));
-    }
-    let status = write_pairs(alloc, tree, users, subtrees, out)?;
-    if status == 0 {
-        write_whole(out, b"contained\n")?;
-    }
-    Ok(status)
+    tree: &'t H,
+    subtrees: &'t [Path],
 }
 
-/// Writes the pairs of some users. Those before the next who has one are passed over together.
-fn write_pairs<H: Hierarchy + Drop, W: Write>(
-    alloc: Global,
-    tree: &H,
-    users: &[User],
-    subtrees: &[Path],
-    out: &mut W,
-) -> Result<u8, CliFault>
-    requires there { first (flat_map (subtree_faults (H.state tree.now)) subtrees.now) ≡ None }
-    ensures { WritesPairs (listed (H.state tree.now) users.now subtrees.now) (W.contents out.old) (W.contents out.new) result }
-{
-    let mut worst = 0;
-    let identities = Identities::of(alloc, users)?;
-    let mut left = from_first_unguarded(tree, users, Some(&identities), subtrees);
-    'users: while let [user, others @ ..] = left {
-        worst = worse(worst, write_user(alloc, tree, user, subtrees, out)?);
-        left = from_first_unguarded(tree, others, Some(&identities), subtrees);
+impl<H: Hierarchy + Drop> Listing<'_, H> {
+    /// Writes all pairs that aren't contained, or that there is none.
+    fn write<W: Write>(&self, users: &[User], out: &mut W) -> Result<u8, CliFault>
+        ensures report { ReportsPairs (pairs_found (H.state self.now.tree.now) users.now self.now.subtrees.now)
+            (W.contents out.old) (W.contents out.new) result }
+        ensures unlisted { IfOk result (λ status. UnlistedAreContained (H.state self.now.tree.now) users.now self.now.subtrees.now) }
+    {
+        if let Some(fault) = first_fault(self.tree, self.subtrees) {
+            return Err(CliFault::from(fault));
+        }
+        let status = self.write_pairs(users, out)?;
+        if status == 0 {
+            write_whole(out, b"contained\n")?;
+        }
+        Ok(status)
     }
-    Ok(worst)
-}
 
-/// Writes the pairs of a user.
-fn write_user<H: Hierarchy + Drop, W: Write>(
-    alloc: Global,
-    tree: &H,
-    user: &User,
-    subtrees: &[Path],
-    out: &mut W,
-) -> Result<u8, CliFault>
-    requires there { first (flat_map (subtree_faults (H.state tree.now)) subtrees.now) ≡ None }
-    ensures { WritesPairs (listed_of (H.state tree.now) subtrees.now user.now) (W.contents out.old) (W.contents out.new) result }
-{
-    let mut worst = 0;
-    for subtree in subtrees {
-        worst = worse(worst, write_pair(alloc, tree, user, subtree, out)?);
+    /// Writes the pairs of some users. Those before the next who has one are passed over together.
+    fn write_pairs<W: Write>(&self, users: &[User], out: &mut W) -> Result<u8, CliFault>
+        requires there { first (flat_map (subtree_faults (H.state self.now.tree.now)) self.now.subtrees.now) ≡ None }
+        ensures { WritesPairs (listed (H.state self.now.tree.now) users.now self.now.subtrees.now) (W.contents out.old) (W.contents out.new) result }
+    {
+        let mut worst = 0;
+        let identities = Identities::of(self.alloc, users)?;
+        let mut left = from_first_unguarded(self.tree, users, Some(&identities), self.subtrees);
+        'users: while let [user, others @ ..] = left {
+            worst = worse(worst, self.write_user(user, out)?);
+            left = from_first_unguarded(self.tree, others, Some(&identities), self.subtrees);
+        }
+        Ok(worst)
     }
-    Ok(worst)
+
+    /// Writes the pairs of a user.
+    fn write_user<W: Write>(&self, user: &User, out: &mut W) -> Result<u8, CliFault>
+        requires there { first (flat_map (subtree_faults (H.state self.now.tree.now)) self.now.subtrees.now) ≡ None }
+        ensures { WritesPairs (listed_of (H.state self.now.tree.now) self.now.subtrees.now user.now) (W.contents out.old) (W.contents out.new) result }
+    {
+        let mut worst = 0;
+        for subtree in self.subtrees {
+            worst = worse(
+                worst,
+                write_pair(self.alloc, self.tree, user, subtree, out)?,
+            );
+        }
+        Ok(worst)
+    }
 }
 
 /// Writes a pair, unless it is contained.

@@ -1,13 +1,7 @@
 //! Whether a subtree is contained against a user.
-ghost use Rattle.std.specs.Prelude.{◌≡◌, Ok, Some};
-ghost use Rattle.cg_cgroup.specs.Identity.{Identity};
-ghost use Rattle.cg_cgroup.specs.Paths.{Names, path_at};
-ghost use Rattle.cg_cgroup.specs.Users.{user_of};
-ghost use Rattle.cg_model.specs.States.{State};
-ghost use Rattle.cg_model.specs.Held.{IsContained};
+ghost use Rattle.std.specs.Prelude.{◌≡◌};
 ghost use Rattle.cg_format.specs.Readings.{OnText};
-ghost use Rattle.cg_format.specs.TextOf.{IsTextOf};
-ghost use Rattle.cg_cli.specs.Containment.{answer_status, check_report, subtree_report};
+ghost use Rattle.cg_cli.specs.Containment.{answer_status, check_report, subtree_report, MeansContained};
 ghost use Rattle.cg_cli.specs.Reports.{Reports};
 
 use crate::arguments::UserIds;
@@ -39,9 +33,7 @@ pub fn check_bytes<W: Write>(
 ) -> Result<u8, CliFault>
     ensures report { OnText tree.now (λ read. Reports (check_report read user.entry.uid user.entry.gids.now subtree.now)
         (W.contents out.old) (W.contents out.new) result) }
-    ensures contained { result ≡ Ok 0 → (st : State) (who : Identity) (path : Names)
-        → IsTextOf st tree.now → user_of user.entry.uid user.entry.gids.now ≡ Some who → path_at subtree.now ≡ Some path
-        → IsContained st who path }
+    ensures contained { MeansContained tree.now user.entry.uid user.entry.gids.now subtree.now result }
 {
     ask(alloc, &Containment, tree, user, subtree, out)
 }

@@ -1,13 +1,11 @@
 //! Questions about a user and a subtree: what they ask of a tree differs, and nothing else.
-ghost use Rattle.std.specs.Prelude.{◌≡◌, ◌≢◌, true, Ok, Some, IfOk, MatchResult};
+ghost use Rattle.std.specs.Prelude.{◌≡◌, ◌≢◌, true, Ok, IfOk, MatchResult};
 ghost use Rattle.cg_cgroup.specs.Identity.{Identity};
-ghost use Rattle.cg_cgroup.specs.Paths.{Names, path_at};
-ghost use Rattle.cg_cgroup.specs.Users.{user_of};
+ghost use Rattle.cg_cgroup.specs.Paths.{Names};
 ghost use Rattle.cg_model.specs.States.{State};
 ghost use Rattle.cg_model.specs.Held.{IsContained};
 ghost use Rattle.cg_format.specs.Readings.{OnText};
-ghost use Rattle.cg_format.specs.TextOf.{IsTextOf};
-ghost use Rattle.cg_cli.specs.Asking.{asked_report};
+ghost use Rattle.cg_cli.specs.Containment.{asked_report, MeansContained};
 ghost use Rattle.cg_cli.specs.Faults.{lifted_check};
 ghost use Rattle.cg_cli.specs.Reports.{Report, Reports, fault_report, takes_memory};
 
@@ -54,9 +52,7 @@ pub fn ask<Q: Question, W: Write>(
     ensures report { OnText tree.now (λ read. Reports
         (asked_report (Q.report question.now) read user.entry.uid user.entry.gids.now subtree.now)
         (W.contents out.old) (W.contents out.new) result) }
-    ensures contained { result ≡ Ok 0 → (st : State) (who : Identity) (path : Names)
-        → IsTextOf st tree.now → user_of user.entry.uid user.entry.gids.now ≡ Some who → path_at subtree.now ≡ Some path
-        → IsContained st who path }
+    ensures contained { MeansContained tree.now user.entry.uid user.entry.gids.now subtree.now result }
 {
     let user = read_user(user)?;
     let subtree = read_path(alloc, subtree)?;

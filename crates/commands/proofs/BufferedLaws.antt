@@ -1,5 +1,5 @@
 -- What was written stays written where what a buffer holds is passed on.
-use Rattle.std.proofs.Common.{◌≡◌, ◌∙◌, ℕ, Bool, true, false, List, map, inl, inr}
+use Rattle.std.proofs.Common.{◌∙◌, ℕ, Bool, true, false, List, map, inl, inr}
 use Rattle.std.specs.Prelude.{Option, Some, None, Result, Ok, Err, MatchBool}
 use Rattle.std.specs.Io.KnownBytes.{Appends, Keeps}
 use Rattle.arguments.specs.declared.request.Audit.{Audit}
@@ -13,9 +13,8 @@ use Rattle.cg_cli.specs.Audits.{audit_report}
 use Rattle.cg_cli.specs.Upgrades.{Upgrades}
 use Rattle.cg_cli.specs.Written.{AppendsPart}
 use Rattle.cg_cli.specs.Replays.{closed}
-use Rattle.cg_cli.specs.Replaying.{Reporting, HasFront, Replays, ReplaysFrom}
-use Rattle.cg_cli.specs.Reports.{Said, Report, Reports}
-use Rattle.cg_cli.specs.Courses.{Course}
+use Rattle.cg_cli.specs.Replaying.{Reporting, Replays, ReplaysFrom}
+use Rattle.cg_cli.specs.Reports.{Report, Reports}
 use Rattle.cg_cli.specs.declared.fault.CliFault.{CliFault}
 use Rattle.cg_cli.specs.declared.fault.CliFault.TheVariants.{Read, Write, NoMemory}
 use Rattle.commands.specs.Requests.{IsUnread, AuditSays, OnTree, replay_said, ReplaysOver, CarriesOut}

@@ -10,6 +10,19 @@ use std::io::{ErrorKind, Read, Write};
 /// How often a call is made at most, as often as by the calls of the standard library that try again.
 const MOST_TURNS: u64 = u64::MAX;
 
+/// Makes a call, and makes it again as long as a signal interrupts it.
+macro_rules! retried {
+    ($call:expr) => {{
+        for _turn in 0..MOST_TURNS {
+            match $call {
+                Err(error) if error.kind() == ErrorKind::Interrupted => {}
+                answered => return answered,
+            }
+        }
+        Err(io::Error::from(ErrorKind::TimedOut))
+    }};
+}
+
 /// A reader or a writer each of whose calls is made again where a signal interrupted it.
 #[derive(Drop)]
 pub struct Again<T> {
@@ -24,13 +37,7 @@ impl<R: Read> Read for Again<R> {
         ensures bytes { ReadConsumes (R.remaining self.old.inner) (R.remaining self.new.inner) result buf.new }
         ensures retried { IfErr result (λ e. error_kind e ≢ ErrorKind.Interrupted) }
     {
-        for _turn in 0..MOST_TURNS {
-            match self.inner.read(buf) {
-                Err(error) if error.kind() == ErrorKind::Interrupted => {}
-                answered => return answered,
-            }
-        }
-        Err(io::Error::from(ErrorKind::TimedOut))
+        retried!(self.inner.read(buf))
     }
 }
 
@@ -42,25 +49,13 @@ impl<W: Write> Write for Again<W> {
         ensures bytes { WriteAppends (W.contents self.old.inner) (W.contents self.new.inner) result buf.now }
         ensures retried { IfErr result (λ e. error_kind e ≢ ErrorKind.Interrupted) }
     {
-        for _turn in 0..MOST_TURNS {
-            match self.inner.write(buf) {
-                Err(error) if error.kind() == ErrorKind::Interrupted => {}
-                answered => return answered,
-            }
-        }
-        Err(io::Error::from(ErrorKind::TimedOut))
+        retried!(self.inner.write(buf))
     }
 
     fn flush(&mut self) -> io::Result<()>
         ensures bytes { Keeps (W.contents self.old.inner) (W.contents self.new.inner) }
         ensures retried { IfErr result (λ e. error_kind e ≢ ErrorKind.Interrupted) }
     {
-        for _turn in 0..MOST_TURNS {
-            match self.inner.flush() {
-                Err(error) if error.kind() == ErrorKind::Interrupted => {}
-                answered => return answered,
-            }
-        }
-        Err(io::Error::from(ErrorKind::TimedOut))
+        retried!(self.inner.flush())
     }
 }

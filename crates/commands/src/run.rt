@@ -1,14 +1,15 @@
 //! A request is carried out: its tree, its files, and the call that answers.
-ghost use Rattle.std.specs.Prelude.{◌≡◌, ◌⊎◌, ℕ, List, [], map, Option, Ok, Err, IfOk, IfErr, MatchBool};
+ghost use Rattle.std.specs.Prelude.{◌≡◌, ◌⊎◌, ℕ, List, [], map, Option, Result, Ok, Err, IfOk, IfErr, MatchBool};
 ghost use Rattle.std.specs.Io.Buffered.{writer_buffer, writer_contents};
 ghost use Rattle.std.specs.Io.KnownBytes.{Keeps};
 ghost use Rattle.cg_cli.specs.AllPairs.{all_report, ReportsPairs};
-ghost use Rattle.cg_format.specs.Readings.{OnText};
+ghost use Rattle.cg_format.specs.Readings.{Reading, OnText};
 ghost use Rattle.cg_cli.specs.Audits.{audit_report};
 ghost use Rattle.cg_cli.specs.Reports.{Reports};
 ghost use Rattle.cg_cli.specs.Upgrades.{Upgrades};
+ghost use Rattle.cg_cli.specs.declared.fault.CliFault.{CliFault};
 ghost use Rattle.arguments.specs.Given.{ids_of};
-ghost use Rattle.commands.specs.Requests.{IsTree, may_said, check_said, advise_said, AuditSays, OnTree, replay_said, ReportsOnTree, IsFlushed, ReplaysOver, ReplaysOnTree, CarriesOut, CarriesOutBuffered, LeadsTo};
+ghost use Rattle.commands.specs.Requests.{IsTree, may_said, check_said, advise_said, AuditSays, IsUnread, OnTree, replay_said, IsFlushed, ReplaysOver, ReplaysOnTree, CarriesOut, CarriesOutBuffered, LeadsTo};
 
 use crate::again::Again;
 use crate::fault::Fault;
@@ -93,12 +94,12 @@ fn carried_out<R: AllocGlobal + Files, I: Read + Drop, W: Write>(
 {
     match request {
         Request::Help(text) => shown(text.as_str(), out),
-        Request::May(request) => may(rt, request, input, out),
-        Request::Check(request) => check(rt, request, input, out),
-        Request::Audit(request) => audit(rt, request, input, out),
-        Request::Advise(request) => advise(rt, request, input, out),
-        Request::Replay(request) => replay(rt, request, input, line, out),
-        Request::Upgrade(request) => upgrade(rt, request, input, out),
+        Request::May(request) => on_tree(rt, request.tree, input, request, out),
+        Request::Check(request) => on_tree(rt, request.tree, input, request, out),
+        Request::Audit(request) => on_tree(rt, request.tree, input, request, out),
+        Request::Advise(request) => on_tree(rt, request.tree, input, &Advice { of: request }, out),
+        Request::Replay(asked) => replay(rt, Replaying { asked, line }, input, out),
+        Request::Upgrade(request) => on_tree(rt, request.tree, input, request, out),
     }
 }
 
@@ -109,53 +110,69 @@ fn shown<W: Write>(text: &str, out: &mut W) -> Result<u8, CliFault>
     Ok(0)
 }
 
-fn may<R: AllocGlobal + Files, I: Read + Drop, W: Write>(
-    rt: &R,
-    request: &May<'_>,
-    input: I,
-    out: &mut W,
-) -> Result<u8, CliFault>
-    ensures { ReportsOnTree request.now.tree (I.remaining input) (may_said request.now)
-        (W.contents out.old) (W.contents out.new) result }
-{
-    let tree = tree_text(rt, request.tree, input)?;
-    may_bytes(
-        rt.alloc(),
-        tree.as_slice(),
-        ids(&request.user),
-        request.pid,
-        request.to,
-        out,
-    )
+/// What is asked of the text of a tree.
+trait TreeRequest {
+    ghost says: { Self → Reading → Option (List ℕ) → Option (List ℕ) → Result ℕ CliFault → Type 0 };
+
+    /// Answers it of a text.
+    fn answer<W: Write>(&self, alloc: Global, tree: &[u8], out: &mut W) -> Result<u8, CliFault>
+        ensures { OnText tree.now (λ read. says self.now read (W.contents out.old) (W.contents out.new) result)
+            ⊎ IsUnread (W.contents out.old) (W.contents out.new) result };
 }
 
-fn check<R: AllocGlobal + Files, I: Read + Drop, W: Write>(
+/// Answers what is asked of the tree that a file names, or the input.
+fn on_tree<R: AllocGlobal + Files, I: Read + Drop, A: TreeRequest, W: Write>(
     rt: &R,
-    request: &Check<'_>,
+    file: Option<&str>,
     input: I,
+    asked: &A,
     out: &mut W,
 ) -> Result<u8, CliFault>
-    ensures { ReportsOnTree request.now.tree (I.remaining input) (check_said request.now)
+    ensures { OnTree file.entry (I.remaining input)
+        (λ read. A.says asked.now read (W.contents out.old) (W.contents out.new) result)
         (W.contents out.old) (W.contents out.new) result }
 {
-    let tree = tree_text(rt, request.tree, input)?;
-    let user = ids(&request.user);
-    check_bytes(rt.alloc(), tree.as_slice(), user, request.subtree, out)
+    let tree = tree_text(rt, file, input)?;
+    asked.answer(rt.alloc(), tree.as_slice(), out)
 }
 
-fn audit<R: AllocGlobal + Files, I: Read + Drop, W: Write>(
-    rt: &R,
-    request: &Audit<'_>,
-    input: I,
-    out: &mut W,
-) -> Result<u8, CliFault>
-    ensures { OnTree request.now.tree (I.remaining input)
-        (AuditSays request.now (W.contents out.old) (W.contents out.new) result)
-        (W.contents out.old) (W.contents out.new) result }
-{
-    let tree = tree_text(rt, request.tree, input)?;
-    let users = all_ids(rt.alloc(), request.users.as_slice())?;
-    audited(rt.alloc(), tree.as_slice(), users.as_slice(), request, out)
+impl TreeRequest for May<'_> {
+    ghost says = { λ asked read. Reports (may_said asked read) };
+
+    fn answer<W: Write>(&self, alloc: Global, tree: &[u8], out: &mut W) -> Result<u8, CliFault> {
+        may_bytes(alloc, tree, ids(&self.user), self.pid, self.to, out)
+    }
+}
+
+impl TreeRequest for Check<'_> {
+    ghost says = { λ asked read. Reports (check_said asked read) };
+
+    fn answer<W: Write>(&self, alloc: Global, tree: &[u8], out: &mut W) -> Result<u8, CliFault> {
+        check_bytes(alloc, tree, ids(&self.user), self.subtree, out)
+    }
+}
+
+/// What to change, for a subtree and a user.
+#[derive(Drop)]
+struct Advice<'r, 'a> {
+    of: &'r Check<'a>,
+}
+
+impl TreeRequest for Advice<'_, '_> {
+    ghost says = { λ asked read. Reports (advise_said asked.of.now read) };
+
+    fn answer<W: Write>(&self, alloc: Global, tree: &[u8], out: &mut W) -> Result<u8, CliFault> {
+        advise_bytes(alloc, tree, ids(&self.of.user), self.of.subtree, out)
+    }
+}
+
+impl TreeRequest for Audit<'_> {
+    ghost says = { λ asked read old new result. AuditSays asked old new result read };
+
+    fn answer<W: Write>(&self, alloc: Global, tree: &[u8], out: &mut W) -> Result<u8, CliFault> {
+        let users = all_ids(alloc, self.users.as_slice())?;
+        audited(alloc, tree, users.as_slice(), self, out)
+    }
 }
 
 /// Audits a tree, of which the first pair that isn't contained is asked for, or each.
@@ -180,56 +197,42 @@ fn audited<W: Write>(
     }
 }
 
-fn advise<R: AllocGlobal + Files, I: Read + Drop, W: Write>(
-    rt: &R,
-    request: &Check<'_>,
-    input: I,
-    out: &mut W,
-) -> Result<u8, CliFault>
-    ensures { ReportsOnTree request.now.tree (I.remaining input) (advise_said request.now)
-        (W.contents out.old) (W.contents out.new) result }
-{
-    let tree = tree_text(rt, request.tree, input)?;
-    let asked = ids(&request.user);
-    advise_bytes(rt.alloc(), tree.as_slice(), asked, request.subtree, out)
+impl TreeRequest for Upgrade<'_> {
+    ghost says = { λ _ read old new result. Upgrades old new result read };
+
+    fn answer<W: Write>(&self, alloc: Global, tree: &[u8], out: &mut W) -> Result<u8, CliFault> {
+        upgrade_bytes(alloc, tree, out)
+    }
 }
 
-fn upgrade<R: AllocGlobal + Files, I: Read + Drop, W: Write>(
-    rt: &R,
-    request: &Upgrade<'_>,
-    input: I,
-    out: &mut W,
-) -> Result<u8, CliFault>
-    ensures { OnTree request.now.tree (I.remaining input)
-        (Upgrades (W.contents out.old) (W.contents out.new) result)
-        (W.contents out.old) (W.contents out.new) result }
-{
-    let tree = tree_text(rt, request.tree, input)?;
-    upgrade_bytes(rt.alloc(), tree.as_slice(), out)
+/// A replay, and the place of the line that ends it.
+#[derive(Drop)]
+struct Replaying<'r, 'a> {
+    asked: &'r Replay<'a>,
+    line: &'r mut Option<Vec<u8>>,
 }
 
 fn replay<R: AllocGlobal + Files, I: Read + Drop, W: Write>(
     rt: &R,
-    request: &Replay<'_>,
+    of: Replaying<'_, '_>,
     input: I,
-    line: &mut Option<Vec<u8>>,
     out: &mut W,
 ) -> Result<u8, CliFault>
-    ensures { ReplaysOnTree request.now.sources (I.remaining input) (replay_said request.now)
+    ensures { ReplaysOnTree of.entry.asked.now.sources (I.remaining input) (replay_said of.entry.asked.now)
         (W.contents out.old) (W.contents out.new) result }
 {
-    match request.sources {
+    match of.asked.sources {
         Sources::Files(tree, ops) => {
             let tree = file_text(rt, tree)?;
-            replay_file(rt, tree.as_slice(), request, ops, line, out)
+            replay_file(rt, tree.as_slice(), of, ops, out)
         }
         Sources::TreeGiven(ops) => {
             let tree = read_input(rt.alloc(), input)?;
-            replay_file(rt, tree.as_slice(), request, ops, line, out)
+            replay_file(rt, tree.as_slice(), of, ops, out)
         }
         Sources::OpsGiven(tree) => {
             let tree = file_text(rt, tree)?;
-            replayed(rt.alloc(), tree.as_slice(), request, input, line, out)
+            replayed(rt.alloc(), tree.as_slice(), of, input, out)
         }
     }
 }
@@ -238,28 +241,26 @@ fn replay<R: AllocGlobal + Files, I: Read + Drop, W: Write>(
 fn replay_file<R: AllocGlobal + Files, W: Write>(
     rt: &R,
     tree: &[u8],
-    request: &Replay<'_>,
+    of: Replaying<'_, '_>,
     file: &str,
-    line: &mut Option<Vec<u8>>,
     out: &mut W,
 ) -> Result<u8, CliFault>
-    ensures { OnText tree.now (λ read. (before : Option (List ℕ)) × ReplaysOver before (replay_said request.now read)
+    ensures { OnText tree.now (λ read. (before : Option (List ℕ)) × ReplaysOver before (replay_said of.entry.asked.now read)
         (W.contents out.old) (W.contents out.new) result) }
 {
     let ops = opened(rt, file)?;
-    replayed(rt.alloc(), tree, request, ops, line, out)
+    replayed(rt.alloc(), tree, of, ops, out)
 }
 
 /// Replays what a reader gives, behind a buffer.
 fn replayed<O: Read + Drop, W: Write>(
     alloc: Global,
     tree: &[u8],
-    request: &Replay<'_>,
+    of: Replaying<'_, '_>,
     ops: O,
-    line: &mut Option<Vec<u8>>,
     out: &mut W,
 ) -> Result<u8, CliFault>
-    ensures { OnText tree.now (λ read. ReplaysOver (O.remaining ops) (replay_said request.now read)
+    ensures { OnText tree.now (λ read. ReplaysOver (O.remaining ops) (replay_said of.entry.asked.now read)
         (W.contents out.old) (W.contents out.new) result) }
 {
     let inner = LineKept {
@@ -270,11 +271,11 @@ fn replayed<O: Read + Drop, W: Write>(
     let Ok(mut ops) = BufReader::new(alloc, inner) else {
         return Err(CliFault::NoMemory);
     };
-    let replayer = ids(&request.user);
-    let ended = replay_from(alloc, tree, replayer, request.subtree, &mut ops, out);
+    let replayer = ids(&of.asked.user);
+    let ended = replay_from(alloc, tree, replayer, of.asked.subtree, &mut ops, out);
     if let Err(CliFault::Line { .. }) = ended {
         if let Ok(kept) = line_of(alloc, &ops) {
-            *line = kept;
+            *of.line = kept;
         }
     }
     ended

@@ -13,9 +13,9 @@ returns-in_err-named-clause-report g c = on_text c.args.tree.now (λ read is.
 pub returns-clause-report : goal.returns-clause-report
 returns-clause-report g c = on_text c.args.tree.now (λ read is.
     listing_reports read (map (λ user. (user.uid, user.gids.now)) c.args.users.now) (map (λ subtree. subtree.now) c.args.subtrees.now)
-    c.as_slice.result.now c.as_slice-2.result.now c.in_ok-named.named.tree
-    (kept_as (c.in_ok-named.ensures read is) c.as_slice.ensures.value c.as_slice-2.ensures.value)
-    (g.W.Write.contents c.args.out.now) (g.W.Write.contents c.write_listing.new.out) c.write_listing.result c.write_listing.ensures.report)
+    c.as_slice-2.result.now c.as_slice.result.now c.in_ok-named.named.tree
+    (kept_as (c.in_ok-named.ensures read is) c.as_slice-2.ensures.value c.as_slice.ensures.value)
+    (g.W.Write.contents c.args.out.now) (g.W.Write.contents c.write.new.out) c.write.result c.write.ensures.report)
 
 pub returns-clause-unlisted : goal.returns-clause-unlisted
 returns-clause-unlisted g c =
@@ -23,6 +23,6 @@ returns-clause-unlisted g c =
     let named = c.in_ok-named.ensures (reading_of bytes) (is_reading bytes) in
     unlisted_said (reading_of bytes) (map (λ user. (user.uid, user.gids.now)) c.args.users.now)
     (map (λ subtree. subtree.now) c.args.subtrees.now)
-    c.as_slice.result.now c.as_slice-2.result.now c.in_ok-named.named.tree
-    (kept_as named c.as_slice.ensures.value c.as_slice-2.ensures.value) bytes (λ st of_text. reading_is bytes (Ok st) of_text)
-    c.write_listing.result c.write_listing.ensures.unlisted
+    c.as_slice-2.result.now c.as_slice.result.now c.in_ok-named.named.tree
+    (kept_as named c.as_slice-2.ensures.value c.as_slice.ensures.value) bytes (λ st of_text. reading_is bytes (Ok st) of_text)
+    c.write.result c.write.ensures.unlisted

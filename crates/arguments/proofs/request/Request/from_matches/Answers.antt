@@ -1,59 +1,23 @@
 -- What was found is that of the subcommand's own matches.
-use Rattle.std.proofs.Common.{ℕ, List, ap, sym, ◌∙◌}
-use Rattle.std.specs.Prelude.{Some}
-use Rattle.clap.specs.Matches.{found_of}
+use Rattle.std.proofs.Common.{◌≡◌, ℕ, List, sym, ◌∙◌}
+use Rattle.std.specs.Prelude.{Some, Result, Ok, Err, IfOk}
+use Rattle.std.specs.Option.{option_map}
+use Rattle.clap.specs.Matches.{found_of, subcommand_name_of}
+use Rattle.clap.specs.Words.{rows_of, subcommand_rows_of}
+use Rattle.clap.specs.declared.parser.matches.ArgMatches.{ArgMatches}
+use Rattle.clap.specs.declared.parser.matches.Found.{Found}
+use Rattle.arguments.specs.Given.{command_of, Holds, IsOf}
+use Rattle.arguments.specs.declared.fault.ArgumentsFault.{ArgumentsFault}
+use Rattle.arguments.specs.declared.request.Request.{Request}
 use Rattle.arguments.proofs.request.Request.from_matches.Goals as goal
 
-pub returns-in_ok-from_matches-in-Some-may-default : goal.returns-in_ok-from_matches-in-Some-may-default
-returns-in_ok-from_matches-in-Some-may-default c =
-    let met = c.in-Some-may-default in (
-      found_of met.given.now,
-      ap (λ (name : List ℕ). Some name) (sym met.is-may) ∙ met.ensures.name,
-      sym met.ensures.rows,
-      c.in_ok-from_matches-in-Some-may-default.ensures.given,
-    )
+own_found : (matches : ArgMatches) (name : List ℕ) (found : Found) (result : Result Request ArgumentsFault)
+    → Some name ≡ subcommand_name_of matches → Some (rows_of found) ≡ option_map (λ met. met.1) (subcommand_rows_of matches)
+    → IfOk result (λ asked. command_of asked ≡ Some name) → IfOk result (Holds found) → IfOk result (IsOf matches)
+own_found matches name found (Ok asked) of_name of_rows is holds = (found, is ∙ of_name, sym of_rows, holds)
+own_found matches name found (Err fault) of_name of_rows is holds = tt
 
-pub returns-in_ok-from_matches-in-Some-check-default : goal.returns-in_ok-from_matches-in-Some-check-default
-returns-in_ok-from_matches-in-Some-check-default c =
-    let met = c.in-Some-check-default in (
-      found_of met.given.now,
-      ap (λ (name : List ℕ). Some name) (sym met.is-check) ∙ met.ensures.name,
-      sym met.ensures.rows,
-      c.in_ok-from_matches-in-Some-check-default.ensures.given,
-    )
-
-pub returns-in_ok-from_matches-in-Some-audit-default : goal.returns-in_ok-from_matches-in-Some-audit-default
-returns-in_ok-from_matches-in-Some-audit-default c =
-    let met = c.in-Some-audit-default in (
-      found_of met.given.now,
-      ap (λ (name : List ℕ). Some name) (sym met.is-audit) ∙ met.ensures.name,
-      sym met.ensures.rows,
-      c.in_ok-from_matches-in-Some-audit-default.ensures.given,
-    )
-
-pub returns-in_ok-from_matches-in-Some-replay-default : goal.returns-in_ok-from_matches-in-Some-replay-default
-returns-in_ok-from_matches-in-Some-replay-default c =
-    let met = c.in-Some-replay-default in (
-      found_of met.given.now,
-      ap (λ (name : List ℕ). Some name) (sym met.is-replay) ∙ met.ensures.name,
-      sym met.ensures.rows,
-      c.in_ok-from_matches-in-Some-replay-default.ensures.given,
-    )
-
-pub returns-in_ok-from_matches-in-Some-advise-default : goal.returns-in_ok-from_matches-in-Some-advise-default
-returns-in_ok-from_matches-in-Some-advise-default c =
-    let met = c.in-Some-advise-default in (
-      found_of met.given.now,
-      ap (λ (name : List ℕ). Some name) (sym met.is-advise) ∙ met.ensures.name,
-      sym met.ensures.rows,
-      c.in_ok-from_matches-in-Some-advise-default.ensures.given,
-    )
-
-pub returns-in-Some-upgrade-default : goal.returns-in-Some-upgrade-default
-returns-in-Some-upgrade-default c =
-    let met = c.in-Some-upgrade-default in (
-      found_of met.given.now,
-      ap (λ (name : List ℕ). Some name) (sym met.is-upgrade) ∙ met.ensures.name,
-      sym met.ensures.rows,
-      c.from_matches-in-Some-upgrade-default.ensures,
-    )
+pub returns-in-Some : goal.returns-in-Some
+returns-in-Some c =
+    own_found c.args.matches.now c.in-Some.name.now (found_of c.in-Some.given.now) c.of_command.result c.in-Some.ensures.name
+    c.in-Some.ensures.rows c.of_command.ensures.name c.of_command.ensures.given

@@ -1,6 +1,6 @@
 use Rattle.std.proofs.Common.{inl, inr}
 use Rattle.commands.proofs.RequestLaws.{unread_by}
-use Rattle.commands.proofs.run.advise.Goals as goal
+use Rattle.commands.proofs.run.on_tree.Goals as goal
 
 pub returns-in_err-tree : goal.returns-in_err-tree
 returns-in_err-tree g c =
@@ -9,5 +9,8 @@ returns-in_err-tree g c =
 
 pub returns : goal.returns
 returns g c =
-    let said = rw (c.ids-asked.ensures.uid, c.ids-asked.ensures.gids, c.as_slice.ensures.value) at c.advise_bytes.ensures.report in
-    inl (c.in_ok-tree.tree.items, c.in_ok-tree.ensures.text, said)
+    let said = rw c.as_slice.ensures.value at c.answer.ensures in
+    elim said [
+      | inl read ↦ inl (c.in_ok-tree.tree.items, c.in_ok-tree.ensures.text, read)
+      | inr unread ↦ inr unread
+    ]

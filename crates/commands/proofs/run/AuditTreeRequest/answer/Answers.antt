@@ -1,0 +1,12 @@
+use Rattle.std.proofs.Common.{inl, inr}
+use Rattle.commands.proofs.RequestLaws.{unread_by}
+use Rattle.commands.proofs.run.AuditTreeRequest.answer.Goals as goal
+
+pub returns-in_err-users : goal.returns-in_err-users
+returns-in_err-users g c =
+    inr (unread_by (g.W.Write.contents c.args.out.now) c.in_err-users.field-0.0 c.from_residual.result c.from_residual.ensures.1
+    (inr c.in_err-users.ensures.fault))
+
+pub returns : goal.returns
+returns g c =
+    inl (rw (c.as_slice-2.ensures.value, c.in_ok-users.ensures.ids, c.as_slice.ensures.value) at c.audited.ensures)
