@@ -146,7 +146,8 @@ module _ (clauses : List Members → Place → Members → List TreeFault) (plac
       → (table : Members) × (Some table ≡ as_table (view element))
   table_at i element within there =
       let is : Value → Bool = λ held. is_some (as_table (view held)) in
-      let so = true_from_ne_false (is (get_or elements i element)) (λ no. true≢false (sym are ∙ list_all_at is elements i element within no)) in
+      let so = true_from_ne_false (is (get_or elements i element))
+      (λ no. true≢false (sym are ∙ list_all_at is elements i element within no)) in
       let some = some_value (as_table (view element)) (ap is there ∙ so) in
       (some.0, sym some.1)
 

@@ -49,8 +49,8 @@ pub found_at : (key : List ℕ) (entries : List (String Global × Value)) (found
 found_at key entries found is =
     ap (λ held. elements_in (option_and_then as_array held)) (sym (view-lookup key entries) ∙ ap (option_map view) (sym is))
 
-pub elements_of : (array : Option (Vec Value Global)) (empty : Vec Value Global) (found : Option Items) → option_map array_view array ≡ found
-    → empty.items ≡ [] → map view (unwrap_or array empty).items ≡ elements_in found
+pub elements_of : (array : Option (Vec Value Global)) (empty : Vec Value Global) (found : Option Items)
+    → option_map array_view array ≡ found → empty.items ≡ [] → map view (unwrap_or array empty).items ≡ elements_in found
 elements_of None empty found is none = ap (map view) none ∙ ap elements_in is
 elements_of (Some array) empty found is none = sym (elements_view array.items) ∙ ap elements_in is
 

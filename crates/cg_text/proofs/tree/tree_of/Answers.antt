@@ -76,13 +76,15 @@ returns-in_err-walked c =
     rw (p.1, p.2) (λ other.
     cgroup_fault (table_view c.args.document) c.in_ok-format.format c.in_ok-format.ensures.0 c.in_ok-format.ensures.1 _
     (named (goal.at.returns-in_err-walked c).In_ok-controllers) _ (alone (goal.at.returns-in_err-walked c).In_ok-rows)
-    (sym (ap (λ tables. first (cgroup_faults (Some c.in_ok-controllers.controllers) (filter_map as_table tables))) c.take_elements.ensures.taken)
+    (sym (ap (λ tables. first (cgroup_faults (Some c.in_ok-controllers.controllers) (filter_map as_table tables)))
+    c.take_elements.ensures.taken)
     ∙ c.in_err-walked.ensures c.in_ok-format.format _ c.in_ok-rows.ensures.1 other))
 
 pub processes_of-requires-clause-tables : goal.processes_of-requires-clause-tables
 processes_of-requires-clause-tables c =
     all_tables live_keys c.elements_at.result.now
-    (ap (list_all (is_table live_keys)) (lives (goal.at.processes_of-requires-clause-tables c).After-elements_at) ∙ c.in_ok-format.ensures.1.processes)
+    (ap (list_all (is_table live_keys)) (lives (goal.at.processes_of-requires-clause-tables c).After-elements_at)
+    ∙ c.in_ok-format.ensures.1.processes)
 
 pub returns-in_err-processes : goal.returns-in_err-processes
 returns-in_err-processes c =
@@ -106,7 +108,8 @@ from_tables-requires c =
     c.from_sorted-cgroups.ensures in
     (document_is_of c.in_ok-format.format document c.in_ok-controllers.controllers c.in_ok-walked.field-0.items read entries
     c.in_ok-processes.processes.live c.in_ok-processes.processes.used
-    (rw (lives (goal.at.from_tables-requires c).After-elements_at) at (c.in_ok-processes.ensures _ among)) _ c.from_sorted-cgroups.ensures c.in_ok-format.ensures.1
+    (rw (lives (goal.at.from_tables-requires c).After-elements_at) at (c.in_ok-processes.ensures _ among)) _
+    c.from_sorted-cgroups.ensures c.in_ok-format.ensures.1
     (named (goal.at.from_tables-requires c).In_ok-controllers)).formed
 
 pub returns : goal.returns
@@ -119,5 +122,6 @@ returns c =
     subst (λ rows. IsDocumentOf rows document) (sym c.from_tables.ensures)
     (document_is_of c.in_ok-format.format document c.in_ok-controllers.controllers c.in_ok-walked.field-0.items read entries
     c.in_ok-processes.processes.live c.in_ok-processes.processes.used
-    (rw (lives (goal.at.returns c).After-elements_at) at (c.in_ok-processes.ensures _ among)) _ c.from_sorted-cgroups.ensures c.in_ok-format.ensures.1
+    (rw (lives (goal.at.returns c).After-elements_at) at (c.in_ok-processes.ensures _ among)) _
+    c.from_sorted-cgroups.ensures c.in_ok-format.ensures.1
     (named (goal.at.returns c).In_ok-controllers))

@@ -3,4 +3,10 @@ use Rattle.cg_cgroup.proofs.path.laws.common_is_longest.Goals as goal
 
 pub returns : goal.returns
 returns c =
-    record { first = common-inside_first; second = common-inside_second; longest = common-longest; taken = common-take; only = common_unique }
+    record {
+      first = common-inside_first;
+      second = common-inside_second;
+      longest = common-longest;
+      taken = common-take;
+      only = common_unique;
+    }

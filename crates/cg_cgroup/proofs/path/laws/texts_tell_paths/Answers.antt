@@ -5,4 +5,10 @@ use Rattle.cg_cgroup.proofs.path.laws.texts_tell_paths.Goals as goal
 
 pub returns : goal.returns
 returns c =
-    record { injective = path_text-injective; found = path_at-text; spelled = path_at-is; names = names_of-path_text; prefixes = IsPath-take }
+    record {
+      injective = path_text-injective;
+      found = path_at-text;
+      spelled = path_at-is;
+      names = names_of-path_text;
+      prefixes = IsPath-take;
+    }
