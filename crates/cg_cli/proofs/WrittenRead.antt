@@ -1,6 +1,6 @@
 -- What is read of a text that a tree was written to.
-use Rattle.std.proofs.Common.{◌≡◌, ◌≢◌, ℕ, ◌≤◌, ◌<◌, true, false, nat_le, List, [], length, Some, is_some, Result, Ok, Err, MatchResult, refl, sym, ap, subst, ◌∙◌, true≢false, arith}
-use Rattle.std.proofs.lemmas.Bool.Decides.{nat_tests}
+use Rattle.std.proofs.Common.{◌≡◌, ◌≢◌, ℕ, ◌≤◌, ◌<◌, true, false, List, [], length, Some, is_some, Result, Ok, Err, MatchResult, refl, sym, ap, subst, ◌∙◌, true≢false, ⊎_elim}
+use Rattle.std.proofs.lemmas.Bool.{cases_lt}
 use Rattle.cg_model.specs.States.{State}
 use Rattle.cg_model.specs.Clauses.{first}
 use Rattle.cg_format.specs.TextOf.{IsTextOf}
@@ -10,12 +10,6 @@ use Rattle.cg_format.specs.declared.fault.TreeFault.{TreeFault}
 use Rattle.cg_format.specs.declared.fault.TreeFault.TheVariants.{TooLong, NoMemory}
 use Rattle.cg_print.specs.Documents.{IsSpelled}
 use Rattle.cg_print.specs.Carried.{IsTooLong}
-
-passes : (n m : ℕ) → nat_le n m ≡ true → n ≤ m
-passes n m is = grind (arith, nat_tests)
-
-fails : (n m : ℕ) → nat_le n m ≡ false → m < n
-fails n m is = grind (arith, nat_tests)
 
 -- what a reader may answer of a text that has a state, unless it is too long
 abbrev IsAnswer : State → Result State TreeFault → Type 0
@@ -35,9 +29,7 @@ module _ (text : List ℕ) (st : State) (one : (rows other : State) → IsTextOf
   pub read_again : (result : Result State TreeFault) → IsSpelled st text → (length text ≤ longest_text → IsTextOf st text)
       → (longest_text < length text → result ≡ Err TooLong) → IsRead text result → IsAnswer st result
   read_again result spelled state too_long read =
-      elim (nat_le (length text) longest_text) as (λ b. nat_le (length text) longest_text ≡ b → IsAnswer st result) [
-        | true ↦ λ is. by_read result (state (passes (length text) longest_text is)) read
-        | false ↦ λ is.
-            let over = fails (length text) longest_text is in
-            subst (IsAnswer st) (sym (too_long over)) (λ _. (refl, (text, spelled, over)))
-      ] refl
+      ⊎_elim
+      (λ over. subst (IsAnswer st) (sym (too_long over)) (λ _. (refl, (text, spelled, over))))
+      (λ short. by_read result (state short) read)
+      (cases_lt longest_text (length text))

@@ -113,15 +113,16 @@ module _ (format : Format) (document : Members) (controllers : ControllerSet) (e
   get_is : (path : Names) → map.get cgroups path ≡ lookup (same_path path) entries
   get_is path = map.get-from_sorted path_cmp entries path (passes _ are.sorted) ∙ found_by_path path entries
 
+  found_is : (path : Names) → is_some (find (has_path path) tables) ≡ is_some (map.get cgroups path)
+  found_is path = is_some-find (has_path path) tables ∙ sym (are.there path) ∙ sym (ap is_some (get_is path))
+
   enabled_is : (path : Names) (found : Option Cgroup) → map.get cgroups path ≡ found
       → option_map (λ cgroup. cgroup.enabled) found ≡ enabled_there tables path
   enabled_is path None is =
-      let none : find (has_path path) tables ≡ None = none_value (find (has_path path) tables) (is_some-find (has_path path) tables
-      ∙ sym (are.there path) ∙ ap is_some (sym (get_is path) ∙ is)) in
+      let none = none_value (find (has_path path) tables) (found_is path ∙ ap is_some is) in
       ap (option_and_then (controllers_said (codes "enabled"))) (sym none)
   enabled_is path (Some cgroup) is =
-      let table = some_value (find (has_path path) tables) (is_some-find (has_path path) tables ∙ sym (are.there path)
-      ∙ ap is_some (sym (get_is path) ∙ is)) in
+      let table = some_value (find (has_path path) tables) (found_is path ∙ ap is_some is) in
       sym (ap (option_and_then (controllers_said (codes "enabled"))) table.1
       ∙ (are.each path cgroup table.0 (sym (get_is path) ∙ is) table.1).enabled)
 
@@ -141,8 +142,7 @@ module _ (format : Format) (document : Members) (controllers : ControllerSet) (e
 
   table_at : (path : Names) (cgroup : Cgroup) → map.get cgroups path ≡ Some cgroup → HasTable path cgroup
   table_at path cgroup is =
-      let table = some_value (find (has_path path) tables) (is_some-find (has_path path) tables ∙ sym (are.there path)
-      ∙ ap is_some (sym (get_is path) ∙ is)) in
+      let table = some_value (find (has_path path) tables) (found_is path ∙ ap is_some is) in
       let found = found_at (has_path path) tables table.0 table.1 in
       let named = key_had (path_said (codes "path")) same_path same_path-is same_path_refl path table.0 found.passes in
       record {
@@ -197,7 +197,7 @@ module _ (format : Format) (document : Members) (controllers : ControllerSet) (e
         let stands = stands_among controllers tables together before row after is path said.named in
         let found : find (has_path path) tables ≡ Some row = once_found
         (path_said (codes "path")) same_path same_path-is same_path_refl tables paths_once before row after is path said.named in
-        let cgroup = some_value (map.get cgroups path) (among.there path ∙ sym (is_some-find (has_path path) tables) ∙ ap is_some found) in
+        let cgroup = some_value (map.get cgroups path) (sym (found_is path) ∙ ap is_some found) in
         let entry : IsEntryOf format tables row cgroup.0 = are.each path cgroup.0 row (sym (get_is path) ∙ cgroup.1) found in
         let above : ControllerSet = enabled_above st path in
         let above_is = over_is no_controllers path stands.parent_there in

@@ -1,9 +1,8 @@
 -- A document whose form has no fault is in form.
-use Rattle.std.proofs.Common.{◌≡◌, ℕ, ◌+◌, ◌≤◌, true, nat_le, List, [], ◌∷◌, ◌++◌, length, codes, refl, arith}
+use Rattle.std.proofs.Common.{◌≡◌, ℕ, ◌+◌, true, nat_le, List, [], ◌∷◌, ◌++◌, length, codes, refl}
 use Rattle.std.specs.Prelude.{◌&&◌}
 use Rattle.std.specs.List.{list_all}
-use Rattle.std.proofs.lemmas.Bool.{and_parts}
-use Rattle.std.proofs.lemmas.Bool.Decides.{nat_tests}
+use Rattle.std.proofs.lemmas.Bool.{and_parts, leb-true}
 use Rattle.toml.specs.Data.{Data, Members}
 use Rattle.cg_model.specs.Clauses.{unless}
 use Rattle.cg_steps.proofs.ClauseLaws.{no_parts, no_unless}
@@ -16,9 +15,6 @@ use Rattle.cg_format.specs.declared.fault.Place.{Place}
 use Rattle.cg_format.specs.declared.fault.Place.TheVariants.{Cgroup as AtCgroup, Process as AtProcess}
 use Rattle.cg_format.specs.declared.fault.TreeFault.TheVariants.{Shape}
 use Rattle.cg_format.proofs.KeysOnce.{five_none, absent_none}
-
-pub at_most : (n most : ℕ) → nat_le n most ≡ true → n ≤ most
-at_most n most is = grind (arith, nat_tests)
 
 shapes_pass : (keys : List Key) (place : ℕ → Place) (i : ℕ) (earlier rows : List Data)
     → each (λ _ place held. unless (is_table keys held) (Shape place)) place i earlier rows ≡ [] → list_all (is_table keys) rows ≡ true
@@ -40,8 +36,8 @@ in_form document none =
       record {
         top = no_unless _ _ parts.0;
         format = said.1;
-        few_cgroups = at_most (length cgroups) most_rows few.0;
-        few_processes = at_most (length lives) most_rows few.1;
+        few_cgroups = leb-true (length cgroups) most_rows few.0;
+        few_processes = leb-true (length lives) most_rows few.1;
         cgroups = shapes_pass (row_keys said.0) AtCgroup 1 [] cgroups (rw said.1 at parts.3);
         processes = shapes_pass live_keys AtProcess 1 [] lives parts.4;
       },

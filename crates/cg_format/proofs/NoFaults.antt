@@ -1,11 +1,10 @@
 -- A text that is of a state has no fault.
-use Rattle.std.proofs.Common.{◌≡◌, ℕ, suc, filter, ◌+◌, Bool, true, false, not, cond, ◌||◌, nat_le, le-leb, List, [], ◌∷◌, ◌++◌, length, codes, Option, Some, None, is_some, option_map, option_and_then, unwrap_or, refl, sym, ap, ◌∙◌, true≢false, append_assoc, arith}
+use Rattle.std.proofs.Common.{◌≡◌, ℕ, suc, filter, ◌+◌, Bool, true, false, not, cond, ◌||◌, nat_le, le-leb, List, [], ◌∷◌, ◌++◌, length, codes, Option, Some, None, is_some, option_map, option_and_then, unwrap_or, refl, sym, ap, ◌∙◌, true≢false, append_assoc, eq-eqb, arith}
 use Rattle.std.specs.Prelude.{count_by, nat_eq}
 use Rattle.std.specs.List.{AllByRecursion, list_all, list_any}
 use Rattle.std.proofs.lemmas.Bool.{and_parts, and_from, or_right, false_from_ne_true}
 use Rattle.std.proofs.lemmas.List.{append-nil, length-append, nil_from_length}
 use Rattle.std.proofs.lemmas.List.Sums.{length-filter}
-use Rattle.std.proofs.lemmas.Bool.Decides.{nat_tests}
 use Rattle.toml.specs.Data.{Data, Members, no_members}
 use Rattle.cg_cgroup.specs.Paths.{Names, same_path, is_root, parent}
 use Rattle.cg_cgroup.specs.Files.{all_files, all_entries, no_controllers, enables_nothing, stands_under}
@@ -146,9 +145,6 @@ module _ (format : Format) (st : State) (row : Members) (is : IsRowOf format st 
 either : {A : Type 0} (b : Bool) (x y : A) → cond b (Some x) (Some y) ≡ Some (cond b x y)
 either b x y = grind arith
 
-same_as_itself : (n : ℕ) → nat_eq n n ≡ true
-same_as_itself n = grind (arith, nat_tests)
-
 where_named : (a b : Bool) → (a ≡ true → b ≡ true) → (not a || b) ≡ true
 where_named a b so = grind arith
 
@@ -234,7 +230,7 @@ module _ (format : Format) (st : State) (tables : List Members) (all : AllByRecu
 
     own_pid : (row : Members) (is : IsProcessOf st row) → has_pid is.pid row ≡ true
     own_pid row is =
-        ap (λ (o : Option ℕ). elim o [ None ↦ false | Some said ↦ nat_eq is.pid said ]) is.named ∙ same_as_itself is.pid
+        ap (λ (o : Option ℕ). elim o [ None ↦ false | Some said ↦ nat_eq is.pid said ]) is.named ∙ eq-eqb is.pid is.pid refl
 
     processes_have_none : each_process (process_faults tables) lives ≡ []
     processes_have_none =

@@ -1,11 +1,10 @@
 -- A text is of one state at most. In it each cgroup stands at a path, and each live process has a PID.
-use Rattle.std.proofs.Common.{◌≡◌, ℕ, Bool, true, false, cond, List, codes, Option, Some, None, is_some, option_map, option_and_then, refl, sym, ap, subst, ◌∙◌, true≢false, arith}
+use Rattle.std.proofs.Common.{◌≡◌, ℕ, Bool, true, false, cond, List, codes, Option, Some, None, is_some, option_map, option_and_then, refl, sym, ap, subst, ◌∙◌, true≢false, eqb-true, arith}
 use Rattle.std.specs.Prelude.{count_by, nat_eq, find}
 use Rattle.std.specs.List.{AllByRecursion}
 use Rattle.std.specs.Cmp.{nat_cmp_total}
 use Rattle.std.specs.FinMap.{nat_cmp-IsAntisymmetric, same_map}
 use Rattle.std.specs.FinSet.{same_set}
-use Rattle.std.proofs.lemmas.Bool.Decides.{nat_tests}
 use Rattle.cg_steps.proofs.Lists.{all-both, find-all, find-passes}
 use Rattle.toml.specs.Data.{Members}
 use Rattle.cg_cgroup.specs.Paths.{Names, IsPath, same_path, is_root, parent, path_at}
@@ -55,12 +54,9 @@ pub path_is : (path said : Names) (row : Members) → path_said (codes "path") r
 path_is path said row is has =
     same_path-is path said (ap (λ (o : Option Names). elim o [ None ↦ false | Some said ↦ same_path path said ]) (sym is) ∙ has)
 
-same_number : (m n : ℕ) → nat_eq m n ≡ true → m ≡ n
-same_number m n is = grind (arith, nat_tests)
-
 pub pid_is : (pid said : ℕ) (row : Members) → pid_said row ≡ Some said → has_pid pid row ≡ true → pid ≡ said
 pid_is pid said row is has =
-    same_number pid said (ap (λ (o : Option ℕ). elim o [ None ↦ false | Some said ↦ nat_eq pid said ]) (sym is) ∙ has)
+    eqb-true pid said (ap (λ (o : Option ℕ). elim o [ None ↦ false | Some said ↦ nat_eq pid said ]) (sym is) ∙ has)
 
 -- ---- names
 

@@ -10,6 +10,7 @@ use Rattle.std.specs.FinMap.{nat_cmp-IsAntisymmetric, get-from_entries, get-entr
 use Rattle.std.specs.FinMap.Entries.{is_sorted, is_some-find}
 use Rattle.std.specs.FinSet as set
 use Rattle.std.specs.FinSet.{contains-from_list}
+use Rattle.std.proofs.lemmas.Bool.{leb-true}
 use Rattle.toml.specs.Data.{Members}
 use Rattle.cg_cgroup.specs.Paths.{Names, path_cmp, same_path}
 use Rattle.cg_cgroup.specs.Files.{no_controllers, stands_under}
@@ -38,7 +39,7 @@ use Rattle.cg_format.specs.declared.format.Format.{Format}
 use Rattle.cg_format.specs.declared.fault.Place.TheVariants.{Cgroup as AtCgroup, Process as AtProcess}
 use Rattle.cg_format.proofs.KeysOnce.{five_none, absent_none, none_say}
 use Rattle.cg_format.proofs.TablesSay.{SaysCgroup, row_says, SaysProcess, process_says}
-use Rattle.cg_format.proofs.FormClauses.{at_most, in_form}
+use Rattle.cg_format.proofs.FormClauses.{in_form}
 use Rattle.cg_format.proofs.PairsOf.{pairs_of, pair_there, pair_found}
 use Rattle.cg_format.proofs.DocumentOfLaws.{state_with, found_by_path, document_is_of}
 
@@ -240,7 +241,7 @@ state_of_text bytes none =
     let made = state_of_document parsed.0 (rw parsed.1 at parts.4) in (
       made.0,
       record {
-        short = at_most (length bytes) longest_text (no_unless _ _ parts.2);
+        short = leb-true (length bytes) longest_text (no_unless _ _ parts.2);
         document = parsed.0;
         parsed = parsed.1;
         says = made.1;

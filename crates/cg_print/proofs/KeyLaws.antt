@@ -44,12 +44,6 @@ depth-with_key n key held (member other was keys) value rest =
       | Greater ↦ omega arith
     ]
 
-pub depth-with_optional : (n : ℕ) (key : List ℕ) (found : Option Data) (keys : Members)
-    → ((held : Data) → found ≡ Some held → depth held ≤ n) → members_depth keys ≤ n → members_depth (with_optional key found keys) ≤ n
-unfolding with_optional
-depth-with_optional n key None keys value rest = rest
-depth-with_optional n key (Some held) keys value rest = depth-with_key n key held keys (value held refl) rest
-
 -- ---- which keys a table has
 
 -- a test of a table that asks each key

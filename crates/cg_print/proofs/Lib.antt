@@ -1,7 +1,7 @@
 pub mod KeyLaws
 pub mod Entries
 pub mod IdLaws
-pub mod Depths
+pub mod LowDocuments
 pub mod ReadCarried
 pub mod FormBack
 pub mod SaidBack

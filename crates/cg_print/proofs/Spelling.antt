@@ -1,47 +1,11 @@
 -- A tree's document is spelled in one way.
-use Rattle.std.proofs.Common.{◌≡◌, ℕ, Bool, true, false, List, [], ◌∷◌, ◌++◌, map as map_list, codes, if◌then◌else◌, Option, Some, None, Ordering, Less, Equal, Greater, nat_cmp, refl, sym, ap, subst, ◌∙◌}
-use Rattle.std.specs.Prelude.{fold}
-use Rattle.std.specs.Cmp.Lexicographic.{slice_cmp}
-use Rattle.std.specs.FinMap as finite
-use Rattle.std.specs.Ordering.{match_ordering}
+use Rattle.std.proofs.Common.{◌≡◌, ℕ, Bool, true, false, List, [], ◌∷◌, ◌++◌, codes, if◌then◌else◌, sym, ap, ◌∙◌}
 use Rattle.toml.specs.Data.{Data, string, integer, float, boolean, datetime, array, table, Items, no_items, item, Members, no_members, member}
 use Rattle.toml.specs.Tables.{Definition, key_value, std_table, array_table, Expression}
 use Rattle.toml.specs.Text.{breaks_lines, IsValueText, IsItemsText, IsMembersText, is_section, are_tables, pairs, needs_header, header_of, sections, section, elements, IsLineText, IsLinesText, expressions}
-use Rattle.toml.specs.View.{items_of}
-use Rattle.cg_cgroup.specs.Paths.{Names}
-use Rattle.cg_cgroup.specs.Texts as texts
-use Rattle.cg_cgroup.specs.Files.{all_files, file_name}
-use Rattle.cg_cgroup.specs.Cgroups.{file_of}
-use Rattle.cg_cgroup.specs.declared.user.Entry.{Entry}
-use Rattle.cg_cgroup.specs.declared.files.Limit.{Limit}
-use Rattle.cg_cgroup.specs.declared.files.Limit.TheVariants.{Max, At}
-use Rattle.cg_cgroup.specs.declared.files.LimitFile.{LimitFile}
-use Rattle.cg_cgroup.specs.declared.cgroup.LimitEntry.{LimitEntry}
-use Rattle.cg_cgroup.specs.declared.cgroup.Cgroup.{Cgroup}
-use Rattle.cg_cgroup.specs.declared.process.Process.{Process}
 use Rattle.cg_model.specs.States.{State}
-use Rattle.cg_print.specs.Keys.{with_key, with_optional}
-use Rattle.cg_print.specs.Documents.{texts_array, names_in, entry_table, value_written, limit_table, table_of_file, with_file, files_table, cgroup_table, process_table, tree_document, IsSpelled}
-
--- ---- what has one spelling: all but floats
-
-abbrev mutual
-  IsPlain : Data → Type 0
-  IsPlain (string s) = Unit {0}
-  IsPlain (integer z) = Unit {0}
-  IsPlain (float x) = false ≡ true
-  IsPlain (boolean b) = Unit {0}
-  IsPlain (datetime dt) = Unit {0}
-  IsPlain (array ds) = ArePlain ds
-  IsPlain (table ms) = HasPlain ms
-
-  ArePlain : Items → Type 0
-  ArePlain no_items = Unit {0}
-  ArePlain (item d ds) = IsPlain d × ArePlain ds
-
-  HasPlain : Members → Type 0
-  HasPlain no_members = Unit {0}
-  HasPlain (member key d ms) = IsPlain d × HasPlain ms
+use Rattle.cg_print.proofs.LowDocuments.{IsPlain, ArePlain, HasPlain, plain_tree}
+use Rattle.cg_print.specs.Documents.{tree_document, IsSpelled}
 
 module _ (pretty : Bool) where
   mutual
@@ -147,85 +111,6 @@ mutual
         (plain_sections ms (key.0 ++ key.1 ∷ []) plain.0))
         (plain_elements ds key plain.1),
   )
-
--- ---- the document of a tree
-
-plain_ordered : (o : Ordering) (a b c : Members) → HasPlain a → HasPlain b → HasPlain c → HasPlain (match_ordering o a b c)
-plain_ordered Less a b c less equal greater = less
-plain_ordered Equal a b c less equal greater = equal
-plain_ordered Greater a b c less equal greater = greater
-
-plain_key : (key : List ℕ) (held : Data) (keys : Members) → IsPlain held → HasPlain keys → HasPlain (with_key key held keys)
-unfolding with_key
-plain_key key held no_members value rest = (value, tt)
-plain_key key held (member other was keys) value rest =
-    plain_ordered (slice_cmp nat_cmp key other) (member key held (member other was keys)) (member other held keys)
-    (member other was (with_key key held keys))
-    (value, rest) (value, rest.1) (rest.0, plain_key key held keys value rest.1)
-
-plain_optional : (key : List ℕ) (found : Option Data) (keys : Members) → ((held : Data) → found ≡ Some held → IsPlain held) → HasPlain keys
-    → HasPlain (with_optional key found keys)
-unfolding with_optional
-plain_optional key None keys value rest = rest
-plain_optional key (Some held) keys value rest = plain_key key held keys (value held refl) rest
-
-plain_entry : (entry : Entry) → HasPlain (entry_table entry)
-unfolding entry_table
-plain_entry entry = plain_key _ _ _ tt (plain_key _ _ _ tt (plain_key _ _ no_members tt tt))
-
-plain_value : (value : Limit) → IsPlain (value_written value)
-plain_value Max = tt
-plain_value (At n) = tt
-
-plain_limit : (held : LimitEntry) → HasPlain (limit_table held)
-unfolding limit_table
-plain_limit held = plain_key _ (value_written held.value) (entry_table held.entry) (plain_value held.value) (plain_entry held.entry)
-
-plain_file : (found : Option LimitEntry) (other : Data) → table_of_file found ≡ Some other → IsPlain other
-plain_file None other is = cc
-plain_file (Some held) other is = let same : table (limit_table held) ≡ other = cc in subst IsPlain same (plain_limit held)
-
-plain_fold : (row : Cgroup) (files : List LimitFile) (keys : Members) → HasPlain keys → HasPlain (fold (with_file row) keys files)
-plain_fold row [] keys plain = plain
-plain_fold row (file ∷ files) keys plain =
-    plain_fold row files (with_file row keys file)
-    (plain_optional (file_name file) (table_of_file (file_of row file)) keys (plain_file (file_of row file)) plain)
-
-plain_files : (row : Cgroup) → HasPlain (files_table row)
-unfolding files_table
-plain_files row =
-    plain_fold row all_files _ (plain_key texts.cgroup_subtree_control (table (entry_table row.subtree_control)) _
-    (plain_entry row.subtree_control)
-    (plain_key texts.cgroup_procs (table (entry_table row.procs)) no_members (plain_entry row.procs) tt))
-
-plain_texts : (names : List (List ℕ)) → ArePlain (items_of (map_list string names))
-plain_texts [] = tt
-plain_texts (name ∷ names) = (tt, plain_texts names)
-
-plain_cgroup : (e : Names × Cgroup) → HasPlain (cgroup_table e.0 e.1)
-unfolding cgroup_table
-plain_cgroup e = plain_key _ (table (files_table e.1)) _ (plain_files e.1)
-    (plain_key _ (table (entry_table e.1.dir)) _ (plain_entry e.1.dir)
-    (plain_key _ (texts_array (names_in e.1.enabled)) _ (plain_texts (names_in e.1.enabled))
-    (plain_key _ _ no_members tt tt)))
-
-plain_process : (e : ℕ × Process) → HasPlain (process_table e.0 e.1)
-unfolding process_table
-plain_process e = plain_key _ _ _ tt (plain_key _ _ _ tt (plain_key _ _ no_members tt tt))
-
-plain_rows : {E : Type 0} (write : E → Members) → ((e : E) → HasPlain (write e)) → (es : List E)
-    → ArePlain (items_of (map_list (λ e. table (write e)) es))
-plain_rows write each [] = tt
-plain_rows write each (e ∷ es) = (each e, plain_rows write each es)
-
-plain_tree : (st : State) → HasPlain (tree_document st)
-unfolding tree_document
-plain_tree st =
-    plain_key _ (array (items_of (map_list (λ (e : ℕ × Process). table (process_table e.0 e.1)) (finite.entries st.live)))) _
-    (plain_rows (λ (e : ℕ × Process). process_table e.0 e.1) plain_process (finite.entries st.live))
-    (plain_key _ (array (items_of (map_list (λ (e : Names × Cgroup). table (cgroup_table e.0 e.1)) (finite.entries st.rows)))) _
-    (plain_rows (λ (e : Names × Cgroup). cgroup_table e.0 e.1) plain_cgroup (finite.entries st.rows))
-    (plain_key _ (texts_array (names_in st.controllers)) _ (plain_texts (names_in st.controllers)) (plain_key _ _ no_members tt tt)))
 
 pub spelled_once : (st : State) (one other : List ℕ) → IsSpelled st one → IsSpelled st other → one ≡ other
 spelled_once st one other a b =

@@ -276,3 +276,6 @@ module _ (format : Format) (text : List ℕ) (held : Data) where
       → taken ≡ takes_entry format (Some name) held → taken ≡ takes (file_keys_of format) text held
   entry_taken name found taken is some told =
       told ∙ sym (file_taken ∙ ap (λ found. takes_entry format found held) (sym is ∙ some))
+
+-- for a table of files, whose keys name entries
+pub ruleset of_entries = (owner_allowed, limit_allowed, entry_taken)

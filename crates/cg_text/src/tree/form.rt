@@ -102,6 +102,7 @@ fn is_entry(kind: FlatTable, value: &Value) -> bool
 }
 
 /// Whether a table of files may have a value at a key.
+#[tactic(auto, using(crate::proofs::TakesLaws::of_entries))]
 fn takes_file(format: Format, key: &str, value: &Value) -> bool
     ensures { result ≡ takes (file_keys_of format) key.now (view value.now) }
 {
@@ -135,6 +136,7 @@ fn are_files(format: Format, value: &Value) -> bool
 }
 
 /// Whether a cgroup's table may have a value at a key.
+#[tactic(auto, using(crate::proofs::TakesLaws::owner_allowed))]
 fn takes_row(format: Format, key: &str, value: &Value) -> bool
     ensures { result ≡ takes (row_keys format) key.now (view value.now) }
 {

@@ -5,7 +5,7 @@ use Rattle.toml.specs.Parse.{parse_document}
 use Rattle.toml.specs.Text.{IsDocumentText}
 use Rattle.cg_format.specs.TreeTexts.{document_of}
 use Rattle.cg_print.specs.Documents.{tree_document, IsSpelled}
-use Rattle.cg_print.proofs.Depths.{tree_depth}
+use Rattle.cg_print.proofs.LowDocuments.{tree_depth}
 use Rattle.cg_print.proofs.DocumentBack.{text_back}
 use Rattle.cg_print.proofs.tree.tree_text.Goals as goal
 
