@@ -14,7 +14,8 @@ three_keys a b d va vb vd wa wb wd t0 t1 t2 t3 none first second third is_a is_b
 pub returns-clause-written : goal.returns-clause-written
 unfolding process_table
 returns-clause-written c =
-    three_keys _ _ _ _ _ _ _ _ _ _ _ _ _ (ap members_view c.new-keys.ensures.empty) c.in_ok-put.ensures c.in_ok-put-2.ensures c.in_ok-put-3.ensures
+    let none = ap members_view c.new-keys.ensures.empty in
+    three_keys _ _ _ _ _ _ _ _ _ _ _ _ _ none c.in_ok-put.ensures c.in_ok-put-2.ensures c.in_ok-put-3.ensures
     (c.from.ensures ∙ ap number c.get.ensures.value) c.id_value.ensures.written c.in_ok-path_value.ensures.written
 
 pub returns-clause-named : goal.returns-clause-named
