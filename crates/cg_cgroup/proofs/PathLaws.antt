@@ -78,9 +78,9 @@ common-longest (c ∷ r) (a ∷ p) (b ∷ q) h k =
     ∙ and_from (same_name c a) (inside r (common p q)) first.0 (common-longest r p q first.1 second.1)
 
 -- no other list is inside both and holds all that is inside both
-pub common_unique : (c p q : Names) → inside c p ≡ true → inside c q ≡ true
+pub common-only : (c p q : Names) → inside c p ≡ true → inside c q ≡ true
     → ((r : Names) → inside r p ≡ true → inside r q ≡ true → inside r c ≡ true) → c ≡ common p q
-common_unique c p q h k longest =
+common-only c p q h k longest =
     inside_antisym c (common p q) (common-longest c p q h k) (longest (common p q) (common-inside_first p q) (common-inside_second p q))
 
 pub common-take : (p q : Names) → common p q ≡ take (length (common p q)) q
@@ -91,7 +91,7 @@ common-take_first p q = (inside_decides (common p q) p).0 (common-inside_first p
 
 pub common_comm : (p q : Names) → common p q ≡ common q p
 common_comm p q =
-    common_unique (common p q) q p (common-inside_second p q) (common-inside_first p q) (λ r h k. common-longest r p q k h)
+    common-only (common p q) q p (common-inside_second p q) (common-inside_first p q) (λ r h k. common-longest r p q k h)
 
 -- ---- the order
 
@@ -149,6 +149,6 @@ path_text-injective p q h k e =
     let found : Some p ≡ Some q = sym (path_at-text p h) ∙ ap path_at e ∙ path_at-text q k in
     cc
 
-pub names_of-path_text : (p : Names) → IsPath p → p ≢ [] → names_of (path_text p) ≡ p
-names_of-path_text [] h some = absurd (some refl)
-names_of-path_text (name ∷ p) h some = names_of-text (name ∷ p) (path_names (name ∷ p) h)
+pub names_of-a_path : (p : Names) → IsPath p → p ≢ [] → names_of (path_text p) ≡ p
+names_of-a_path [] h some = absurd (some refl)
+names_of-a_path (name ∷ p) h some = names_of-text (name ∷ p) (path_names (name ∷ p) h)

@@ -18,7 +18,6 @@ use std::alloc::Global;
 use toml::{Table, Value};
 
 /// The table of a process.
-#[tactic(auto, unfolding(crate::specs::Documents::process_table))]
 fn process_table(alloc: Global, pid: Pid, uid: u32, place: &Path) -> Result<Table, NoMemory>
     ensures written { IfOk result (λ keys. table_view keys ≡ process_table pid (record { uid = uid; place = place.now })) }
     ensures named { IfOk result (λ _. IsNamedProcess pid (record { uid = uid; place = place.now })) }

@@ -49,7 +49,8 @@ impl Path {
             return Err(PathFault::BadPath);
         }
         let text = format!(in alloc; "{parent}/{name}")?;
-        let mut ends = Vec::from_slice(alloc, &self.ends.as_slice()[..len])?;
+        let mut ends = Vec::with_capacity(alloc, len + 1)?;
+        ends.extend_from_slice(&self.ends.as_slice()[..len])?;
         ends.push(end as u16)?;
         Ok(Path { text, ends })
     }

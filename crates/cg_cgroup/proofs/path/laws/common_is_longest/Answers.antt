@@ -8,5 +8,5 @@ returns c =
       second = common-inside_second;
       longest = common-longest;
       taken = common-take;
-      only = common_unique;
+      only = common-only;
     }

@@ -9,6 +9,6 @@ returns c =
       injective = path_text-injective;
       found = path_at-text;
       spelled = path_at-is;
-      names = names_of-path_text;
+      names = names_of-a_path;
       prefixes = IsPath-take;
     }
