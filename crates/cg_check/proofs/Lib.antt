@@ -1,4 +1,5 @@
 mod Wider
+pub mod ControlTries
 mod Tried
 mod Monotone
 mod Openings

@@ -7,7 +7,6 @@ use Rattle.cg_cgroup.specs.Paths.{Name, Names, parent, inside, path_text}
 use Rattle.cg_cgroup.specs.Identity.{Identity}
 use Rattle.cg_cgroup.specs.Files.{all_files}
 use Rattle.cg_cgroup.specs.declared.files.Controller.{Controller}
-use Rattle.cg_cgroup.specs.declared.files.Controller.TheVariants.{Cpu, Memory, Pids}
 use Rattle.cg_model.specs.States.{State, place_at, paths_of, pids_of}
 use Rattle.cg_model.specs.WellFormed.{IsWellFormed, has_row, enabled_at}
 use Rattle.cg_model.specs.declared.operation.Op.{Op}
@@ -23,6 +22,7 @@ use Rattle.cg_tries.proofs.Seen.{is_empty, breaks-run}
 use Rattle.cg_tries.proofs.Single.{set_try, rmdir_try, move_try}
 use Rattle.cg_tries.proofs.Controls.{changes_enabled, control_try}
 use Rattle.cg_check.specs.Opened.{is_free}
+use Rattle.cg_check.proofs.ControlTries.{all-controls}
 use Rattle.cg_steps.proofs.Lists.{all-append, all-flat_map, all-present, all-map_filter, find-passes}
 use Rattle.cg_tries.proofs.Probes.{probe_try}
 
@@ -47,13 +47,6 @@ pub record IsExact (st : State) (user : Identity) (subtree : Names) (ops : List 
 pub with_true : (b c : Bool) → b ≡ c → b ≡ (c && true)
 with_true b true e = e
 with_true b false e = e
-
--- what holds of each try to enable or disable a controller
-pub all-controls : (subtree : Names) (P : List Op → Type 0)
-    → ((on : Bool) (controller : Controller) → P (Control (parent subtree) (change_of on controller ∷ []) ∷ []))
-    → AllByRecursion P (control_tries subtree)
-all-controls subtree P each =
-    (each false Cpu, (each true Cpu, (each false Memory, (each true Memory, (each false Pids, (each true Pids, tt))))))
 
 pub parent-append : (path : Names) (name : Name) → parent (path ++ name ∷ []) ≡ path
 parent-append path name =

@@ -20,7 +20,6 @@ use Rattle.cg_cgroup.specs.declared.files.LimitFile.{LimitFile}
 use Rattle.cg_cgroup.specs.declared.files.LimitFile.TheVariants.{CpuWeight}
 use Rattle.cg_cgroup.specs.declared.files.EntryName.{EntryName}
 use Rattle.cg_cgroup.specs.declared.files.Controller.{Controller}
-use Rattle.cg_cgroup.specs.declared.files.Controller.TheVariants.{Cpu, Memory, Pids}
 use Rattle.cg_cgroup.specs.declared.cgroup.Cgroup.{Cgroup}
 use Rattle.cg_cgroup.specs.declared.user.Entry.{Entry}
 use Rattle.cg_cgroup.proofs.PathOrder.{path_cmp_total}
@@ -41,6 +40,7 @@ use Rattle.cg_model.specs.Answers.{answer}
 use Rattle.cg_model.specs.declared.answer.Answer.TheVariants.{Escapes}
 use Rattle.cg_steps.proofs.Lists.{all-append, all-flat_map, all-present, all-each, find-all}
 use Rattle.cg_check.proofs.AnswerLaws.{found-escape}
+use Rattle.cg_check.proofs.ControlTries.{all-controls}
 use Rattle.cg_lines.specs.OperationLines.{IsInRange, IsLimitInRange}
 use Rattle.cg_lines.specs.LineLengths.{HasFewChanges}
 use Rattle.cg_lines.proofs.LineLengths.{line_length}
@@ -122,13 +122,7 @@ module _ (st : State) (user : Identity) (subtree : Names) (formed : IsWellFormed
   written-control on controller = (((IsPath-take subtree (length subtree - 1) path, omega arith), tt), omega arith)
 
   written-controls : AllByRecursion AreWritten (control_tries subtree)
-  written-controls = (
-    written-control false Cpu,
-    (
-      written-control true Cpu,
-      (written-control false Memory, (written-control true Memory, (written-control false Pids, (written-control true Pids, tt)))),
-    ),
-  )
+  written-controls = all-controls subtree AreWritten written-control
 
   written-moves : AllByRecursion AreWritten (move_tries st subtree)
   written-moves =
