@@ -224,11 +224,11 @@ fn replay<R: AllocGlobal + Files, I: Read + Drop, W: Write>(
     match of.asked.sources {
         Sources::Files(tree, ops) => {
             let tree = file_text(rt, tree)?;
-            replay_file(rt, tree.as_slice(), of, ops, out)
+            replay_file(rt, of, tree.as_slice(), ops, out)
         }
         Sources::TreeGiven(ops) => {
             let tree = read_input(rt.alloc(), input)?;
-            replay_file(rt, tree.as_slice(), of, ops, out)
+            replay_file(rt, of, tree.as_slice(), ops, out)
         }
         Sources::OpsGiven(tree) => {
             let tree = file_text(rt, tree)?;
@@ -240,8 +240,8 @@ fn replay<R: AllocGlobal + Files, I: Read + Drop, W: Write>(
 /// Replays the operations of a file.
 fn replay_file<R: AllocGlobal + Files, W: Write>(
     rt: &R,
-    tree: &[u8],
     of: Replaying<'_, '_>,
+    tree: &[u8],
     file: &str,
     out: &mut W,
 ) -> Result<u8, CliFault>
