@@ -1,4 +1,4 @@
-use Rattle.cg_cgroup.proofs.PathLaws.{common-inside_first, common-inside_second, common-longest, common-take, common_unique}
+use Rattle.cg_cgroup.proofs.PathLaws.{common-inside_first, common-inside_second, common-longest, common-take, common-only}
 use Rattle.cg_cgroup.proofs.path.laws.common_is_longest.Goals as goal
 
 pub returns : goal.returns
