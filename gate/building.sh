@@ -3,7 +3,7 @@
 # shellcheck shell=bash
 # shellcheck disable=SC2154
 
-how_long='from nothing this took 26 minutes on 4 cores, and 3 GB of memory'
+how_long='from nothing this took 23 minutes on 4 cores, and 3 GB of memory'
 
 # Proves and builds, and writes down all that is said; of that, how far it is and what it waits for are passed on.
 # The toolchain's own run begins with what earlier checks kept, and takes one crate after another; it runs the program on
