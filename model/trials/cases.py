@@ -59,7 +59,7 @@ def random_case(seed, number, known):
         case.words[1:1] = ["--tree", TREE]
     if rng.random() < 0.09:
         turn_words(rng, case)
-    case.full = command != "replay" and rng.random() < 0.01
+    case.full = not command.startswith("replay") and rng.random() < 0.01
     return case
 
 
