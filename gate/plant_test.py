@@ -1,10 +1,13 @@
 """Tests of how gate/plant reads functions and what `rt plant` says of them, and of what it finds missing."""
 import collections
+import os
+import shutil
+import subprocess
 import tempfile
 import unittest
 
 import planted
-from checkout import write
+from checkout import TOP, write
 from edited import Crate
 from planted import Now, Planted, Row, Told
 
@@ -71,6 +74,15 @@ note: a body that only returns the out-of-memory error or fmt::Error is not plan
 plants crate=toy planted-in=3 untested=2 no-ensures=0 proves=1 same=1 refused=1 elsewhere=0 not-judged=1 not-source=1 not-run=0
 """
 
+TOOL = """#!/bin/sh
+case "$1" in
+    version) echo 'some-kit logic 1';;
+    doc) echo /none/START-HERE.md;;
+    check) [ -z "$UNPROVED" ] || { echo 'fn toy::f: not proved'; exit 1; };;
+    plant) test "$PWD" != "$TOY" && test -f ../../HANDLES && cat "$SAID";;
+esac
+"""
+
 
 def told(bodies=(), **counts):
     return Told(collections.Counter({kind.replace("_", "-"): count for kind, count in counts.items()}), list(bodies))
@@ -126,6 +138,43 @@ class FunctionsTest(unittest.TestCase):
     def test_a_row_of_no_function_is_an_error(self):
         with self.assertRaisesRegex(ValueError, "src/door.rt:23, where there is none"):
             planted.told_of(planted.read_functions(Crate(f"{self.top}/crates/toy", set())), [Row("same", "src/door.rt", 23, "0")])
+
+
+    def call(self, *words, **environment):
+        """Runs gate/plant on these crates, with a toolchain that only plays its part."""
+        shutil.copytree(f"{TOP}/gate", f"{self.top}/gate", ignore=lambda _, names: {it for it in names if it.startswith("plant_")})
+        for path, text in {"HANDLES": "", "tools/rt": TOOL, "said": SAID, "gate/plant_reasons.txt": "", "gate/plants.txt": ""}.items():
+            self.write(f"../{path}", text)
+        os.chmod(f"{self.top}/tools/rt", 0o755)
+        played = {"PATH": f"{self.top}/tools:{os.environ['PATH']}", "TOY": f"{self.top}/crates/toy", "SAID": f"{self.top}/said"}
+        return subprocess.run([f"{self.top}/gate/plant", *words], env={**os.environ, **played, **environment}, text=True,
+                              capture_output=True)
+
+    def test_a_run_writes_the_record_and_compares(self):
+        ended = self.call("--said", self.top, "toy")
+        self.assertEqual((ended.stdout.splitlines(), ended.returncode), ([
+            "plant: toy is recorded",
+            "plant: FAILED: toy::door::Opens::is_open has neither an edit nor a plant that was judged, and no reason",
+            "plant: FAILED: toy::door::Door::new can be { Door { times: 0 } }, which is not accepted",
+            "2 passed, 2 failed",
+        ], 1))
+        record = planted.read(planted.text_of(f"{self.top}/gate/plants.txt"))
+        self.assertEqual((record["toy"].sources, record["toy"].kit), (self.sum_of_toy(), "some-kit logic 1"))
+        self.assertEqual(planted.text_of(f"{self.top}/toy.txt"), SAID)
+
+    def test_a_crate_that_is_not_proved_is_not_recorded(self):
+        ended = self.call(UNPROVED="1")
+        self.assertIn("plant: FAILED: toy: rt check ended with status 1: fn toy::f: not proved", ended.stdout)
+        self.assertEqual((ended.stdout.splitlines()[-1], ended.returncode), ("0 passed, 1 failed", 1))
+        self.assertEqual(planted.text_of(f"{self.top}/gate/plants.txt"), "")
+
+    def test_comparing_plants_nothing(self):
+        ended = self.call("--compare", UNPROVED="1")
+        self.assertEqual((ended.stdout.splitlines(), ended.returncode),
+                         (["plant: toy has other sources than gate/plants.txt: gate/plant toy", "0 passed, 0 failed"], 0))
+
+    def test_a_crate_that_is_not_there(self):
+        self.assertEqual(self.call("laws").returncode, 2)
 
 
 class SaidTest(unittest.TestCase):
