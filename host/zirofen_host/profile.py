@@ -1,5 +1,9 @@
-"""What a tree text can carry: names, files, values and their defaults."""
+"""What a tree text can carry: paths, names, files, values and their defaults."""
 import re
+from typing import NewType
+
+# a cgroup's path from the mount on, with the bytes that its names have; the root's is /
+CgroupPath = NewType("CgroupPath", bytes)
 
 CONTROLLERS = ("cpu", "memory", "pids")
 CONTROL_FILES = ("cgroup.procs", "cgroup.subtree_control")
@@ -76,6 +80,11 @@ def accepts(file, value):
     if file == "cpu.weight":
         return value != "max" and 1 <= value <= 10000
     return value == "max" or 0 <= value < 2**63
+
+
+def is_number(word: str) -> bool:
+    """Whether a word is a number as the formats write one."""
+    return word.isascii() and word.isdigit() and (word == "0" or word[0] != "0")
 
 
 def parent_of(path):
