@@ -5,11 +5,11 @@ import sys
 import unittest
 
 from check_test import HostTest, owned
-from made_up import TOP
+from made_up import COMMAND
 from zirofen_host.judge import one, shell
 from zirofen_host.options import AskOptions
 from zirofen_host.fault import Fault
-from zirofen_host.collect.users import Entry, User
+from zirofen_host.collect.model import Entry, User
 
 
 class AskTest(HostTest):
@@ -121,7 +121,7 @@ class CommandsTest(HostTest):
 
     def test_script(self):
         def script(*words, given=OPERATIONS):
-            return subprocess.run([sys.executable, f"{TOP}/host/zirofen-host", "commands", *words], input=given, capture_output=True, text=True)
+            return subprocess.run([sys.executable, COMMAND, "commands", *words], input=given, capture_output=True, text=True)
         self.assertEqual(script().stdout.splitlines(), COMMANDS)
         ended = script("--uid", "1000", "--gid", "5", "--gid", "6", "--mount", "/m", given="rmdir /a\n")
         self.assertEqual(ended.stdout, "setpriv --reuid 1000 --regid 5 --groups 6 sh -c 'rmdir /m/a'\n")

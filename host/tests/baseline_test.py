@@ -6,7 +6,7 @@ import sys
 import unittest
 
 from check_test import MARK, HostTest, owned
-from made_up import TOP
+from made_up import COMMAND
 from zirofen_host.judge import baseline
 from zirofen_host.show.lines import comparison_lines
 from zirofen_host.fault import Fault
@@ -140,7 +140,7 @@ class BaselineTest(HostTest):
     @unittest.skipUnless(os.geteuid() == 0, "only root gives files away")
     def test_from_outside(self):
         def script(*words):
-            return subprocess.run([sys.executable, f"{TOP}/host/zirofen-host", "check", "--plain-folder", "--mount", self.host.mount, "--proc",
+            return subprocess.run([sys.executable, COMMAND, "check", "--plain-folder", "--mount", self.host.mount, "--proc",
                                    self.host.proc, "--accounts", self.host.etc, "--zirofen", self.program, *words],
                                   capture_output=True, text=True)
         self.assertEqual(script("--baseline", self.file).returncode, 3)

@@ -6,7 +6,7 @@ import sys
 import unittest
 
 from check_test import BY_GROUP, MARK, HostTest, owned
-from made_up import TOP
+from made_up import COMMAND
 from zirofen_host.collect import elsewhere
 from zirofen_host.ask import accepted
 from zirofen_host.collect.accounts import accounts_of
@@ -130,7 +130,7 @@ class ElsewhereTest(HostTest):
     @unittest.skipUnless(os.geteuid() == 0, "only root gives files away")
     def test_from_outside(self):
         def script(name, *words, given=None):
-            return subprocess.run([sys.executable, f"{TOP}/host/zirofen-host", name, *words], input=given, capture_output=True, text=True)
+            return subprocess.run([sys.executable, COMMAND, name, *words], input=given, capture_output=True, text=True)
         text = script("snapshot", "--plain-folder", "--mount", self.host.mount, "--proc", self.host.proc, "--accounts",
                       self.host.etc, "--with-host").stdout
         self.assertIn(elsewhere.MARK, text)

@@ -12,7 +12,7 @@ from unittest import mock
 
 import made_up_program
 from check_test import BY_GROUP, HostTest, owned
-from made_up import TOP
+from made_up import COMMAND, TOP
 from zirofen_host import fault
 from zirofen_host.collect import processes, walk
 from zirofen_host.ask import questions
@@ -24,8 +24,8 @@ from zirofen_host.ask.texts import Programs
 
 OLDEST = (3, 9)
 # modules that it has
-MODULES = set("argparse atexit base64 bisect collections concurrent dataclasses datetime errno functools grp hashlib html itertools json os "
-              "pwd re shlex shutil signal stat string subprocess sys tempfile textwrap time typing unicodedata".split())
+MODULES = set("argparse atexit base64 bisect collections concurrent dataclasses datetime enum errno functools grp hashlib html itertools "
+              "json os pwd re shlex shutil signal stat string subprocess sys tempfile textwrap time typing unicodedata".split())
 # what reads a text takes one of these
 READERS = {"tomllib", "tomli"}
 # what came later, by its name
@@ -283,7 +283,7 @@ class OutputTest(HostTest):
     def script(self, name, *words, shell=""):
         words = {"check": ("--zirofen", self.program, "--accounts", self.host.etc),
                  "ask": ("--zirofen", self.program, "--accounts", self.host.etc, "alice", "/bad"), "snapshot": ()}[name] + words
-        command = [sys.executable, f"{TOP}/host/zirofen-host", name, "--plain-folder", "--mount", self.host.mount, "--proc", self.host.proc]
+        command = [sys.executable, COMMAND, name, "--plain-folder", "--mount", self.host.mount, "--proc", self.host.proc]
         return subprocess.run(["bash", "-c", f'"$@" {shell}', "bash", *command, *words], capture_output=True, text=True)
 
     def test_an_output_that_takes_nothing(self):
@@ -315,7 +315,7 @@ class OldestPythonTest(unittest.TestCase):
     """The helpers run on the oldest Python that hosts have, with no package."""
 
     def sources(self):
-        for path in (f"{TOP}/host/zirofen-host", *sorted(glob.glob(f"{TOP}/host/zirofen_host/**/*.py", recursive=True))):
+        for path in (COMMAND, *sorted(glob.glob(f"{TOP}/host/zirofen_host/**/*.py", recursive=True))):
             with open(path, encoding="utf-8") as source:
                 yield path, source.read()
 
@@ -349,7 +349,7 @@ class OldestPythonTest(unittest.TestCase):
     @unittest.skipUnless(OLDEST_HERE, "there is no Python 3.9 here")
     def test_it_runs_there(self):
         for name in ("check", "ask", "commands", "delegations", "snapshot"):
-            ended = subprocess.run([OLDEST_HERE, f"{TOP}/host/zirofen-host", name, "--help"], capture_output=True, text=True)
+            ended = subprocess.run([OLDEST_HERE, COMMAND, name, "--help"], capture_output=True, text=True)
             self.assertEqual((ended.returncode, ended.stderr), (0, ""))
 
 

@@ -18,7 +18,7 @@ from zirofen_host.collect.accounts import Accounts  # noqa: E402
 from zirofen_host.fault import Fault  # noqa: E402
 from zirofen_host.ask.questions import Questions  # noqa: E402
 from zirofen_host.collect.tree import read_tree  # noqa: E402
-from zirofen_host.collect.users import User  # noqa: E402
+from zirofen_host.collect.model import User  # noqa: E402
 
 
 def can(what):

@@ -11,7 +11,7 @@ import unittest
 
 import example
 from check_test import HostTest, owned
-from made_up import HERE, TOP
+from made_up import COMMAND, HERE, TOP
 from page_test import HOSTILE, REAL, hostile, many, real
 from zirofen_host.options import TreeOptions
 from zirofen_host.show import tree_view, words
@@ -134,9 +134,9 @@ class LiveTest(HostTest):
         self.host.cgroup("/other", owners=owned(1001))
         place = ["--plain-folder", "--mount", self.host.mount, "--proc", self.host.proc, "--accounts", self.host.etc,
                  "--zirofen", self.program]
-        checked = subprocess.run([sys.executable, f"{TOP}/host/zirofen-host", "check", "--json", *place], capture_output=True, text=True).stdout
+        checked = subprocess.run([sys.executable, COMMAND, "check", "--json", *place], capture_output=True, text=True).stdout
         for only in ("/", "/bad"):
-            words_ = [sys.executable, f"{TOP}/host/zirofen-host", "tree", "--ascii", *place, *(["--only", only] if only != "/" else [])]
+            words_ = [sys.executable, COMMAND, "tree", "--ascii", *place, *(["--only", only] if only != "/" else [])]
             ended = subprocess.run(words_, capture_output=True, text=True)
             self.assertEqual((ended.returncode, ended.stderr), (0, ""))
             lines, told = drawn(json.loads(checked), None, True, only=only), ended.stdout.splitlines()
@@ -174,7 +174,7 @@ class ScriptTest(unittest.TestCase):
     """The script from outside."""
 
     def words(self, *given):
-        return [sys.executable, f"{TOP}/host/zirofen-host", "tree", *given]
+        return [sys.executable, COMMAND, "tree", *given]
 
     def environment(self, **more):
         without = ("LC_ALL", "LC_CTYPE", "NO_COLOR", "PAGER", "COLUMNS")

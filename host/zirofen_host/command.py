@@ -13,7 +13,7 @@ from zirofen_host.ask.delegations import Delegations
 from zirofen_host.collect import elsewhere, snapshot
 from zirofen_host.collect.accounts import accounts_of
 from zirofen_host.collect.processes import read_processes
-from zirofen_host.collect.users import User
+from zirofen_host.collect.model import User
 from zirofen_host.judge import baseline, check, one, saved, shell
 from zirofen_host.options import (PROC, AskOptions, CheckOptions, CommandsOptions, DelegationsOptions, PageOptions,
                                   SnapshotOptions, TreeOptions)

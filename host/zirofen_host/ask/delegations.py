@@ -2,7 +2,7 @@
 from collections import namedtuple
 
 from zirofen_host.profile import ANYBODY, HANDED_OVER, MOST_GROUPS, ancestors, parent_of
-from zirofen_host.collect.users import User
+from zirofen_host.collect.model import User
 
 Delegation = namedtuple("Delegation", "path user")
 Guarded = namedtuple("Guarded", "guard path name")

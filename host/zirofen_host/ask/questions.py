@@ -8,7 +8,7 @@ from zirofen_host.ask.program import ESCAPES
 from zirofen_host.ask.delegations import Delegations
 from zirofen_host.profile import ANYBODY, HANDED_OVER, MOST_GROUPS, ancestors, parent_of, topmost
 from zirofen_host.collect.tree import in_order
-from zirofen_host.collect.users import CLASSES, OTHERS, User
+from zirofen_host.collect.model import CLASSES, OTHERS, User
 from zirofen_host.collect.walk import MANAGERS_MARK
 
 # a unit of the system's manager stands in slices alone; those of a user's manager stand in a unit

@@ -8,7 +8,7 @@ from functools import cached_property
 from itertools import accumulate
 
 from zirofen_host.fault import Fault
-from zirofen_host.collect.users import User
+from zirofen_host.collect.model import User
 
 LARGEST_ID = 4294967295
 

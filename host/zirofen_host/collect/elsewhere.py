@@ -14,8 +14,7 @@ from zirofen_host.collect.mount import read_kernel_list
 from zirofen_host.collect.processes import Process
 from zirofen_host.profile import CONTROL_FILES, KERNEL_LIST, LIMIT_FILES, LONGEST_TEXT, is_other_limit
 from zirofen_host.collect.snapshot import Note
-from zirofen_host.collect.tree import read_tree
-from zirofen_host.collect.users import Entry, User
+from zirofen_host.collect.model import Entry, User
 from zirofen_host.collect.walk import Found
 
 MARK = "#= "

@@ -3,7 +3,7 @@ import os
 from collections import namedtuple
 
 from zirofen_host.fault import Fault
-from zirofen_host.collect.users import User
+from zirofen_host.collect.model import User
 
 KERNEL_THREAD = 0x00200000
 WRITES = os.O_WRONLY | os.O_RDWR

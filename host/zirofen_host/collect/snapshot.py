@@ -9,7 +9,7 @@ from zirofen_host.collect.processes import read_processes
 from zirofen_host.profile import (CONTROL_FILES, CONTROLLERS, LIMIT_FILES, MOST_PROCESSES, MOST_ROWS, accepts, parent_of,
                                   shown, topmost)
 from zirofen_host.collect.tree import Row, Tree, tree_text
-from zirofen_host.collect.users import Entry
+from zirofen_host.collect.model import Entry
 from zirofen_host.collect.walk import settled, value_of
 
 Note = namedtuple("Note", "kind place detail")

@@ -3,7 +3,7 @@ from dataclasses import dataclass, field
 
 from zirofen_host.fault import Fault
 from zirofen_host.profile import (CONTROL_FILES, CONTROLLERS, DIRECTORY_MODE, FILE_MODE, LIMIT_FILES, parent_of)
-from zirofen_host.collect.users import Entry
+from zirofen_host.collect.model import Entry
 
 
 @dataclass

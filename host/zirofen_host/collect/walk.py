@@ -12,7 +12,7 @@ from zirofen_host import progress
 from zirofen_host.fault import Fault
 from zirofen_host.profile import (CONTROL_FILES, LIMIT_FILES, LONGEST_PATH, ancestors, is_inside, is_name, is_set_by, parent_of,
                                   shown, topmost)
-from zirofen_host.collect.users import Entry
+from zirofen_host.collect.model import Entry
 
 MANAGERS_MARK, OWNERS_MARK = MARKS = ("trusted.delegate", "user.delegate")
 MOST_WALKS = 8
@@ -145,7 +145,7 @@ class Walk:
             if stat.S_ISREG(status.st_mode):
                 entry = self.held_once(entry_of(status))
                 files.append((self.held_once(name), entry))
-                if is_set_by(name, entry):
+                if is_set_by(name, entry.mode):
                     self.places[status.st_dev, status.st_ino] = path, files[-1][0]
         files = self.held_once(tuple(files), dict)
         for file in CONTROL_FILES:

@@ -12,7 +12,7 @@ from zirofen_host.ask.questions import with_groups
 from zirofen_host.judge.shell import change_commands
 from zirofen_host.ask.texts import Programs, Texts
 from zirofen_host.collect.tree import Tree
-from zirofen_host.collect.users import User
+from zirofen_host.collect.model import User
 
 
 def uid_of(word, accounts, on_host):

@@ -4,9 +4,10 @@ The answers speak of the limit files of a tree text at subtrees that are asked o
 is set is looked at here.
 """
 from collections import namedtuple
+from dataclasses import replace
 
 from zirofen_host.profile import ANYBODY, HANDED_OVER, LIMIT_FILES, is_set_by
-from zirofen_host.collect.users import OTHERS
+from zirofen_host.collect.model import OTHERS
 
 Opened = namedtuple("Opened", "path file entry whom")
 # somebody that an entry lets in: by its owner, by its group or with everybody, and the uids that were found so
@@ -42,7 +43,7 @@ class Openings:
             return path == "/"
         if name in LIMIT_FILES:
             return path not in self.asked
-        return is_set_by(name, entry)
+        return is_set_by(name, entry.mode)
 
     def whom(self, path, name, entry):
         of = self.questions.delegations.users
@@ -77,5 +78,5 @@ def what_differs(snapshot, path, kernel_list):
         handed = name == "dir" or name in kernel_list
         by_group = entry.mode & 0o020 and entry.gid
         if entry.mode & 0o002 or by_group and (entry.uid or not handed) or entry.uid and not handed:
-            differs[name] = entry._replace(uid=0 if handed else entry.uid)
+            differs[name] = replace(entry, uid=0 if handed else entry.uid)
     return differs

@@ -58,7 +58,9 @@ class Unseen:
                 continue
             place, name = self.places.get(file, (b"", "cgroup.procs"))
             place = place.decode("ascii")
-            if place in self.rows and name != "cgroup.procs" and not any(user.reaches(self.rows[place].files[name]) for user in users[pids[pid]]):
+            if place not in self.rows or name == "cgroup.procs":
+                continue
+            if not any(user.reaches(self.rows[place].files[name]) for user in users[pids[pid]]):
                 held[pids[pid], place, name].add(pid)
         for (uid, place, name), pids in sorted(held.items()):
             where = f"in process {some(list(map(str, sorted(pids))))}"

@@ -6,7 +6,7 @@ from zirofen_host.show.markup import capital, code, commands, filled, items, par
 from zirofen_host.show.picture import Picture
 from zirofen_host.judge.finding_lines import owner_text
 from zirofen_host.show.lines import together
-from zirofen_host.collect.users import User
+from zirofen_host.collect.model import User
 from zirofen_host.show.view import DIFFERS
 from zirofen_host.show.words import ESCAPES, FAULT, OPENED, SIGNS, UNSETTLED
 
