@@ -40,7 +40,7 @@ class ElsewhereTest(HostTest):
         options = self.options()
         values = [{"changing": [path.decode(), why]} for path, why in taken.changing.items()]
         if with_host:
-            values += elsewhere.carried(taken, accounts_of(options, taken.running.values()), mounts, options)
+            values += elsewhere.carried(taken, accounts_of(options, taken.processes.values()), mounts, options)
         with open(self.file, "w", encoding="ascii") as out:
             out.write(elsewhere.text_with(taken, values, True))
 

@@ -86,7 +86,7 @@ def write_snapshot(given: argparse.Namespace) -> int:
     taken, mounts = snapshot.take(options, snapshot.all_that_changes, MOST_ROWS)
     values = [{"changing": [os.fsdecode(path), why]} for path, why in taken.changing.items()]
     if options.with_host:
-        accounts = accounts_of(options, taken.running.values())
+        accounts = accounts_of(options, taken.processes.values())
         values += elsewhere.carried(taken, accounts, mounts, options)
     text = elsewhere.text_with(taken, values, not options.no_processes)
     for line in taken.note_lines():

@@ -1,6 +1,7 @@
 """What a tree text can carry: paths, names, files, values and their defaults."""
+import os
 import re
-from typing import Dict, FrozenSet, Iterable, Iterator, NewType, Optional, Tuple, TypeVar, Union
+from typing import Dict, FrozenSet, Iterable, Iterator, NewType, Optional, Sequence, Tuple, TypeVar, Union
 
 # a cgroup's path from the mount on, with the bytes that its names have; the root's is /
 CgroupPath = NewType("CgroupPath", bytes)
@@ -89,6 +90,23 @@ def accepts(file: str, value: Union[int, str]) -> bool:
 def is_number(word: str) -> bool:
     """Whether a word is a number as the formats write one."""
     return word.isascii() and word.isdigit() and (word == "0" or word[0] != "0")
+
+
+def is_root(path: AnyPath) -> bool:
+    """Whether a path is that of the topmost cgroup."""
+    return path in ("/", ROOT)
+
+
+def parts_of(path: AnyPath) -> Sequence[Union[str, bytes]]:
+    """The names on the way to a cgroup, by which paths are in the order of their tree."""
+    if isinstance(path, str):
+        return path.split("/")
+    return path.split(b"/")
+
+
+def text_of(path: AnyPath) -> str:
+    """A path as a text that stands for its bytes."""
+    return os.fsdecode(path)
 
 
 def parent_of(path: AnyPath) -> Optional[AnyPath]:

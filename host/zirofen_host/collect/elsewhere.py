@@ -28,20 +28,22 @@ class Elsewhere:
 
     def __init__(self, accepted, mount):
         self.file, self.tree = accepted.file, accepted.tree
-        self.places, self.running, self.notes, self.spoiled, self.changing = {}, {}, [], {}, {}
+        self.places, self.processes, self.notes, self.spoiled, self.changing = {}, {}, [], {}, {}
         self.about = {"host": None, "kernel": None, "time": None, "mount": None, "options": [], "delegate": None}
         self.values, self.lists = {}, {name: [] for name in ("account", "group", "subuid", "subgid")}
         self.is_carried = False
-        self.rows_found = {path: self.found(path, row) for path, row in self.tree.rows.items()}
+        self.cgroups = {path: self.found(path, row) for path, row in self.tree.rows.items()}
         self.read_carried(accepted.text)
         self.mount = self.about["mount"] or mount
         for pid, uid, _ in self.tree.processes:
-            self.running.setdefault(pid, Process(pid, uid, User(uid, ()), False))
+            self.processes.setdefault(pid, Process(pid, uid, User(uid, ()), False))
 
     def found(self, path, row):
         """A cgroup as the tree alone has it, in which a default value isn't written. The root has no limits."""
         if path != "/":
-            row.values = {name: row.values.get(name, LIMIT_FILES[name][1]) for name in self.tree.limit_files(path)}
+            values = {name: row.values.get(name, LIMIT_FILES[name][1]) for name in self.tree.limit_files(path)}
+            row.values.clear()
+            row.values.update(values)
         files = {name: row.entry(name) for name in (*CONTROL_FILES, *self.tree.limit_files(path))}
         return Found(row.directory, files, {}, list(row.enabled), [], "domain", {}, [])
 
@@ -61,7 +63,7 @@ class Elsewhere:
         self.about, self.is_carried = value, True
 
     def take_cgroup(self, value):
-        found = self.rows_found[value["path"]]
+        found = self.cgroups[value["path"]]
         found.files.update({name: entry_of(word) for name, word in value["files"].items()})
         found.marks.update({name: mark.encode("latin-1") for name, mark in value["marks"].items()})
         self.values.update({(value["path"], name): str(text) for name, text in value["values"].items()})
@@ -71,7 +73,7 @@ class Elsewhere:
         numbers = [pid, uid, effective, *gids]
         if not all(isinstance(number, int) for number in numbers) or not all(isinstance(each, str) for each in (name, *capabilities)):
             raise ValueError
-        self.running[pid] = Process(pid, uid, User(effective, tuple(gids)), False, name, tuple(capabilities))
+        self.processes[pid] = Process(pid, uid, User(effective, tuple(gids)), False, name, tuple(capabilities))
 
     def take_account(self, value):
         name, uid, gid = value
@@ -98,7 +100,7 @@ class Elsewhere:
     @property
     def processes_told(self):
         """The processes whose groups the text carries."""
-        return self.running.values() if self.is_carried else ()
+        return self.processes.values() if self.is_carried else ()
 
     @property
     def kernel_list(self):
@@ -142,14 +144,14 @@ def carried(snapshot, accounts, mounts, options):
     yield {"about": about}
     for note in snapshot.notes:
         yield {"note": list(note)}
-    for path, found in snapshot.rows_found.items():
+    for path, found in snapshot.cgroups.items():
         others = {name: entry for name, entry in found.files.items()
                   if is_other_limit(name) or entry.uid or entry.mode & 0o022 or entry.mode > 0o777}
         values = {name: snapshot.value_of(path, name) for name in others if is_other_limit(name)}
         yield {"cgroup": {"path": path, "files": {name: word_of(entry) for name, entry in others.items()},
                           "values": {name: value for name, value in values.items() if value is not None},
                           "marks": {name: mark.decode("latin-1") for name, mark in found.marks.items()}}}
-    for process in snapshot.running.values():
+    for process in snapshot.processes.values():
         if not process.is_kernel_thread:
             yield {"process": [process.pid, process.uid, process.user.uid, list(process.user.gids), process.name,
                                list(process.capabilities)]}

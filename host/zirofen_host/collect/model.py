@@ -1,8 +1,8 @@
 """What is collected of a host, or read back from a text of another one: the first form of what is told."""
-from dataclasses import dataclass
-from typing import FrozenSet, Mapping, NamedTuple, Optional, Tuple, Union
+from dataclasses import dataclass, field
+from typing import FrozenSet, List, Mapping, NamedTuple, Optional, Sequence, Tuple, Union
 
-from zirofen_host.profile import CgroupPath
+from zirofen_host.profile import DIRECTORY_MODE, FILE_MODE, LIMIT_FILES, CgroupPath, parent_of
 
 OWNER, GROUP, OTHERS = CLASSES = ("owner", "group", "others")
 
@@ -19,6 +19,9 @@ class Entry:
     uid: int
     gid: int
     mode: int
+
+
+DEFAULT_FILE = Entry(0, 0, FILE_MODE)
 
 
 class User(NamedTuple):
@@ -57,12 +60,16 @@ class Cgroup:
 
 @dataclass(frozen=True)
 class Row:
-    """What a tree text carries of a cgroup. A file that isn't named has its default."""
+    """What a tree text carries of a cgroup."""
     path: CgroupPath
-    directory: Entry
-    files: Mapping[str, Entry]
-    values: Mapping[str, Value]
-    enabled: Tuple[str, ...]
+    directory: Entry = Entry(0, 0, DIRECTORY_MODE)
+    files: Mapping[str, Entry] = field(default_factory=dict)
+    values: Mapping[str, Value] = field(default_factory=dict)
+    enabled: Tuple[str, ...] = ()
+
+    def entry(self, name: str) -> Entry:
+        """The directory or a file by its name; a file that isn't named has its default."""
+        return self.directory if name == "dir" else self.files.get(name, DEFAULT_FILE)
 
 
 class Placed(NamedTuple):
@@ -77,7 +84,13 @@ class Tree:
     """What a tree text carries: the root's controllers, rows by path, and processes."""
     controllers: Tuple[str, ...]
     rows: Mapping[CgroupPath, Row]
-    processes: Tuple[Placed, ...]
+    processes: Sequence[Placed] = ()
+
+    def limit_files(self, path: CgroupPath) -> List[str]:
+        """The limit files that stand at a cgroup, in their order."""
+        parent = parent_of(path)
+        enabled = self.rows[parent].enabled if parent else ()
+        return [file for file, (controller, _) in LIMIT_FILES.items() if controller is None or controller in enabled]
 
 
 @dataclass(frozen=True)

@@ -1,9 +1,8 @@
 """Processes, as /proc tells of them."""
 import os
-from collections import namedtuple
 
 from zirofen_host.fault import Fault
-from zirofen_host.collect.model import User
+from zirofen_host.collect.model import Process, User
 
 KERNEL_THREAD = 0x00200000
 WRITES = os.O_WRONLY | os.O_RDWR
@@ -12,9 +11,6 @@ WRITES = os.O_WRONLY | os.O_RDWR
 CAPABILITIES = {0: "CHOWN", 1: "DAC_OVERRIDE", 3: "FOWNER", 6: "SETGID", 7: "SETUID", 16: "SYS_MODULE", 17: "SYS_RAWIO",
                 19: "SYS_PTRACE", 21: "SYS_ADMIN"}
 FIRST_USER_NAMESPACE = "user:[4026531837]"
-
-Process = namedtuple("Process", "pid uid user is_kernel_thread name capabilities", defaults=("", ()))
-
 
 # descriptors of one user that are looked at
 MOST_DESCRIPTORS = 4096

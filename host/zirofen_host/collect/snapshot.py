@@ -29,16 +29,16 @@ class Snapshot:
         # it is of this host, and of no text
         self.file = self.kernel_list = self.accounts = None
         self.changing = dict(changing)
-        self.running = processes
+        self.processes = processes
         self.notes = []
         self.kernel_threads = 0
         self.spoiled = {shown(path): why for path, why in dict(spoiled).items()}
-        self.rows_found = {os.fsdecode(path): found for path, found in walk.found.items()}
+        self.cgroups = {os.fsdecode(path): found for path, found in walk.found.items()}
         self.note_changing()
         self.note_names()
         self.note_controllers()
-        rows = {path: self.row(path, found) for path, found in self.rows_found.items()}
-        self.tree = Tree(tuple(name for name in CONTROLLERS if name in self.rows_found["/"].available), rows)
+        rows = {path: self.row(path, found) for path, found in self.cgroups.items()}
+        self.tree = Tree(tuple(name for name in CONTROLLERS if name in self.cgroups["/"].available), rows, [])
         self.add_processes()
 
     def note(self, kind, place, detail):
@@ -52,14 +52,14 @@ class Snapshot:
         for path, count in sorted(self.walk.left_out.items()):
             inside = "" if count == 1 else f", and {count - 1} cgroups inside"
             self.note("name", shown(path), f"left out{inside}: no name of the format, or too long a path")
-        files = {os.fsencode(file) for found in self.rows_found.values() for file in found.files} | set(RESERVED)
+        files = {os.fsencode(file) for found in self.cgroups.values() for file in found.files} | set(RESERVED)
         for path in sorted({*self.walk.found, *self.walk.left_out}):
             if path.rpartition(b"/")[2] in files:
                 self.note("file-name", shown(path), "named as a file: a controller with that file can't be enabled above")
 
     def note_controllers(self):
-        others = Counter(name for found in self.rows_found.values() for name in found.enabled if name not in CONTROLLERS)
-        others.update({name: 0 for name in self.rows_found["/"].available if name not in CONTROLLERS})
+        others = Counter(name for found in self.cgroups.values() for name in found.enabled if name not in CONTROLLERS)
+        others.update({name: 0 for name in self.cgroups["/"].available if name not in CONTROLLERS})
         for name, count in sorted(others.items()):
             self.note("controller", "/", f"{name} left out, which {count} cgroups enable")
 
@@ -69,7 +69,7 @@ class Snapshot:
         row = Row(path, self.plain(path, "dir", found.directory),
                   enabled=tuple(name for name in CONTROLLERS if name in found.enabled))
         parent = parent_of(path)
-        available = self.rows_found[parent].enabled if parent else ()
+        available = self.cgroups[parent].enabled if parent else ()
         for file in CONTROL_FILES:
             row.files[file] = self.plain(path, file, found.files[file])
         for file, (controller, default) in LIMIT_FILES.items():
@@ -101,7 +101,7 @@ class Snapshot:
 
     def add_processes(self):
         places = {}
-        for path, found in self.rows_found.items():
+        for path, found in self.cgroups.items():
             if found.pids is None:
                 self.note("processes", path, "left out: the cgroup is threaded and doesn't list them")
             for pid in found.pids or ():
@@ -111,7 +111,7 @@ class Snapshot:
                     self.note("pid", path, f"{pid} left out: a process of another PID namespace, or no PID of the format")
         beside = Counter()
         for pid, path in places.items():
-            process = self.running.get(pid)
+            process = self.processes.get(pid)
             if process is None:
                 continue
             if process.is_kernel_thread:
@@ -134,7 +134,7 @@ class Snapshot:
     @property
     def processes_told(self):
         """The processes of which all is known that accounts are found by."""
-        return self.running.values()
+        return self.processes.values()
 
     @property
     def about(self):

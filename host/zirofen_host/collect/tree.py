@@ -1,37 +1,7 @@
 """A tree text of format 2: what is in it, and its spelling."""
-from dataclasses import dataclass, field
-
 from zirofen_host.fault import Fault
-from zirofen_host.profile import (CONTROL_FILES, CONTROLLERS, DIRECTORY_MODE, FILE_MODE, LIMIT_FILES, parent_of)
-from zirofen_host.collect.model import Entry
-
-
-@dataclass
-class Row:
-    """A cgroup: its directory, its files and what it enables for its children."""
-    path: str
-    directory: Entry = Entry(0, 0, DIRECTORY_MODE)
-    files: dict = field(default_factory=dict)
-    values: dict = field(default_factory=dict)
-    enabled: tuple = ()
-
-    def entry(self, name):
-        """The directory or a file by its name; a file that isn't named has its default."""
-        return self.directory if name == "dir" else self.files.get(name, Entry(0, 0, FILE_MODE))
-
-
-@dataclass
-class Tree:
-    """Rows by path, processes as (pid, uid, path), and the root's controllers."""
-    controllers: tuple
-    rows: dict
-    processes: list = field(default_factory=list)
-
-    def limit_files(self, path):
-        """The limit files that stand at a cgroup, in their order."""
-        parent = parent_of(path)
-        enabled = self.rows[parent].enabled if parent else ()
-        return [file for file, (controller, _) in LIMIT_FILES.items() if controller is None or controller in enabled]
+from zirofen_host.profile import CONTROL_FILES, CONTROLLERS, DIRECTORY_MODE, FILE_MODE, LIMIT_FILES, parent_of
+from zirofen_host.collect.model import Entry, Row, Tree
 
 
 def literal(text):

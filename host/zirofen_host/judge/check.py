@@ -310,15 +310,15 @@ class Checked:
         return {"users": [{"uid": uid, "name": self.accounts.names.get(uid),
                            "groups": [list(user.gids) for user in self.asked_by_uid.get(uid, ())]} for uid in sorted(users)],
                 "groups": [{"gid": gid, "name": name} for gid, name in sorted(self.names.groups.items())],
-                "cgroups": [self.cgroup(path) for path in in_order(self.snapshot.rows_found)],
+                "cgroups": [self.cgroup(path) for path in in_order(self.snapshot.cgroups)],
                 "processes": [self.process(*each) for each in sorted(self.snapshot.tree.processes)]}
 
     def process(self, pid, uid, at):
-        process = self.snapshot.running[pid]
+        process = self.snapshot.processes[pid]
         return {"pid": pid, "uid": uid, "at": at, "name": shown(process.name), "capabilities": list(process.capabilities)}
 
     def cgroup(self, path):
-        row, found = self.snapshot.tree.rows[path], self.snapshot.rows_found[path]
+        row, found = self.snapshot.tree.rows[path], self.snapshot.cgroups[path]
         carried = {name: {**self.owner(row.entry(name)), **({"value": row.values[name]} if name in row.values else {})}
                    for name in (*CONTROL_FILES, *self.snapshot.tree.limit_files(path))}
         others = {name: {**self.owner(entry), "value": self.text_of(path, name)} for name, entry in found.files.items()
@@ -339,7 +339,7 @@ def setting_of(path, name):
 
 
 def questions_of(snapshot, accounts):
-    marks = {path: found.marks for path, found in snapshot.rows_found.items() if found.marks}
+    marks = {path: found.marks for path, found in snapshot.cgroups.items() if found.marks}
     return Questions(snapshot.tree, accounts, marks)
 
 

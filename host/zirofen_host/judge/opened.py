@@ -20,7 +20,7 @@ class Openings:
     """Finds open limits on a host, given what the answers show already."""
 
     def __init__(self, snapshot, questions, kernel_list):
-        self.rows = snapshot.rows_found
+        self.rows = snapshot.cgroups
         self.questions = questions
         self.kernel_list = kernel_list
         self.asked = set(questions.subtrees)
@@ -69,7 +69,7 @@ class Openings:
 def what_differs(snapshot, path, kernel_list):
     """The entries at a subtree that was meant to be handed over which differ from what a manager leaves there: a directory
     or a file of the list that more than its owner writes, and other files that aren't root's."""
-    row = snapshot.rows_found[path]
+    row = snapshot.cgroups[path]
     differs = {}
     for name, entry in {"dir": row.directory, **row.files}.items():
         if name.endswith(".pressure"):

@@ -21,9 +21,9 @@ class Unseen:
     """Looks at a host once."""
 
     def __init__(self, snapshot, questions, names, proc, systemctl=None):
-        self.rows = snapshot.rows_found
+        self.rows = snapshot.cgroups
         self.tree = snapshot.tree
-        self.running = snapshot.running
+        self.processes = snapshot.processes
         self.places = snapshot.places
         self.questions = questions
         self.names = names
@@ -49,7 +49,7 @@ class Unseen:
         users = defaultdict(list)
         for user in self.questions.users:
             users[user.uid].append(user)
-        pids = {pid: process.user.uid for pid, process in self.running.items() if process.user.uid in users}
+        pids = {pid: process.user.uid for pid, process in self.processes.items() if process.user.uid in users}
         held = defaultdict(set)
         for pid, file in (found for of in self.by_user(pids) for found in open_for_writing(self.proc, of)):
             if file is None:
@@ -113,7 +113,7 @@ class Unseen:
         asked = {path for path in self.questions.subtrees if self.questions.holders[path].by}
         found = defaultdict(list)
         for pid, uid, at in self.tree.processes:
-            process = self.running[pid]
+            process = self.processes[pid]
             inside = not asked.isdisjoint((at, *ancestors(at)))
             if process.capabilities and (inside or process.user.uid):
                 found[at, inside, process.user.uid, process.capabilities].append(pid)
