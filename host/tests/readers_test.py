@@ -26,8 +26,12 @@ NO_READS = {
     ("show.page", "replace"): "the page is written",
 }
 # modules whose readers are still to be moved
-NOT_YET = {"collect.mount", "collect.walk", "collect.processes", "collect.accounts", "ask.accepted", "judge.saved", "judge.baseline",
-           "command"}
+NOT_YET = {
+    "collect.mount", "collect.walk", "collect.processes", "collect.accounts",
+    "ask.accepted",
+    "judge.saved", "judge.baseline",
+    "command",
+}
 
 
 def called(node):
