@@ -22,7 +22,7 @@ class Edit:
 
     def __init__(self, crate, file):
         self.crate, self.name, self.pairs, self.verdict = crate, f"{crate.name}/{file.removesuffix('.edit')}", [], None
-        self.copy = None
+        self.copy, self.breaks = None, []
         path = old = self.goal = ""
         for line in text_of(f"{crate.folder}/must-fail/{file}").split("\n"):
             word, _, text = line.partition(":")
@@ -30,6 +30,7 @@ class Edit:
             path, old = (text.strip(), old) if word == "file" else (path, text if word == "old" else old)
             self.pairs += [(path, old, text)] if word == "new" else []
             self.goal = text.strip() if word == "goal" else self.goal
+            self.breaks += [text.strip()] if word == "breaks" else []
         try:
             self.apply({})
         except (OSError, ValueError) as error:
