@@ -10,7 +10,7 @@ import unittest
 from unittest import mock
 
 import kit
-from checkout import TOP, write
+from checkout import TOP, read, write
 
 NEW = "rattle-kit-99z logic 0"
 # `rt` on the PATH, and in its folder the script that the gate loads as a module
@@ -92,6 +92,9 @@ class VersionTest(ToolchainTest):
         for name in ("low", "high", "program"):
             write(f"{self.room}/crates/{name}/src/lib.rt", name)
         self.assertEqual(self.call("from_nothing", "program").stderr.count(NEW), 1)
+
+    def test_the_gate_says_to_its_parts_that_it_has_warned(self):
+        self.assertIn(f"export {kit.COMPARED}=$(rt version)\n", read(f"{TOP}/verify"))
 
     def test_one_that_was_tried_is_not_named(self):
         self.bring(kit.TRIED[0], SCRIPT)
