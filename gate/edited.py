@@ -4,8 +4,8 @@ import collections, functools, os, re
 import crates
 import kit
 
-# how many edits go into one check; and of a crate that stands on more than kit.MANY, where each takes long and much memory
-MOST_IN_A_CHECK, MOST_WHERE_MANY = 32, 16
+# how many edits go into one check
+MOST_IN_A_CHECK = 32
 # How an edit joins others in a check: in a function that others change too, in one of its own, or in a copy of one.
 IN_ONE_FUNCTION, BESIDE, IN_A_COPY = 1, 2, 3
 FUNCTION = re.compile(r"( *)(?:pub(?:\([\w ]+\))? )?(?:const |unsafe )*fn (\w+)")
@@ -22,7 +22,7 @@ class Edit:
 
     def __init__(self, crate, file):
         self.crate, self.name, self.pairs, self.verdict = crate, f"{crate.name}/{file.removesuffix('.edit')}", [], None
-        self.copy = None
+        self.copy, self.breaks = None, []
         path = old = self.goal = ""
         for line in text_of(f"{crate.folder}/must-fail/{file}").split("\n"):
             word, _, text = line.partition(":")
@@ -30,6 +30,7 @@ class Edit:
             path, old = (text.strip(), old) if word == "file" else (path, text if word == "old" else old)
             self.pairs += [(path, old, text)] if word == "new" else []
             self.goal = text.strip() if word == "goal" else self.goal
+            self.breaks += [text.strip()] if word == "breaks" else []
         try:
             self.apply({})
         except (OSError, ValueError) as error:
@@ -125,7 +126,7 @@ class Edit:
     def way_into(self, group):
         """Returns how the edit can join those of a check, the cheapest way first, or None where it can't."""
         in_place = [it for it in group if not it.copy]
-        if len(group) == self.crate.most_in_a_check():
+        if len(group) == MOST_IN_A_CHECK:
             return None
         if not all(map(self.goes_beside, in_place)) or not can_be_applied([*in_place, self]):
             return IN_A_COPY if self.can_be_copied() else None
@@ -163,9 +164,6 @@ class Crate:
         folder = f"{self.folder}/must-fail"
         files = sorted(os.listdir(folder)) if os.path.isdir(folder) else []
         self.edits = [Edit(self, it) for it in files if not it.endswith(".md")]
-
-    def most_in_a_check(self):
-        return MOST_WHERE_MANY if len(self.below) > kit.MANY else MOST_IN_A_CHECK
 
     def read_functions(self, rlib):
         """Finds the functions in the text, under the names that the kit keeps of a library for linking."""
@@ -236,8 +234,7 @@ def groups_of(edits):
     the function and each other a copy of it. One outside bodies, or in a function of no known name, is alone."""
     rivals = collections.Counter(name for edit in edits for name in edit.names())
     in_bodies = [it for it in edits if it.is_in_bodies()]
-    most = min((it.crate.most_in_a_check() for it in edits), default=1)
-    groups = [[] for _ in range(0, len(in_bodies), most)]
+    groups = [[] for _ in range(0, len(in_bodies), MOST_IN_A_CHECK)]
     for edit in sorted(in_bodies, key=lambda it: (-max(map(rivals.get, it.names())), min(it.names()), it.can_be_copied())):
         ways = [(edit.way_into(it), len(it), number) for number, it in enumerate(groups)]
         way, _, number = min((it for it in ways if it[0]), default=(BESIDE, 0, len(groups)))

@@ -8,8 +8,8 @@ from edited import Crate, groups_of
 
 
 class GroupsTest(unittest.TestCase):
-    def groups(self, edits, below):
-        """The groups of a crate that has so many edits, each of a function of its own, and stands on so many crates."""
+    def groups(self, edits):
+        """The groups of a crate that has so many edits, each of a function of its own."""
         folder = tempfile.TemporaryDirectory()
         self.addCleanup(folder.cleanup)
         top, numbers = f"{folder.name}/crate", range(edits)
@@ -18,22 +18,18 @@ class GroupsTest(unittest.TestCase):
             write(f"{top}/must-fail/e{it}.edit", f"file: src/lib.rt\nold:     {it} + 1000\nnew:     {it}\n")
         write(f"{folder.name}/rlib/toolchain/mir.json", json.dumps([[f"crate::f{it}", {}] for it in numbers]))
         crate = Crate(top, set())
-        crate.below = {str(it) for it in range(below)}
         crate.read_edits()
         crate.read_functions(f"{folder.name}/rlib")
         self.assertEqual([it.verdict for it in crate.edits], [None] * edits)
         return groups_of(crate.edits)
 
     def test_each_edit_is_in_one_group(self):
-        names = [it.name for group in self.groups(40, 3) for it in group]
+        names = [it.name for group in self.groups(40) for it in group]
         self.assertEqual(sorted(names), sorted(f"crate/e{it}" for it in range(40)))
 
     def test_groups_are_as_few_and_as_even_as_can_be(self):
-        self.assertEqual([len(it) for it in self.groups(40, 3)], [20, 20])
-        self.assertEqual([len(it) for it in self.groups(32, 10)], [32])
-
-    def test_groups_are_smaller_where_a_crate_stands_on_many(self):
-        self.assertEqual([len(it) for it in self.groups(40, 11)], [14, 13, 13])
+        self.assertEqual([len(it) for it in self.groups(40)], [20, 20])
+        self.assertEqual([len(it) for it in self.groups(32)], [32])
 
     def test_no_edits(self):
         self.assertEqual(groups_of([]), [])

@@ -1,10 +1,9 @@
-"""Tests of what gate/promises compares, over a small crate."""
+"""Tests of what gate/promises compares, and of its table, over a small crate."""
 import os
-import shutil
 import tempfile
 import unittest
 
-from promised import edits_missing, faults_of
+from promised import Sources, edits_missing, faults_of_claims, faults_of_edits, tables_of
 
 ROOT = """//! A crate.
 pub mod counts;
@@ -23,13 +22,22 @@ pub trait Counts {
         ensures more { 0 < result };
 }
 
+/// What nobody else sees.
+trait Hidden {
+    fn hidden(&self) -> u32;
+}
+
 /// Some.
 pub struct Some {
     held: u32,
 }
 
 impl Some {
-    /// Less.
+    /// Less, or
+    /// as many.
+    ///
+    /// # Errors
+    /// None.
     pub fn less(&self) -> u32
         ensures bound { result < 10 }
         ensures held { result < self.now.held }
@@ -44,7 +52,15 @@ impl Counts for Some {
     }
 }
 
-fn doubled(number: u32) -> u32 {
+impl Hidden for Some {
+    fn hidden(&self) -> u32 {
+        1
+    }
+}
+
+fn doubled(number: u32) -> u32
+    ensures { result ≡ number | 2 }
+{
     number * 2
 }
 
@@ -67,26 +83,38 @@ pub fn shown() -> u32
 """
 
 EDITS = {
-    "less_by_nothing": ("src/counts.rt", "self.held / 2", "self.held"),
-    "many_of_another": ("src/counts.rt", "doubled(self.held)", "doubled(3)"),
-    "doubled_thrice": ("src/counts.rt", "number * 2", "number * 3"),
-    "shown_is_more": ("src/inner.rt", "helped() + 0", "helped() + 1"),
-    "helped_is_four": ("src/inner.rt", "    3", "    4"),
+    "less_by_nothing": ("src/counts.rt", "self.held / 2", "self.held", "as many are told as less"),
+    "doubled_thrice": ("src/counts.rt", "number * 2", "number * 3", "half as many again are told"),
+    "shown_is_more": ("src/inner.rt", "helped() + 0", "helped() + 1", "one more is shown"),
+    "none_are_held": ("src/counts.rt", "    held: u32,", "    held: u8,", "many can't be told"),
 }
 
-PROMISES = """# Promises
+TABLE = """# Promises
 
-## Counts (`low`)
+## low
 
-| Promise | Call: clause | Edits that the prover refuses |
-|---|---|---|
-| Less (a word in brackets: `none`) | `Some::less`: `bound` and `held` | `less_*` |
-| Many | `Counts::many`: `more`; `counts::all_are_few`: `few` | `many_of_another`, `doubled_thrice` |
-| Shown | `low::shown`: `three` | `shown_is_more`, `helped_is_four` |
-"""
+| Call | It says | Clauses | Edits that the prover refuses |
+|---|---|---|---|
+| `shown` |  | `three` | `shown_is_more`: one more is shown |
+
+## low::counts
+
+| Call | It says | Clauses | Edits that the prover refuses |
+|---|---|---|---|
+| `Counts::many` | How many. | `more` |  |
+| `Some::less` | Less, or as many. | `bound`, `held` | `less_by_nothing`: as many are told as less |
+| `Some::many` (`Counts`) |  |  |  |
+| `doubled`, private |  | unnamed | `doubled_thrice`: half as many again are told |
+| `all_are_few` | A law. | `few` |  |
+
+## low, outside its calls
+
+| Call | It says | Clauses | Edits that the prover refuses |
+|---|---|---|---|
+|  |  |  | `none_are_held`: many can't be told |"""
 
 
-class Promised(unittest.TestCase):
+class Crates(unittest.TestCase):
     def setUp(self):
         room = tempfile.TemporaryDirectory()
         self.addCleanup(room.cleanup)
@@ -95,77 +123,75 @@ class Promised(unittest.TestCase):
             os.makedirs(f"{self.folder}/{part}")
         for name, text in (("lib", ROOT), ("counts", COUNTS), ("inner", INNER)):
             self.write(f"src/{name}.rt", text)
-        for name, (path, old, new) in EDITS.items():
-            self.write(f"must-fail/{name}.edit", f"file: {path}\nold: {old}\nnew: {new}\n")
+        for name, (path, old, new, breaks) in EDITS.items():
+            self.write_edit(name, f"breaks: {breaks}\n", path=path, old=old, new=new)
 
     def write(self, path, text):
         with open(f"{self.folder}/{path}", "w", encoding="utf-8") as it:
             it.write(text)
 
-    def faults(self, old="", new=""):
-        self.assertIn(old, PROMISES)
-        return faults_of(PROMISES.replace(old, new), [self.folder])[1]
+    def write_edit(self, name, more, path="src/counts.rt", old="number * 2", new="number * 4"):
+        self.write(f"must-fail/{name}.edit", f"{more}file: {path}\nold: {old}\nnew: {new}\n")
 
-    def test_all_is_there(self):
-        # four calls with five clauses between them, five words for edits, and five edits
-        self.assertEqual(faults_of(PROMISES, [self.folder]), (19, []))
 
-    def test_call_that_is_not_there(self):
-        self.assertIn("there is no call, module or type Some::more in low", self.faults("Some::less", "Some::more"))
-        self.assertIn("there is no call, module or type Other::less in low", self.faults("Some::less", "Other::less"))
-        self.assertIn("there is no call, module or type inner::shown in low", self.faults("low::shown", "inner::shown"))
+class Edits(Crates):
+    def faults(self):
+        return faults_of_edits([self.folder])[1]
 
-    def test_clause_that_is_not_there(self):
-        self.assertEqual(self.faults("and `held`", "and `helt`"), ["no call of `Some::less` has a clause helt"])
-        self.assertEqual(self.faults("`three`", "`few`"), ["no call of `low::shown` has a clause few"])
-
-    def test_clause_of_a_place(self):
-        self.assertEqual(self.faults("`Some::less`: `bound`", "the calls of `Some`: `bound`"), [])
-        self.assertEqual(self.faults("`Counts::many`: `more`", "the calls of `Counts`: `more`"), [])
-
-    def test_edit_that_nothing_names(self):
-        self.assertEqual(self.faults("`less_*`", "none"), ["nothing names the edit low/less_by_nothing"])
-        self.assertEqual(self.faults("| `less_*`", "| none |\n\n`less_by_nothing` is of no row."), [])
-
-    def test_edit_that_is_not_there(self):
-        self.assertEqual(self.faults("`less_*`", "`less_*`, `more_*`"), ["there is no edit more_* in low"])
-
-    def test_edit_of_another_public_call(self):
-        away = "the edit low/{} stands in a row that is not about what it changes".format
-        self.assertEqual(self.faults("`less_*`", "`less_*`, `many_*`"), [away("many_of_another")])
-        self.assertEqual(self.faults("`less_*`", "`less_*`, `shown_*`"), [away("shown_is_more")])
-
-    def test_edit_below_a_call(self):
-        # a private function of a public module belongs to the rows of that module, one of a private module to those around it
-        self.assertEqual(self.faults("`less_*`", "`less_*`, `doubled_*`, `helped_*`"), [])
-        away = "the edit low/doubled_thrice stands in a row that is not about what it changes"
-        self.assertEqual(self.faults("`helped_is_four`", "`helped_is_four`, `doubled_*`"), [away])
+    def test_all_are_right(self):
+        self.assertEqual(faults_of_edits([self.folder]), (4, []))
 
     def test_edit_that_cannot_be_applied(self):
-        self.write("must-fail/less_by_nothing.edit", "file: src/counts.rt\nold: nowhere\nnew: held\n")
+        self.write_edit("doubled_thrice", "breaks: nothing\n", old="nowhere")
         [fault] = self.faults()
-        self.assertIn("the edit low/less_by_nothing: it can't be applied", fault)
+        self.assertIn("low/doubled_thrice: it can't be applied", fault)
 
     def test_edit_that_names_a_module_that_is_not_there(self):
-        edit = "file: src/counts.rt\nold: self.held / 2\nnew: low::{}::helped()\n"
-        self.write("must-fail/less_by_nothing.edit", edit.format("gone"))
-        self.assertEqual(self.faults(), ["the edit low/less_by_nothing names the module low::gone, which isn't there"])
-        self.write("must-fail/less_by_nothing.edit", edit.format("inner"))
+        self.write_edit("doubled_thrice", "breaks: nothing\n", new="low::gone::helped()")
+        self.assertEqual(self.faults(), ["low/doubled_thrice: it names the module low::gone, which isn't there"])
+        self.write_edit("doubled_thrice", "breaks: nothing\n", new="low::inner::helped()")
         self.assertEqual(self.faults(), [])
 
-    def test_heading_names_the_crates(self):
-        self.assertEqual(self.faults(" (`low`)", ""), [])
-        other = self.folder.replace("low", "high")
-        shutil.copytree(self.folder, other)
-        faults = faults_of(PROMISES, [self.folder, other])[1]
-        self.assertEqual({it.rpartition("/")[0] for it in faults}, {"nothing names the edit high"})
-        anywhere = PROMISES.replace(" (`low`)", "").replace("low::shown", "shown")
-        self.assertEqual(faults_of(anywhere, [self.folder, other])[1], [])
+    def test_edit_that_says_nothing_of_a_user(self):
+        fault = "low/doubled_thrice: it has {} lines that say what it breaks for a user ('breaks: TEXT'), and not one".format
+        for text, count in (("", 0), ("breaks:\n", 0), ("breaks:  \n", 0), ("breaks: one\nbreaks: two\n", 2)):
+            self.write_edit("doubled_thrice", text)
+            self.assertEqual(self.faults(), [fault(count)])
 
-    def test_edits_that_another_page_names(self):
+    def test_two_edits_that_say_the_same(self):
+        self.write_edit("some_more", "breaks: one more is shown\n")
+        self.assertEqual(self.faults(), ["low/some_more: it breaks for a user just what low/shown_is_more does"])
+
+
+class Pages(Crates):
+    def test_clauses_of_calls(self):
+        page = "That (`Some::less`: `bound`, `held`; `low::shown`: `three`) and `Counts`: `more`. A `word`: `other` words."
+        self.assertEqual(faults_of_claims(page.split(" A ")[0], [self.folder]), (4, []))
+        self.assertEqual(faults_of_claims(page, [self.folder]), (5, ["there is no call, module or type word"]))
+
+    def test_clause_that_is_not_there(self):
+        page = "`Some::less`: `bound` and `helt`; `inner::shown`: `three`"
+        faults = ["no call of `Some::less` has a clause helt", "there is no call, module or type inner::shown"]
+        self.assertEqual(faults_of_claims(page, [self.folder]), (3, faults))
+
+    def test_edits_that_a_page_names(self):
         page = "| Rule | Edits |\n|---|---|\n| Less, by `none_*` | `less_*`, `{}` |\n\n| Other |\n|---|\n| `none` |\n"
-        self.assertEqual(edits_missing(page.format("many_of_another"), [*EDITS]), (2, []))
+        self.assertEqual(edits_missing(page.format("doubled_thrice"), [*EDITS]), (2, []))
         self.assertEqual(edits_missing(page.format("gone"), [*EDITS]), (2, ["there is no edit gone"]))
+
+    def test_table(self):
+        self.assertEqual(tables_of([self.folder], []), TABLE)
+        self.assertEqual(tables_of([self.folder], ["low"]), TABLE)
+        self.assertEqual(tables_of([self.folder], ["high"]), "# Promises")
+
+    def test_table_of_an_edit_that_cannot_be_applied(self):
+        self.write_edit("less_by_nothing", "", old="nowhere")
+        self.assertNotIn("less_by_nothing", tables_of([self.folder], []))
+
+    def test_public_calls(self):
+        found = ["::".join(it.paths()[0][1:]) for it in Sources([self.folder]).calls if it.is_public]
+        at_traits = ["counts::Counts::many", "counts::Counts::many"]
+        self.assertEqual(sorted(found), [*at_traits, "counts::Some::less", "counts::all_are_few", "shown"])
 
 
 if __name__ == "__main__":
