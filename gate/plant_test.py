@@ -153,7 +153,7 @@ class FunctionsTest(unittest.TestCase):
     def test_a_run_writes_the_record_and_compares(self):
         ended = self.call("--said", self.top, "toy")
         self.assertEqual((ended.stdout.splitlines(), ended.returncode), ([
-            "plant: toy is recorded",
+            "plant: toy is recorded, after 0 minutes",
             "plant: FAILED: toy::door::Opens::is_open has neither an edit nor a plant that was judged, and no reason",
             "plant: FAILED: toy::door::Door::new can be { Door { times: 0 } }, which is not accepted",
             "2 passed, 2 failed",
