@@ -8,8 +8,8 @@ import itertools
 from device_rows import ANSWERS, ASKED, FAULTS
 from trial_rows import CHECKS, REPLAYS, lines
 from zirofen_host.profile import CONTROLLERS, CONTROL_FILES, LIMIT_FILES, LONGEST_PATH, MOST_GROUPS, accepts
-from zirofen_host.tree import Row, Tree, tree_text
-from zirofen_host.users import Entry
+from zirofen_host.collect.tree import Row, Tree, tree_text
+from zirofen_host.collect.model import Entry
 
 # a command's words, on the tree that is standard input; where OPS stands in them, the file of these operations
 Asked = collections.namedtuple("Asked", "words operations")

@@ -187,9 +187,16 @@ class PackageTest(unittest.TestCase):
             for path in re.findall(r"\b(?:docs|examples)/[\w.-]*", self.program.help(*words)):
                 self.assertTrue(any(it.startswith(f"{package.DOCS}/{path}") for it in self.files), path)
 
+    def test_what_the_helpers_help_names_is_installed(self):
+        for name in package.helpers():
+            said = package.host_help(name)
+            self.assertNotRegex(said, r"\b(host|docs|examples)/")
+            for page, number in re.findall(r"\b(zirofen[a-z-]*)\((\d)\)", said):
+                self.assertIn(f"usr/share/man/man{number}/{page}.{number}.gz", self.files)
+
     def test_the_helpers_tell_the_programs_version(self):
-        environment = {**os.environ, "ZIROFEN_HELPERS": f"{TOP}/host", "ZIROFEN": self.program.path}
-        said = run(sys.executable, f"{TOP}/packaging/zirofen-host", "--version", env=environment).stdout
+        environment = {**os.environ, "ZIROFEN": self.program.path}
+        said = run(sys.executable, f"{TOP}/host/zirofen-host", "--version", env=environment).stdout
         self.assertEqual(said, f"zirofen-host {self.program.version}\n")
 
 

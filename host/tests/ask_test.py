@@ -5,16 +5,17 @@ import sys
 import unittest
 
 from check_test import HostTest, owned
-from made_up import TOP
-from zirofen_host import ask, shell
+from made_up import COMMAND
+from zirofen_host.judge import one, shell
+from zirofen_host.options import AskOptions
 from zirofen_host.fault import Fault
-from zirofen_host.users import Entry, User
+from zirofen_host.collect.model import Entry, User
 
 
 class AskTest(HostTest):
     def ask(self, user, path, **more):
         self.warnings = []
-        return ask.ask(self.host.snapshot(), self.options(user=user, path=path, **more), self.warnings.append)
+        return one.ask(self.host.snapshot(), self.options(AskOptions, user=user, path=path, **more), self.warnings.append)
 
     def test_by_name_and_by_uid(self):
         self.host.cgroup("/a", owners={"cgroup.procs": (0, 50)}, modes={"cgroup.procs": 0o664})
@@ -120,7 +121,7 @@ class CommandsTest(HostTest):
 
     def test_script(self):
         def script(*words, given=OPERATIONS):
-            return subprocess.run([sys.executable, f"{TOP}/host/commands", *words], input=given, capture_output=True, text=True)
+            return subprocess.run([sys.executable, COMMAND, "commands", *words], input=given, capture_output=True, text=True)
         self.assertEqual(script().stdout.splitlines(), COMMANDS)
         ended = script("--uid", "1000", "--gid", "5", "--gid", "6", "--mount", "/m", given="rmdir /a\n")
         self.assertEqual(ended.stdout, "setpriv --reuid 1000 --regid 5 --groups 6 sh -c 'rmdir /m/a'\n")

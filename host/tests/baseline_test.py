@@ -6,8 +6,9 @@ import sys
 import unittest
 
 from check_test import MARK, HostTest, owned
-from made_up import TOP
-from zirofen_host import baseline
+from made_up import COMMAND
+from zirofen_host.judge import baseline
+from zirofen_host.show.lines import comparison_lines
 from zirofen_host.fault import Fault
 
 
@@ -26,7 +27,7 @@ class BaselineTest(HostTest):
         found = self.report(json=True)
         value = baseline.compared(found, baseline.read(self.file), self.file)
         self.assertEqual(json.loads(json.dumps(value)), value)
-        lines = list(baseline.lines_of(value))
+        lines = list(comparison_lines(value))
         self.assertEqual(all(line.startswith("    ") or line.split(":")[0] in baseline.KINDS for line in lines), any(
             value[kind] for kind in baseline.KINDS))
         return value["status"], lines
@@ -139,7 +140,7 @@ class BaselineTest(HostTest):
     @unittest.skipUnless(os.geteuid() == 0, "only root gives files away")
     def test_from_outside(self):
         def script(*words):
-            return subprocess.run([sys.executable, f"{TOP}/host/check", "--plain-folder", "--mount", self.host.mount, "--proc",
+            return subprocess.run([sys.executable, COMMAND, "check", "--plain-folder", "--mount", self.host.mount, "--proc",
                                    self.host.proc, "--accounts", self.host.etc, "--zirofen", self.program, *words],
                                   capture_output=True, text=True)
         self.assertEqual(script("--baseline", self.file).returncode, 3)

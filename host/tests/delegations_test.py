@@ -5,13 +5,13 @@ import sys
 import tempfile
 import unittest
 
-from made_up import DELEGATED, HERE, TOP, MadeUpTest
-from zirofen_host.accounts import Account, Accounts, Group, Range
-from zirofen_host.delegations import Delegations
+from made_up import COMMAND, DELEGATED, HERE, TOP, MadeUpTest
+from zirofen_host.collect.accounts import Account, Accounts, Group, Range
+from zirofen_host.ask.delegations import Delegations
 from zirofen_host.fault import Fault
-from zirofen_host.processes import Process
-from zirofen_host.tree import Row, Tree, read_tree
-from zirofen_host.users import Entry, User
+from zirofen_host.collect.processes import Process
+from zirofen_host.collect.tree import Row, Tree, read_tree
+from zirofen_host.collect.model import Entry, User
 
 PASSWD = """root:x:0:0::/root:/bin/sh
 alice:x:1000:1000::/home/alice:/bin/sh
@@ -169,7 +169,7 @@ class AccountsTest(unittest.TestCase):
 
 class ScriptTest(MadeUpTest):
     def script(self, *words, given=""):
-        return subprocess.run([sys.executable, f"{TOP}/host/delegations", "--accounts", self.host.etc, "--zirofen",
+        return subprocess.run([sys.executable, COMMAND, "delegations", "--accounts", self.host.etc, "--zirofen",
                                f"{HERE}/made_up_program.py", *words], input=given, capture_output=True, text=True,
                               env={**os.environ, "CALLS": os.devnull})
 
@@ -202,7 +202,9 @@ class ScriptTest(MadeUpTest):
         for words, given in ((("--tree", f"{TOP}/none"), ""), ((), "no text of a tree"), ((), "format = 2\n")):
             with self.subTest(words):
                 ended = self.script(*words, given=given)
-                self.assertEqual((ended.stdout, ended.returncode, ended.stderr.count("\n")), ("", 3, 1), ended.stderr)
+                line, *help_lines = ended.stderr.splitlines()
+                self.assertEqual((ended.stdout, ended.returncode, line.startswith("zirofen-host delegations: ")), ("", 3, True))
+                self.assertEqual(help_lines, [] if words else ["  help below it"])
 
     def test_a_snapshot_has_its_delegations(self):
         self.host.cgroup("/")

@@ -13,7 +13,7 @@ sys.dont_write_bytecode = True
 import browser  # noqa: E402
 import example  # noqa: E402
 from made_up import TOP  # noqa: E402
-from zirofen_host import page  # noqa: E402
+from zirofen_host.show import page  # noqa: E402
 
 # name, width, what the page is for, how much of its height, and the size of a picture's point
 PICTURES = (("page.png", 1000, "screen", 1180, 0.75), ("page-phone.png", 390, "screen", 1160, 0.75),

@@ -8,12 +8,12 @@ import json
 import os
 import sys
 import tempfile
-from types import SimpleNamespace
 
 from made_up import HERE, MadeUp
-from zirofen_host import check
-from zirofen_host.mount import Mounts
-from zirofen_host.tree import read_tree
+from zirofen_host.judge import check
+from zirofen_host.collect.mount import Mounts
+from zirofen_host.collect.tree import read_tree
+from zirofen_host.options import Options
 
 KEPT = f"{HERE}/data/web1.json"
 MARK = "trusted.delegate"
@@ -90,9 +90,8 @@ class Example:
 
 def report_of(host, program, name, kernel):
     """What a program answers of a made-up host, as of one with a name and of a day."""
-    options = SimpleNamespace(mount=host.mount, proc=host.proc, accounts=host.etc, keep=None, zirofen=program, json=True,
-                              plain_folder=True, no_processes=False, baseline_update=None)
-    found = json.loads(json.dumps(check.report(host.snapshot(), Mounts(""), options)).replace(host.mount, "/sys/fs/cgroup"))
+    options = Options(mount=host.mount, proc=host.proc, accounts=host.etc, program=program, plain_folder=True)
+    found = json.loads(json.dumps(check.report(host.snapshot(), Mounts(""), options, True)).replace(host.mount, "/sys/fs/cgroup"))
     return {**found, "host": name, "kernel": kernel, "time": "2026-11-25T08:00:00Z"}
 
 

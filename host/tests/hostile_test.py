@@ -1,5 +1,6 @@
 """Tests of what one user does to keep others from their answers, or to have the helpers lie, hang or end badly."""
 import ast
+import glob
 import json
 import os
 import re
@@ -11,16 +12,20 @@ from unittest import mock
 
 import made_up_program
 from check_test import BY_GROUP, HostTest, owned
-from made_up import TOP
-from zirofen_host import check, fault, processes, questions, report, walk
-from zirofen_host.accounts import Accounts
-from zirofen_host.mount import Mounts
-from zirofen_host.texts import Programs
+from made_up import COMMAND, TOP
+from zirofen_host import fault
+from zirofen_host.collect import processes, walk
+from zirofen_host.ask import questions
+from zirofen_host.judge import check
+from zirofen_host.show.lines import lines_of
+from zirofen_host.collect.accounts import Accounts
+from zirofen_host.collect.mount import Mounts
+from zirofen_host.ask.texts import Programs
 
 OLDEST = (3, 9)
 # modules that it has
-MODULES = set("argparse atexit base64 bisect collections concurrent dataclasses datetime errno functools grp hashlib html itertools json os "
-              "pwd re shlex shutil signal stat string subprocess sys tempfile textwrap time unicodedata".split())
+MODULES = set("argparse atexit base64 bisect collections concurrent dataclasses datetime enum errno functools grp hashlib html itertools "
+              "json os pwd re shlex shutil signal stat string subprocess sys tempfile textwrap time typing unicodedata".split())
 # what reads a text takes one of these
 READERS = {"tomllib", "tomli"}
 # what came later, by its name
@@ -48,7 +53,7 @@ class NamesTest(HostTest):
         self.assertEqual([row[2:] for row in self.rows(found)][-1:], [("contained", "/bob")])
 
     def harmless(self, found):
-        text = json.dumps(found) + "\n".join(map(fault.plain, report.lines_of(found)))
+        text = json.dumps(found) + "\n".join(map(fault.plain, lines_of(found)))
         self.assertTrue(all(each == "\n" or each.isascii() and each.isprintable() for each in text))
 
     def test_every_odd_byte(self):
@@ -97,7 +102,7 @@ class NamesTest(HostTest):
         self.host.process(7, uid=1000, gid=1000, capabilities=2, name="x\x1b[31m")
         found = self.report(json=True)
         self.harmless(found)
-        self.assertIn("'al\\x1b[2Jice'(1000)", "\n".join(report.lines_of(found)))
+        self.assertIn("'al\\x1b[2Jice'(1000)", "\n".join(lines_of(found)))
         self.assertEqual(found["processes"][0]["name"], "'x\\x1b[31m'")
 
     def test_a_process_cant_name_itself_another_user(self):
@@ -129,7 +134,7 @@ class GarbageTest(HostTest):
                 found = self.report()
                 self.assertEqual([row[2:] for row in self.rows(found)][-1:], [("contained", "/bob")])
                 self.assertEqual([each["subtrees"] for each in found["faults"]], [["/alice"]] if file == "cgroup.procs" else [])
-                printed = "\n".join(map(fault.plain, report.lines_of(found)))
+                printed = "\n".join(map(fault.plain, lines_of(found)))
                 self.assertNotIn("\x1b", printed)
 
     def test_garbage_in_the_accounts(self):
@@ -182,7 +187,7 @@ class GarbageTest(HostTest):
         with mock.patch.object(made_up_program, "main", refusing):
             with self.assertRaisesRegex(fault.Fault, "^fault: tree bad-path cgroup 2$"):
                 self.report()
-            with mock.patch("zirofen_host.texts.MOST_ROWS", 2):
+            with mock.patch("zirofen_host.ask.texts.MOST_ROWS", 2):
                 found = self.report()
         self.assertEqual([row[2:] for row in self.rows(found)], [("contained", "/a")])
         self.assertEqual([(each["who"], each["fault"], each["subtrees"]) for each in found["faults"]],
@@ -278,7 +283,7 @@ class OutputTest(HostTest):
     def script(self, name, *words, shell=""):
         words = {"check": ("--zirofen", self.program, "--accounts", self.host.etc),
                  "ask": ("--zirofen", self.program, "--accounts", self.host.etc, "alice", "/bad"), "snapshot": ()}[name] + words
-        command = [sys.executable, f"{TOP}/host/{name}", "--plain-folder", "--mount", self.host.mount, "--proc", self.host.proc]
+        command = [sys.executable, COMMAND, name, "--plain-folder", "--mount", self.host.mount, "--proc", self.host.proc]
         return subprocess.run(["bash", "-c", f'"$@" {shell}', "bash", *command, *words], capture_output=True, text=True)
 
     def test_an_output_that_takes_nothing(self):
@@ -288,7 +293,7 @@ class OutputTest(HostTest):
                 with self.subTest(name, shell=shell):
                     ended = self.script(name, shell=shell)
                     self.assertEqual((ended.returncode, ended.stdout), (3, ""))
-                    self.assertIn(f"host/{name}: {told}\n", ended.stderr)
+                    self.assertIn(f"zirofen-host {name}: {told}\n", ended.stderr)
                     self.assertNotIn("Traceback", ended.stderr)
             self.assertEqual(self.script(name, shell="2>&- | true; exit ${PIPESTATUS[0]}").stderr, "")
             ended = self.script(name, shell="2>/dev/full >/dev/full")
@@ -310,12 +315,9 @@ class OldestPythonTest(unittest.TestCase):
     """The helpers run on the oldest Python that hosts have, with no package."""
 
     def sources(self):
-        for folder in (f"{TOP}/host", f"{TOP}/host/zirofen_host"):
-            for name in sorted(os.listdir(folder)):
-                path = os.path.join(folder, name)
-                if os.path.isfile(path) and "." not in name or name.endswith(".py"):
-                    with open(path, encoding="utf-8") as source:
-                        yield path, source.read()
+        for path in (COMMAND, *sorted(glob.glob(f"{TOP}/host/zirofen_host/**/*.py", recursive=True))):
+            with open(path, encoding="utf-8") as source:
+                yield path, source.read()
 
     def test_syntax(self):
         self.assertGreater(len(list(self.sources())), 20)
@@ -347,7 +349,7 @@ class OldestPythonTest(unittest.TestCase):
     @unittest.skipUnless(OLDEST_HERE, "there is no Python 3.9 here")
     def test_it_runs_there(self):
         for name in ("check", "ask", "commands", "delegations", "snapshot"):
-            ended = subprocess.run([OLDEST_HERE, f"{TOP}/host/{name}", "--help"], capture_output=True, text=True)
+            ended = subprocess.run([OLDEST_HERE, COMMAND, name, "--help"], capture_output=True, text=True)
             self.assertEqual((ended.returncode, ended.stderr), (0, ""))
 
 

@@ -4,19 +4,20 @@ import os
 import sys
 import tempfile
 import unittest
-from types import SimpleNamespace
 from unittest import mock
 
 HERE = os.path.dirname(os.path.abspath(__file__))
 TOP = os.path.dirname(os.path.dirname(HERE))
+COMMAND = os.path.join(TOP, "host", "zirofen-host")
 sys.path.insert(0, os.path.join(TOP, "host"))
 
-from zirofen_host import walk  # noqa: E402
-from zirofen_host.accounts import Accounts  # noqa: E402
-from zirofen_host.processes import read_processes  # noqa: E402
+from zirofen_host.collect import walk  # noqa: E402
+from zirofen_host.collect.accounts import Accounts  # noqa: E402
+from zirofen_host.collect.processes import read_processes  # noqa: E402
+from zirofen_host.options import Options  # noqa: E402
 from zirofen_host.profile import LIMIT_FILES, parent_of  # noqa: E402
-from zirofen_host.snapshot import all_that_changes, take  # noqa: E402
-from zirofen_host.users import Entry  # noqa: E402
+from zirofen_host.collect.snapshot import all_that_changes, take  # noqa: E402
+from zirofen_host.collect.model import Entry  # noqa: E402
 
 STATUS = ("Name:\t{name}\nUid:\t{uid}\t{uid}\t{uid}\t{uid}\nGid:\t{gid}\t{gid}\t{gid}\t{gid}\nGroups:\t{groups}\n"
           "CapEff:\t{capabilities:016x}\n")
@@ -103,7 +104,7 @@ class MadeUp:
         for path in sorted(tree.rows, key=len):
             row = tree.rows[path]
             names = ("dir", "cgroup.procs", "cgroup.subtree_control", *tree.limit_files(path))
-            self.cgroup(path, owners={name: row.entry(name)[:2] for name in names},
+            self.cgroup(path, owners={name: (row.entry(name).uid, row.entry(name).gid) for name in names},
                         modes={name: row.entry(name).mode for name in names}, values=row.values,
                         enabled=" ".join(tree.controllers if path == "/" and not row.enabled else row.enabled),
                         pids=at.get(path, ()))
@@ -131,7 +132,7 @@ class MadeUp:
 
     def take(self, subtrees_of=all_that_changes, only=None, **more):
         """A snapshot as the helpers take it."""
-        options = SimpleNamespace(**{"mount": self.mount, "only": only, "proc": self.proc, "plain_folder": True, **more})
+        options = Options(**{"mount": self.mount, "only": only, "proc": self.proc, "plain_folder": True, **more})
         with self.owned():
             return take(options, subtrees_of)[0]
 

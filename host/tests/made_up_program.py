@@ -14,11 +14,11 @@ HERE = os.path.dirname(os.path.realpath(__file__))
 sys.dont_write_bytecode = True
 sys.path.insert(0, os.path.dirname(HERE))
 
-from zirofen_host.accounts import Accounts  # noqa: E402
+from zirofen_host.collect.accounts import Accounts  # noqa: E402
 from zirofen_host.fault import Fault  # noqa: E402
-from zirofen_host.questions import Questions  # noqa: E402
-from zirofen_host.tree import read_tree  # noqa: E402
-from zirofen_host.users import User  # noqa: E402
+from zirofen_host.ask.questions import Questions  # noqa: E402
+from zirofen_host.collect.tree import read_tree  # noqa: E402
+from zirofen_host.collect.model import User  # noqa: E402
 
 
 def can(what):
@@ -99,7 +99,7 @@ def questions_in(file, _):
 
 def fault(line, status=3):
     print(line, file=sys.stderr)
-    print("a second line", file=sys.stderr)
+    print("  help below it\na line that is none", file=sys.stderr)
     return status
 
 

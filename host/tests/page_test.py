@@ -13,9 +13,10 @@ from unittest import mock
 import browser
 import example
 from check_test import BY_GROUP, MARK, REAL_PROGRAM, HostTest, owned
-from made_up import HERE, TOP
+from made_up import COMMAND, HERE
 from page_reader import PageReader
-from zirofen_host import page, saved, view, words
+from zirofen_host.judge import saved
+from zirofen_host.show import page, view, words
 from zirofen_host.fault import Fault
 
 PARTS = ("subtrees", "entries", "opened", "faults", "differs", "above", "unseen", "snapshot")
@@ -292,7 +293,7 @@ class MadeUpTest(HostTest, PageTest):
     def test_a_check_writes_its_page(self):
         self.host.cgroup("/bad", owners={**owned(1000), "memory.max": 1000})
         out = f"{self.host.folder}/page.html"
-        words_ = [sys.executable, f"{TOP}/host/check", "--plain-folder", "--mount", self.host.mount, "--proc", self.host.proc,
+        words_ = [sys.executable, COMMAND, "check", "--plain-folder", "--mount", self.host.mount, "--proc", self.host.proc,
                   "--accounts", self.host.etc, "--zirofen", self.program]
         plain = subprocess.run(words_, capture_output=True, text=True)
         ended = subprocess.run([*words_, "--html", out], capture_output=True, text=True)
@@ -338,7 +339,7 @@ class SavedTest(unittest.TestCase):
         return str(caught.exception).replace(file.name, "FILE")
 
     def test_what_is_no_report(self):
-        version = "FILE: a report of host/check --json of version 1 is wanted, and this is none"
+        version = "FILE: a report of zirofen-host check --json of version 1 is wanted, and this is none"
         for text, fault in (("", "FILE: no JSON: Expecting value: line 1 column 1 (char 0)"), ("[]", version), ("{}", version),
                             ('{"version": 2}', version), ('{"version": 1}', "FILE: report.program isn't what a report has there")):
             self.assertEqual(self.fault_of(text), fault)
@@ -385,11 +386,11 @@ class SavedTest(unittest.TestCase):
 class ScriptTest(unittest.TestCase):
     def test_help_says_what_they_are(self):
         for name in ("page", "tree"):
-            ended = subprocess.run([sys.executable, f"{TOP}/host/{name}", "--help"], capture_output=True, text=True)
+            ended = subprocess.run([sys.executable, COMMAND, name, "--help"], capture_output=True, text=True)
             self.assertIn("no part of the proved program", ended.stdout)
 
     def page(self, *given, **more):
-        words_ = [sys.executable, f"{TOP}/host/page", *given]
+        words_ = [sys.executable, COMMAND, "page", *given]
         return subprocess.run(words_, capture_output=True, text=True, encoding="utf-8", **more)
 
     def test_reports_of_files_and_of_standard_input(self):

@@ -6,8 +6,8 @@ import sys
 import unittest
 
 from check_test import PROGRAM, REAL_PROGRAM
-from made_up import TOP
-from zirofen_host.mount import mounts_of_host, refuse_what_is_no_host
+from made_up import COMMAND
+from zirofen_host.collect.mount import mounts_of_host, refuse_what_is_no_host
 from zirofen_host.fault import Fault
 
 LOOP = """
@@ -55,7 +55,7 @@ class RealMountTest(unittest.TestCase):
         self.addCleanup(os.rmdir, place)
 
     def report(self, *words):
-        ended = subprocess.run([sys.executable, f"{TOP}/host/check", "--mount", MOUNT, "--only", self.top, "--json", "--zirofen",
+        ended = subprocess.run([sys.executable, COMMAND, "check", "--mount", MOUNT, "--only", self.top, "--json", "--zirofen",
                                 REAL_PROGRAM or PROGRAM, *words], capture_output=True, text=True,
                                env={**os.environ, "MADE_UP": "all,advise", "CALLS": os.devnull})
         self.assertEqual(ended.stderr, "")
@@ -97,9 +97,9 @@ class RealMountTest(unittest.TestCase):
         os.chown(f"{MOUNT}{self.top}/bob/cgroup.max.depth", 1001, 1001)
         _, status, answers = self.report()
         self.assertEqual((status, answers), (1, {"/alice": "contained", "/bob": "escapes"}))
-        text = subprocess.run([sys.executable, f"{TOP}/host/snapshot", "--mount", MOUNT, "--only", self.top, "--with-host"],
+        text = subprocess.run([sys.executable, COMMAND, "snapshot", "--mount", MOUNT, "--only", self.top, "--with-host"],
                               capture_output=True, text=True).stdout
-        there = subprocess.run([sys.executable, f"{TOP}/host/check", "--tree", "-", "--zirofen", REAL_PROGRAM or PROGRAM],
+        there = subprocess.run([sys.executable, COMMAND, "check", "--tree", "-", "--zirofen", REAL_PROGRAM or PROGRAM],
                                input=text, capture_output=True, text=True,
                                env={**os.environ, "MADE_UP": "all,advise", "CALLS": os.devnull})
         self.assertEqual((there.returncode, there.stderr), (1, ""))

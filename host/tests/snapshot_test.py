@@ -8,10 +8,10 @@ import unittest
 from unittest import mock
 
 from made_up import DELEGATED, KERNEL_THREAD, TOP, MadeUpTest
-from zirofen_host import mount, snapshot, walk
+from zirofen_host.collect import mount, snapshot, walk
 from zirofen_host.fault import Fault
-from zirofen_host.mount import Mounts
-from zirofen_host.tree import read_tree, tree_text
+from zirofen_host.collect.mount import Mounts
+from zirofen_host.collect.tree import read_tree, tree_text
 
 WRITTEN = r"""
 format = 2

@@ -8,16 +8,16 @@ import subprocess
 import sys
 import tempfile
 import unittest
-from types import SimpleNamespace
 
 import example
 from check_test import HostTest, owned
-from made_up import HERE, TOP
+from made_up import COMMAND, HERE, TOP
 from page_test import HOSTILE, REAL, hostile, many, real
-from zirofen_host import tree_view, words
+from zirofen_host.options import TreeOptions
+from zirofen_host.show import tree_view, words
 from zirofen_host.fault import Fault
-from zirofen_host.tree_view import Drawing
-from zirofen_host.view import Host
+from zirofen_host.show.tree_view import Drawing
+from zirofen_host.show.view import Host
 
 COLOUR = re.compile("\x1b\\[[0-9;]*m")
 KEPT = f"{HERE}/data/tree"
@@ -88,7 +88,7 @@ class TreeTest(unittest.TestCase):
 
     def test_the_readme_shows_a_part(self):
         with open(f"{TOP}/README.md", encoding="ascii") as page:
-            _, _, shown = page.read().partition("    sudo host/tree --only /user.slice\n")
+            _, _, shown = page.read().partition("    sudo host/zirofen-host tree --only /user.slice\n")
         lines = drawn(example.kept(), 80, True, only="/user.slice")
         self.assertTrue(shown.startswith("".join(f"    {line}\n" for line in lines[1:lines.index("")]) + "\n"), lines)
 
@@ -134,9 +134,9 @@ class LiveTest(HostTest):
         self.host.cgroup("/other", owners=owned(1001))
         place = ["--plain-folder", "--mount", self.host.mount, "--proc", self.host.proc, "--accounts", self.host.etc,
                  "--zirofen", self.program]
-        checked = subprocess.run([sys.executable, f"{TOP}/host/check", "--json", *place], capture_output=True, text=True).stdout
+        checked = subprocess.run([sys.executable, COMMAND, "check", "--json", *place], capture_output=True, text=True).stdout
         for only in ("/", "/bad"):
-            words_ = [sys.executable, f"{TOP}/host/tree", "--ascii", *place, *(["--only", only] if only != "/" else [])]
+            words_ = [sys.executable, COMMAND, "tree", "--ascii", *place, *(["--only", only] if only != "/" else [])]
             ended = subprocess.run(words_, capture_output=True, text=True)
             self.assertEqual((ended.returncode, ended.stderr), (0, ""))
             lines, told = drawn(json.loads(checked), None, True, only=only), ended.stdout.splitlines()
@@ -154,7 +154,7 @@ class LocaleTest(unittest.TestCase):
 
     def test_colours_and_width_by_what_the_output_is(self):
         def options(**more):
-            return SimpleNamespace(**{"width": None, "ascii": False, "colour": "auto", "all": False, "only": None, **more})
+            return TreeOptions(**more)
 
         def is_coloured(environment, is_terminal, **more):
             return tree_view.drawing_of(options(**more), environment, is_terminal).is_coloured
@@ -174,7 +174,7 @@ class ScriptTest(unittest.TestCase):
     """The script from outside."""
 
     def words(self, *given):
-        return [sys.executable, f"{TOP}/host/tree", *given]
+        return [sys.executable, COMMAND, "tree", *given]
 
     def environment(self, **more):
         without = ("LC_ALL", "LC_CTYPE", "NO_COLOR", "PAGER", "COLUMNS")

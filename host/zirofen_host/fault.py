@@ -2,6 +2,7 @@
 import argparse
 import os
 import sys
+from typing import Callable, Iterable, NoReturn
 
 from zirofen_host import progress
 
@@ -10,10 +11,14 @@ INTERRUPTED = 130
 
 
 class Fault(Exception):
-    """One line for the user."""
+    """One line for the user, and lines of help that stand below it."""
+
+    def __init__(self, line: str, help_lines: Iterable[str] = ()) -> None:
+        super().__init__(line)
+        self.help_lines = tuple(help_lines)
 
 
-def plain(text):
+def plain(text: str) -> str:
     """A text with nothing in it that a terminal would act on: what isn't printable ASCII is written as Python does."""
     if text.isascii() and text.isprintable():
         return text
@@ -23,14 +28,11 @@ def plain(text):
 class Parser(argparse.ArgumentParser):
     """Options of a helper; wrong ones are a fault like others."""
 
-    def __init__(self, doc):
-        super().__init__(description=doc, formatter_class=argparse.RawDescriptionHelpFormatter)
-
-    def error(self, message):
+    def error(self, message: str) -> NoReturn:
         raise Fault(f"{message}; --help tells the options")
 
 
-def warn(line):
+def warn(line: str) -> None:
     """A line on standard error, as far as there is one."""
     progress.end()
     try:
@@ -39,7 +41,7 @@ def warn(line):
         pass
 
 
-def write(parts):
+def write(parts: Iterable[str]) -> None:
     """Parts of a text on standard output, all of it or a fault."""
     progress.end()
     if sys.stdout is None:
@@ -53,17 +55,19 @@ def write(parts):
         raise Fault(f"can't write the output: {error.strerror}") from None
 
 
-def write_lines(lines):
+def write_lines(lines: Iterable[str]) -> None:
     """Lines on standard output, which harm no terminal."""
     write(f"{plain(line)}\n" for line in lines)
 
 
-def run(name, main):
-    """Runs a script's main; a fault is one line on standard error, with status 3."""
+def run(name: str, main: Callable[[], int]) -> NoReturn:
+    """Runs a command's main; a fault is one line on standard error, with status 3."""
     try:
         status = main()
     except Fault as fault:
         warn(f"{name}: {fault}")
+        for line in fault.help_lines:
+            warn(line)
         status = FAULT
     except SystemExit as ended:
         # argparse ends with 2 where the options are wrong, and this is another answer's status
@@ -81,7 +85,7 @@ def run(name, main):
     end(status)
 
 
-def end(status):
+def end(status: int) -> NoReturn:
     """Ends with a status, also where what is left in the buffers can't be written."""
     for stream in (sys.stdout, sys.stderr):
         try:

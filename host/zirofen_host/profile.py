@@ -1,11 +1,19 @@
-"""What a tree text can carry: names, files, values and their defaults."""
+"""What a tree text can carry: paths, names, files, values and their defaults."""
+import os
 import re
+from typing import Dict, FrozenSet, Iterable, Iterator, NewType, Optional, Sequence, Tuple, TypeVar, Union
+
+# a cgroup's path from the mount on, with the bytes that its names have; the root's is /
+CgroupPath = NewType("CgroupPath", bytes)
+ROOT = CgroupPath(b"/")
+# a cgroup's path, or the text of one as it is shown
+AnyPath = TypeVar("AnyPath", str, CgroupPath)
 
 CONTROLLERS = ("cpu", "memory", "pids")
 CONTROL_FILES = ("cgroup.procs", "cgroup.subtree_control")
 
 # each limit file with the controller that brings it, and its default
-LIMIT_FILES = {
+LIMIT_FILES: Dict[str, Tuple[Optional[str], Union[int, str]]] = {
     "cgroup.max.descendants": (None, "max"),
     "cgroup.max.depth": (None, "max"),
     "cpu.weight": ("cpu", 100),
@@ -41,12 +49,13 @@ _OTHER_LIMIT = re.compile(r"cgroup\.(freeze|kill|type|threads)|cpu\.(max|max\.bu
                           r"|(hugetlb|rdma|misc|dmem)\.(.*\.)?(max|min|low)\Z")
 
 # the settings of a unit that bring a file's value back
-SETTINGS = {"cgroup.max.descendants": None, "cgroup.max.depth": None, "cpu.weight": "CPUWeight=",
-            "memory.min": "MemoryMin=", "memory.low": "MemoryLow=", "memory.high": "MemoryHigh=",
-            "memory.max": "MemoryMax=", "pids.max": "TasksMax=", "cpu.max": "CPUQuota=", "cpu.idle": "CPUWeight=",
-            "cpu.weight.nice": "CPUWeight=", "memory.swap.max": "MemorySwapMax=", "memory.zswap.max": "MemoryZSwapMax=",
-            "io.weight": "IOWeight=", "io.latency": "IODeviceLatencyTargetSec=", "io.max": "IOReadBandwidthMax= and its like",
-            "cpuset.cpus": "AllowedCPUs=", "cpuset.mems": "AllowedMemoryNodes="}
+SETTINGS: Dict[str, Optional[str]] = {
+    "cgroup.max.descendants": None, "cgroup.max.depth": None, "cpu.weight": "CPUWeight=",
+    "memory.min": "MemoryMin=", "memory.low": "MemoryLow=", "memory.high": "MemoryHigh=",
+    "memory.max": "MemoryMax=", "pids.max": "TasksMax=", "cpu.max": "CPUQuota=", "cpu.idle": "CPUWeight=",
+    "cpu.weight.nice": "CPUWeight=", "memory.swap.max": "MemorySwapMax=", "memory.zswap.max": "MemoryZSwapMax=",
+    "io.weight": "IOWeight=", "io.latency": "IODeviceLatencyTargetSec=", "io.max": "IOReadBandwidthMax= and its like",
+    "cpuset.cpus": "AllowedCPUs=", "cpuset.mems": "AllowedMemoryNodes="}
 
 # stands for a user of whom nothing is known but what everybody may do
 ANYBODY = 65534
@@ -54,55 +63,81 @@ ANYBODY = 65534
 _NAME = re.compile(rb"[\x21-\x2e\x30-\x7e]{1,255}\Z")
 
 
-def is_name(name):
+def is_name(name: bytes) -> bool:
     """Whether bytes are a cgroup's name in a tree text."""
     return _NAME.match(name) is not None and name.decode("ascii") not in RESERVED_NAMES
 
 
-def is_set_by(file, entry):
+def is_set_by(file: str, mode: int) -> bool:
     """Whether something is set by writing a file, as far as its name and its mode tell."""
     if file in CONTROL_FILES or file in LIMIT_FILES or _OTHER_LIMIT.match(file):
         return True
-    return not _READ_ONLY.match(file) and bool(entry.mode & 0o222)
+    return not _READ_ONLY.match(file) and bool(mode & 0o222)
 
 
-def is_other_limit(file):
+def is_other_limit(file: str) -> bool:
     """Whether a file is a limit that a tree text doesn't carry."""
     return bool(_OTHER_LIMIT.match(file)) and file not in LIMIT_FILES
 
 
-def accepts(file, value):
+def accepts(file: str, value: Union[int, str]) -> bool:
     """Whether a limit file of a tree text may have a value."""
-    if file == "cpu.weight":
-        return value != "max" and 1 <= value <= 10000
-    return value == "max" or 0 <= value < 2**63
+    if isinstance(value, str):
+        return value == "max" and file != "cpu.weight"
+    return 1 <= value <= 10000 if file == "cpu.weight" else 0 <= value < 2**63
 
 
-def parent_of(path):
-    """The path one level up; the root has none. Of texts and of bytes."""
-    slash = "/" if isinstance(path, str) else b"/"
-    return None if path == slash else path.rpartition(slash)[0] or slash
+def is_number(word: str) -> bool:
+    """Whether a word is a number as the formats write one."""
+    return word.isascii() and word.isdigit() and (word == "0" or word[0] != "0")
 
 
-def is_inside(path, subtree):
+def is_root(path: AnyPath) -> bool:
+    """Whether a path is that of the topmost cgroup."""
+    return path in ("/", ROOT)
+
+
+def parts_of(path: AnyPath) -> Sequence[Union[str, bytes]]:
+    """The names on the way to a cgroup, by which paths are in the order of their tree."""
+    if isinstance(path, str):
+        return path.split("/")
+    return path.split(b"/")
+
+
+def text_of(path: AnyPath) -> str:
+    """A path as a text that stands for its bytes."""
+    return os.fsdecode(path)
+
+
+def parent_of(path: AnyPath) -> Optional[AnyPath]:
+    """The path one level up; the root has none."""
+    if isinstance(path, str):
+        return None if path == "/" else path.rpartition("/")[0] or "/"
+    return None if path == ROOT else CgroupPath(path.rpartition(b"/")[0]) or ROOT
+
+
+def is_inside(path: AnyPath, subtree: AnyPath) -> bool:
     """Whether a path is that of a subtree or of what is below it."""
-    slash = "/" if isinstance(path, str) else b"/"
-    return subtree == slash or path == subtree or path.startswith(subtree + slash)
+    if isinstance(subtree, str):
+        return subtree == "/" or path == subtree or path.startswith(subtree + "/")
+    return subtree == ROOT or path == subtree or path.startswith(subtree + b"/")
 
 
-def ancestors(path):
+def ancestors(path: AnyPath) -> Iterator[AnyPath]:
     """The proper ancestors, the nearest first."""
-    while (path := parent_of(path)) is not None:
-        yield path
+    above = parent_of(path)
+    while above is not None:
+        yield above
+        above = parent_of(above)
 
 
-def topmost(paths):
+def topmost(paths: Iterable[AnyPath]) -> FrozenSet[AnyPath]:
     """The paths that are inside of no other of them."""
-    paths = set(paths)
-    return frozenset(path for path in paths if paths.isdisjoint(ancestors(path)))
+    known = set(paths)
+    return frozenset(path for path in known if known.isdisjoint(ancestors(path)))
 
 
-def shown(path):
+def shown(path: Union[str, bytes]) -> str:
     """A path or a name as a line can show it, whatever is in it: quoted where a terminal would act on it."""
     if isinstance(path, str):
         return path if path.isascii() and path.isprintable() else ascii(path)

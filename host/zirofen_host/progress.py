@@ -8,7 +8,7 @@ SECONDS = 0.3
 class _Line:
     """One line of a terminal that is written over."""
 
-    def __init__(self):
+    def __init__(self) -> None:
         self.next = time.monotonic() + 2 * SECONDS
         self.width = 0
 
@@ -16,7 +16,7 @@ class _Line:
 _line = _Line()
 
 
-def tell(text):
+def tell(text: str) -> None:
     """Shows what is at work now, a few times a second, where standard error is a terminal."""
     now = time.monotonic()
     if now < _line.next or not (sys.stderr and sys.stderr.isatty()):
@@ -27,7 +27,7 @@ def tell(text):
     _line.width = len(text)
 
 
-def end():
+def end() -> None:
     """Takes the line away."""
     if _line.width:
         sys.stderr.write("\r" + " " * _line.width + "\r")

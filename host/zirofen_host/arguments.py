@@ -1,0 +1,183 @@
+"""What each subcommand takes on its command line, and what its --help says."""
+import argparse
+import os
+from typing import Callable, Dict, Type
+
+from zirofen_host.fault import Parser
+from zirofen_host.installed import MANUAL, TOLD_PROGRAM, default_program
+from zirofen_host.options import MOUNT, PROC
+from zirofen_host.profile import is_number
+
+NAME = "zirofen-host"
+LARGEST_ID = 4294967295
+# columns that a tree is drawn in at least
+LEAST_WIDTH = 20
+
+DESCRIPTIONS = {
+    "ask": f"""Asks zirofen of one user and one subtree of this host, by name. Usage: {NAME} ask NAME|UID PATH. Run it as root.
+
+A helper: no part of the proved program, and only tested. The user's groups are looked up as this host does; one list of
+groups was found for his account, and others maybe for his running processes: each is asked of. It prints what `check`
+answers, and behind # what to change, and a warning where nothing here is the user's. The status is the worst answer's:
+3 for a fault, 1 for an escape, 2 where it is unsettled, 0 where the subtree is contained.
+""",
+    "check": f"""Asks zirofen whether everybody who can matter on this host is kept by every subtree that was handed over. Run it as root.
+
+A helper: no part of the proved program, and only tested; each answer is the program's own, on the tree text that
+{NAME} snapshot writes. The report is a table of each subtree with the answer of who holds it, then each entry that lets
+somebody in, with whom and what to change, then the limits that stand open beside the proved ones, and at last what none
+of the answers looks at. {MANUAL} says what each line means. The status is 3 where any fault was met; else 1 where
+somebody escapes or a limit stands open; else 2 where an answer is unsettled; else 4 where nothing was found to ask; else 0.
+""",
+    "commands": f"""Writes operations as shell commands for this host's mount: {NAME} commands [--uid N --gid N ..] < escape.ops
+
+A helper: no part of the proved program, and only tested. It carries out nothing. Where a user is named, each command is
+made his by setpriv, with his groups alone and without capabilities, so that the kernel asks what he may; run it as root,
+on a host where the operations may be tried. fork and exit, and the lines of an answer around its operations, are comments.
+The status is 0, or 3 for a fault, and then nothing is written.
+""",
+    "delegations": """Finds who was handed what in a tree text: one line for each user and subtree, UID TAB GIDS TAB PATH.
+GIDS is - where there are none.
+
+A helper: no part of the proved program, and only tested. A user is found where he owns or writes at a cgroup what he
+doesn't one level up: by his uid, by a group, or as one of everybody (uid 65534 stands for a user of whom nothing else
+is known). Groups come from this host's accounts, its subordinate ids and its running processes; for a text of another
+host give that host's account files by --accounts. The primary group stands first. The status is 0, or 3 for a fault,
+among them more groups than the program takes, where those that were left out could change an answer.
+""",
+    "page": f"""Writes reports of hosts as one page to look at. Usage: {NAME} page REPORT.json .. > page.html.
+
+A helper: no part of the proved program, and only tested. It draws what {NAME} check --json has, and nothing else: first a
+sentence and three numbers, then the findings with a picture of each escape, the tree of cgroups, and what no answer looks
+at. Of several hosts the worst stands on top. The page is one file, which loads nothing and needs no script. The status is
+0, or 3 for a fault, and then nothing is written; {NAME} check has the status of the answers.
+""",
+    "snapshot": f"""Writes the cgroups of this host as a tree text for zirofen, on standard output. Run it as root.
+
+A helper: no part of the proved program, and only tested. Two walks in a row agree on what is written. What the text
+can't carry is bent or left out, and standard error has a line for each such thing: KIND: PATH: what was done.
+{MANUAL} says what the kinds mean. The status is 0, or 3 where nothing was written.
+""",
+    "tree": f"""Draws a host's cgroups as a tree: who was handed what, and how it is answered. Usage: {NAME} tree [REPORT.json].
+
+A helper: no part of the proved program, and only tested. It draws what {NAME} check --json has, and nothing else: that of the
+report, or without one that of this host, which it looks at as {NAME} check does; then run it as root. At each cgroup that was
+handed over stand to whom, by which entries, its limits, and its answer with a sign and a word; cgroups without a delegation
+in or above them are folded. The status is 0, or 3 for a fault; {NAME} check has the status of the answers.
+""",
+}
+
+
+def number(word: str) -> int:
+    if not is_number(word) or int(word) > LARGEST_ID:
+        raise argparse.ArgumentTypeError(f"it isn't a number from 0 to {LARGEST_ID}")
+    return int(word)
+
+
+def width(word: str) -> int:
+    if not word.isdigit() or int(word) < LEAST_WIDTH:
+        raise argparse.ArgumentTypeError(f"it isn't a number from {LEAST_WIDTH} on")
+    return int(word)
+
+
+def add_host(parser: argparse.ArgumentParser) -> None:
+    """The options of whoever looks at a host."""
+    parser.add_argument("--mount", metavar="FOLDER", default=MOUNT, help=f"the cgroup v2 mount ({MOUNT})")
+    parser.add_argument("--only", metavar="PATH", type=os.fsencode,
+                        help="that cgroup, its ancestors and what is inside it, and no more")
+    parser.add_argument("--proc", metavar="FOLDER", default=PROC, help=f"where processes are told of ({PROC})")
+    parser.add_argument("--no-processes", action="store_true",
+                        help="no processes in the tree text: no `contained` rests on them, but an `escapes` may be an `unsettled`")
+    parser.add_argument("--plain-folder", action="store_true",
+                        help="the mount is a folder of plain files: nothing is asked of root, mounts and namespaces")
+
+
+def add_text(parser: argparse.ArgumentParser) -> None:
+    parser.add_argument("--tree", metavar="FILE", help=f"a text of {NAME} snapshot in place of this host, - for standard input; with "
+                        f"the accounts of the host that it is of by --accounts, or in the text by {NAME} snapshot --with-host")
+
+
+def add_accounts(parser: argparse.ArgumentParser) -> None:
+    parser.add_argument("--accounts", metavar="FOLDER",
+                        help="a folder with passwd, group, subuid and subgid, in place of the host's own accounts")
+
+
+def add_keep(parser: argparse.ArgumentParser) -> None:
+    parser.add_argument("--keep", metavar="FILE", help="where the tree text is left, for further questions")
+
+
+def add_program(parser: argparse.ArgumentParser) -> None:
+    parser.add_argument("--zirofen", metavar="PROGRAM", dest="program", default=default_program(),
+                        help=f"the program, also by the environment's ZIROFEN ({TOLD_PROGRAM})")
+
+
+def add_ask(parser: argparse.ArgumentParser) -> None:
+    parser.add_argument("user", metavar="NAME|UID", help="the user, by the name of an account or by a number")
+    parser.add_argument("path", metavar="PATH", help="the top of the subtree, from the mount on")
+    for add in (add_host, add_text, add_accounts, add_keep, add_program):
+        add(parser)
+
+
+def add_check(parser: argparse.ArgumentParser) -> None:
+    for add in (add_host, add_text, add_accounts, add_keep, add_program):
+        add(parser)
+    parser.add_argument("--json", action="store_true", help="all of it as JSON, with the host's cgroups and processes")
+    parser.add_argument("--html", metavar="FILE", help="one page of it to look at, into a file; what is printed stays as it is")
+    parser.add_argument("--baseline", metavar="FILE",
+                        help="tells what is new, worse, changed or gone since FILE, an earlier --json; the status is that of new and worse")
+    parser.add_argument("--baseline-update", metavar="FILE", help="leaves the report of now as a baseline in FILE")
+
+
+def add_commands(parser: argparse.ArgumentParser) -> None:
+    parser.add_argument("--mount", metavar="FOLDER", default=MOUNT, help=f"the cgroup v2 mount ({MOUNT})")
+    parser.add_argument("--uid", metavar="N", type=number, help="the user whose commands they are; else those of who runs them")
+    parser.add_argument("--gid", metavar="N", type=number, action="append", default=[],
+                        help="a group of the user, once or more; the first is the primary one")
+
+
+def add_delegations(parser: argparse.ArgumentParser) -> None:
+    parser.add_argument("--tree", metavar="FILE", help="the tree's text; standard input where this is left out")
+    parser.add_argument("--proc", metavar="FOLDER",
+                        help=f"where running processes are told of ({PROC}; none with --accounts)")
+    add_accounts(parser)
+    add_program(parser)
+
+
+def add_page(parser: argparse.ArgumentParser) -> None:
+    parser.add_argument("reports", metavar="REPORT.json", nargs="+", help=f"what {NAME} check --json wrote, - for standard input")
+    parser.add_argument("--out", metavar="FILE", default="-", help="where the page goes (standard output)")
+
+
+def add_snapshot(parser: argparse.ArgumentParser) -> None:
+    add_host(parser)
+    add_accounts(parser)
+    parser.add_argument("--with-host", action="store_true", help="in comments, what a check of the text elsewhere takes too: accounts, "
+                        "marks, other files, and the processes' names, groups and capabilities")
+
+
+def add_tree(parser: argparse.ArgumentParser) -> None:
+    parser.add_argument("report", metavar="REPORT.json", nargs="?", help=f"what {NAME} check --json wrote, - for standard input")
+    parser.add_argument("--all", action="store_true", help="also the cgroups that are folded")
+    parser.add_argument("--colour", "--color", choices=("auto", "always", "never"), default="auto",
+                        help="colours: on a terminal where NO_COLOR isn't set (auto), or always, or never")
+    parser.add_argument("--ascii", action="store_true", help="signs of ASCII alone, as where the locale has no UTF-8")
+    parser.add_argument("--width", metavar="COLUMNS", type=width,
+                        help="cut lines to this; else to the terminal's, and elsewhere not at all")
+    parser.add_argument("--no-pager", action="store_true", help="don't show it through PAGER (less) on a terminal")
+    for add in (add_host, add_accounts, add_keep, add_program):
+        add(parser)
+
+
+ARGUMENTS: Dict[str, Callable[[argparse.ArgumentParser], None]] = {
+    "ask": add_ask, "check": add_check, "commands": add_commands, "delegations": add_delegations, "page": add_page,
+    "snapshot": add_snapshot, "tree": add_tree}
+# these tell their usage where their options are wrong, and the others a line
+PARSERS: Dict[str, Type[argparse.ArgumentParser]] = {"page": argparse.ArgumentParser, "tree": argparse.ArgumentParser}
+
+
+def parser_of(name: str) -> argparse.ArgumentParser:
+    """The parser of a subcommand's command line."""
+    parser = PARSERS.get(name, Parser)(prog=f"{NAME} {name}", description=DESCRIPTIONS[name],
+                                       formatter_class=argparse.RawDescriptionHelpFormatter)
+    ARGUMENTS[name](parser)
+    return parser

@@ -1,0 +1,88 @@
+"""What is asked, and what the program answers: the second form of what is told."""
+from dataclasses import dataclass
+from typing import FrozenSet, Mapping, NamedTuple, Optional, Tuple
+
+from zirofen_host.collect.model import User
+from zirofen_host.profile import CgroupPath
+
+
+class Delegation(NamedTuple):
+    path: CgroupPath
+    user: User
+
+
+class Guarded(NamedTuple):
+    """An entry that a containment stands on, and by which guard."""
+    guard: str
+    path: CgroupPath
+    name: str
+
+
+@dataclass(frozen=True)
+class Holders:
+    """By which class somebody holds a subtree, and which uids or which gid that class is."""
+    by: Optional[str]
+    ids: Tuple[int, ...]
+    uids: FrozenSet[int]
+
+
+@dataclass(frozen=True)
+class Question:
+    """Each of these users asked of each of these subtrees."""
+    users: Tuple[User, ...]
+    subtrees: Tuple[CgroupPath, ...]
+
+
+@dataclass(frozen=True)
+class Cut:
+    """Who isn't asked of a subtree, since too many of his groups matter there."""
+    user: User
+    subtree: CgroupPath
+    count: int
+
+
+@dataclass(frozen=True)
+class Plan:
+    """What to ask, and what isn't asked, with why."""
+    questions: Tuple[Question, ...]
+    cut: Tuple[Cut, ...]
+    # each user as he is asked, with the groups that matter
+    asked_as: Mapping[User, User]
+    # how many of a uid's groups were left out
+    left_out: Mapping[int, int]
+    # the subtrees of which the owners above them aren't asked
+    expected_of: Mapping[FrozenSet[int], Tuple[CgroupPath, ...]]
+
+
+class Pair(NamedTuple):
+    user: User
+    subtree: CgroupPath
+
+
+@dataclass(frozen=True)
+class Answer:
+    """The program's answer: its status, and its lines, of which the first has the word."""
+    status: int
+    lines: Tuple[str, ...]
+
+
+@dataclass(frozen=True)
+class Advice:
+    """A guard that fails, as words, and what to change."""
+    fails: Tuple[str, ...]
+    changes: Tuple[Tuple[str, ...], ...]
+
+
+@dataclass(frozen=True)
+class Answers:
+    """What was asked, and every pair that isn't contained."""
+    plan: Plan
+    # what was asked behind the plan, where everybody is let in
+    further: Tuple[Question, ...]
+    found: Mapping[Pair, Answer]
+    # how many users weren't asked of a subtree that everybody is let in to
+    not_asked: Mapping[CgroupPath, int]
+    # subtrees of which nothing could be asked, each with the program's line
+    refused: Mapping[CgroupPath, str]
+    version: Optional[str]
+    has_advise: bool

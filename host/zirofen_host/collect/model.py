@@ -1,0 +1,186 @@
+"""What is collected of a host, or read back from a text of another one: the first form of what is told."""
+from dataclasses import dataclass, field
+from typing import FrozenSet, List, Mapping, NamedTuple, Optional, Sequence, Tuple, Union
+
+from zirofen_host.profile import DIRECTORY_MODE, FILE_MODE, LIMIT_FILES, CgroupPath, parent_of
+
+OWNER, GROUP, OTHERS = CLASSES = ("owner", "group", "others")
+
+# a limit's value as a tree text has it
+Value = Union[int, str]
+# a device and an inode
+FilePlace = Tuple[int, int]
+
+
+@dataclass(frozen=True, order=True)
+class Entry:
+    """The owner, the group and the mode of a directory or a file."""
+    __slots__ = ("uid", "gid", "mode")
+    uid: int
+    gid: int
+    mode: int
+
+
+DEFAULT_FILE = Entry(0, 0, FILE_MODE)
+
+
+class User(NamedTuple):
+    """A uid with its groups, the primary one first. A tuple, since who is asked of what is sets of many of them."""
+    uid: int
+    gids: Tuple[int, ...]
+
+    def class_of(self, entry: Entry) -> str:
+        """The first class that matches, as a kernel asks."""
+        return OWNER if entry.uid == self.uid else GROUP if entry.gid in self.gids else OTHERS
+
+    def writes(self, entry: Entry) -> bool:
+        return bool(entry.mode & {OWNER: 0o200, GROUP: 0o020, OTHERS: 0o002}[self.class_of(entry)])
+
+    def reaches(self, entry: Entry) -> bool:
+        """An owner may set the mode first, so he reaches what he owns."""
+        return entry.uid == self.uid or self.writes(entry)
+
+
+@dataclass(frozen=True)
+class Cgroup:
+    """A cgroup as it was found: every file with its owner, and the texts that matter."""
+    __slots__ = ("directory", "files", "texts", "enabled", "available", "kind", "marks", "pids")
+    directory: Entry
+    files: Mapping[str, Entry]
+    # what the limit files have
+    texts: Mapping[str, str]
+    enabled: Tuple[str, ...]
+    available: Tuple[str, ...]
+    # what cgroup.type has
+    kind: str
+    marks: Mapping[str, bytes]
+    # none where it is threaded, and lists none
+    pids: Optional[Tuple[int, ...]]
+
+
+@dataclass(frozen=True)
+class Row:
+    """What a tree text carries of a cgroup."""
+    path: CgroupPath
+    directory: Entry = Entry(0, 0, DIRECTORY_MODE)
+    files: Mapping[str, Entry] = field(default_factory=dict)
+    values: Mapping[str, Value] = field(default_factory=dict)
+    enabled: Tuple[str, ...] = ()
+
+    def entry(self, name: str) -> Entry:
+        """The directory or a file by its name; a file that isn't named has its default."""
+        return self.directory if name == "dir" else self.files.get(name, DEFAULT_FILE)
+
+
+class Placed(NamedTuple):
+    """What a tree text carries of a process."""
+    pid: int
+    uid: int
+    at: CgroupPath
+
+
+@dataclass(frozen=True)
+class Tree:
+    """What a tree text carries: the root's controllers, rows by path, and processes."""
+    controllers: Tuple[str, ...]
+    rows: Mapping[CgroupPath, Row]
+    processes: Sequence[Placed] = ()
+
+    def limit_files(self, path: CgroupPath) -> List[str]:
+        """The limit files that stand at a cgroup, in their order."""
+        parent = parent_of(path)
+        enabled = self.rows[parent].enabled if parent else ()
+        return [file for file, (controller, _) in LIMIT_FILES.items() if controller is None or controller in enabled]
+
+
+@dataclass(frozen=True)
+class Process:
+    """A process as /proc tells of it. Its uid is the real one; as a user it acts under the effective ones."""
+    pid: int
+    uid: int
+    user: User
+    is_kernel_thread: bool
+    name: str = ""
+    capabilities: Tuple[str, ...] = ()
+
+
+@dataclass(frozen=True)
+class Note:
+    """What a tree text bends or leaves out, and where."""
+    kind: str
+    place: str
+    detail: str
+
+
+@dataclass(frozen=True)
+class About:
+    """What a snapshot is of, and when it was taken; of a text that doesn't say it, nothing."""
+    host: Optional[str] = None
+    kernel: Optional[str] = None
+    time: Optional[str] = None
+
+
+class Account(NamedTuple):
+    name: str
+    uid: int
+    gid: int
+
+
+class Group(NamedTuple):
+    gid: int
+    members: Tuple[str, ...]
+    name: str = ""
+
+
+@dataclass(frozen=True)
+class Range:
+    """Subordinate ids of an owner, who is named or numbered."""
+    owner: str
+    first: int
+    count: int
+
+
+@dataclass(frozen=True)
+class AccountLists:
+    """The accounts that a host lists, or that a text carries."""
+    accounts: Tuple[Account, ...] = ()
+    groups: Tuple[Group, ...] = ()
+    subordinate_uids: Tuple[Range, ...] = ()
+    subordinate_gids: Tuple[Range, ...] = ()
+
+
+@dataclass(frozen=True)
+class Carried:
+    """What a text of another host carries beside its tree: accounts, and values that a tree has no place for."""
+    accounts: AccountLists
+    values: Mapping[Tuple[CgroupPath, str], str]
+
+
+@dataclass(frozen=True)
+class Source:
+    """Where a snapshot is from: a text's file, which the program took, and what it carries; of this host, neither."""
+    file: Optional[str] = None
+    carried: Optional[Carried] = None
+
+
+@dataclass(frozen=True)
+class Snapshot:
+    """All that was found, the tree that a text carries of it, and what was left out on the way."""
+    about: About
+    # where the hierarchy is mounted, and by which options
+    mount: str
+    mount_options: Tuple[str, ...]
+    cgroups: Mapping[CgroupPath, Cgroup]
+    tree: Tree
+    # by PID, those too that stand in no cgroup of the tree
+    processes: Mapping[int, Process]
+    kernel_threads: int
+    # each file by which something is set, with its cgroup and its name
+    places: Mapping[FilePlace, Tuple[CgroupPath, str]]
+    # the files that this kernel says are made to be handed over
+    kernel_list: FrozenSet[str]
+    notes: Tuple[Note, ...]
+    # what changed all the time or can't be read, and the subtrees that this spoils, each with why
+    changing: Mapping[CgroupPath, str]
+    spoiled: Mapping[CgroupPath, str]
+    source: Source = Source()

@@ -1,0 +1,72 @@
+"""Mounts of cgroups, and whether a snapshot can be taken here."""
+import os
+
+from zirofen_host.fault import Fault
+from zirofen_host.profile import CONTROL_FILES, USUAL_LIST
+
+# the number of the cgroup namespace that a kernel begins with
+FIRST_NAMESPACE = "cgroup:[4026531835]"
+WHOLE_UID_MAP = ["0", "0", "4294967295"]
+
+
+class Mounts:
+    """What a mountinfo text says of cgroups."""
+
+    def __init__(self, text):
+        self.second, self.first = {}, []
+        # a path may have all that ends a line or parts words elsewhere, but for what stands for itself in octal digits
+        for line in text.split("\n"):
+            before, after = (part.split(" ") for part in line.partition(" - ")[::2])
+            if len(before) < 6 or len(after) < 3:
+                continue
+            if after[0] == "cgroup2":
+                self.second[unescaped(before[4])] = (before[3], before[5].split(",") + after[2].split(","))
+            elif after[0] == "cgroup":
+                self.first.append(after[2])
+
+    def refuse(self, mount):
+        """Ends with a clear line where a folder isn't the top of a cgroup v2 mount."""
+        found = self.second.get(mount.rstrip("/") or "/")
+        if found is None:
+            where = f"; one is at {sorted(self.second)[0]}: name it by --mount" if self.second else ""
+            raise Fault(f"{mount} isn't a cgroup v2 mount{where}")
+        if found[0] != "/":
+            raise Fault(f"{mount} is a part of the hierarchy, {found[0]}, and not the whole")
+
+    def options(self, mount):
+        return self.second.get(mount.rstrip("/") or "/", ("/", []))[1]
+
+
+def unescaped(text):
+    """A path of a mountinfo text, where a space is written as three octal digits."""
+    for octal, byte in (("\\040", " "), ("\\011", "\t"), ("\\012", "\n"), ("\\134", "\\")):
+        text = text.replace(octal, byte)
+    return text
+
+
+def refuse_what_is_no_host(mount):
+    """Ends with a clear line where owners, paths or PIDs would be told wrongly."""
+    if os.geteuid() != 0:
+        raise Fault("run this as root: others don't see every process, nor every descriptor")
+    with open("/proc/self/uid_map", encoding="ascii") as opened:
+        if opened.read().split() != WHOLE_UID_MAP:
+            raise Fault("inside a user namespace: owners would be told wrongly. Run this on the host")
+    if os.readlink("/proc/self/ns/cgroup") != FIRST_NAMESPACE:
+        raise Fault("inside a cgroup namespace: what is above its root isn't seen. Run this on the host")
+    mounts = mounts_of_host()
+    mounts.refuse(mount)
+    return mounts
+
+
+def mounts_of_host():
+    with open("/proc/self/mountinfo", encoding="utf-8", errors="surrogateescape", newline="\n") as opened:
+        return Mounts(opened.read())
+
+
+def read_kernel_list(file):
+    """The files that this kernel says are made to be handed over with a subtree."""
+    try:
+        with open(file, encoding="ascii", errors="replace") as opened:
+            return {*opened.read().split(), *CONTROL_FILES}
+    except (OSError, TypeError):
+        return set(USUAL_LIST)

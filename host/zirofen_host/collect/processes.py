@@ -1,0 +1,102 @@
+"""Processes, as /proc tells of them."""
+import os
+
+from zirofen_host.fault import Fault
+from zirofen_host.collect.model import Process, User
+
+KERNEL_THREAD = 0x00200000
+WRITES = os.O_WRONLY | os.O_RDWR
+
+# capabilities by which a process passes over owners, or becomes who does, by their numbers in CapEff
+CAPABILITIES = {0: "CHOWN", 1: "DAC_OVERRIDE", 3: "FOWNER", 6: "SETGID", 7: "SETUID", 16: "SYS_MODULE", 17: "SYS_RAWIO",
+                19: "SYS_PTRACE", 21: "SYS_ADMIN"}
+FIRST_USER_NAMESPACE = "user:[4026531837]"
+
+# descriptors of one user that are looked at
+MOST_DESCRIPTORS = 4096
+
+
+def status_fields(text):
+    """The words behind each key; a process's name may have all that parts lines but for a newline."""
+    return {key: value.split() for key, _, value in (line.partition(":") for line in text.split("\n"))}
+
+
+def text_of(path):
+    with open(path, encoding="utf-8", errors="replace", newline="\n") as opened:
+        return opened.read()
+
+
+def read_process(proc, pid):
+    """A process, or None where it has ended. Its uid is the real one; as a user it acts under the effective ones."""
+    try:
+        fields = status_fields(text_of(f"{proc}/{pid}/status"))
+        flags = int(text_of(f"{proc}/{pid}/stat").rpartition(")")[2].split()[6])
+        gid = int(fields["Gid"][1])
+        others = [int(group) for group in fields.get("Groups", ()) if int(group) != gid]
+        return Process(pid, int(fields["Uid"][0]), User(int(fields["Uid"][1]), (gid, *others)),
+                       flags & KERNEL_THREAD != 0, " ".join(fields.get("Name", ())), capabilities_of(proc, pid, fields))
+    except (FileNotFoundError, ProcessLookupError):
+        return None
+    except (ValueError, KeyError, IndexError):
+        raise Fault(f"what {proc}/{pid} tells of the process isn't known") from None
+
+
+def capabilities_of(proc, pid, fields):
+    """Those that count on the host: a user namespace's own don't reach outside of it."""
+    bits = int(fields.get("CapEff", ("0",))[0], 16)
+    names = tuple(name for number, name in CAPABILITIES.items() if bits >> number & 1)
+    try:
+        return names if not names or os.readlink(f"{proc}/{pid}/ns/user") == FIRST_USER_NAMESPACE else ()
+    except OSError:
+        return names
+
+
+def read_processes(proc):
+    """All processes by their PIDs."""
+    read = (read_process(proc, int(name)) for name in os.listdir(proc) if name.isdigit())
+    return {process.pid: process for process in read if process}
+
+
+def open_for_writing(proc, pids):
+    """What these processes hold open for writing on a mount of cgroups, as (pid, device and inode), since a path looks otherwise
+    in a container; and at last, where there is more than is looked at, (pid, None)."""
+    left = MOST_DESCRIPTORS
+    for pid in pids:
+        folder, kinds = f"{proc}/{pid}/fd", kinds_of_mounts(f"{proc}/{pid}/mountinfo")
+        try:
+            numbers = os.listdir(folder)
+        except OSError:
+            continue
+        for number in numbers[:left]:
+            file = file_for_writing(f"{proc}/{pid}/fdinfo/{number}", f"{folder}/{number}", kinds)
+            if file:
+                yield pid, file
+        left -= len(numbers)
+        if left < 0:
+            yield pid, None
+            return
+
+
+def kinds_of_mounts(file):
+    """The file system of each mount of a process by its number, or None where nothing tells of them."""
+    try:
+        lines = text_of(file).split("\n")
+    except OSError:
+        return None
+    parts = (line.partition(" - ") for line in lines)
+    return {before.split(" ")[0]: after.split(" ")[0] for before, _, after in parts}
+
+
+def file_for_writing(info, link, kinds):
+    """The device and the inode of a descriptor that is for writing. No other file system is asked: it may be a user's own,
+    which answers when he likes."""
+    try:
+        fields = status_fields(text_of(info))
+        if int(fields["flags"][0], 8) & WRITES == 0:
+            return None
+        if kinds is not None and kinds.get(fields["mnt_id"][0]) != "cgroup2":
+            return None
+        status = os.stat(link)
+        return status.st_dev, status.st_ino
+    except (OSError, ValueError, KeyError, IndexError):
+        return None

@@ -1,0 +1,148 @@
+"""The command `zirofen-host`: what each subcommand does with what it was asked for."""
+import argparse
+import json
+import os
+import subprocess
+import sys
+from typing import Callable, Dict, List, NoReturn
+
+from zirofen_host import fault, installed
+from zirofen_host.arguments import ARGUMENTS, DESCRIPTIONS, NAME, parser_of
+from zirofen_host.ask import accepted
+from zirofen_host.ask.delegations import Delegations
+from zirofen_host.collect import elsewhere, snapshot
+from zirofen_host.collect.accounts import accounts_of
+from zirofen_host.collect.processes import read_processes
+from zirofen_host.collect.model import User
+from zirofen_host.judge import baseline, check, one, saved, shell
+from zirofen_host.options import (PROC, AskOptions, CheckOptions, CommandsOptions, DelegationsOptions, PageOptions,
+                                  SnapshotOptions, TreeOptions)
+from zirofen_host.profile import MOST_ROWS
+from zirofen_host.show import lines, listing, page, tree_view
+
+ABOUT = f"""The helpers of zirofen for a running host: from its cgroups to answers. They are no part of what is proved.
+
+usage: {NAME} COMMAND ..      what each does: {NAME} COMMAND --help
+       {NAME} --version"""
+
+
+def ask(given: argparse.Namespace) -> int:
+    options = AskOptions(**vars(given))
+    taken, _ = accepted.take(options, lambda *_: [os.fsencode(options.path)])
+    told, status = one.ask(taken, options, lambda line: fault.warn(f"{NAME} ask: {line}"))
+    fault.write_lines(told)
+    return status
+
+
+def check_host(given: argparse.Namespace) -> int:
+    options = CheckOptions(**vars(given))
+    before = baseline.read(options.baseline) if options.baseline else None
+    is_whole = bool(options.json or options.html or options.baseline_update)
+    found = check.report(*accepted.take(options, check.subtrees_by(options)), options, is_whole)
+    if before:
+        found["baseline"] = baseline.compared(found, before, options.baseline)
+    if options.html:
+        page.write(options.html, [saved.of(found)])
+    if options.json:
+        fault.write(json.JSONEncoder(indent=1).iterencode(found))
+        fault.write("\n")
+    else:
+        fault.write_lines(lines.comparison_lines(found["baseline"]) if before else lines.lines_of(found))
+    if options.baseline_update:
+        baseline.write(options.baseline_update, found)
+    return found["baseline"]["status"] if before else found["status"]
+
+
+def write_commands(given: argparse.Namespace) -> int:
+    options = CommandsOptions(given.mount, given.uid, tuple(given.gid))
+    if options.uid is None and options.gid:
+        parser_of("commands").error("--gid goes with --uid")
+    user = None if options.uid is None else User(options.uid, options.gid)
+    try:
+        text = sys.stdin.buffer.read().decode("ascii")
+    except UnicodeDecodeError:
+        raise fault.Fault("the operations aren't ASCII") from None
+    fault.write_lines(shell.commands(options.mount, text, user))
+    return 0
+
+
+def list_delegations(given: argparse.Namespace) -> int:
+    options = DelegationsOptions(**vars(given))
+    tree = accepted.accept(options.tree or "-", options.program).tree
+    proc = options.proc or (None if options.accounts else PROC)
+    running = read_processes(proc).values() if proc else ()
+    found = Delegations(tree, accounts_of(options, running))
+    return 0 if listing.write_lines(found) else fault.FAULT
+
+
+def write_page(given: argparse.Namespace) -> int:
+    options = PageOptions(tuple(given.reports), given.out)
+    page.write(options.out, [saved.read(file) for file in options.reports])
+    return 0
+
+
+def write_snapshot(given: argparse.Namespace) -> int:
+    options = SnapshotOptions(**vars(given))
+    taken, mounts = snapshot.take(options, snapshot.all_that_changes, MOST_ROWS)
+    values = [{"changing": [os.fsdecode(path), why]} for path, why in taken.changing.items()]
+    if options.with_host:
+        accounts = accounts_of(options, taken.processes.values())
+        values += elsewhere.carried(taken, accounts, mounts, options)
+    text = elsewhere.text_with(taken, values, not options.no_processes)
+    for line in taken.note_lines():
+        fault.warn(line)
+    fault.write(text)
+    return 0
+
+
+def draw_tree(given: argparse.Namespace) -> int:
+    options = TreeOptions(**vars(given))
+    environment, is_terminal = tree_view.environment_of_start(), sys.stdout.isatty()
+    if options.report:
+        found = saved.read(options.report)
+    else:
+        found = saved.of(check.report(*snapshot.take(options, check.subtrees_by(options)), options, True))
+    drawing = tree_view.drawing_of(options, environment, is_terminal)
+    tree_view.show(tree_view.draw(found, drawing), tree_view.pager_of(options, environment, is_terminal),
+                   "ascii" if drawing.is_ascii else "utf-8")
+    return 0
+
+
+RUNS: Dict[str, Callable[[argparse.Namespace], int]] = {
+    "ask": ask, "check": check_host, "commands": write_commands, "delegations": list_delegations, "page": write_page,
+    "snapshot": write_snapshot, "tree": draw_tree}
+
+
+def help_text() -> str:
+    told = [f"  {name:<12} {DESCRIPTIONS[name].partition(chr(10))[0]}" for name in ARGUMENTS]
+    return "\n".join([ABOUT, "", "Commands:", *told, "", "Options:", "      --help     this text",
+                      "      --version  the version of the program"])
+
+
+def tell_version() -> int:
+    """The version is the program's."""
+    program = installed.default_program()
+    said = subprocess.run([program, "--version"], capture_output=True, text=True, check=False)
+    if said.returncode:
+        raise fault.Fault(f"{program} doesn't run here, and ended with status {said.returncode}")
+    fault.write(said.stdout.replace("zirofen ", f"{NAME} "))
+    return 0
+
+
+def main(words: List[str]) -> int:
+    if words in (["--help"], ["-h"], ["help"]):
+        fault.write(help_text() + "\n")
+        return 0
+    if words == ["--version"]:
+        return tell_version()
+    if not words or words[0] not in RUNS:
+        print(help_text(), file=sys.stderr)
+        return fault.FAULT
+    return RUNS[words[0]](parser_of(words[0]).parse_args(words[1:]))
+
+
+def run() -> NoReturn:
+    """Runs the command by the words that it was called with."""
+    words = sys.argv[1:]
+    name = f"{NAME} {words[0]}" if words[:1] and words[0] in RUNS else NAME
+    fault.run(name, lambda: main(words))

@@ -1,0 +1,17 @@
+"""Where the package stands, in a clone or installed, and what is beside it."""
+import os
+
+TOP = os.path.dirname(os.path.dirname(os.path.dirname(os.path.realpath(__file__))))
+WRAPPER = os.path.join(TOP, "zirofen")
+PROGRAM = "/usr/bin/zirofen"
+
+IS_CLONE = os.path.isfile(WRAPPER)
+# what a line can name to read on
+MANUAL = "docs/HOSTS.md" if IS_CLONE else "zirofen-host(8)"
+# what the program is called where its place doesn't matter
+TOLD_PROGRAM = "the wrapper beside this folder" if IS_CLONE else PROGRAM
+
+
+def default_program() -> str:
+    """The program that is asked where none is named."""
+    return os.environ.get("ZIROFEN", WRAPPER if IS_CLONE else PROGRAM)

@@ -1,0 +1,219 @@
+"""A report: the third form of what is told. Its JSON has the keys and the order of these fields, of which those that are ABSENT
+have no key; the paths in it are texts, as they are shown."""
+from dataclasses import dataclass
+from enum import Enum
+from typing import Mapping, Optional, Tuple, Union
+
+
+class Absent(Enum):
+    ABSENT = "absent"
+
+
+ABSENT = Absent.ABSENT
+
+
+@dataclass(frozen=True)
+class Owner:
+    uid: int
+    gid: int
+    # octal digits
+    mode: str
+
+
+@dataclass(frozen=True)
+class HeldBy:
+    by: Optional[str]
+    ids: Tuple[int, ...]
+
+
+@dataclass(frozen=True)
+class HolderAnswer:
+    """What some of those who hold a subtree were answered."""
+    who: str
+    uids: Tuple[int, ...]
+    users: int
+    gids: Tuple[int, ...]
+    lines: Tuple[str, ...]
+    # it lies in what was handed to the same person
+    is_above: bool
+
+
+@dataclass(frozen=True)
+class Subtree:
+    path: str
+    meant: Optional[str]
+    unit: Optional[str]
+    held_by: HeldBy
+    answers: Tuple[HolderAnswer, ...]
+
+
+@dataclass(frozen=True)
+class Whom:
+    """Somebody that an entry lets in: by its owner, by its group or with everybody."""
+    by: str
+    id: Optional[int]
+    name: str
+    users: Tuple[str, ...]
+
+
+@dataclass(frozen=True)
+class Example:
+    who: str
+    uid: int
+    gids: Tuple[int, ...]
+    subtree: str
+    lines: Tuple[str, ...]
+
+
+@dataclass(frozen=True)
+class EntryFinding:
+    """An entry that lets somebody in to subtrees."""
+    path: str
+    entry: str
+    owner: Optional[Owner]
+    answer: str
+    whom: Tuple[Whom, ...]
+    subtrees: Tuple[str, ...]
+    example: Optional[Example]
+    changes: Tuple[str, ...]
+    setting: Optional[str]
+
+
+@dataclass(frozen=True)
+class OpenedFinding:
+    """A limit that stands open to somebody; seen, and not proved."""
+    path: str
+    file: str
+    owner: Owner
+    whom: Tuple[Whom, ...]
+    changes: Tuple[str, ...]
+    setting: Optional[str]
+
+
+@dataclass(frozen=True)
+class FaultFinding:
+    """Subtrees without an answer of somebody."""
+    who: str
+    uid: Optional[int]
+    gids: Tuple[int, ...]
+    fault: str
+    subtrees: Tuple[str, ...]
+
+
+@dataclass(frozen=True)
+class DiffersFinding:
+    """Entries that aren't as a service manager leaves them."""
+    path: str
+    entries: Tuple[str, ...]
+    setting: Optional[str]
+    changes: Tuple[str, ...]
+
+
+@dataclass(frozen=True)
+class AboveFinding:
+    """What lies below what was handed to somebody, and isn't counted."""
+    who: str
+    uid: int
+    handed: str
+    subtrees: Tuple[str, ...]
+
+
+Finding = Union[EntryFinding, OpenedFinding, FaultFinding, DiffersFinding, AboveFinding]
+
+
+@dataclass(frozen=True)
+class Told:
+    """What no answer looks at, or what a tree text leaves out."""
+    kind: str
+    place: str
+    text: str
+
+
+@dataclass(frozen=True)
+class ReportUser:
+    uid: int
+    name: Optional[str]
+    groups: Tuple[Tuple[int, ...], ...]
+
+
+@dataclass(frozen=True)
+class ReportGroup:
+    gid: int
+    name: Optional[str]
+
+
+@dataclass(frozen=True)
+class ReportFile:
+    uid: int
+    gid: int
+    mode: str
+    # of a limit that can't be read, none
+    value: Union[int, str, None, Absent] = ABSENT
+
+
+@dataclass(frozen=True)
+class ReportCgroup:
+    path: str
+    dir: Owner
+    enabled: Tuple[str, ...]
+    unit: Optional[str]
+    marks: Mapping[str, str]
+    files: Mapping[str, ReportFile]
+
+
+@dataclass(frozen=True)
+class ReportProcess:
+    pid: int
+    uid: int
+    at: str
+    name: str
+    capabilities: Tuple[str, ...]
+
+
+@dataclass(frozen=True)
+class Difference:
+    what: str
+    line: str
+    before: Optional[str]
+    status: int
+    changes: Tuple[str, ...]
+    setting: Optional[str]
+
+
+@dataclass(frozen=True)
+class Comparison:
+    """What differs from an earlier report."""
+    file: str
+    time: str
+    new: Tuple[Difference, ...]
+    worse: Tuple[Difference, ...]
+    changed: Tuple[Difference, ...]
+    gone: Tuple[Difference, ...]
+    status: int
+
+
+@dataclass(frozen=True)
+class Report:
+    version: int
+    program: Optional[str]
+    host: str
+    kernel: str
+    time: str
+    mount: str
+    asked: bool
+    has_advice: bool
+    subtrees: Tuple[Subtree, ...]
+    entries: Tuple[EntryFinding, ...]
+    opened: Tuple[OpenedFinding, ...]
+    faults: Tuple[FaultFinding, ...]
+    differs: Tuple[DiffersFinding, ...]
+    above: Tuple[AboveFinding, ...]
+    unseen: Tuple[Told, ...]
+    snapshot: Tuple[Told, ...]
+    status: int
+    # the host itself, where the report is to be whole
+    users: Union[Tuple[ReportUser, ...], Absent] = ABSENT
+    groups: Union[Tuple[ReportGroup, ...], Absent] = ABSENT
+    cgroups: Union[Tuple[ReportCgroup, ...], Absent] = ABSENT
+    processes: Union[Tuple[ReportProcess, ...], Absent] = ABSENT
+    baseline: Union[Comparison, Absent] = ABSENT

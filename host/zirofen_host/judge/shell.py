@@ -1,0 +1,126 @@
+"""Shell commands for a mount: of operations, and of what to change."""
+import shlex
+
+from zirofen_host.fault import Fault
+from zirofen_host.profile import CONTROL_FILES, CONTROLLERS, LIMIT_FILES, is_number
+
+ENTRIES = ("dir", *CONTROL_FILES, *LIMIT_FILES)
+# lines of a report that stand around operations
+ANSWERS = ("escapes", "contained", "unsettled", "pair")
+NOBODYS_GROUP = 65534
+
+
+def place(mount, path, entry="dir"):
+    """An entry of a cgroup on a mount, quoted for a shell."""
+    folder = mount.rstrip("/") + ("" if path == "/" else path) or "/"
+    return shlex.quote(folder if entry == "dir" else f"{folder}/{entry}")
+
+
+def is_path(word):
+    return word == "/" or word.startswith("/") and all(word[1:].split("/")) and not {".", ".."} & set(word.split("/"))
+
+
+def move(mount, pid, path):
+    return f"echo {pid} >{place(mount, path, 'cgroup.procs')}" if is_number(pid) and is_path(path) else None
+
+
+def control(mount, path, *changes):
+    known = all(each[:1] in ("+", "-") and each[1:] in CONTROLLERS for each in changes)
+    return f"echo '{' '.join(changes)}' >{place(mount, path, 'cgroup.subtree_control')}" if known and is_path(path) else None
+
+
+def make(mount, path):
+    return f"mkdir {place(mount, path)}" if is_path(path) else None
+
+
+def remove(mount, path):
+    return f"rmdir {place(mount, path)}" if is_path(path) else None
+
+
+def set_limit(mount, path, file, value):
+    known = file in LIMIT_FILES and (value == "max" or is_number(value))
+    return f"echo {value} >{place(mount, path, file)}" if known and is_path(path) else None
+
+
+def set_mode(mount, path, entry, mode):
+    known = entry in ENTRIES and len(mode) == 3 and not mode.strip("01234567")
+    return f"chmod {mode} {place(mount, path, entry)}" if known and is_path(path) else None
+
+
+def fork(_, parent, child):
+    return f"# fork {parent} {child}" if is_number(parent) and is_number(child) else None
+
+
+def leave(_, pid):
+    return f"# exit {pid}" if is_number(pid) else None
+
+
+OPERATIONS = {"move": move, "control": control, "mkdir": make, "rmdir": remove, "set": set_limit, "chmod": set_mode,
+              "fork": fork, "exit": leave}
+
+
+def operation_command(mount, words):
+    """The command of an operation, a comment where a shell has none, or None where the words are no operation."""
+    try:
+        return OPERATIONS[words[0]](mount, *words[1:])
+    except (KeyError, TypeError):
+        return None
+
+
+def as_user(user, command):
+    """A command that is carried out as a user, whatever root may do."""
+    if user is None or command.startswith("#"):
+        return command
+    primary, *others = user.gids or (NOBODYS_GROUP,)
+    groups = f"--groups {','.join(map(str, others))}" if others else "--clear-groups"
+    return f"setpriv --reuid {user.uid} --regid {primary} {groups} sh -c {shlex.quote(command)}"
+
+
+def commands(mount, text, user=None):
+    """The commands of the operations in a text, a line each; what else an answer has is a comment."""
+    lines = []
+    for number, line in enumerate(text.split("\n"), 1):
+        words = line.split(" ")
+        if not line:
+            continue
+        if line.startswith("#") or words[0] in ANSWERS:
+            command = "# " + line.lstrip("# ")
+        else:
+            command = operation_command(mount, words)
+        if command is None or not line.isprintable():
+            raise Fault(f"line {number} is no operation")
+        lines.append(as_user(user, command))
+    return lines
+
+
+def change_commands(mount, changes, entry_of):
+    """The commands of all changes that the program advises, for one entry after another. Each mode that is advised takes
+    bits from the one that stands, so that of several modes of an entry those bits are left which all of them have."""
+    others, modes = {}, {}
+    for words in changes:
+        if len(words) != 4 or words[0] not in ("chown", "chmod", "set"):
+            raise Fault(f"an advice that isn't known: {' '.join(words)!r}")
+        word, path, entry, value = words
+        at = place(mount, path, entry)
+        if word == "chmod":
+            modes[at] = modes.get(at, 0o777) & int(value, 8)
+        elif word == "chown":
+            uid, _, gid = value.partition(":")
+            same_group = gid == str(entry_of(path, entry).gid)
+            others[f"chown {'root' if uid == '0' else uid}{'' if same_group else ':' + gid} {at}"] = None
+        else:
+            others[f"echo {value} >{at}"] = None
+    return [*others, *(f"chmod {mode:03o} {at}" for at, mode in modes.items())]
+
+
+def closing_commands(mount, path, entries):
+    """Commands that give entries back to root and take the write bits of others, the fewest; entries by name."""
+    found = {}
+    for name, entry in sorted(entries.items()):
+        changes = [("chown", "root")] if entry.uid else []
+        bits = [letter for letter, bit in (("g", 0o020), ("o", 0o002)) if entry.mode & bit and (bit != 0o020 or entry.gid)]
+        changes += [("chmod", f"{''.join(bits)}-w")] if bits else []
+        for change in changes:
+            found.setdefault(change, []).append(name)
+    return [f"{word} {what} {' '.join(place(mount, path, name) for name in names)}"
+            for (word, what), names in sorted(found.items(), reverse=True)]

@@ -1,0 +1,76 @@
+"""What each subcommand was asked for, made of its command line once."""
+from dataclasses import dataclass
+from typing import Optional, Tuple
+
+from zirofen_host.profile import CgroupPath
+
+MOUNT, PROC = "/sys/fs/cgroup", "/proc"
+
+
+@dataclass(frozen=True)
+class Options:
+    """What is looked at, and by which program: the options of every subcommand that asks."""
+    mount: str = MOUNT
+    # that cgroup, its ancestors and what is inside it
+    only: Optional[CgroupPath] = None
+    proc: str = PROC
+    no_processes: bool = False
+    # the mount is a folder of plain files
+    plain_folder: bool = False
+    # a folder with account files, in place of the host's own
+    accounts: Optional[str] = None
+    # a text in place of this host
+    tree: Optional[str] = None
+    # where the tree text is left
+    keep: Optional[str] = None
+    program: str = ""
+
+
+@dataclass(frozen=True)
+class CheckOptions(Options):
+    json: bool = False
+    html: Optional[str] = None
+    baseline: Optional[str] = None
+    baseline_update: Optional[str] = None
+
+
+@dataclass(frozen=True)
+class AskOptions(Options):
+    user: str = ""
+    path: str = ""
+
+
+@dataclass(frozen=True)
+class SnapshotOptions(Options):
+    with_host: bool = False
+
+
+@dataclass(frozen=True)
+class TreeOptions(Options):
+    report: Optional[str] = None
+    all: bool = False
+    colour: str = "auto"
+    ascii: bool = False
+    width: Optional[int] = None
+    no_pager: bool = False
+
+
+@dataclass(frozen=True)
+class DelegationsOptions:
+    tree: Optional[str] = None
+    proc: Optional[str] = None
+    accounts: Optional[str] = None
+    program: str = ""
+
+
+@dataclass(frozen=True)
+class PageOptions:
+    reports: Tuple[str, ...] = ()
+    out: str = "-"
+
+
+@dataclass(frozen=True)
+class CommandsOptions:
+    mount: str = MOUNT
+    uid: Optional[int] = None
+    gid: Tuple[int, ...] = ()

@@ -1,0 +1,25 @@
+"""The delegations of a tree as lines."""
+from zirofen_host.fault import warn, write
+from zirofen_host.profile import MOST_GROUPS
+
+
+def line(path, user):
+    gids = ",".join(map(str, user.gids)) or "-"
+    return f"{user.uid}\t{gids}\t{path}\n"
+
+
+def write_lines(delegations):
+    """A line for each, and one on standard error for a user whose groups don't all go in. Whether all that matter do."""
+    found = delegations.find()
+    first = {delegations.entry(each.path, each.name).gid for path in {each.path for each in found}
+             for each in delegations.guarded(path)}
+    lines, cut, all_matter = [], {}, True
+    for path, user in found:
+        user, left_out = delegations.with_few_groups(user, first)
+        all_matter = all_matter and first.isdisjoint(left_out)
+        cut.update({user.uid: len(left_out)} if left_out else {})
+        lines.append(line(path, user))
+    write(lines)
+    for uid, count in sorted(cut.items()):
+        warn(f"groups: uid {uid}: {count} of his groups that stand in the tree left out: a user has {MOST_GROUPS} at most")
+    return all_matter
