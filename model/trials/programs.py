@@ -9,7 +9,7 @@ import subprocess
 import tempfile
 import tomllib
 
-from second import commands
+from second import commands, documents
 
 SECONDS = 60
 
@@ -75,11 +75,8 @@ def expected_of(case, respond=commands.respond):
     """What a case should give, or None where the model doesn't say."""
     try:
         return case.expected(respond)
-    except Exception as fault:
-        # a wrong model has classes of its own
-        if type(fault).__name__ == "Unsure":
-            return None
-        raise
+    except documents.Unsure:
+        return None
 
 
 def difference(written, expected):
