@@ -57,7 +57,7 @@ def random_case(seed, number, known):
     else:
         case.files[TREE] = data
         case.words[1:1] = ["--tree", TREE]
-    if rng.random() < 0.13:
+    if rng.random() < 0.15:
         for _ in range(rng.choice([1, 1, 1, 2, 3])):
             turn_words(rng, case)
     case.full = not command.startswith("replay") and rng.random() < 0.01
@@ -199,7 +199,7 @@ def next_operation(rng, tree, state, user, last):
     if kind in ("exit", "fork") and rng.random() < 0.4:
         return "fork", some_pid(rng, state, user), int(words[-1])
     if kind == "fork":
-        return "move", int(words[1]), some_path(rng, state)
+        return "move", int(words[1]), written_path(rng, state, user, rules.PROCS)
     below = rules.children(state, rules.path_of(words[0])) if kind == "control" and rules.path_of(words[0]) in state.cgroups else []
     if below and words[-1][0] == "+":
         child = rng.choice(below)
@@ -294,8 +294,8 @@ def bad_line(rng, lines):
         b"", b" ", near + b" ", near + b"\r", b" " + near, near.replace(b" ", b"  ", 1), near.upper(), b"move 010 /", b"move 0 /",
         b"move 4194304 /", b"move +7 /", b"mkdir a", b"mkdir /cgroup.procs", b"mkdir /\xc3\xa9", b"control", b"control / +",
         b"control / + cpu", b"control / +io", b"set / cgroup.procs 1", b"set / pids.max 00", b"set / pids.max -1",
-        *[b"set / pids.max 18446744073709551616"] * 3, b"chmod / dir 0755", b"chmod / dir 75", b"chmod / dir 789", b"fork 7", b"exit",
-        b"\xff", near + b"\0", b"exit 7 ", b"exit -0", b"exit 07", b"x" * 8192, b"x" * 8193, b"mkdir /" + b"a" * 8186,
+        *[b"set / pids.max 18446744073709551616"] * 6, b"chmod / dir 0755", b"chmod / dir 75", b"chmod / dir 789", b"fork 7", b"exit",
+        b"\xff", near + b"\0", b"exit 7 ", b"exit -0", b"exit 07", b"x" * 8192, b"x" * 8192, b"x" * 8193, b"mkdir /" + b"a" * 8186,
         b"control /" + b" +cpu" * 1635 + b" +memory", b"control /" + b" +pids" * 1364])
 
 
@@ -355,7 +355,8 @@ def odd_subtree(rng, case):
 
 
 def lose_word(rng, case):
-    del case.words[rng.randrange(len(case.words))]
+    if case.words:
+        del case.words[rng.randrange(len(case.words))]
 
 
 def double_option(rng, case):

@@ -181,7 +181,7 @@ def turn_document(rng, parts):
     FAULTS[first](rng, parts)
     for _ in range(rng.choice([0, 0, 0, 1, 1, 2])):
         try:
-            rng.choice(FAULTS[max(0, first - 3):first + 4] if rng.random() < 0.7 else FAULTS)(rng, parts)
+            rng.choice(FAULTS[max(0, first - 3):first + 4] if rng.random() < 0.85 else FAULTS)(rng, parts)
         except (KeyError, TypeError, AttributeError, IndexError):
             pass
     if rng.random() < 0.04:

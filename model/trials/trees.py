@@ -54,7 +54,7 @@ def random_tree(rng):
     chance = rng.random()
     if chance < 0.07:
         return tree_to_probe(rng)
-    if chance < 0.16:
+    if chance < 0.19:
         return tree_of_doors(rng)
     paths = random_paths(rng)
     form = rng.choice([1, 2, 2])
@@ -77,7 +77,7 @@ def random_tree(rng):
     else:
         scatter(rng, tree)
     set_values(rng, tree)
-    if rng.random() < 0.03:
+    if rng.random() < 0.06:
         overfill(rng, tree)
     add_processes(rng, tree)
     return tree
@@ -112,7 +112,7 @@ def tree_of_doors(rng):
     them. Mostly there are more processes, which nobody but root moves."""
     controller, above = rng.choice(rules.CONTROLLERS), (rng.choice(NAMES),)
     rows = {path: {"path": text_of(path), "enabled": [controller]} for path in ((), above)}
-    places = [above + (name,) for name in rng.sample(FRONTS, rng.choice([2, 3, 4]))]
+    places = [above + (name,) for name in [FRONTS[0], *rng.sample(FRONTS[1:], rng.choice([1, 2, 3]))]]
     places += [path + (name,) for path in places for name in rng.sample(FRONTS, rng.choice([0, 1, 2]))]
     rows.update((path, {"path": text_of(path)}) for path in places)
     tree = Tree(rng.choice([1, 2]), [controller], rows, [], user_of(rng), rng.choice(places))
@@ -172,7 +172,7 @@ def open_one(rng, tree):
     if not top:
         return
     guarded = [(path, rules.PROCS) for path in rules.upwards(top)[1:]]
-    guarded += [(top[:-1], rules.CONTROL), (top[:-1], rules.DIR)] * 2
+    guarded += [(top[:-1], rules.CONTROL)] * 3 + [(top[:-1], rules.DIR)] * 2
     if rng.random() < 0.35:
         open_limits(rng, tree, top)
     else:
@@ -214,8 +214,8 @@ def open_limits(rng, tree, top):
 
 def share(rng, tree, path, name):
     uid, gids = tree.user
-    # of many groups the first and the last
-    gids = [*gids[:3], *gids[3:][-2:]]
+    # of many groups the first and above all the last
+    gids = [*gids[:3], *gids[3:][-1:] * 4]
     entry = tree.entry(path, name)
     ways = [{"uid": uid}, {"uid": uid, "mode": 0o444}, {"uid": uid, "mode": 0o446}, {"mode": 0o646}, {"uid": 7, "mode": 0o602}]
     if tree.form == 2:

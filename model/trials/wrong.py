@@ -72,7 +72,8 @@ OF_RULES = {
     "who owns an entry doesn't reach it": ("return writes(user, entry) or owns(user, entry)", "return writes(user, entry)"),
     "of the common ancestors the parent is guarded alone": (
         'for path in upwards(top)[1:]]', 'for path in upwards(top)[1:2]]'),
-    "limit files in the order of their names": ("for file in LIMIT_FILES if file in state", "for file in sorted(LIMIT_FILES) if file in state"),
+    "limit files in the order of their names": (
+        "for file in LIMIT_FILES if file in state", "for file in sorted(LIMIT_FILES) if file in state"),
     "the parent's directory is guarded first": (
         '[("parent-control", top[:-1], CONTROL), ("parent-dir", top[:-1], DIR)]',
         '[("parent-dir", top[:-1], DIR), ("parent-control", top[:-1], CONTROL)]'),
@@ -92,8 +93,7 @@ OF_RULES = {
     "opens to 0o644": ("found.append((\"chmod\", path, name, entry.mode | 0o200))", 'found.append(("chmod", path, name, 0o644))'),
     "opens the last entry first": ('found.append(("chmod", path, name', 'found.insert(0, ("chmod", path, name'),
     "tries all without the opening first": (
-        "for operations in plain_tries(state, top):",
-        "for operations in [*plain_tries(state, top), *(opened + each for each in plain_tries(state, top))]:"),
+        "        if opened:\n            yield", "    for operations in plain_tries(state, top) if opened else []:\n            yield"),
     "names the last guard that fails": ("failed[0][0], failed[0][1])", "failed[-1][0], failed[-1][1])"),
     "advises less than the class's bit": ("entry.mode & ~bit:03o", "entry.mode & ~0o022:03o"),
     "advises no mode behind an owner": (
@@ -117,7 +117,7 @@ OF_COMMANDS = {
     "of the subtrees the root is a fault first": (
         "for word in call.subtrees()]\n    return", 'for word in sorted(call.subtrees(), key=lambda word: word != "/")]\n    return'),
     "audit goes by subtree first": (
-        f"for user, top in {USERS}", f"for top, user in {USERS.replace('call.users', '0').replace('tops', 'call.users').replace('0', 'tops')}"),
+        f"user, top in {USERS}", "top, user in itertools.product(dict.fromkeys(tops), dict.fromkeys(call.users))"),
     "audit asks who is named again": (USERS, USERS.replace("dict.fromkeys(call.users)", "call.users")),
     "audit takes users of one uid for one": (USERS, asked_once("(lambda user: user[0])")),
     "audit takes groups in another order for the same": (USERS, asked_once("(lambda user: (user[0], set(user[1])))")),
