@@ -46,6 +46,7 @@ class TrialsTest(unittest.TestCase):
         self.assertGreaterEqual(len(wrong.TURNED), 70)
         for name in wrong.TURNED:
             self.assertIsNot(wrong.respond_of(name), commands.respond)
+            self.assertIsNone(programs.expected_of(cases.Case(["upgrade"], b"x = 07:32"), wrong.respond_of(name)), name)
 
     def test_each_spelling_spells_the_document(self):
         for number in range(100):
