@@ -1,6 +1,7 @@
 """A second model of Zirofen: tree texts. Written from docs/MODEL.md and docs/FORMATS.md alone, and from no code of crates/; keep
 it so.
 """
+import functools
 import itertools
 
 from . import rules
@@ -52,8 +53,9 @@ def process_form(table):
     return has_form(table, {"pid": number, "uid": number, "at": lambda value: is_a(value, str)}, {})
 
 
+@functools.lru_cache(maxsize=2)
 def tree_of(data):
-    """The state of a tree text; raises its first fault."""
+    """The state of a tree text; raises its first fault. It is kept, since it is asked for again."""
     document = document_of(data)
     if not has_form(document, {"format": number, "controllers": texts}, {"cgroup": rows_form, "process": rows_form}):
         raise Fault("tree shape top")

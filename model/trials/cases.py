@@ -46,7 +46,7 @@ def random_case(seed, number, known):
     if rng.random() < 0.05:
         data = faults.turn_bytes(rng, data)
     if rng.random() < 0.003:
-        data += b"#" * (documents.MOST_BYTES + rng.choice([0, 1, 1]) - len(data))
+        data += b"#" * (documents.MOST_BYTES + rng.choice([0, 0, 1]) - len(data))
     able = [name for name in MAKERS if name.removesuffix(" alone") in known]
     command = rng.choices(able, [WEIGHTS[name] for name in able])[0]
     case = Case(MAKERS[command](rng, tree, state_of(data)))

@@ -1,14 +1,12 @@
 """Wrong models: the second model with one thing turned. Each has to be told apart from the program."""
 import functools
-import os
 import sys
 import types
 
-import second
-from second import documents
+from second import commands, documents, rules, texts
 
-# in the order in which one takes from another; what reads TOML is shared where it isn't turned, so that a text is read once
-MODULES = ("documents", "rules", "texts", "commands")
+# in the order in which one takes from another: those before the one that is turned are the right model's own
+MODULES = {"documents": documents, "rules": rules, "texts": texts, "commands": commands}
 USERS = "itertools.product(dict.fromkeys(call.users), dict.fromkeys(tops))"
 MEMBER = 'return "group" if entry.gid in user[1] else "others"'
 LIVE_ITEMS = "for other, process in state.live.items() if other != pid}"
@@ -158,18 +156,19 @@ def respond_of(name):
     package = types.ModuleType(f"wrong{list(TURNED).index(name)}")
     package.__path__ = []
     sys.modules[package.__name__] = package
-    for module in MODULES:
-        if module == "documents" != turned:
-            made = documents
-        else:
-            made = turned_module(package, module, *([text, other] if module == turned else ["", ""]))
+    names = list(MODULES)
+    for module in names:
+        made = MODULES[module]
+        if names.index(module) >= names.index(turned):
+            made = made_anew(package, module, *([text, other] if module == turned else []))
         sys.modules[f"{package.__name__}.{module}"] = made
         setattr(package, module, made)
     return package.commands.respond
 
 
-def turned_module(package, module, text, other):
-    with open(os.path.join(os.path.dirname(second.__file__), f"{module}.py")) as source:
+def made_anew(package, module, text="", other=""):
+    """A module of a package, made from its source with a text turned that stands there once."""
+    with open(MODULES[module].__file__) as source:
         whole = source.read()
     if text and whole.count(text) != 1:
         raise ValueError(f"stands not once in {module}.py: {text}")
