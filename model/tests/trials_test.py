@@ -1,4 +1,5 @@
 """Tests of what model/run and model/hostile stand on; they need no program."""
+import collections
 import json
 import os
 import random
@@ -47,6 +48,24 @@ class TrialsTest(unittest.TestCase):
         for name in wrong.TURNED:
             self.assertIsNot(wrong.respond_of(name), commands.respond)
             self.assertIsNone(programs.expected_of(cases.Case(["upgrade"], b"x = 07:32"), wrong.respond_of(name)), name)
+
+    def test_trees_are_as_large_as_is_said(self):
+        most = collections.Counter()
+        for number in range(1500):
+            tree = trees.random_tree(random.Random(number))
+            entries = [entry for row in tree.rows.values() for entry in [row.get("dir", {}), *row.get("files", {}).values()]]
+            sizes = {"gids": len({entry["gid"] for entry in entries if "gid" in entry}), "cgroups": len(tree.rows),
+                     "processes": len(tree.processes), "gids of a user": len(tree.user[1]),
+                     "bytes of a path": max(len(row["path"]) for row in tree.rows.values())}
+            most |= collections.Counter(sizes)
+        self.assertEqual(most, {"gids": 33, "cgroups": 60, "processes": 40, "gids of a user": 32, "bytes of a path": 4095})
+
+    def test_probes_come_up_at_every_depth(self):
+        found = set()
+        for number in range(400):
+            tree = trees.tree_to_probe(random.Random(number))
+            found |= {len(path) for path in tree.rows if path and path[-1].startswith("probe") and path[:-1] in rules.upwards(tree.subtree)}
+        self.assertGreaterEqual(found, set(range(2, 13)))
 
     def test_each_spelling_spells_the_document(self):
         for number in range(100):

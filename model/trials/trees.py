@@ -130,11 +130,11 @@ def random_paths(rng):
     paths, names, deep = [()], rng.choice([NAMES, NAMES, NAMES, FRONTS]), 0.4
     count = rng.choice([1, 2, 3, 4, 5, 6, 8, 11] if rng.random() < 0.97 else [0])
     if rng.random() < 0.08:
-        count, names, deep = rng.choice([16, 24, 40, MOST_PATHS]), rng.choice([NAMES, FRONTS, LONG]), rng.choice([0.2, 0.6, 0.95])
-    for _ in range(count - (count == MOST_PATHS)):
+        count, names, deep = rng.choice([16, 24, 32, 48]), rng.choice([NAMES, FRONTS, LONG]), rng.choice([0.2, 0.6, 0.95])
+    for _ in range(count if count < 16 else 2 * count):
         parent = rng.choice(paths[-2:] if rng.random() < deep else paths)
         path = parent + (rng.choice(names),)
-        if path not in paths and len(path) <= DEEPEST and len(text_of(path)) <= rules.LONGEST_PATH:
+        if path not in paths and len(path) <= DEEPEST and len(text_of(path)) <= rules.LONGEST_PATH and len(paths) < MOST_PATHS:
             paths.append(path)
     return paths
 
