@@ -89,6 +89,11 @@ class TrialsTest(unittest.TestCase):
         for written in ((b"", 3, b""), (b"", -11, b""), (b"", 4, b"fault: usage\n"), (b"", 3, b"oh\nfault: usage\n")):
             self.assertNotEqual(programs.form_fault(written), "", written)
 
+    def test_a_program_is_run_with_the_stack_that_is_said(self):
+        with programs.Room("/bin/sh", 256 * 1024) as room:
+            self.assertEqual(room.run(cases.Case(["-c", "ulimit -s; exit 3"])), (b"256\n", 3, b""))
+            self.assertEqual(room.run(cases.Case(["-c", "kill -SEGV $$"]))[1], -11)
+
     def test_all_that_is_wanted_can_be_said(self):
         self.assertEqual(len(set(labels.wanted(ALL))), len(labels.wanted(ALL)))
 
