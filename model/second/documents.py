@@ -37,8 +37,8 @@ class Unsure(Exception):
 
 def may_be_newer(text):
     """Whether a text that TOML 1.0 refuses may be TOML 1.1: it has the escape \\e or \\x, a newline, a comment or a last comma in
-    an inline table, or a date or time, which may be without seconds, or one that Python has no word for. Of what is no TOML
-    either answer is right, since no text that ends in a text, or closes what isn't open, is TOML of any version."""
+    an inline table, or a date or time, which may be without seconds, or one that Python has no word for. What ends within a text,
+    or closes what isn't open, is TOML of no version; of what else is no TOML at all either answer will do."""
     opened = []
     for piece in PIECES.finditer(text):
         kind, mark = piece.lastgroup, piece[0]
