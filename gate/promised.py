@@ -1,6 +1,6 @@
 """What the must-fail edits and the contracts promise: the rules that edits keep, and the table of calls, clauses and edits.
 
-An edit can be applied, names no module that isn't there, and has one line `breaks: TEXT`, which says what it would break for a
+An edit can be applied, names no module that isn't there, and has one line `# breaks: TEXT`, which says what it would break for a
 user, in words that no other edit of its crate has. A page that names a call and behind a colon its clauses, as in
 "`Replay::step`: `memory`", names the call by the end of its path.
 """
@@ -123,7 +123,9 @@ def faults_of_edit(edit, sources, others):
     elif module_not_there(edit, sources):
         yield f"it names the module {module_not_there(edit, sources)}, which isn't there"
     if len(edit.breaks) != 1 or not edit.breaks[0]:
-        yield f"it has {len([*filter(None, edit.breaks)])} lines that say what it breaks for a user ('breaks: TEXT'), and not one"
+        yield f"it has {len([*filter(None, edit.breaks)])} lines that say what it breaks for a user ('# breaks: TEXT'), and not one"
+    if edit.unread:
+        yield f"it has a line that nothing reads: {edit.unread[0]}"
     twins = [it.name for it in others if it.breaks == edit.breaks] if edit.breaks else []
     if twins:
         yield f"it breaks for a user just what {twins[0]} does"

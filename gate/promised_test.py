@@ -124,7 +124,7 @@ class Crates(unittest.TestCase):
         for name, text in (("lib", ROOT), ("counts", COUNTS), ("inner", INNER)):
             self.write(f"src/{name}.rt", text)
         for name, (path, old, new, breaks) in EDITS.items():
-            self.write_edit(name, f"breaks: {breaks}\n", path=path, old=old, new=new)
+            self.write_edit(name, f"# breaks: {breaks}\n", path=path, old=old, new=new)
 
     def write(self, path, text):
         with open(f"{self.folder}/{path}", "w", encoding="utf-8") as it:
@@ -142,24 +142,28 @@ class Edits(Crates):
         self.assertEqual(faults_of_edits([self.folder]), (4, []))
 
     def test_edit_that_cannot_be_applied(self):
-        self.write_edit("doubled_thrice", "breaks: nothing\n", old="nowhere")
+        self.write_edit("doubled_thrice", "# breaks: nothing\n", old="nowhere")
         [fault] = self.faults()
         self.assertIn("low/doubled_thrice: it can't be applied", fault)
 
     def test_edit_that_names_a_module_that_is_not_there(self):
-        self.write_edit("doubled_thrice", "breaks: nothing\n", new="low::gone::helped()")
+        self.write_edit("doubled_thrice", "# breaks: nothing\n", new="low::gone::helped()")
         self.assertEqual(self.faults(), ["low/doubled_thrice: it names the module low::gone, which isn't there"])
-        self.write_edit("doubled_thrice", "breaks: nothing\n", new="low::inner::helped()")
+        self.write_edit("doubled_thrice", "# breaks: nothing\n", new="low::inner::helped()")
         self.assertEqual(self.faults(), [])
 
     def test_edit_that_says_nothing_of_a_user(self):
-        fault = "low/doubled_thrice: it has {} lines that say what it breaks for a user ('breaks: TEXT'), and not one".format
-        for text, count in (("", 0), ("breaks:\n", 0), ("breaks:  \n", 0), ("breaks: one\nbreaks: two\n", 2)):
+        fault = "low/doubled_thrice: it has {} lines that say what it breaks for a user ('# breaks: TEXT'), and not one".format
+        for text, count in (("", 0), ("# breaks:\n", 0), ("# breaks:  \n", 0), ("# breaks: one\n# breaks: two\n", 2)):
             self.write_edit("doubled_thrice", text)
             self.assertEqual(self.faults(), [fault(count)])
 
+    def test_line_that_nothing_reads(self):
+        self.write_edit("doubled_thrice", "# breaks: nothing\ngoal: returns\n")
+        self.assertEqual(self.faults(), ["low/doubled_thrice: it has a line that nothing reads: goal: returns"])
+
     def test_two_edits_that_say_the_same(self):
-        self.write_edit("some_more", "breaks: one more is shown\n")
+        self.write_edit("some_more", "# breaks: one more is shown\n")
         self.assertEqual(self.faults(), ["low/some_more: it breaks for a user just what low/shown_is_more does"])
 
 
