@@ -131,16 +131,15 @@ def faults_of_edit(edit, sources, others):
         yield f"it breaks for a user just what {twins[0]} does"
 
 
-def faults_of_edits(folders):
+def faults_of_edits(sources):
     """Returns how many edits there are, and what is wrong with them, in words."""
-    sources = Sources(folders)
     edits = [(it, found[:at]) for found in sources.edits.values() for at, it in enumerate(found)]
     return len(edits), [f"{it.name}: {why}" for it, before in edits for why in faults_of_edit(it, sources, before)]
 
 
-def faults_of_claims(text, folders):
+def faults_of_claims(text, sources):
     """Returns how many clauses of calls a page names, and which of them aren't there, in words."""
-    sources, count, faults = Sources(folders), 0, []
+    count, faults = 0, []
     for name, clauses in CLAIM.findall(text):
         calls = sources.named(name)
         for clause in NAME.findall(clauses):
@@ -167,9 +166,9 @@ def row_of(title, says, clauses, edits):
     return f"| {' | '.join(it.replace('|', chr(92) + '|') for it in cells)} |"
 
 
-def tables_of(folders, wanted):
+def tables_of(sources, wanted):
     """Returns Markdown: by crate and module each public call and each call of an edit, its clauses, and what its edits break."""
-    sources, lines = Sources(folders), ["# Promises"]
+    lines = ["# Promises"]
     for crate, edits in sources.edits.items():
         if wanted and crate not in wanted:
             continue
