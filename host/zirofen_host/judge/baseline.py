@@ -5,7 +5,7 @@ from collections import namedtuple
 
 from zirofen_host.ask.program import CONTAINED, ESCAPES, WORDS, WORST_FIRST, worst
 from zirofen_host.fault import FAULT, Fault
-from zirofen_host.judge import report as reporting
+from zirofen_host.judge.model import NOTHING_ASKED, VERSION
 from zirofen_host.judge.finding_lines import above_line, differs_line, entry_line, opened_line
 from zirofen_host.profile import shown
 
@@ -24,9 +24,9 @@ def read(file):
     except (ValueError, RecursionError):
         raise Fault(f"the baseline {shown(file)} is no report of zirofen-host check --json") from None
     version = before.get("version") if isinstance(before, dict) else None
-    if version != reporting.VERSION:
+    if version != VERSION:
         raise Fault(f"the baseline {shown(file)} has version {json.dumps(version)[:40]}, and this helper compares version "
-                    f"{reporting.VERSION}")
+                    f"{VERSION}")
     try:
         compared(before, before, file)
         return before
@@ -98,7 +98,7 @@ def compared(found, before, file):
                                      "status": CONTAINED, "changes": [], "setting": None})
     statuses = {each["status"] for kind in ("new", "worse") for each in value[kind]}
     nothing = not found["asked"] and before["asked"]
-    value["status"] = worst(statuses) or (reporting.NOTHING_ASKED if nothing else CONTAINED)
+    value["status"] = worst(statuses) or (NOTHING_ASKED if nothing else CONTAINED)
     return value
 
 

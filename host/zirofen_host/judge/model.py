@@ -4,12 +4,19 @@ from dataclasses import dataclass
 from enum import Enum
 from typing import Mapping, Optional, Tuple, Union
 
+# of the keys that a report has
+VERSION = 1
+# the status of a report of a host on which nothing was found to ask
+NOTHING_ASKED = 4
+
 
 class Absent(Enum):
     ABSENT = "absent"
 
 
 ABSENT = Absent.ABSENT
+# what a limit file has; one that can't be read has none
+FileValue = Union[int, str, None, Absent]
 
 
 @dataclass(frozen=True)
@@ -147,8 +154,7 @@ class ReportFile:
     uid: int
     gid: int
     mode: str
-    # of a limit that can't be read, none
-    value: Union[int, str, None, Absent] = ABSENT
+    value: FileValue = ABSENT
 
 
 @dataclass(frozen=True)

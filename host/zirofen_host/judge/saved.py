@@ -4,7 +4,7 @@ import re
 
 from zirofen_host.fault import Fault
 from zirofen_host.profile import parent_of
-from zirofen_host.judge.report import VERSION
+from zirofen_host.judge.model import VERSION
 
 NONE = type(None)
 
