@@ -12,8 +12,8 @@ from zirofen_host.ask.program import CONTAINED, ESCAPES, UNSETTLED, WORDS
 from zirofen_host.ask.questions import Questions, unit_of
 from zirofen_host.ask.texts import Programs, Texts
 from zirofen_host.collect.accounts import accounts_of
-from zirofen_host.collect.mount import read_kernel_list
-from zirofen_host.collect.processes import read_processes
+from zirofen_host.collect.elsewhere import told_unseen
+from zirofen_host.collect.model import Snapshot
 from zirofen_host.fault import FAULT, Fault
 from zirofen_host.judge import as_json, whole
 from zirofen_host.judge.checked import Checked, advise
@@ -24,10 +24,10 @@ from zirofen_host.judge.model import NOTHING_ASKED, VERSION, EntryFinding, HeldB
 from zirofen_host.judge.names import names_of
 from zirofen_host.judge.unseen import Unseen
 from zirofen_host.options import Options
-from zirofen_host.profile import KERNEL_LIST, CgroupPath, text_of
+from zirofen_host.profile import CgroupPath, text_of
 
 
-def questions_of(snapshot, accounts):
+def questions_of(snapshot: Snapshot, accounts):
     marks = {path: found.marks for path, found in snapshot.cgroups.items() if found.marks}
     return Questions(snapshot.tree, accounts, marks)
 
@@ -38,17 +38,14 @@ def subtrees_by(options):
 
     def subtrees_of(snapshot, _):
         if not accounts:
-            running = snapshot.processes_told if snapshot.file else read_processes(options.proc).values()
-            accounts.append(accounts_of(options, running, snapshot.accounts))
+            accounts.append(accounts_of(options.accounts, snapshot))
         return [os.fsencode(path) for path in questions_of(snapshot, accounts[0]).subtrees]
     return subtrees_of
 
 
-def ask_all(snapshot, options, folder) -> Checked:
+def ask_all(snapshot: Snapshot, options: Options, folder: str) -> Checked:
     """Everybody asked of everything."""
-    if not snapshot.kernel_list:
-        snapshot.kernel_list = read_kernel_list(None if options.plain_folder else KERNEL_LIST)
-    accounts = accounts_of(options, snapshot.processes_told, snapshot.accounts)
+    accounts = accounts_of(options.accounts, snapshot)
     questions = questions_of(snapshot, accounts)
     questions.leave_out(snapshot.spoiled)
     texts = Texts(snapshot.tree, questions.subtrees, not options.no_processes)
@@ -112,15 +109,16 @@ def answer_of(checked: Checked, subtree: CgroupPath, lines: Tuple[str, ...], is_
     return HolderAnswer(who, uids[:SHOWN], len(uids), gids, lines, is_above)
 
 
-def unseen(checked: Checked, mounts) -> Iterable[Told]:
+def unseen(checked: Checked) -> Iterable[Told]:
     """What no answer looks at, and what is different about this host or this text."""
     snapshot, options = checked.snapshot, checked.options
-    is_here = not options.plain_folder and not snapshot.file and os.path.isdir("/run/systemd/system")
-    proc, systemctl = None if snapshot.file else options.proc, shutil.which("systemctl") if is_here else None
+    is_text = snapshot.source.file is not None
+    has_manager = not options.plain_folder and not is_text and os.path.isdir("/run/systemd/system")
+    proc, systemctl = None if is_text else options.proc, shutil.which("systemctl") if has_manager else None
     yield from Unseen(snapshot, checked.questions, checked.names, proc, systemctl).lines()
-    if snapshot.file:
-        yield Told("elsewhere", "", snapshot.unseen())
-    if "nsdelegate" in mounts.options(snapshot.mount):
+    if is_text:
+        yield Told("elsewhere", "", told_unseen(snapshot))
+    if "nsdelegate" in snapshot.mount_options:
         yield Told("nsdelegate", "", "the mount has it: what runs in a cgroup namespace is kept in there, safer than the answers")
 
 
@@ -136,24 +134,24 @@ def status_of(entries: Iterable[EntryFinding], is_opened: bool, is_faulty: bool,
     return CONTAINED if is_asked else NOTHING_ASKED
 
 
-def report_of(checked: Checked, mounts, is_whole: bool) -> Report:
+def report_of(checked: Checked, is_whole: bool) -> Report:
     snapshot, about = checked.snapshot, checked.snapshot.about
     advised = advise(checked)
     entries, opened, faults = entry_findings(checked, advised), opened_findings(checked), fault_findings(checked, advised)
     made = Report(
-        VERSION, checked.programs.version, about["host"] or "", about["kernel"] or "",
-        about["time"] or time.strftime("%Y-%m-%dT%H:%M:%SZ", time.gmtime()), snapshot.mount,
+        VERSION, checked.programs.version, about.host or "", about.kernel or "",
+        about.time or time.strftime("%Y-%m-%dT%H:%M:%SZ", time.gmtime()), snapshot.mount,
         checked.is_asked, checked.programs.has_advise,
         subtrees=tuple(subtree_of(checked, path) for path in checked.questions.subtrees), entries=entries,
         opened=tuple(opened.values()), faults=faults, differs=tuple(differs_findings(checked, opened)),
-        above=tuple(above_findings(checked)), unseen=tuple(unseen(checked, mounts)),
+        above=tuple(above_findings(checked)), unseen=tuple(unseen(checked)),
         snapshot=tuple(Told(note.kind, note.place, note.detail) for note in snapshot.notes),
         status=status_of(entries, bool(opened), bool(faults), checked.is_asked))
     return replace(made, users=tuple(whole.users_of(checked)), groups=tuple(whole.groups_of(checked)),
                    cgroups=tuple(whole.cgroups_of(checked)), processes=tuple(whole.processes_of(checked))) if is_whole else made
 
 
-def report(snapshot, mounts, options: Options, is_whole: bool = False):
+def report(snapshot: Snapshot, options: Options, is_whole: bool = False):
     """The report on a host, with the host itself where it is to be whole."""
     with tempfile.TemporaryDirectory() as folder:
-        return as_json.value_of(report_of(ask_all(snapshot, options, folder), mounts, is_whole))
+        return as_json.value_of(report_of(ask_all(snapshot, options, folder), is_whole))

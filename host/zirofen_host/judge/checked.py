@@ -13,7 +13,7 @@ from zirofen_host.judge.judged import OVER, Judged, failing
 from zirofen_host.judge.names import Names
 from zirofen_host.judge.shell import Change, change_commands
 from zirofen_host.options import Options
-from zirofen_host.profile import CgroupPath
+from zirofen_host.profile import CgroupPath, path_of
 
 
 @dataclass(frozen=True)
@@ -35,7 +35,7 @@ class Checked:
 
     def entry(self, path: str, name: str) -> Entry:
         """An entry by the words that name it."""
-        return self.questions.delegations.entry(path, name)
+        return self.questions.delegations.entry(path_of(path), name)
 
     def commands(self, changes: Iterable[Change]) -> Tuple[str, ...]:
         return change_commands(self.snapshot.mount, changes, self.entry)

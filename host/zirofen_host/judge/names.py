@@ -35,4 +35,4 @@ class Names:
 
 
 def names_of(accounts: Accounts) -> Names:
-    return Names(accounts.names, {group.gid: group.name for group in accounts.groups if group.name})
+    return Names(accounts.names, {group.gid: group.name for group in accounts.lists.groups if group.name})

@@ -3,6 +3,7 @@ from typing import Iterable
 
 from zirofen_host.ask.questions import unit_of
 from zirofen_host.collect.model import Entry
+from zirofen_host.collect.snapshot import value_of
 from zirofen_host.collect.tree import in_order
 from zirofen_host.judge.checked import Checked
 from zirofen_host.judge.findings import owner_of
@@ -34,7 +35,7 @@ def cgroup_of(checked: Checked, path: CgroupPath) -> ReportCgroup:
     files = {name: file_of(row.entry(name), row.values.get(name, ABSENT)) for name in (*CONTROL_FILES, *tree.limit_files(path))}
     for name, entry in found.files.items():
         if is_other_limit(name):
-            files[name] = file_of(entry, None if name in NO_VALUE else checked.snapshot.value_of(path, name))
+            files[name] = file_of(entry, None if name in NO_VALUE else value_of(checked.snapshot, path, name))
     marks = {name: mark.decode("ascii", "replace") for name, mark in sorted(found.marks.items())}
     return ReportCgroup(text_of(path), owner_of(row.directory), row.enabled, unit_of(path), marks, files)
 
