@@ -30,11 +30,6 @@ HOSTILE = ("<script>alert(1)</script>", '"onload="alert(2)" x="', "'><img src=//
            "\x1b[31m\x07", "<!-- \xe9\u05d0", "]]><![CDATA[", "\ud800")
 
 
-def setUpModule():
-    if not browser.PROGRAM:
-        print("page_test: there is no chromium here: no page was opened in a browser")
-
-
 def real(name):
     with gzip.open(f"{HERE}/data/{name}", "rt", encoding="ascii") as opened:
         return saved.check(json.load(opened), name)
@@ -415,7 +410,6 @@ class ScriptTest(unittest.TestCase):
             self.assertIn("page", ended.stderr)
 
 
-@unittest.skipUnless(browser.PROGRAM, "there is no chromium")
 class BrowserTest(unittest.TestCase):
     """Pages in a real browser."""
 
