@@ -2,15 +2,17 @@
 import atexit
 import os
 import tempfile
+from dataclasses import replace
 
 from zirofen_host.ask.program import Program
 from zirofen_host.collect import snapshot as snapshots
-from zirofen_host.collect.elsewhere import Accepted, Elsewhere
+from zirofen_host.collect import elsewhere
+from zirofen_host.collect.elsewhere import Accepted
 from zirofen_host.collect.mount import Mounts
 from zirofen_host.collect.tree import read_tree
 from zirofen_host.collect.walk import spoiled_of
 from zirofen_host.fault import Fault
-from zirofen_host.profile import LONGEST_TEXT
+from zirofen_host.profile import LONGEST_TEXT, path_of
 
 
 def take(options, subtrees_of):
@@ -19,13 +21,12 @@ def take(options, subtrees_of):
         return snapshots.take(options, subtrees_of)
     if options.only or options.keep:
         raise Fault("--only and --keep go with a host, and not with --tree")
-    found = Elsewhere(accept(options.tree, options.program), options.mount)
-    found.spoiled = {os.fsdecode(path): why for path, why in
-                     spoiled_of(found.changing, subtrees_of(found, found.changing) if found.changing else ()).items()}
+    found = elsewhere.read(accept(options.tree, options.program), options.mount)
+    subtrees = map(os.fsencode, subtrees_of(found, found.changing) if found.changing else ())
+    spoiled = spoiled_of(found.changing, subtrees)
     mounts = Mounts("")
-    if found.about["mount"]:
-        mounts.second[found.mount] = "/", found.about["options"]
-    return found, mounts
+    mounts.second[found.mount] = "/", list(found.mount_options)
+    return replace(found, spoiled={path_of(path): why for path, why in spoiled.items()}), mounts
 
 
 def bytes_of(file):

@@ -8,6 +8,7 @@ from itertools import accumulate
 
 from zirofen_host import progress
 from zirofen_host.ask.program import Program
+from zirofen_host.collect import snapshot as snapshots
 from zirofen_host.fault import Fault
 from zirofen_host.profile import LONGEST_TEXT, MOST_PROCESSES, MOST_ROWS, ancestors, parent_of
 from zirofen_host.collect.tree import head_text, in_order, process_text, row_text
@@ -172,11 +173,11 @@ class Programs:
         self.refused = {}
         self.any = Program(options.program, None)
         for number, text in enumerate(self.texts, 1):
-            file = snapshot.file
+            file = snapshot.source.file
             if not (file and text.is_whole()):
                 file = f"{options.keep}.{number}" if options.keep and number > 1 else options.keep or f"{folder}/{number}.toml"
                 with open(file, "w", encoding="ascii") as out:
-                    out.write(text.written(snapshot.head()))
+                    out.write(text.written(snapshots.head(snapshot)))
             program = Program(options.program, file)
             self.of.update({path: program for path in text.subtrees})
 

@@ -8,13 +8,13 @@ from functools import cached_property
 from zirofen_host.judge import report as reporting
 from zirofen_host.ask.program import CONTAINED, Answer, Refused, worst
 from zirofen_host.collect.accounts import accounts_of
-from zirofen_host.collect.mount import read_kernel_list
+from zirofen_host.collect.elsewhere import told_unseen
+from zirofen_host.collect.snapshot import value_of
 from zirofen_host.fault import FAULT, Fault
 from zirofen_host.judge.finding_lines import SHOWN, some
 from zirofen_host.judge.names import Names
 from zirofen_host.judge.opened import Openings, what_differs
-from zirofen_host.collect.processes import read_processes
-from zirofen_host.profile import ANYBODY, CONTROL_FILES, KERNEL_LIST, SETTINGS, is_other_limit, shown, topmost
+from zirofen_host.profile import ANYBODY, CONTROL_FILES, SETTINGS, is_other_limit, shown, topmost
 from zirofen_host.ask.questions import Questions, unit_of
 from zirofen_host.judge.shell import change_commands, closing_commands
 from zirofen_host.ask.texts import Programs, Texts
@@ -104,7 +104,7 @@ class Checked:
 
     def __init__(self, snapshot, options, folder):
         self.snapshot, self.options = snapshot, options
-        self.accounts = accounts_of(options, snapshot.processes_told, snapshot.accounts)
+        self.accounts = accounts_of(options.accounts, snapshot)
         self.names = Names(self.accounts)
         self.questions = questions_of(snapshot, self.accounts)
         self.questions.leave_out(snapshot.spoiled)
@@ -127,7 +127,7 @@ class Checked:
         self.spoiled.update(self.program.refused)
         self.questions.leave_out(self.program.refused)
         self.judged = Judged(self.questions, answers, cut)
-        self.kernel_list = snapshot.kernel_list or read_kernel_list(None if options.plain_folder else KERNEL_LIST)
+        self.kernel_list = snapshot.kernel_list
         self.changed = set()
 
     def answers_of(self, subtree):
@@ -277,11 +277,11 @@ class Checked:
                 for (uid, handed), subtrees in sorted(self.judged.above.items())]
 
     def unseen(self, mounts):
-        is_here = not self.options.plain_folder and not self.snapshot.file and os.path.isdir("/run/systemd/system")
-        proc, systemctl = None if self.snapshot.file else self.options.proc, shutil.which("systemctl") if is_here else None
+        is_here = not self.options.plain_folder and not self.snapshot.source.file and os.path.isdir("/run/systemd/system")
+        proc, systemctl = None if self.snapshot.source.file else self.options.proc, shutil.which("systemctl") if is_here else None
         lines = Unseen(self.snapshot, self.questions, self.names, proc, systemctl).lines()
-        if self.snapshot.file:
-            lines.append(Line("elsewhere", "", self.snapshot.unseen()))
+        if self.snapshot.source.file:
+            lines.append(Line("elsewhere", "", told_unseen(self.snapshot)))
         if "nsdelegate" in mounts.options(self.snapshot.mount):
             lines.append(Line("nsdelegate", "", "the mount has it: what runs in a cgroup namespace is kept in there, "
                               "safer than the answers"))
@@ -329,7 +329,7 @@ class Checked:
 
     def text_of(self, path, name):
         """What a file has beside the tree text, or nothing where it can't be read; it isn't read twice as the others are."""
-        return None if name in NO_VALUE else self.snapshot.value_of(path, name)
+        return None if name in NO_VALUE else value_of(self.snapshot, path, name)
 
 
 def setting_of(path, name):
@@ -349,8 +349,7 @@ def subtrees_by(options):
 
     def subtrees_of(snapshot, _):
         if not accounts:
-            running = snapshot.processes_told if snapshot.file else read_processes(options.proc).values()
-            accounts.append(accounts_of(options, running, snapshot.accounts))
+            accounts.append(accounts_of(options.accounts, snapshot))
         return [os.fsencode(path) for path in questions_of(snapshot, accounts[0]).subtrees]
     return subtrees_of
 
