@@ -8,7 +8,7 @@ import unittest
 from check_test import MARK, HostTest, owned
 from made_up import COMMAND
 from zirofen_host.judge import baseline
-from zirofen_host.show.lines import comparison_lines
+from shown import comparison_lines
 from zirofen_host.fault import Fault
 
 

@@ -13,7 +13,7 @@ from zirofen_host.ask import accepted
 from zirofen_host.collect.accounts import accounts_of
 from zirofen_host.judge import check, one
 from zirofen_host.options import AskOptions
-from zirofen_host.show.lines import lines_of
+from shown import lines_of
 from zirofen_host.fault import Fault
 from zirofen_host.collect.mount import Mounts
 from zirofen_host.collect.walk import CHANGED

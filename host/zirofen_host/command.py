@@ -14,12 +14,18 @@ from zirofen_host.collect import elsewhere, snapshot
 from zirofen_host.collect.accounts import accounts_here, accounts_of
 from zirofen_host.collect.processes import read_processes
 from zirofen_host.collect.model import User
-from zirofen_host.judge import baseline, check, one, saved, shell
+from zirofen_host.judge import as_json, baseline, check, one, saved, shell
+from zirofen_host.judge.model import (AboveFinding, Comparison, Difference, FaultFinding, HolderAnswer, Report, ReportCgroup,
+                                      ReportProcess)
 from zirofen_host.options import (PROC, AskOptions, CheckOptions, CommandsOptions, DelegationsOptions, PageOptions,
                                   SnapshotOptions, TreeOptions)
 from zirofen_host.profile import MOST_ROWS
 from zirofen_host.show import lines, listing, page, tree_view
 
+# what an earlier report may lack
+LACKING = {(HolderAnswer, "users"): 0, (FaultFinding, "uid"): None, (FaultFinding, "gids"): (), (AboveFinding, "uid"): 0,
+           (ReportCgroup, "enabled"): (), (ReportProcess, "capabilities"): (), (Comparison, "file"): "", (Comparison, "status"): 0,
+           (Difference, "status"): 0, (Difference, "what"): ""}
 ABOUT = f"""The helpers of zirofen for a running host: from its cgroups to answers. They are no part of what is proved.
 
 usage: {NAME} COMMAND ..      what each does: {NAME} COMMAND --help
@@ -41,13 +47,14 @@ def check_host(given: argparse.Namespace) -> int:
     found = check.report(accepted.take(options, check.subtrees_by(options))[0], options, is_whole)
     if before:
         found["baseline"] = baseline.compared(found, before, options.baseline)
+    report = as_json.made_of(Report, found, "report", {})
     if options.html:
-        page.write(options.html, [saved.of(found)])
+        page.write(options.html, [report])
     if options.json:
         fault.write(json.JSONEncoder(indent=1).iterencode(found))
         fault.write("\n")
     else:
-        fault.write_lines(lines.comparison_lines(found["baseline"]) if before else lines.lines_of(found))
+        fault.write_lines(lines.comparison_lines(report.baseline) if before else lines.lines_of(report))
     if options.baseline_update:
         baseline.write(options.baseline_update, found)
     return found["baseline"]["status"] if before else found["status"]
@@ -77,7 +84,7 @@ def list_delegations(given: argparse.Namespace) -> int:
 
 def write_page(given: argparse.Namespace) -> int:
     options = PageOptions(tuple(given.reports), given.out)
-    page.write(options.out, [saved.read(file) for file in options.reports])
+    page.write(options.out, [as_json.made_of(Report, saved.read(file), "report", LACKING) for file in options.reports])
     return 0
 
 
@@ -101,6 +108,7 @@ def draw_tree(given: argparse.Namespace) -> int:
         found = saved.read(options.report)
     else:
         found = saved.of(check.report(snapshot.take(options, check.subtrees_by(options))[0], options, True))
+    found = as_json.made_of(Report, found, "report", LACKING)
     drawing = tree_view.drawing_of(options, environment, is_terminal)
     tree_view.show(tree_view.draw(found, drawing), tree_view.pager_of(options, environment, is_terminal),
                    "ascii" if drawing.is_ascii else "utf-8")
