@@ -48,7 +48,7 @@ class ElsewhereTest(HostTest):
 
     def elsewhere(self, **more):
         options = self.options(**{"tree": self.file, "accounts": None, "mount": "/none", "proc": "/none", **more})
-        return check.report(accepted.take(options, check.subtrees_by(options))[0], options, True)
+        return self.value_of(check.report(accepted.take(options, check.subtrees_by(options))[0], options, True))
 
     def without(self, found):
         unseen = [each for each in found["unseen"] if each["kind"] != "elsewhere"]

@@ -197,7 +197,7 @@ class BusyTest(HostTest):
         options = self.options(json=True)
         with mock.patch.object(walk.Walk, "read", reading), mock.patch.object(walk.Walk, "__init__", started):
             taken = self.host.take(check.subtrees_by(options))
-        return check.report(taken, options, True)
+        return self.value_of(check.report(taken, options, True))
 
     def others(self, found, of):
         self.assertEqual([(row[2], row[3]) for row in self.rows(found) if row[3] != of],

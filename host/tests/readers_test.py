@@ -28,7 +28,6 @@ NO_READS = {
 # modules whose readers are still to be moved
 NOT_YET = {
     "ask.accepted",
-    "judge.saved", "judge.baseline",
     "command",
 }
 

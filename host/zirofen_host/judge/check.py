@@ -15,7 +15,7 @@ from zirofen_host.collect.accounts import accounts_of
 from zirofen_host.collect.elsewhere import told_unseen
 from zirofen_host.collect.model import Snapshot
 from zirofen_host.fault import FAULT, Fault
-from zirofen_host.judge import as_json, whole
+from zirofen_host.judge import whole
 from zirofen_host.judge.checked import Checked, advise
 from zirofen_host.judge.finding_lines import SHOWN
 from zirofen_host.judge.findings import above_findings, differs_findings, entry_findings, fault_findings, opened_findings
@@ -151,7 +151,7 @@ def report_of(checked: Checked, is_whole: bool) -> Report:
                    cgroups=tuple(whole.cgroups_of(checked)), processes=tuple(whole.processes_of(checked))) if is_whole else made
 
 
-def report(snapshot: Snapshot, options: Options, is_whole: bool = False):
+def report(snapshot: Snapshot, options: Options, is_whole: bool) -> Report:
     """The report on a host, with the host itself where it is to be whole."""
     with tempfile.TemporaryDirectory() as folder:
-        return as_json.value_of(report_of(ask_all(snapshot, options, folder), is_whole))
+        return report_of(ask_all(snapshot, options, folder), is_whole)
