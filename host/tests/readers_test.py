@@ -18,7 +18,6 @@ METHODS = {"read", "readline", "readlines", "read_text", "read_bytes", "iterdir"
 # what a function reads that no user can choose, or that it writes and doesn't read
 NO_READS = {
     ("show.markup", "read"): "the package's own templates",
-    ("show.tree_view", "environment_of_start"): "the environment of this process",
     ("ask.texts", "__init__"): "the tree text is written",
     ("ask.accepted", "accept"): "the copy of a tree text is written",
     ("judge.baseline", "write"): "the baseline is written",
@@ -29,7 +28,6 @@ NO_READS = {
 NOT_YET = {
     "ask.accepted",
     "judge.saved", "judge.baseline",
-    "command",
 }
 
 

@@ -10,7 +10,7 @@ from zirofen_host import fault, installed
 from zirofen_host.arguments import ARGUMENTS, DESCRIPTIONS, NAME, parser_of
 from zirofen_host.ask import accepted
 from zirofen_host.ask.delegations import Delegations
-from zirofen_host.collect import elsewhere, snapshot
+from zirofen_host.collect import bounded, elsewhere, snapshot
 from zirofen_host.collect.accounts import accounts_here, accounts_of
 from zirofen_host.collect.processes import read_processes
 from zirofen_host.collect.model import User
@@ -65,8 +65,11 @@ def write_commands(given: argparse.Namespace) -> int:
     if options.uid is None and options.gid:
         parser_of("commands").error("--gid goes with --uid")
     user = None if options.uid is None else User(options.uid, options.gid)
+    given_in = bounded.read_named(bounded.STANDARD_INPUT, bounded.OPERATIONS)
+    if given_in.is_cut:
+        raise fault.Fault(f"the operations are longer than {bounded.OPERATIONS} bytes")
     try:
-        text = sys.stdin.buffer.read().decode("ascii")
+        text = given_in.text("ascii")
     except UnicodeDecodeError:
         raise fault.Fault("the operations aren't ASCII") from None
     fault.write_lines(shell.commands(options.mount, text, user))
