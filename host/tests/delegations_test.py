@@ -6,13 +6,13 @@ import tempfile
 import unittest
 from unittest import mock
 
-from made_up import COMMAND, DELEGATED, HERE, TOP, MadeUpTest
-from zirofen_host.collect.accounts import Account, Accounts, Group, Range
+from made_up import COMMAND, DELEGATED, HERE, TOP, MadeUpTest, accounts_with
+from zirofen_host.collect.accounts import accounts_here
 from zirofen_host.ask.delegations import Delegations
 from zirofen_host.fault import Fault
-from zirofen_host.collect.processes import Process
-from zirofen_host.collect.tree import Row, Tree, read_tree
-from zirofen_host.collect.model import Entry, User
+from zirofen_host.collect.tree import read_tree
+from zirofen_host.collect.model import Account, Entry, Group, Range, Row, Tree, User
+from zirofen_host.collect.snapshot import tree_text
 
 PASSWD = """root:x:0:0::/root:/bin/sh
 alice:x:1000:1000::/home/alice:/bin/sh
@@ -36,7 +36,7 @@ def tree(*rows, enabled=()):
     return Tree(("memory",), {row.path: row for row in (Row("/", enabled=enabled), *rows)})
 
 
-def found(of, accounts=Accounts()):
+def found(of, accounts=accounts_with()):
     return [(each.user.uid, each.user.gids, each.path) for each in Delegations(of, accounts).find()]
 
 
@@ -73,13 +73,13 @@ class DelegationsTest(unittest.TestCase):
         self.assertEqual(found(of), [(1000, (), "/a")])
 
     def test_by_a_group(self):
-        accounts = Accounts([Account("alice", 1000, 1000), Account("bob", 1001, 50)],
-                            [Group(50, ["alice"]), Group(7, ["alice"])])
+        accounts = accounts_with([Account("alice", 1000, 1000), Account("bob", 1001, 50)],
+                                 [Group(50, ["alice"]), Group(7, ["alice"])])
         of = tree(Row("/a", **handed(0, 50, 0o664, 0o775)))
         self.assertEqual(found(of, accounts), [(1000, (1000, 7, 50), "/a"), (1001, (50,), "/a")])
 
     def test_a_group_that_may_not_write_counts_for_nothing(self):
-        self.assertEqual(found(tree(Row("/a", **handed(0, 50))), Accounts([Account("bob", 1001, 50)])), [])
+        self.assertEqual(found(tree(Row("/a", **handed(0, 50))), accounts_with([Account("bob", 1001, 50)])), [])
 
     def test_a_group_without_known_members(self):
         self.assertEqual(found(tree(Row("/a", **handed(0, 50, 0o664)))), [(65534, (50,), "/a")])
@@ -89,7 +89,7 @@ class DelegationsTest(unittest.TestCase):
         self.assertEqual(found(tree(Row("/a", **handed(0, 0, 0o646)))), [(65534, (), "/a")])
 
     def test_more_groups_than_a_user_may_have(self):
-        many = Accounts([Account("alice", 1000, 9)], [Group(gid, ["alice"]) for gid in range(100, 140)])
+        many = accounts_with([Account("alice", 1000, 9)], [Group(gid, ["alice"]) for gid in range(100, 140)])
         of = Delegations(tree(Row("/a", **handed(1000, 139, 0o664)), Row("/b", **handed(0, 138))), many)
         (_, user), = of.find()
         few, left_out = of.with_few_groups(user, {137})
@@ -102,8 +102,8 @@ class DelegationsTest(unittest.TestCase):
 class RealTreesTest(unittest.TestCase):
     """The delegations of trees that were taken from running hosts."""
 
-    ACCOUNTS = Accounts([Account("alice", 1000, 1000), Account("bob", 1001, 1001), Account("builder", 890, 890)],
-                        [Group(2000, ["alice", "bob"])], [Range("alice", 100000, 65536)], [Range("alice", 100000, 65536)])
+    ACCOUNTS = accounts_with([Account("alice", 1000, 1000), Account("bob", 1001, 1001), Account("builder", 890, 890)],
+                             [Group(2000, ["alice", "bob"])], [Range("alice", 100000, 65536)], [Range("alice", 100000, 65536)])
     MANAGER = "/user.slice/user-1000.slice/user@1000.service"
     CONTAINER = "libpod-0ef3b471c021517a3a177f12a695ad2792476642ea54fa128344eaebddc28d93.scope/container"
     ALICE, BOB = (1000, (1000, 2000)), (1001, (1001, 2000))
@@ -127,9 +127,9 @@ class RealTreesTest(unittest.TestCase):
 
 class AccountsTest(unittest.TestCase):
     def test_subordinate_ids(self):
-        accounts = Accounts([Account("alice", 1000, 1000)], [], [Range("alice", 100000, 10), Range("bob", 7, 1),
-                                                                 Range("alice", 300000, 10)],
-                            [Range("alice", 200000, 20)])
+        accounts = accounts_with([Account("alice", 1000, 1000)], [],
+                                 [Range("alice", 100000, 10), Range("bob", 7, 1), Range("alice", 300000, 10)],
+                                 [Range("alice", 200000, 20)])
         self.assertEqual(accounts.users_of(100003), [User(100003, (200003,))])
         self.assertEqual(accounts.users_of(300002), [User(300002, (200012,))])
         self.assertEqual(accounts.users_of(7), [User(7, ())])
@@ -139,31 +139,31 @@ class AccountsTest(unittest.TestCase):
 
     def test_subordinate_ids_that_overlap(self):
         ranges = [Range("bob", 50, 100), Range("alice", 0, 1000), Range("alice", 60, 5), Range("carol", 200, 10)]
-        accounts = Accounts([Account("alice", 1000, 1)], [], ranges, [])
-        self.assertEqual(accounts.owners(ranges, 62), [("alice", 62), ("bob", 12), ("alice", 1002)])
-        self.assertEqual(accounts.owners(ranges, 205), [("alice", 205), ("carol", 5)])
-        self.assertEqual((accounts.owners(ranges, 1000), accounts.owners(ranges, 999)), ([], [("alice", 999)]))
+        accounts = accounts_with([Account("alice", 1000, 1)], [], ranges, [])
+        owners = accounts.owners_of_uids.owners
+        self.assertEqual(owners(62), [("alice", 62), ("bob", 12), ("alice", 1002)])
+        self.assertEqual(owners(205), [("alice", 205), ("carol", 5)])
+        self.assertEqual((owners(1000), owners(999)), ([], [("alice", 999)]))
         self.assertEqual(accounts.persons(205), {205, 1000})
         self.assertEqual(accounts.subordinate_to(1000), ranges[1:3])
 
     def test_running_processes(self):
-        running = [Process(9, 62264, User(62264, (62264, 50)), False), Process(10, 1000, User(1000, (1000, 27)), False),
-                   Process(11, 1000, User(0, (0,)), False)]
-        accounts = Accounts([Account("alice", 1000, 1000)], [Group(27, ["alice"])], processes=running)
+        running = [User(62264, (62264, 50)), User(1000, (1000, 27)), User(0, (0,))]
+        accounts = accounts_with([Account("alice", 1000, 1000)], [Group(27, ["alice"])], running=running)
         self.assertEqual(accounts.users_of(62264), [User(62264, (62264, 50))])
         self.assertEqual(accounts.members_of(50), [User(62264, (62264, 50))])
         self.assertEqual(accounts.users_of(1000), [User(1000, (1000, 27))])
-        accounts = Accounts([Account("alice", 1000, 1000)], [Group(27, ["alice"]), Group(4, ["alice"])], processes=running)
+        accounts = accounts_with([Account("alice", 1000, 1000)], [Group(27, ["alice"]), Group(4, ["alice"])], running=running)
         self.assertEqual(accounts.users_of(1000), [User(1000, (1000, 4, 27)), User(1000, (1000, 27))])
 
     def test_account_files(self):
         with tempfile.TemporaryDirectory() as folder:
             with self.assertRaisesRegex(Fault, "neither passwd nor group"):
-                Accounts.of_folder(folder)
+                accounts_here(folder, ())
             for name, text in (("passwd", PASSWD + "+nis\nbroken:x:y:z::\n"), ("group", GROUP), ("subuid", SUBORDINATE)):
                 with open(f"{folder}/{name}", "w", encoding="ascii") as out:
                     out.write(text)
-            accounts = Accounts.of_folder(folder)
+            accounts = accounts_here(folder, ())
         self.assertEqual(accounts.users_of(1000), [User(1000, (1000, 50))])
         self.assertEqual(accounts.members_of(50), [User(1000, (1000, 50)), User(1001, (1001, 50))])
 
@@ -213,7 +213,7 @@ class ScriptTest(MadeUpTest):
         self.host.accounts(passwd=PASSWD, group=GROUP)
         taken = self.host.snapshot()
         accounts = self.host.read_accounts()
-        self.assertEqual(found(read_tree(taken.text()), accounts), [(1000, (1000, 50), "/a")])
+        self.assertEqual(found(read_tree(tree_text(taken)), accounts), [(1000, (1000, 50), "/a")])
         self.assertEqual(found(taken.tree, accounts), [(1000, (1000, 50), "/a")])
 
 

@@ -4,6 +4,7 @@ import os
 import subprocess
 import sys
 import unittest
+from dataclasses import replace
 
 from check_test import BY_GROUP, MARK, HostTest, owned
 from made_up import COMMAND
@@ -38,10 +39,11 @@ class ElsewhereTest(HostTest):
 
     def write(self, with_host=True, taken=None, mounts=Mounts("")):
         taken = taken or self.host.snapshot()
+        taken = replace(taken, mount_options=tuple(mounts.options(taken.mount)))
         options = self.options()
         values = [{"changing": [path.decode(), why]} for path, why in taken.changing.items()]
         if with_host:
-            values += elsewhere.carried(taken, accounts_of(options, taken.processes.values()), mounts, options)
+            values += elsewhere.carried(taken, accounts_of(options.accounts, taken))
         with open(self.file, "w", encoding="ascii") as out:
             out.write(elsewhere.text_with(taken, values, True))
 
@@ -86,12 +88,12 @@ class ElsewhereTest(HostTest):
 
     def test_what_changed_is_a_fault_where_it_matters(self):
         taken = self.host.snapshot()
-        taken.changing = {b"/up/svc/new": CHANGED, b"/elsewhere": CHANGED}
+        taken = replace(taken, changing={b"/up/svc/new": CHANGED, b"/elsewhere": CHANGED})
         self.write(False, taken)
         found = self.elsewhere(accounts=self.host.etc)
         self.assertEqual([(each["who"], each["subtrees"]) for each in found["faults"]], [("everybody", ["/up", "/up/svc"])])
         self.assertEqual([row[3] for row in self.rows(found)], ["/team", "/up/m.service"])
-        taken.changing = {b"/elsewhere": "can't read it: no"}
+        taken = replace(taken, changing={b"/elsewhere": "can't read it: no"})
         self.write(False, taken)
         self.assertEqual([each["fault"] for each in self.elsewhere(accounts=self.host.etc)["faults"]], ["can't read it: no"])
 

@@ -12,12 +12,12 @@ COMMAND = os.path.join(TOP, "host", "zirofen-host")
 sys.path.insert(0, os.path.join(TOP, "host"))
 
 from zirofen_host.collect import walk  # noqa: E402
-from zirofen_host.collect.accounts import Accounts  # noqa: E402
+from zirofen_host.collect.accounts import Accounts, accounts_here  # noqa: E402
 from zirofen_host.collect.processes import read_processes  # noqa: E402
 from zirofen_host.options import Options  # noqa: E402
-from zirofen_host.profile import LIMIT_FILES, parent_of  # noqa: E402
+from zirofen_host.profile import LIMIT_FILES, parent_of, path_of  # noqa: E402
 from zirofen_host.collect.snapshot import all_that_changes, take  # noqa: E402
-from zirofen_host.collect.model import Entry  # noqa: E402
+from zirofen_host.collect.model import AccountLists, Entry  # noqa: E402
 
 STATUS = ("Name:\t{name}\nUid:\t{uid}\t{uid}\t{uid}\t{uid}\nGid:\t{gid}\t{gid}\t{gid}\t{gid}\nGroups:\t{groups}\n"
           "CapEff:\t{capabilities:016x}\n")
@@ -26,6 +26,16 @@ KERNEL_THREAD = 0x00200040
 # where many files are made soonest
 MEMORY = "/dev/shm" if os.access("/dev/shm", os.W_OK | os.X_OK) else None
 DELEGATED = {"dir": 1000, "cgroup.procs": 1000, "cgroup.subtree_control": 1000}
+
+
+def path(text):
+    """A cgroup's path as a snapshot has it."""
+    return path_of(text)
+
+
+def accounts_with(accounts=(), groups=(), uids=(), gids=(), running=()):
+    """Accounts and groups, ranges of subordinate ids, and users of running processes."""
+    return Accounts(AccountLists(tuple(accounts), tuple(groups), tuple(uids), tuple(gids)), running)
 
 
 class MadeUp:
@@ -140,7 +150,7 @@ class MadeUp:
         return self.take(only=only)
 
     def read_accounts(self):
-        return Accounts.of_folder(self.etc, read_processes(self.proc).values())
+        return accounts_here(self.etc, read_processes(self.proc).values())
 
 
 class MadeUpTest(unittest.TestCase):

@@ -27,8 +27,6 @@ NO_READS = {
 }
 # modules whose readers are still to be moved
 NOT_YET = {
-    "collect.mount", "collect.walk", "collect.processes", "collect.accounts",
-    "ask.accepted",
     "judge.saved", "judge.baseline",
     "command",
 }
@@ -44,19 +42,26 @@ def called(node):
     return ""
 
 
-def is_read(node):
+def own(tree):
+    """What is of the package itself where a function is called of it: a module that is imported, and the object at work."""
+    imports = [node for node in ast.walk(tree) if isinstance(node, ast.ImportFrom) and (node.module or "").startswith("zirofen_host")]
+    return {"self"} | {alias.asname or alias.name for node in imports for alias in node.names}
+
+
+def is_read(node, own_names):
     name = called(node)
-    return name in READS or "." in name and name.rpartition(".")[2] in METHODS
+    of, _, method = name.rpartition(".")
+    return name in READS or "." in name and of not in own_names and method in METHODS
 
 
 def reads(tree):
     """The innermost function of each call that reads, and its line."""
-    left = [(tree, "")]
+    left, own_names = [(tree, "")], own(tree)
     while left:
         node, function = left.pop()
         if isinstance(node, (ast.FunctionDef, ast.AsyncFunctionDef)):
             function = node.name
-        if isinstance(node, ast.Call) and is_read(node):
+        if isinstance(node, ast.Call) and is_read(node, own_names):
             yield function, node.lineno
         left += [(each, function) for each in ast.iter_child_nodes(node)]
 

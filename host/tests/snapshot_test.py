@@ -11,7 +11,8 @@ from made_up import DELEGATED, KERNEL_THREAD, TOP, MadeUpTest
 from zirofen_host.collect import mount, snapshot, walk
 from zirofen_host.fault import Fault
 from zirofen_host.collect.mount import Mounts
-from zirofen_host.collect.tree import read_tree, tree_text
+from zirofen_host.collect.snapshot import note_lines, tree_text
+from zirofen_host.collect.tree import read_tree, tree_text as text_of_tree
 
 WRITTEN = r"""
 format = 2
@@ -57,7 +58,7 @@ at = '/'
 class SnapshotTest(MadeUpTest):
     def body(self, snapshot):
         """The text without the comment at its head."""
-        return snapshot.text().split("\n", 2)[2]
+        return tree_text(snapshot).split("\n", 2)[2]
 
     def kinds(self, snapshot):
         return [(note.kind, note.place) for note in snapshot.notes]
@@ -77,8 +78,8 @@ class SnapshotTest(MadeUpTest):
         host.process(2, flags=KERNEL_THREAD)
         taken = host.snapshot()
         self.assertEqual(self.body(taken), WRITTEN)
-        self.assertEqual(taken.note_lines(), [])
-        self.assertIn("left out 1 kernel threads", taken.text())
+        self.assertEqual(note_lines(taken), [])
+        self.assertIn("left out 1 kernel threads", tree_text(taken))
 
     def test_example_trees_come_back(self):
         for file in sorted(glob.glob(f"{TOP}/examples/*.toml")):
@@ -89,7 +90,7 @@ class SnapshotTest(MadeUpTest):
                 tree = read_tree(text.read())
                 self.host.tree(tree)
                 taken = self.host.snapshot()
-                self.assertEqual(tree_text(taken.tree, []), tree_text(tree, []))
+                self.assertEqual(text_of_tree(taken.tree, []), text_of_tree(tree, []))
                 self.assertEqual(set(self.kinds(taken)) - {("controller", "/")}, set())
 
     def test_odd_names(self):
@@ -107,13 +108,13 @@ class SnapshotTest(MadeUpTest):
             host.owners.setdefault(os.lstat(folder).st_ino, host.owners[os.lstat(host.mount).st_ino])
         taken = host.snapshot()
         self.assertEqual(sorted(taken.tree.rows), ["/", "/plain", "/plain/...", "/plain/cgroup.procs.d"])
-        lines = [line for line in taken.note_lines() if line.startswith("name: ")]
+        lines = [line for line in note_lines(taken) if line.startswith("name: ")]
         self.assertEqual(len(lines), 7)
         why = "no name of the format, or too long a path"
         self.assertIn(rf"name: b'/plain/\xff\xfe': left out, and 2 cgroups inside: {why}", lines)
         self.assertIn(rf"name: b'/plain/\x1b[31m': left out: {why}", lines)
         self.assertIn("file-name: /plain/memory.max: named as a file: a controller with that file can't be enabled above",
-                      taken.note_lines())
+                      note_lines(taken))
         self.assertTrue(all(line.isprintable() and line.isascii() for line in lines))
 
     def test_long_paths(self):
@@ -127,7 +128,7 @@ class SnapshotTest(MadeUpTest):
         with mock.patch.object(walk, "LONGEST_FOLDER", 2000):
             taken = host.snapshot()
         self.assertLess(len(taken.tree.rows), 9)
-        self.assertRegex(taken.note_lines()[0], "left out, and [0-9]+ cgroups inside: .* too long a path")
+        self.assertRegex(note_lines(taken)[0], "left out, and [0-9]+ cgroups inside: .* too long a path")
 
     def test_deep_paths_take_no_deep_calls(self):
         host = self.host
@@ -146,7 +147,7 @@ class SnapshotTest(MadeUpTest):
         plain = host.snapshot()
         sys.setrecursionlimit(usual)
         self.assertEqual((len(odd.tree.rows), len(plain.tree.rows)), (2, 202))
-        self.assertIn("and 199 cgroups inside", odd.note_lines()[0])
+        self.assertIn("and 199 cgroups inside", note_lines(odd)[0])
 
     def test_what_is_bent(self):
         host = self.host
@@ -168,7 +169,7 @@ class SnapshotTest(MadeUpTest):
         self.assertEqual(taken.tree.rows["/worker"].enabled, ("cpu", "pids"))
         self.assertEqual(taken.tree.processes, [(12, 0, "/")])
         self.assertNotIn("memory.max", taken.tree.rows["/extra/below"].files)
-        self.assertEqual(sorted(taken.note_lines()), [
+        self.assertEqual(sorted(note_lines(taken)), [
             "controller: /: cpuset left out, which 2 cgroups enable",
             "controller: /: io left out, which 0 cgroups enable",
             "file-name: /idle/memory.stat: named as a file: a controller with that file can't be enabled above",
@@ -207,23 +208,23 @@ class SnapshotTest(MadeUpTest):
             return listed(folder, file)
 
         with host.owned(), mock.patch.object(walk, "text_of", gone):
-            found = walk.Walk(host.mount)
+            found = walk.walk_over(host.mount)
         self.assertEqual((sorted(found.found), found.gone, found.unread), ([b"/"], {b"/a"}, {}))
 
     def test_no_cgroup_at_all(self):
         with self.assertRaisesRegex(Fault, "isn't a cgroup"):
-            walk.Walk(f"{self.host.mount}/none")
+            walk.walk_over(f"{self.host.mount}/none")
         open(f"{self.host.mount}/file", "w", encoding="ascii").close()
         with self.assertRaisesRegex(Fault, "isn't a cgroup"):
-            walk.Walk(self.host.mount)
+            walk.walk_over(self.host.mount)
 
     def test_too_many_processes(self):
         self.host.cgroup("/", pids=range(1, 5))
         for pid in range(1, 5):
             self.host.process(pid)
         with mock.patch.object(snapshot, "MOST_PROCESSES", 3), self.assertRaisesRegex(Fault, "4 processes.*--only"):
-            self.host.snapshot().text()
-        self.assertNotIn("process", self.host.snapshot().text(with_processes=False).split("left out 0 kernel threads")[1])
+            tree_text(self.host.snapshot())
+        self.assertNotIn("process", tree_text(self.host.snapshot(), with_processes=False).split("left out 0 kernel threads")[1])
 
     def test_a_process_that_ended(self):
         self.host.cgroup("/", pids=(3, 4))

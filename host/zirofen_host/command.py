@@ -12,7 +12,7 @@ from zirofen_host.ask import accepted
 from zirofen_host.ask.delegations import Delegations
 from zirofen_host.ask.questions import subtrees_by
 from zirofen_host.collect import elsewhere, snapshot
-from zirofen_host.collect.accounts import accounts_of
+from zirofen_host.collect.accounts import accounts_here, accounts_of
 from zirofen_host.collect.processes import read_processes
 from zirofen_host.collect.model import User
 from zirofen_host.judge import baseline, check, one, saved, shell
@@ -72,7 +72,7 @@ def list_delegations(given: argparse.Namespace) -> int:
     tree = accepted.accept(options.tree or "-", options.program).tree
     proc = options.proc or (None if options.accounts else PROC)
     running = read_processes(proc).values() if proc else ()
-    found = Delegations(tree, accounts_of(options, running))
+    found = Delegations(tree, accounts_here(options.accounts, running))
     return 0 if listing.write_lines(found) else fault.FAULT
 
 
@@ -84,13 +84,12 @@ def write_page(given: argparse.Namespace) -> int:
 
 def write_snapshot(given: argparse.Namespace) -> int:
     options = SnapshotOptions(**vars(given))
-    taken, mounts = snapshot.take(options, snapshot.all_that_changes, MOST_ROWS)
+    taken, _ = snapshot.take(options, snapshot.all_that_changes, MOST_ROWS)
     values = [{"changing": [os.fsdecode(path), why]} for path, why in taken.changing.items()]
     if options.with_host:
-        accounts = accounts_of(options, taken.processes.values())
-        values += elsewhere.carried(taken, accounts, mounts, options)
+        values += elsewhere.carried(taken, accounts_of(options.accounts, taken))
     text = elsewhere.text_with(taken, values, not options.no_processes)
-    for line in taken.note_lines():
+    for line in snapshot.note_lines(taken):
         fault.warn(line)
     fault.write(text)
     return 0

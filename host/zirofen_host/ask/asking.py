@@ -6,7 +6,7 @@ from zirofen_host.ask.program import abilities_of
 from zirofen_host.ask.questions import Questions, further_of, plan_of, questions_of
 from zirofen_host.ask.texts import Programs, texts_of, write
 from zirofen_host.collect.accounts import Accounts
-from zirofen_host.collect.snapshot import Snapshot
+from zirofen_host.collect.model import Snapshot
 from zirofen_host.options import Options
 
 

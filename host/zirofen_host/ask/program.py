@@ -214,13 +214,13 @@ def settle(audit: Audit, users: Sequence[User], subtrees: Sequence[CgroupPath]) 
             raise
         if len(users) == len(subtrees) == 1:
             return {Pair(users[0], subtrees[0]): Answer(FAULT, (str(refused),))}
-    if len(subtrees) > 1:
-        halves = [(users, half) for half in shares_of(subtrees, 2)]
-    else:
-        halves = [(half, subtrees) for half in shares_of(users, 2)]
     found: Answered = {}
-    for half in halves:
-        found.update(settle(audit, *half))
+    if len(subtrees) > 1:
+        for some in shares_of(subtrees, 2):
+            found.update(settle(audit, users, some))
+    else:
+        for of in shares_of(users, 2):
+            found.update(settle(audit, of, subtrees))
     return found
 
 

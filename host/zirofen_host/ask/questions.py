@@ -1,6 +1,5 @@
 """What is asked of a host: its subtrees, and everybody who can matter for one of them."""
 import itertools
-import os
 import re
 from collections import Counter, defaultdict
 from dataclasses import dataclass, replace
@@ -12,9 +11,8 @@ from zirofen_host.ask.delegations import Delegations
 from zirofen_host.ask.model import Answer, Cut, Guarded, Holders, Pair, Plan, Question
 from zirofen_host.ask.program import ESCAPES
 from zirofen_host.collect.accounts import Accounts, accounts_of
-from zirofen_host.collect.model import CLASSES, GROUP, OTHERS, OWNER, Tree, User
-from zirofen_host.collect.processes import read_processes
-from zirofen_host.collect.snapshot import Snapshot
+from zirofen_host.collect.model import CLASSES, GROUP, OTHERS, OWNER, Snapshot, Tree, User
+from zirofen_host.collect.snapshot import SubtreesOf
 from zirofen_host.collect.tree import in_order
 from zirofen_host.collect.walk import MANAGERS_MARK
 from zirofen_host.options import Options
@@ -35,7 +33,7 @@ NOBODY = Holders(None, (), frozenset())
 def unit_of(path: CgroupPath) -> Optional[str]:
     """The name of a unit of the system's manager, or None."""
     unit = _UNIT.match(text_of(path))
-    return unit and unit[2]
+    return unit[2] if unit else None
 
 
 def with_groups(user: User, matter: Container[int], gids_of_tree: Container[int]) -> Tuple[Optional[User], int]:
@@ -169,15 +167,14 @@ def questions_of(snapshot: Snapshot, accounts: Accounts) -> Questions:
                      {path: holders_of(delegations, path, path in meant) for path in subtrees})
 
 
-def subtrees_by(options: Options) -> Callable[[Snapshot, Mapping[CgroupPath, str]], List[CgroupPath]]:
+def subtrees_by(options: Options) -> SubtreesOf:
     """Which subtrees are asked of, by a snapshot that may have changed while it was taken."""
     accounts: List[Accounts] = []
 
     def subtrees_of(snapshot: Snapshot, _: Mapping[CgroupPath, str]) -> List[CgroupPath]:
         if not accounts:
-            running = snapshot.processes_told if snapshot.file else read_processes(options.proc).values()
-            accounts.append(accounts_of(options, running, snapshot.accounts))
-        return [os.fsencode(path) for path in subtrees_in(Delegations(snapshot.tree, accounts[0]), meant_in(snapshot))]
+            accounts.append(accounts_of(options.accounts, snapshot))
+        return subtrees_in(Delegations(snapshot.tree, accounts[0]), meant_in(snapshot))
     return subtrees_of
 
 

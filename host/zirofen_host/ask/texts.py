@@ -11,12 +11,12 @@ from typing import AbstractSet, Callable, Dict, Iterable, List, Mapping, Sequenc
 from zirofen_host import progress
 from zirofen_host.ask.model import Advice, Question
 from zirofen_host.ask.program import Answered, Program
-from zirofen_host.collect.model import Placed, Tree, User
-from zirofen_host.collect.snapshot import Snapshot
+from zirofen_host.collect import snapshot as snapshots
+from zirofen_host.collect.model import Placed, Snapshot, Tree, User
 from zirofen_host.collect.tree import head_text, in_order, process_text, row_text
 from zirofen_host.fault import Fault
 from zirofen_host.options import Options
-from zirofen_host.profile import LONGEST_TEXT, MOST_PROCESSES, MOST_ROWS, ROOT, CgroupPath, ancestors, parent_of
+from zirofen_host.profile import LONGEST_TEXT, MOST_PROCESSES, MOST_ROWS, CgroupPath, ancestors, parent_of
 
 # for the lines at the head of a text
 ROOM = LONGEST_TEXT - 4096
@@ -225,10 +225,10 @@ def write(texts: Texts, options: Options, folder: str, snapshot: Snapshot) -> Pr
     """Writes the texts into a folder, or to where they are to be kept, for the program to be asked in them."""
     of: Dict[CgroupPath, Program] = {}
     for number, text in enumerate(texts.texts, 1):
-        file = snapshot.file
+        file = snapshot.source.file
         if not (file and text.is_whole()):
             file = f"{options.keep}.{number}" if options.keep and number > 1 else options.keep or f"{folder}/{number}.toml"
             with open(file, "w", encoding="ascii") as out:
-                out.write(text.written(snapshot.head()))
+                out.write(text.written(snapshots.head(snapshot)))
         of.update(dict.fromkeys(text.subtrees, Program(options.program, file)))
     return Programs(texts.texts, of)

@@ -4,8 +4,7 @@ Each reader has its bound as an argument, and tells in what it gives whether som
 """
 import errno
 import os
-from dataclasses import dataclass
-from typing import Iterable, List, Mapping, Optional, Tuple, Union
+from typing import Container, List, Mapping, NamedTuple, Optional, Tuple, Union
 
 Place = Union[str, bytes]
 
@@ -32,8 +31,7 @@ NAMED = os.O_RDONLY | os.O_CLOEXEC
 STANDARD_INPUT = "-"
 
 
-@dataclass(frozen=True)
-class Read:
+class Read(NamedTuple):
     """What was read, and whether there was more."""
     data: bytes
     is_cut: bool
@@ -42,15 +40,13 @@ class Read:
         return self.data.decode(encoding, errors)
 
 
-@dataclass(frozen=True)
-class Listed:
+class Listed(NamedTuple):
     """The names in a folder, with whether each is a folder, and whether there were more."""
     names: Tuple[Tuple[str, bool], ...]
     is_cut: bool
 
 
-@dataclass(frozen=True)
-class Attributes:
+class Attributes(NamedTuple):
     """Extended attributes by name, and whether one was longer."""
     values: Mapping[str, bytes]
     is_cut: bool
@@ -101,12 +97,11 @@ def read_link(path: Place) -> str:
     return os.readlink(os.fsdecode(path))
 
 
-def read_attributes(folder: int, wanted: Iterable[str], most: int) -> Attributes:
+def read_attributes(folder: int, wanted: Container[str], most: int) -> Attributes:
     """Those of some extended attributes that an opened folder has, each up to so many bytes. None where they are gone by then,
     or the file system has none."""
     try:
-        there = set(os.listxattr(folder))
-        values = {name: os.getxattr(folder, name) for name in wanted if name in there}
+        values = {name: os.getxattr(folder, name) for name in os.listxattr(folder) if name in wanted}
     except OSError as error:
         if error.errno in (errno.ENODATA, errno.ENOTSUP):
             return Attributes({}, False)

@@ -10,12 +10,13 @@ from zirofen_host.ask.asking import ask_all
 from zirofen_host.ask.model import Answer
 from zirofen_host.ask.program import CONTAINED, Refused, at_once, worst
 from zirofen_host.collect.accounts import accounts_of
-from zirofen_host.collect.mount import read_kernel_list
+from zirofen_host.collect.elsewhere import told_unseen
+from zirofen_host.collect.snapshot import value_of
 from zirofen_host.fault import FAULT, Fault
 from zirofen_host.judge.finding_lines import SHOWN, some
 from zirofen_host.judge.names import Names
 from zirofen_host.judge.opened import Openings, what_differs
-from zirofen_host.profile import ANYBODY, CONTROL_FILES, KERNEL_LIST, SETTINGS, is_other_limit, shown, topmost
+from zirofen_host.profile import ANYBODY, CONTROL_FILES, SETTINGS, is_other_limit, shown, topmost
 from zirofen_host.ask.questions import unit_of
 from zirofen_host.judge.shell import change_commands, closing_commands
 from zirofen_host.collect.tree import in_order
@@ -104,7 +105,7 @@ class Checked:
 
     def __init__(self, snapshot, options, folder):
         self.snapshot, self.options = snapshot, options
-        self.accounts = accounts_of(options, snapshot.processes_told, snapshot.accounts)
+        self.accounts = accounts_of(options.accounts, snapshot)
         self.names = Names(self.accounts)
         asked = ask_all(snapshot, self.accounts, options, folder)
         self.questions, self.answers, self.program = asked.questions, asked.answers, asked.programs
@@ -117,7 +118,7 @@ class Checked:
                 self.asked_of[path].append(asked)
         self.is_asked = bool(plan.questions or plan.cut)
         self.judged = Judged(self.questions, self.answers)
-        self.kernel_list = snapshot.kernel_list or read_kernel_list(None if options.plain_folder else KERNEL_LIST)
+        self.kernel_list = snapshot.kernel_list
         self.changed = set()
 
     def answers_of(self, subtree):
@@ -267,11 +268,11 @@ class Checked:
                 for (uid, handed), subtrees in sorted(self.judged.above.items())]
 
     def unseen(self, mounts):
-        is_here = not self.options.plain_folder and not self.snapshot.file and os.path.isdir("/run/systemd/system")
-        proc, systemctl = None if self.snapshot.file else self.options.proc, shutil.which("systemctl") if is_here else None
+        is_here = not self.options.plain_folder and not self.snapshot.source.file and os.path.isdir("/run/systemd/system")
+        proc, systemctl = None if self.snapshot.source.file else self.options.proc, shutil.which("systemctl") if is_here else None
         lines = Unseen(self.snapshot, self.questions, self.answers, self.names, proc, systemctl).lines()
-        if self.snapshot.file:
-            lines.append(Line("elsewhere", "", self.snapshot.unseen()))
+        if self.snapshot.source.file:
+            lines.append(Line("elsewhere", "", told_unseen(self.snapshot)))
         if "nsdelegate" in mounts.options(self.snapshot.mount):
             lines.append(Line("nsdelegate", "", "the mount has it: what runs in a cgroup namespace is kept in there, "
                               "safer than the answers"))
@@ -319,7 +320,7 @@ class Checked:
 
     def text_of(self, path, name):
         """What a file has beside the tree text, or nothing where it can't be read; it isn't read twice as the others are."""
-        return None if name in NO_VALUE else self.snapshot.value_of(path, name)
+        return None if name in NO_VALUE else value_of(self.snapshot, path, name)
 
 
 def setting_of(path, name):

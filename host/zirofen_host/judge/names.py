@@ -7,7 +7,7 @@ class Names:
 
     def __init__(self, accounts):
         self.users = accounts.names
-        self.groups = {group.gid: group.name for group in accounts.groups if group.name}
+        self.groups = {group.gid: group.name for group in accounts.lists.groups if group.name}
 
     def user(self, uid):
         if uid in self.users:

@@ -20,7 +20,7 @@ def uid_of(word, accounts, on_host):
     """The uid of a name or of a number; a name is looked up as the host does, also where it isn't listed."""
     if is_id(word):
         return int(word)
-    for account in accounts.accounts:
+    for account in accounts.lists.accounts:
         if account.name == word:
             return account.uid
     try:
@@ -57,9 +57,9 @@ class Asked:
 
     def __init__(self, snapshot, options, warn):
         self.options, self.warn, self.tree, self.mount = options, warn, snapshot.tree, snapshot.mount
-        accounts = accounts_of(options, snapshot.processes_told, snapshot.accounts)
+        accounts = accounts_of(options.accounts, snapshot)
         self.delegations = Delegations(snapshot.tree, accounts)
-        self.users = users_of(options.user, accounts, not options.accounts and not snapshot.file)
+        self.users = users_of(options.user, accounts, not options.accounts and not snapshot.source.file)
         if not any(is_known(user, snapshot.tree, accounts) for user in self.users):
             warn(f"uid {self.users[0].uid} owns nothing, writes nothing of his own, has no process and no account here")
 

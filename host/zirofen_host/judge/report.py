@@ -10,8 +10,8 @@ ANSWERS = {status: word for word, status in WORDS.items()}
 
 def base(program, mount, about):
     """What the report is of; of a text that doesn't say it, the host and its kernel are empty."""
-    return {"version": VERSION, "program": program, "host": about["host"] or "", "kernel": about["kernel"] or "",
-            "time": about["time"] or time.strftime("%Y-%m-%dT%H:%M:%SZ", time.gmtime()), "mount": mount}
+    return {"version": VERSION, "program": program, "host": about.host or "", "kernel": about.kernel or "",
+            "time": about.time or time.strftime("%Y-%m-%dT%H:%M:%SZ", time.gmtime()), "mount": mount}
 
 
 def status_of(report):
