@@ -18,7 +18,7 @@ METHODS = {"read", "readline", "readlines", "read_text", "read_bytes", "iterdir"
 # what a function reads that no user can choose, or that it writes and doesn't read
 NO_READS = {
     ("show.markup", "read"): "the package's own templates",
-    ("ask.texts", "__init__"): "the tree text is written",
+    ("ask.texts", "write"): "the tree text is written",
     ("ask.accepted", "accept"): "the copy of a tree text is written",
     ("judge.baseline", "write"): "the baseline is written",
     ("show.page", "write"): "the page is written",
@@ -26,7 +26,6 @@ NO_READS = {
 }
 # modules whose readers are still to be moved
 NOT_YET = {
-    "ask.accepted",
     "judge.saved", "judge.baseline",
 }
 
