@@ -202,6 +202,15 @@ class PackageTest(unittest.TestCase):
             for page, number in re.findall(r"\b(zirofen[a-z-]*)\((\d)\)", said):
                 self.assertIn(f"usr/share/man/man{number}/{page}.{number}.gz", self.files)
 
+    def test_what_the_helpers_page_names_is_installed(self):
+        page = re.sub(r"\\f[BR]", "", self.page("man8/zirofen-host.8")).replace("\\-", "-")
+        self.assertNotRegex(page, r"(?<![\w/])(host|docs|examples|bench|packaging)/")
+        self.assertNotIn("/opt/", page)
+        there = {"/".join(it.split("/")[:end]) for it in self.files for end in range(1, 9)}
+        for path in re.findall(r"/usr/share/[\w./-]*\w", page):
+            self.assertIn(path.strip("/"), there)
+        self.assertIn("report.schema.json", page)
+
     def test_the_helpers_tell_the_programs_version(self):
         environment = {**os.environ, "ZIROFEN": self.program.path}
         said = run(sys.executable, f"{TOP}/host/zirofen-host", "--version", env=environment).stdout

@@ -10,7 +10,8 @@ from zirofen_host import fault, installed
 from zirofen_host.arguments import ARGUMENTS, DESCRIPTIONS, NAME, parser_of
 from zirofen_host.ask import accepted
 from zirofen_host.ask.delegations import Delegations
-from zirofen_host.collect import elsewhere, snapshot
+from zirofen_host.ask.questions import subtrees_by
+from zirofen_host.collect import bounded, elsewhere, snapshot
 from zirofen_host.collect.accounts import accounts_here, accounts_of
 from zirofen_host.collect.processes import read_processes
 from zirofen_host.collect.model import User
@@ -38,7 +39,7 @@ def check_host(given: argparse.Namespace) -> int:
     options = CheckOptions(**vars(given))
     before = baseline.read(options.baseline) if options.baseline else None
     is_whole = bool(options.json or options.html or options.baseline_update)
-    report = check.report(accepted.take(options, check.subtrees_by(options))[0], options, is_whole)
+    report = check.report(accepted.take(options, subtrees_by(options))[0], options, is_whole)
     comparison = baseline.compared(report, before, options.baseline) if before and options.baseline else None
     if comparison:
         report = dataclasses.replace(report, baseline=comparison)
@@ -59,8 +60,11 @@ def write_commands(given: argparse.Namespace) -> int:
     if options.uid is None and options.gid:
         parser_of("commands").error("--gid goes with --uid")
     user = None if options.uid is None else User(options.uid, options.gid)
+    given_in = bounded.read_named(bounded.STANDARD_INPUT, bounded.OPERATIONS)
+    if given_in.is_cut:
+        raise fault.Fault(f"the operations are longer than {bounded.OPERATIONS} bytes")
     try:
-        text = sys.stdin.buffer.read().decode("ascii")
+        text = given_in.text("ascii")
     except UnicodeDecodeError:
         raise fault.Fault("the operations aren't ASCII") from None
     fault.write_lines(shell.commands(options.mount, text, user))
@@ -101,7 +105,7 @@ def draw_tree(given: argparse.Namespace) -> int:
     if options.report:
         report = saved.read(options.report)
     else:
-        report = check.report(snapshot.take(options, check.subtrees_by(options))[0], options, True)
+        report = check.report(snapshot.take(options, subtrees_by(options))[0], options, True)
     drawing = tree_view.drawing_of(options, environment, is_terminal)
     tree_view.show(tree_view.draw(report, drawing), tree_view.pager_of(options, environment, is_terminal),
                    "ascii" if drawing.is_ascii else "utf-8")

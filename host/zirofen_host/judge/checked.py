@@ -3,8 +3,8 @@ from collections import defaultdict
 from dataclasses import dataclass
 from typing import Dict, FrozenSet, Iterable, List, Mapping, Tuple, Union
 
-from zirofen_host.ask.model import Advice, Pair
-from zirofen_host.ask.program import Refused
+from zirofen_host.ask.model import Advice, Answers, Pair
+from zirofen_host.ask.program import Refused, at_once
 from zirofen_host.ask.questions import Questions
 from zirofen_host.ask.texts import Programs
 from zirofen_host.collect.model import Entry, Snapshot, User
@@ -23,15 +23,18 @@ class Checked:
     options: Options
     names: Names
     questions: Questions
+    answers: Answers
     programs: Programs
     judged: Judged
-    is_asked: bool
     # everybody who was asked, by uid
     asked: Mapping[int, List[User]]
     # for each subtree the lists of those who were asked of it
     asked_of: Mapping[CgroupPath, List[FrozenSet[User]]]
-    # subtrees that can't be asked of anybody, each with why
-    spoiled: Mapping[CgroupPath, str]
+
+    @property
+    def is_asked(self) -> bool:
+        """Whether anything was found to ask."""
+        return bool(self.answers.plan.questions or self.answers.plan.cut)
 
     def entry(self, path: str, name: str) -> Entry:
         """An entry by the words that name it."""
@@ -52,8 +55,8 @@ def advise(checked: Checked) -> Advised:
     """Asks for advice once for each class of each entry."""
     changes: Dict[Tuple[str, str], List[Change]] = defaultdict(list)
     faults = {key: list(subtrees) for key, subtrees in checked.judged.faults.items()}
-    pairs = pairs_to_advise(checked) if checked.programs.has_advise else []
-    for pair, advice in zip(pairs, checked.programs.at_once(lambda pair: advice_of(checked, pair), pairs)):
+    pairs = pairs_to_advise(checked) if checked.answers.has_advise else []
+    for pair, advice in zip(pairs, at_once(lambda pair: advice_of(checked, pair), pairs)):
         if isinstance(advice, str):
             faults.setdefault((pair.user, advice), []).append(pair.subtree)
             continue

@@ -41,7 +41,7 @@ def entry_findings(checked: Checked, advised: Advised) -> Tuple[EntryFinding, ..
 
 
 def entry_finding(checked: Checked, advised: Advised, found: LetsIn) -> EntryFinding:
-    (user, subtree), place, lines = found.worst, found.place, tuple(found.answer.lines)
+    (user, subtree), place, lines = found.worst, found.place, found.answer.lines
     # an entry of others is everybody's; who of them was asked is among the users
     is_own, path = checked.questions.holds(user, subtree), text_of(place.path)
     example = None if is_own else Example(checked.names.who(user), user.uid, user.gids, text_of(subtree), lines)
@@ -64,7 +64,7 @@ def opened_findings(checked: Checked) -> Dict[Place, OpenedFinding]:
 def fault_findings(checked: Checked, advised: Advised) -> Tuple[FaultFinding, ...]:
     """Subtrees that can't be asked of anybody, and pairs without an answer."""
     by_why: Dict[str, List[str]] = defaultdict(list)
-    for path, why in sorted((shown(path), why) for path, why in checked.spoiled.items()):
+    for path, why in sorted((shown(path), why) for path, why in checked.answers.refused.items()):
         by_why[why].append(path)
     return (*(FaultFinding("everybody", None, (), why, tuple(paths)) for why, paths in by_why.items()),
             *faults_of_pairs(checked.names, advised))

@@ -1,9 +1,9 @@
 """What the answers come to: the holders' own, what is expected of whoever is above, and the entries that let somebody in."""
 from collections import defaultdict
 from dataclasses import dataclass, field
-from typing import DefaultDict, Dict, Iterable, List, Mapping, NamedTuple, Optional, Set, Tuple
+from typing import DefaultDict, Dict, List, NamedTuple, Optional, Set, Tuple
 
-from zirofen_host.ask.model import Answer, Cut, Pair
+from zirofen_host.ask.model import Answer, Answers, Pair
 from zirofen_host.ask.program import worst
 from zirofen_host.ask.questions import Questions
 from zirofen_host.collect.model import GROUP, OTHERS, OWNER, Entry, User
@@ -71,13 +71,13 @@ class Judged:
     own: Dict[Tuple[int, CgroupPath], Own]
 
 
-def judge(questions: Questions, answers: Mapping[Pair, Answer], cut: Iterable[Cut]) -> Judged:
-    judged = Judged({}, {}, questions.expected_above(), {})
-    for each in cut:
+def judge(questions: Questions, answers: Answers) -> Judged:
+    judged = Judged({}, {}, questions.expected_above(answers.plan), {})
+    for each in answers.plan.cut:
         line = f"{each.count} of his groups matter here, and the program takes 32: nothing was asked"
         add(judged, questions, Pair(each.user, each.subtree), Answer(FAULT, (line,)))
-    for (user, subtree), answer in sorted(answers.items(), key=lambda item: (item[0][1], item[0][0].uid != ANYBODY, item[0][0])):
-        add(judged, questions, Pair(user, subtree), answer)
+    for pair, answer in sorted(answers.found.items(), key=lambda found: (found[0].subtree, found[0].user.uid != ANYBODY, found[0].user)):
+        add(judged, questions, pair, answer)
     return judged
 
 

@@ -8,6 +8,7 @@ from typing import Iterable, Iterator, List, Mapping, NamedTuple, Optional, Sequ
 
 from zirofen_host import progress
 from zirofen_host.arguments import LEAST_WIDTH
+from zirofen_host.collect import bounded
 from zirofen_host.fault import Fault, plain
 from zirofen_host.judge.model import DiffersFinding, Report
 from zirofen_host.options import TreeOptions
@@ -185,10 +186,10 @@ def is_utf8(environment: Mapping[str, str]) -> bool:
 def environment_of_start() -> Mapping[str, str]:
     """The environment as it was given."""
     try:
-        with open("/proc/self/environ", encoding="utf-8", errors="replace") as given:
-            return dict(each.split("=", 1) for each in given.read().split("\0") if "=" in each)
+        given = bounded.read_file("/proc/self/environ", bounded.PROC_FILE).text(errors="replace")
     except OSError:
         return os.environ
+    return dict(each.split("=", 1) for each in given.split("\0") if "=" in each)
 
 
 def drawing_of(options: TreeOptions, environment: Mapping[str, str], is_terminal: bool) -> Drawing:
