@@ -3,7 +3,7 @@ import dataclasses
 import functools
 import json
 import typing
-from typing import Annotated, Dict, Iterator, List, Mapping, Tuple, Type, TypeVar, Union
+from typing import Annotated, Dict, Iterator, List, Mapping, Tuple, Type, TypeVar, Union, cast
 
 from zirofen_host.judge.model import ABSENT, Absent, Report
 
@@ -40,8 +40,8 @@ def made_of(kind: Type[Made], value: Json, place: str, lacking: Lacking) -> Made
     """A dataclass by its value; what isn't one is Wrong. Keys that it has no field for are passed over."""
     if not isinstance(value, dict):
         raise Wrong(place)
-    found = {}
-    for name, hint, is_wanted in fields_of(kind):
+    found, made = {}, cast(type, kind)
+    for name, hint, is_wanted in fields_of(made):
         if name in value:
             found[name] = part_of(hint, value[name], f"{place}.{name}", lacking)
         elif (kind, name) in lacking:

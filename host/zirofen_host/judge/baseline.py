@@ -106,7 +106,8 @@ def compared(report: Report, before: Report, file: str) -> Comparison:
     differing["changed"] += changes_of_host(report, before)
     statuses = {each.status for kind in ("new", "worse") for each in differing[kind]}
     nothing = not report.asked and before.asked
-    return Comparison(file, before.time, *(tuple(differing[kind]) for kind in KINDS),
+    new, worse, changed, gone = (tuple(differing[kind]) for kind in KINDS)
+    return Comparison(file, before.time, new, worse, changed, gone,
                       worst(statuses) or (NOTHING_ASKED if nothing else CONTAINED))
 
 

@@ -1,6 +1,4 @@
 """A snapshot, everybody asked of everything in it, and the report that the answers come to."""
-import os
-import shutil
 import tempfile
 import time
 from collections import defaultdict
@@ -12,17 +10,15 @@ from zirofen_host.ask.model import Answer
 from zirofen_host.ask.program import CONTAINED, ESCAPES, UNSETTLED, WORDS
 from zirofen_host.ask.questions import unit_of
 from zirofen_host.collect.accounts import accounts_of
-from zirofen_host.collect.elsewhere import told_unseen
 from zirofen_host.collect.model import GROUP, Snapshot, User
 from zirofen_host.fault import FAULT, Fault
-from zirofen_host.judge import whole
+from zirofen_host.judge import unseen, whole
 from zirofen_host.judge.checked import Checked, advise
 from zirofen_host.judge.finding_lines import SHOWN
 from zirofen_host.judge.findings import above_findings, differs_findings, entry_findings, fault_findings, opened_findings
 from zirofen_host.judge.judged import Own, judge
 from zirofen_host.judge.model import NOTHING_ASKED, VERSION, EntryFinding, HeldBy, HolderAnswer, Report, Subtree, Told
 from zirofen_host.judge.names import names_of
-from zirofen_host.judge.unseen import Unseen
 from zirofen_host.options import Options
 from zirofen_host.profile import CgroupPath, text_of
 
@@ -79,19 +75,6 @@ def answer_of(checked: Checked, subtree: CgroupPath, lines: Tuple[str, ...], is_
     return HolderAnswer(who, uids[:SHOWN], len(uids), gids, lines, is_above)
 
 
-def unseen(checked: Checked) -> Iterable[Told]:
-    """What no answer looks at, and what is different about this host or this text."""
-    snapshot, options = checked.snapshot, checked.options
-    is_text = snapshot.source.file is not None
-    has_manager = not options.plain_folder and not is_text and os.path.isdir("/run/systemd/system")
-    proc, systemctl = None if is_text else options.proc, shutil.which("systemctl") if has_manager else None
-    yield from Unseen(snapshot, checked.questions, checked.answers, checked.names, proc, systemctl).lines()
-    if is_text:
-        yield Told("elsewhere", "", told_unseen(snapshot))
-    if "nsdelegate" in snapshot.mount_options:
-        yield Told("nsdelegate", "", "the mount has it: what runs in a cgroup namespace is kept in there, safer than the answers")
-
-
 def status_of(entries: Iterable[EntryFinding], is_opened: bool, is_faulty: bool, is_asked: bool) -> int:
     """The worst that a report tells of."""
     answers = {WORDS.get(each.answer) for each in entries}
@@ -105,16 +88,17 @@ def status_of(entries: Iterable[EntryFinding], is_opened: bool, is_faulty: bool,
 
 
 def report_of(checked: Checked, is_whole: bool) -> Report:
-    snapshot, about = checked.snapshot, checked.snapshot.about
+    snapshot, about, answers = checked.snapshot, checked.snapshot.about, checked.answers
     advised = advise(checked)
     entries, opened, faults = entry_findings(checked, advised), opened_findings(checked), fault_findings(checked, advised)
     made = Report(
-        VERSION, checked.answers.version, about.host or "", about.kernel or "",
+        VERSION, answers.version, about.host or "", about.kernel or "",
         about.time or time.strftime("%Y-%m-%dT%H:%M:%SZ", time.gmtime()), snapshot.mount,
-        checked.is_asked, checked.answers.has_advise,
+        checked.is_asked, answers.has_advise,
         subtrees=tuple(subtree_of(checked, path) for path in checked.questions.subtrees), entries=entries,
         opened=tuple(opened.values()), faults=faults, differs=tuple(differs_findings(checked, opened)),
-        above=tuple(above_findings(checked)), unseen=tuple(unseen(checked)),
+        above=tuple(above_findings(checked)),
+        unseen=tuple(unseen.lines(snapshot, checked.questions, answers, checked.names, checked.options)),
         snapshot=tuple(Told(note.kind, note.place, note.detail) for note in snapshot.notes),
         status=status_of(entries, bool(opened), bool(faults), checked.is_asked))
     return replace(made, users=tuple(whole.users_of(checked)), groups=tuple(whole.groups_of(checked)),

@@ -18,10 +18,12 @@ LACKING: as_json.Lacking = {
 
 def named_in(report: Report) -> Iterator[str]:
     """The cgroups that a report names as those of its tree."""
-    for each in (*report.subtrees, *report.opened, *report.entries, *report.differs):
-        yield each.path
-    for finding in (*report.entries, *report.above):
-        yield from finding.subtrees
+    yield from (each.path for each in report.subtrees)
+    yield from (each.path for each in report.opened)
+    yield from (each.path for each in report.entries)
+    yield from (each.path for each in report.differs)
+    yield from (path for entry in report.entries for path in entry.subtrees)
+    yield from (path for above in report.above for path in above.subtrees)
     if not isinstance(report.processes, Absent):
         yield from (process.at for process in report.processes)
     yield from (entry.example.subtree for entry in report.entries if entry.example)
