@@ -128,8 +128,9 @@ class MadeUp:
                 out.write(" ".join(names) + "\n")
         self.enabled["/"] = list(row.enabled)
 
-    def entry_of(self, status):
-        return self.owners[status.st_ino]
+    def owned_of(self, status):
+        entry = self.owners[status.st_ino]
+        return entry.uid, entry.gid, entry.mode
 
     def marks_of(self, folder):
         return self.marks.get(os.stat(folder).st_ino, {})
@@ -137,7 +138,7 @@ class MadeUp:
     @contextlib.contextmanager
     def owned(self):
         """Owners and marks as they are kept beside."""
-        with mock.patch.object(walk, "entry_of", self.entry_of), mock.patch.object(walk, "marks_of", self.marks_of):
+        with mock.patch.object(walk, "owned_of", self.owned_of), mock.patch.object(walk, "marks_of", self.marks_of):
             yield
 
     def take(self, subtrees_of=all_that_changes, only=None, **more):
