@@ -4,6 +4,7 @@ import subprocess
 import sys
 import tempfile
 import unittest
+from unittest import mock
 
 from made_up import COMMAND, DELEGATED, HERE, TOP, MadeUpTest, accounts_with
 from zirofen_host.collect.accounts import accounts_here
@@ -94,8 +95,8 @@ class DelegationsTest(unittest.TestCase):
         few, left_out = of.with_few_groups(user, {137})
         self.assertEqual((few.uid, few.gids[0], len(few.gids), {137, 138, 139} - set(few.gids)), (1000, 9, 32, set()))
         self.assertEqual(left_out, [])
-        of.gids_of_tree |= set(range(100, 140))
-        self.assertEqual(of.with_few_groups(user, set(range(130, 140)))[1], list(range(121, 130)))
+        with mock.patch.object(of, "gids_of_tree", set(range(100, 140))):
+            self.assertEqual(of.with_few_groups(user, set(range(130, 140)))[1], list(range(121, 130)))
 
 
 class RealTreesTest(unittest.TestCase):

@@ -10,6 +10,7 @@ from check_test import BY_GROUP, MARK, HostTest, owned
 from made_up import COMMAND
 from zirofen_host.collect import elsewhere
 from zirofen_host.ask import accepted
+from zirofen_host.ask.questions import subtrees_by
 from zirofen_host.collect.accounts import accounts_of
 from zirofen_host.judge import check, one
 from zirofen_host.options import AskOptions
@@ -48,7 +49,7 @@ class ElsewhereTest(HostTest):
 
     def elsewhere(self, **more):
         options = self.options(**{"tree": self.file, "accounts": None, "mount": "/none", "proc": "/none", **more})
-        return check.report(*accepted.take(options, check.subtrees_by(options)), options, True)
+        return check.report(*accepted.take(options, subtrees_by(options)), options, True)
 
     def without(self, found):
         unseen = [each for each in found["unseen"] if each["kind"] != "elsewhere"]

@@ -16,7 +16,6 @@ from made_up import COMMAND, TOP
 from zirofen_host import fault
 from zirofen_host.collect import processes, walk
 from zirofen_host.ask import questions
-from zirofen_host.judge import check
 from zirofen_host.show.lines import lines_of
 from zirofen_host.collect.accounts import accounts_here
 from zirofen_host.collect.model import Entry
@@ -214,9 +213,9 @@ class GrowthTest(HostTest):
         asked = []
         ask = Programs.ask
 
-        def asking(of, plan):
+        def asking(of, plan, *more):
             asked.append(sum(len(users) * len(paths) for users, paths in plan))
-            return ask(of, plan)
+            return ask(of, plan, *more)
         with mock.patch.object(questions, "MANY", 20), mock.patch.object(questions, "BLOCK", 4), \
                 mock.patch.object(Programs, "ask", asking):
             few = self.chain(20, owner_of)
@@ -236,14 +235,14 @@ class GrowthTest(HostTest):
             with mock.patch.object(questions, "MANY", many), mock.patch.object(questions, "BLOCK", 3):
                 self.setUp()
                 self.chain(12, lambda number: owned(100000 + number, 50 if number % 2 else 0))
-                of = check.questions_of(self.host.snapshot(), self.host.read_accounts())
-                plan, _ = of.plan
-                pairs = {(user, path) for users, paths in plan for user in users for path in paths}
+                of = questions.questions_of(self.host.snapshot(), self.host.read_accounts())
+                plan = questions.plan_of(of)
+                pairs = {(user, path) for users, paths in plan.questions for user in users for path in paths}
                 for path in of.subtrees:
-                    for user in of.asked_as.values():
+                    for user in plan.asked_as.values():
                         if not of.is_above(user.uid, path):
                             self.assertIn((user, path), pairs)
-                    self.assertTrue(any(of.holds(user, path) and (user, path) in pairs for user in of.asked_as.values()))
+                    self.assertTrue(any(of.holds(user, path) and (user, path) in pairs for user in plan.asked_as.values()))
 
     def test_many_cgroups_that_a_group_writes(self):
         self.host.accounts(group="team:x:50:alice,bob,carol\n")

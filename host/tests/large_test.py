@@ -10,6 +10,7 @@ from made_up import MEMORY
 from zirofen_host import progress
 from zirofen_host.collect import walk
 from zirofen_host.ask import texts
+from zirofen_host.ask.questions import subtrees_by
 from zirofen_host.judge import check
 from zirofen_host.collect.tree import Row, Tree, read_tree
 from zirofen_host.collect.mount import Mounts
@@ -128,11 +129,11 @@ class LargeTest(HostTest):
                 for number in range(4) for path in (f"/{number}", f"/{number}/{'n' * 200}")}
         tree = Tree((), {"/": Row("/"), **rows})
         with mock.patch.object(texts, "ROOM", 1000):
-            packed = texts.Texts(tree, ["/0", "/1", "/2", "/3"])
-        self.assertEqual([(text.subtrees, len(text.rows)) for text in packed.list], [(["/0", "/1"], 5), (["/2", "/3"], 5)])
+            packed = texts.texts_of(tree, ["/0", "/1", "/2", "/3"])
+        self.assertEqual([(text.subtrees, len(text.rows)) for text in packed.texts], [(["/0", "/1"], 5), (["/2", "/3"], 5)])
         with mock.patch.object(texts, "ROOM", 300):
-            packed = texts.Texts(tree, ["/0", f"/1/{'n' * 200}"])
-        self.assertEqual((packed.list, packed.refused["/0"]), ([], "what it needs goes into no tree text: its paths are too long"))
+            packed = texts.texts_of(tree, ["/0", f"/1/{'n' * 200}"])
+        self.assertEqual((packed.texts, packed.refused["/0"]), ([], "what it needs goes into no tree text: its paths are too long"))
 
     def test_one_text_is_refused_after_one_walk(self):
         for name in "abc":
@@ -197,7 +198,7 @@ class BusyTest(HostTest):
             start(of, *words)
         options = self.options(json=True)
         with mock.patch.object(walk.Walk, "read", reading), mock.patch.object(walk.Walk, "__init__", started):
-            taken = self.host.take(check.subtrees_by(options))
+            taken = self.host.take(subtrees_by(options))
         return check.report(taken, Mounts(""), options, True)
 
     def others(self, found, of):

@@ -19,7 +19,7 @@ METHODS = {"read", "readline", "readlines", "read_text", "read_bytes", "iterdir"
 NO_READS = {
     ("show.markup", "read"): "the package's own templates",
     ("show.tree_view", "environment_of_start"): "the environment of this process",
-    ("ask.texts", "__init__"): "the tree text is written",
+    ("ask.texts", "write"): "the tree text is written",
     ("ask.accepted", "accept"): "the copy of a tree text is written",
     ("judge.baseline", "write"): "the baseline is written",
     ("show.page", "write"): "the page is written",
@@ -27,7 +27,6 @@ NO_READS = {
 }
 # modules whose readers are still to be moved
 NOT_YET = {
-    "ask.accepted",
     "judge.saved", "judge.baseline",
     "command",
 }

@@ -10,6 +10,7 @@ from zirofen_host import fault, installed
 from zirofen_host.arguments import ARGUMENTS, DESCRIPTIONS, NAME, parser_of
 from zirofen_host.ask import accepted
 from zirofen_host.ask.delegations import Delegations
+from zirofen_host.ask.questions import subtrees_by
 from zirofen_host.collect import elsewhere, snapshot
 from zirofen_host.collect.accounts import accounts_here, accounts_of
 from zirofen_host.collect.processes import read_processes
@@ -38,7 +39,7 @@ def check_host(given: argparse.Namespace) -> int:
     options = CheckOptions(**vars(given))
     before = baseline.read(options.baseline) if options.baseline else None
     is_whole = bool(options.json or options.html or options.baseline_update)
-    found = check.report(*accepted.take(options, check.subtrees_by(options)), options, is_whole)
+    found = check.report(*accepted.take(options, subtrees_by(options)), options, is_whole)
     if before:
         found["baseline"] = baseline.compared(found, before, options.baseline)
     if options.html:
@@ -100,7 +101,7 @@ def draw_tree(given: argparse.Namespace) -> int:
     if options.report:
         found = saved.read(options.report)
     else:
-        found = saved.of(check.report(*snapshot.take(options, check.subtrees_by(options)), options, True))
+        found = saved.of(check.report(*snapshot.take(options, subtrees_by(options)), options, True))
     drawing = tree_view.drawing_of(options, environment, is_terminal)
     tree_view.show(tree_view.draw(found, drawing), tree_view.pager_of(options, environment, is_terminal),
                    "ascii" if drawing.is_ascii else "utf-8")

@@ -6,7 +6,9 @@ from collections import defaultdict
 from functools import cached_property
 
 from zirofen_host.judge import report as reporting
-from zirofen_host.ask.program import CONTAINED, Answer, Refused, worst
+from zirofen_host.ask.asking import ask_all
+from zirofen_host.ask.model import Answer
+from zirofen_host.ask.program import CONTAINED, Refused, at_once, worst
 from zirofen_host.collect.accounts import accounts_of
 from zirofen_host.collect.elsewhere import told_unseen
 from zirofen_host.collect.snapshot import value_of
@@ -15,9 +17,8 @@ from zirofen_host.judge.finding_lines import SHOWN, some
 from zirofen_host.judge.names import Names
 from zirofen_host.judge.opened import Openings, what_differs
 from zirofen_host.profile import ANYBODY, CONTROL_FILES, SETTINGS, is_other_limit, shown, topmost
-from zirofen_host.ask.questions import Questions, unit_of
+from zirofen_host.ask.questions import unit_of
 from zirofen_host.judge.shell import change_commands, closing_commands
-from zirofen_host.ask.texts import Programs, Texts
 from zirofen_host.collect.tree import in_order
 from zirofen_host.judge.unseen import Line, Unseen
 from zirofen_host.collect.walk import MANAGERS_MARK
@@ -52,16 +53,16 @@ class Entry:
 class Judged:
     """The pairs that aren't contained, as what is above, what is the holders' own, and the entries that let in."""
 
-    def __init__(self, questions, answers, cut):
+    def __init__(self, questions, answers):
         self.questions = questions
         self.entries, self.faults = {}, {}
-        self.above = questions.expected_above()
+        self.above = questions.expected_above(answers.plan)
         # the worst answer of each uid that holds a subtree
         self.own = {}
-        for each in cut:
+        for each in answers.plan.cut:
             line = f"{each.count} of his groups matter here, and the program takes 32: nothing was asked"
-            self.add(each.user, each.subtree, Answer(FAULT, [line]))
-        for (user, subtree), answer in sorted(answers.items(), key=lambda item: (item[0][1], item[0][0].uid != ANYBODY, item[0][0])):
+            self.add(each.user, each.subtree, Answer(FAULT, (line,)))
+        for (user, subtree), answer in sorted(answers.found.items(), key=lambda item: (item[0][1], item[0][0].uid != ANYBODY, item[0][0])):
             self.add(user, subtree, answer)
 
     def add(self, user, subtree, answer):
@@ -106,27 +107,17 @@ class Checked:
         self.snapshot, self.options = snapshot, options
         self.accounts = accounts_of(options.accounts, snapshot)
         self.names = Names(self.accounts)
-        self.questions = questions_of(snapshot, self.accounts)
-        self.questions.leave_out(snapshot.spoiled)
-        texts = Texts(snapshot.tree, self.questions.subtrees, not options.no_processes)
-        self.questions.leave_out(texts.refused)
-        self.spoiled = {**snapshot.spoiled, **texts.refused}
-        texts.fill(lambda path: self.questions.holders[path].uids)
-        self.program = Programs(options, folder, texts, snapshot)
-        plan, cut = self.questions.plan
-        answers = self.program.ask(plan)
-        further = self.questions.further(answers)
-        answers.update(self.program.ask(further))
+        asked = ask_all(snapshot, self.accounts, options, folder)
+        self.questions, self.answers, self.program = asked.questions, asked.answers, asked.programs
+        plan = self.answers.plan
         self.asked, self.asked_of = set(), defaultdict(list)
-        for users, paths in (*plan, *further):
+        for users, paths in (*plan.questions, *self.answers.further):
             self.asked.update(users)
             asked = frozenset(users)
             for path in paths:
                 self.asked_of[path].append(asked)
-        self.is_asked = bool(plan or cut)
-        self.spoiled.update(self.program.refused)
-        self.questions.leave_out(self.program.refused)
-        self.judged = Judged(self.questions, answers, cut)
+        self.is_asked = bool(plan.questions or plan.cut)
+        self.judged = Judged(self.questions, self.answers)
         self.kernel_list = snapshot.kernel_list
         self.changed = set()
 
@@ -137,7 +128,7 @@ class Checked:
         for uid in sorted(uids):
             asked = [user for user in self.asked_by_uid[uid] if self.questions.holds(user, subtree) and self.was_asked(user, subtree)]
             asked = max(asked, key=lambda user: len(user.gids), default=None)
-            contained = (asked, Answer(CONTAINED, ["contained"]), False)
+            contained = (asked, Answer(CONTAINED, ("contained",)), False)
             user, answer, is_above = self.judged.own.get((uid, subtree), contained)
             if user is not None:
                 groups[tuple(answer.lines), is_above].append((uid, user))
@@ -154,7 +145,7 @@ class Checked:
         holders = self.questions.holders[subtree]
         uids = [uid for uid, _ in found]
         is_one = len(uids) == 1
-        gids = list(found[0][1].gids if found[0][1] else ()) if is_one else holders.ids if holders.by == "group" else []
+        gids = list(found[0][1].gids if found[0][1] else ()) if is_one else list(holders.ids) if holders.by == "group" else []
         who = ",".join(map(str, uids)) if len(uids) <= 3 else f"{len(uids)} users"
         return {"who": who, "uids": uids[:SHOWN], "users": len(uids), "gids": gids, "lines": list(lines),
                 "is_above": is_above}
@@ -169,7 +160,7 @@ class Checked:
     def subtree(self, path):
         holders = self.questions.holders[path]
         return {"path": path, "meant": self.questions.meant.get(path), "unit": unit_of(path),
-                "held_by": {"by": holders.by, "ids": holders.ids}, "answers": self.answers_of(path)}
+                "held_by": {"by": holders.by, "ids": list(holders.ids)}, "answers": self.answers_of(path)}
 
     def whom(self, found):
         """Whom an entry lets in, by owner, group and everybody."""
@@ -186,7 +177,7 @@ class Checked:
         # an entry of others is everybody's; who of them was asked is among the users
         is_own = self.questions.holds(user, subtree)
         example = None if is_own else {"who": self.names.who(user), "uid": user.uid, "gids": list(user.gids),
-                                       "subtree": subtree, "lines": answer.lines}
+                                       "subtree": subtree, "lines": list(answer.lines)}
         return {"path": found.path, "entry": found.name, "owner": self.owner(found.entry), "answer": answer.lines[0].split(" ")[0],
                 "whom": self.whom(whom), "subtrees": in_order(topmost(found.subtrees)), "example": example,
                 "changes": self.commands(found.changes),
@@ -197,7 +188,7 @@ class Checked:
 
     def advise(self):
         """Asks for advice once for each class of each entry, and gives each entry the changes of it."""
-        if not self.program.has_advise:
+        if not self.answers.has_advise:
             return
         covered, pairs = set(), []
         for key, found in self.judged.entries.items():
@@ -206,7 +197,7 @@ class Checked:
                     pairs.append((user, subtree))
                     covered |= {((path, name), user.class_of(entry) if entry else by)
                                 for path, name, entry in self.judged.failing(user, subtree)}
-        for pair, advice in zip(pairs, self.program.at_once(self.advice, pairs)):
+        for pair, advice in zip(pairs, at_once(self.advice, pairs)):
             self.take_advice(pair, advice)
 
     def advice(self, pair):
@@ -258,7 +249,7 @@ class Checked:
     def faults(self):
         """Subtrees that can't be asked of anybody, and pairs without an answer."""
         by_why = defaultdict(list)
-        for path, why in sorted(self.spoiled.items()):
+        for path, why in sorted(self.answers.refused.items()):
             by_why[why].append(path)
         return [{"who": "everybody", "uid": None, "gids": [], "fault": why, "subtrees": paths}
                 for why, paths in by_why.items()] + self.faults_of_pairs()
@@ -279,7 +270,7 @@ class Checked:
     def unseen(self, mounts):
         is_here = not self.options.plain_folder and not self.snapshot.source.file and os.path.isdir("/run/systemd/system")
         proc, systemctl = None if self.snapshot.source.file else self.options.proc, shutil.which("systemctl") if is_here else None
-        lines = Unseen(self.snapshot, self.questions, self.names, proc, systemctl).lines()
+        lines = Unseen(self.snapshot, self.questions, self.answers, self.names, proc, systemctl).lines()
         if self.snapshot.source.file:
             lines.append(Line("elsewhere", "", told_unseen(self.snapshot)))
         if "nsdelegate" in mounts.options(self.snapshot.mount):
@@ -289,9 +280,9 @@ class Checked:
 
     def report(self, mounts):
         """The value of the report, with its status."""
-        report = reporting.base(self.program.version, self.snapshot.mount, self.snapshot.about)
+        report = reporting.base(self.answers.version, self.snapshot.mount, self.snapshot.about)
         report["asked"] = self.is_asked
-        report["has_advice"] = self.program.has_advise
+        report["has_advice"] = self.answers.has_advise
         self.advise()
         report["subtrees"] = [self.subtree(path) for path in self.questions.subtrees]
         report["entries"] = [self.entry(found) for _, found in sorted(self.judged.entries.items())]
@@ -336,22 +327,6 @@ def setting_of(path, name):
     """The setting of a unit that brings back what a file has."""
     unit, setting = unit_of(path), SETTINGS.get(name)
     return f"{setting} of {unit}" if unit and setting else None
-
-
-def questions_of(snapshot, accounts):
-    marks = {path: found.marks for path, found in snapshot.cgroups.items() if found.marks}
-    return Questions(snapshot.tree, accounts, marks)
-
-
-def subtrees_by(options):
-    """Which subtrees are asked of, by a snapshot that may have changed while it was taken."""
-    accounts = []
-
-    def subtrees_of(snapshot, _):
-        if not accounts:
-            accounts.append(accounts_of(options.accounts, snapshot))
-        return [os.fsencode(path) for path in questions_of(snapshot, accounts[0]).subtrees]
-    return subtrees_of
 
 
 def report(snapshot, mounts, options, is_whole=False):

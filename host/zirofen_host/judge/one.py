@@ -4,13 +4,14 @@ import pwd
 import tempfile
 
 from zirofen_host.collect.accounts import accounts_of, is_id
-from zirofen_host.ask.program import Answer, Refused, answer_of, user_words, worst
+from zirofen_host.ask.model import Answer
+from zirofen_host.ask.program import Refused, abilities_of, answer_of, user_words, worst
 from zirofen_host.ask.delegations import Delegations
 from zirofen_host.fault import FAULT, Fault
 from zirofen_host.profile import MOST_GROUPS, ancestors, shown
 from zirofen_host.ask.questions import with_groups
 from zirofen_host.judge.shell import change_commands
-from zirofen_host.ask.texts import Programs, Texts
+from zirofen_host.ask.texts import texts_of, write
 from zirofen_host.collect.tree import Tree
 from zirofen_host.collect.model import User
 
@@ -78,12 +79,12 @@ class Asked:
 
     def check(self, program, user, too_many):
         if too_many:
-            return Answer(FAULT, [f"{too_many} of his groups matter here, and the program takes {MOST_GROUPS}"])
+            return Answer(FAULT, (f"{too_many} of his groups matter here, and the program takes {MOST_GROUPS}",))
         try:
             ended = program.run("check", "--tree", program.tree, *user_words(user), "--subtree", self.options.path)
             return answer_of(ended.status, ended.lines)
         except Refused as refused:
-            return Answer(FAULT, [str(refused), *refused.help_lines])
+            return Answer(FAULT, (str(refused), *refused.help_lines))
 
     def changes(self, program, user):
         try:
@@ -101,14 +102,15 @@ class Asked:
         if all(answer.status == FAULT for answer in answers.values()):
             line, *help_lines = next(iter(answers.values())).lines
             raise Fault(line, help_lines)
+        is_advised = any(answer.status not in (0, FAULT) for answer in answers.values()) and abilities_of(program.path).has_advise
         lines = []
         for user, answer in answers.items():
-            if len({tuple(each.lines) for each in answers.values()}) > 1:
+            if len({each.lines for each in answers.values()}) > 1:
                 lines.append(f"# uid {user.uid}, groups {','.join(map(str, user.gids)) or '-'}")
             elif lines:
                 continue
             lines += answer.lines
-            if answer.status not in (0, FAULT) and program.has_advise:
+            if answer.status not in (0, FAULT) and is_advised:
                 lines += [f"# {line}" for line in self.changes(program, user)]
         return lines, worst({answer.status for answer in answers.values()})
 
@@ -121,11 +123,11 @@ def program_for(snapshot, options, folder, uids):
             raise Fault(f"nothing is asked of {shown(path)}: {snapshot.spoiled[place]}")
     if path not in tree.rows or path == "/":
         tree = Tree(tree.controllers, {"/": tree.rows["/"]})
-    texts = Texts(tree, [path], not options.no_processes)
+    texts = texts_of(tree, [path], not options.no_processes)
     if texts.refused:
         raise Fault(f"nothing is asked of {path}: {texts.refused[path]}")
     texts.fill(lambda _: uids)
-    return Programs(options, folder, texts, snapshot).of[path]
+    return write(texts, options, folder, snapshot).of[path]
 
 
 def ask(snapshot, options, warn):

@@ -20,12 +20,13 @@ SECONDS = 30
 class Unseen:
     """Looks at a host once."""
 
-    def __init__(self, snapshot, questions, names, proc, systemctl=None):
+    def __init__(self, snapshot, questions, answers, names, proc, systemctl=None):
         self.rows = snapshot.cgroups
         self.tree = snapshot.tree
         self.processes = snapshot.processes
         self.places = snapshot.places
         self.questions = questions
+        self.answers = answers
         self.names = names
         self.proc = proc
         self.systemctl = systemctl
@@ -47,7 +48,7 @@ class Unseen:
         if self.proc is None:
             return
         users = defaultdict(list)
-        for user in self.questions.users:
+        for user in self.answers.plan.users:
             users[user.uid].append(user)
         pids = {pid: process.user.uid for pid, process in self.processes.items() if process.user.uid in users}
         held = defaultdict(set)
@@ -82,7 +83,7 @@ class Unseen:
                 yield Line("group-class", place, f"only {self.names.group(entry.gid)} keeps its members from {name}, which they can drop")
 
     def subordinates(self):
-        asked = sorted({user.uid for user in self.questions.users} - {ANYBODY})
+        asked = sorted({user.uid for user in self.answers.plan.users} - {ANYBODY})
         for uid in sorted(self.held):
             for each in self.questions.accounts.subordinate_to(uid):
                 last = each.first + each.count - 1
@@ -141,14 +142,14 @@ class Unseen:
                 yield Line("mark", path, f"{OWNERS_MARK} alone, which its owner {owner} can set: nothing is asked for it")
 
     def groups(self):
-        for uid, count in sorted(self.questions.left_out.items()):
+        for uid, count in sorted(self.answers.plan.left_out.items()):
             if count:
                 yield Line("groups", self.uid(uid), f"{count} of his groups that stand in the tree were left out; "
                            "no entry that a guard stands on names them")
 
     def everybody(self):
         """Users who weren't asked of what everybody is let in to."""
-        for path, count in self.questions.not_asked.items():
+        for path, count in self.answers.not_asked.items():
             yield Line("everybody", path, f"{count} more users are let in as everybody is, and weren't asked: where the answer "
                        "is unsettled, one of them may escape")
 
