@@ -10,6 +10,7 @@ from made_up import COMMAND, DELEGATED, HERE, TOP, MadeUpTest, accounts_with
 from zirofen_host.collect.accounts import accounts_here
 from zirofen_host.ask.delegations import Delegations
 from zirofen_host.fault import Fault
+from zirofen_host.profile import text_of
 from zirofen_host.collect.tree import read_tree
 from zirofen_host.collect.model import Account, Entry, Group, Range, Row, Tree, User
 from zirofen_host.collect.snapshot import tree_text
@@ -37,7 +38,7 @@ def tree(*rows, enabled=()):
 
 
 def found(of, accounts=accounts_with()):
-    return [(each.user.uid, each.user.gids, each.path) for each in Delegations(of, accounts).find()]
+    return [(each.user.uid, each.user.gids, text_of(each.path)) for each in Delegations(of, accounts).find()]
 
 
 class DelegationsTest(unittest.TestCase):

@@ -8,6 +8,7 @@ from unittest import mock
 from check_test import BY_GROUP, MARK, HostTest, owned
 from made_up import MEMORY
 from zirofen_host import progress
+from zirofen_host.profile import path_of, text_of
 from zirofen_host.collect import walk
 from zirofen_host.ask import texts
 from zirofen_host.ask.questions import subtrees_by
@@ -29,7 +30,8 @@ class LargeTest(HostTest):
 
         def kept(text, head):
             tree = read_tree(written(text, head))
-            found.append((sorted(tree.rows), [pid for pid, _, _ in sorted(tree.processes)], text.subtrees))
+            pids = [pid for pid, _, _ in sorted(tree.processes)]
+            found.append((sorted(map(text_of, tree.rows)), pids, list(map(text_of, text.subtrees))))
             return written(text, head)
         patched = mock.patch.object(texts.Text, "written", kept)
         patched.start()
@@ -167,7 +169,7 @@ class LargeTest(HostTest):
         self.report(keep=f"{self.host.folder}/kept")
         for name, path in (("kept", "/a"), ("kept.2", "/b")):
             with open(f"{self.host.folder}/{name}", encoding="ascii") as text:
-                self.assertIn(path, read_tree(text.read()).rows)
+                self.assertIn(path_of(path), read_tree(text.read()).rows)
 
 
 class BusyTest(HostTest):
