@@ -14,7 +14,7 @@ from zirofen_host.ask.questions import subtrees_by
 from zirofen_host.collect.accounts import accounts_of
 from zirofen_host.judge import check, one
 from zirofen_host.options import AskOptions
-from zirofen_host.show.lines import lines_of
+from shown import lines_of
 from zirofen_host.fault import Fault
 from zirofen_host.collect.mount import Mounts
 from zirofen_host.collect.walk import CHANGED
@@ -49,7 +49,7 @@ class ElsewhereTest(HostTest):
 
     def elsewhere(self, **more):
         options = self.options(**{"tree": self.file, "accounts": None, "mount": "/none", "proc": "/none", **more})
-        return check.report(*accepted.take(options, subtrees_by(options)), options, True)
+        return self.value_of(check.report(accepted.take(options, subtrees_by(options))[0], options, True))
 
     def without(self, found):
         unseen = [each for each in found["unseen"] if each["kind"] != "elsewhere"]
@@ -57,7 +57,7 @@ class ElsewhereTest(HostTest):
 
     def test_what_is_carried_gives_the_same_report(self):
         line = f"31 22 0:29 / {self.host.mount} rw - cgroup2 cgroup2 rw,nsdelegate"
-        here = self.report(Mounts(line), json=True)
+        here = self.report(Mounts(line).options(self.host.mount), json=True)
         self.write(mounts=Mounts(line))
         there = self.elsewhere()
         self.assertEqual(self.without(there), self.without(here))

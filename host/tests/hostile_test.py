@@ -16,7 +16,7 @@ from made_up import COMMAND, TOP
 from zirofen_host import fault
 from zirofen_host.collect import processes, walk
 from zirofen_host.ask import questions
-from zirofen_host.show.lines import lines_of
+from shown import lines_of
 from zirofen_host.collect.accounts import accounts_here
 from zirofen_host.collect.model import Entry
 from zirofen_host.collect.mount import Mounts

@@ -1,6 +1,6 @@
 """The command `zirofen-host`: what each subcommand does with what it was asked for."""
 import argparse
-import json
+import dataclasses
 import os
 import subprocess
 import sys
@@ -11,11 +11,11 @@ from zirofen_host.arguments import ARGUMENTS, DESCRIPTIONS, NAME, parser_of
 from zirofen_host.ask import accepted
 from zirofen_host.ask.delegations import Delegations
 from zirofen_host.ask.questions import subtrees_by
-from zirofen_host.collect import elsewhere, snapshot
+from zirofen_host.collect import bounded, elsewhere, snapshot
 from zirofen_host.collect.accounts import accounts_here, accounts_of
 from zirofen_host.collect.processes import read_processes
 from zirofen_host.collect.model import User
-from zirofen_host.judge import baseline, check, one, saved, shell
+from zirofen_host.judge import as_json, baseline, check, one, saved, shell
 from zirofen_host.options import (PROC, AskOptions, CheckOptions, CommandsOptions, DelegationsOptions, PageOptions,
                                   SnapshotOptions, TreeOptions)
 from zirofen_host.profile import MOST_ROWS
@@ -39,19 +39,20 @@ def check_host(given: argparse.Namespace) -> int:
     options = CheckOptions(**vars(given))
     before = baseline.read(options.baseline) if options.baseline else None
     is_whole = bool(options.json or options.html or options.baseline_update)
-    found = check.report(*accepted.take(options, subtrees_by(options)), options, is_whole)
-    if before:
-        found["baseline"] = baseline.compared(found, before, options.baseline)
+    report = check.report(accepted.take(options, subtrees_by(options))[0], options, is_whole)
+    comparison = baseline.compared(report, before, options.baseline) if before and options.baseline else None
+    if comparison:
+        report = dataclasses.replace(report, baseline=comparison)
     if options.html:
-        page.write(options.html, [saved.of(found)])
+        page.write(options.html, [report])
     if options.json:
-        fault.write(json.JSONEncoder(indent=1).iterencode(found))
+        fault.write(as_json.parts_of(report))
         fault.write("\n")
     else:
-        fault.write_lines(lines.comparison_lines(found["baseline"]) if before else lines.lines_of(found))
+        fault.write_lines(lines.comparison_lines(comparison) if comparison else lines.lines_of(report))
     if options.baseline_update:
-        baseline.write(options.baseline_update, found)
-    return found["baseline"]["status"] if before else found["status"]
+        baseline.write(options.baseline_update, report)
+    return comparison.status if comparison else report.status
 
 
 def write_commands(given: argparse.Namespace) -> int:
@@ -59,8 +60,11 @@ def write_commands(given: argparse.Namespace) -> int:
     if options.uid is None and options.gid:
         parser_of("commands").error("--gid goes with --uid")
     user = None if options.uid is None else User(options.uid, options.gid)
+    given_in = bounded.read_named(bounded.STANDARD_INPUT, bounded.OPERATIONS)
+    if given_in.is_cut:
+        raise fault.Fault(f"the operations are longer than {bounded.OPERATIONS} bytes")
     try:
-        text = sys.stdin.buffer.read().decode("ascii")
+        text = given_in.text("ascii")
     except UnicodeDecodeError:
         raise fault.Fault("the operations aren't ASCII") from None
     fault.write_lines(shell.commands(options.mount, text, user))
@@ -99,11 +103,11 @@ def draw_tree(given: argparse.Namespace) -> int:
     options = TreeOptions(**vars(given))
     environment, is_terminal = tree_view.environment_of_start(), sys.stdout.isatty()
     if options.report:
-        found = saved.read(options.report)
+        report = saved.read(options.report)
     else:
-        found = saved.of(check.report(*snapshot.take(options, subtrees_by(options)), options, True))
+        report = check.report(snapshot.take(options, subtrees_by(options))[0], options, True)
     drawing = tree_view.drawing_of(options, environment, is_terminal)
-    tree_view.show(tree_view.draw(found, drawing), tree_view.pager_of(options, environment, is_terminal),
+    tree_view.show(tree_view.draw(report, drawing), tree_view.pager_of(options, environment, is_terminal),
                    "ascii" if drawing.is_ascii else "utf-8")
     return 0
 
