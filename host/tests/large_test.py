@@ -14,7 +14,6 @@ from zirofen_host.ask import texts
 from zirofen_host.ask.questions import subtrees_by
 from zirofen_host.judge import check
 from zirofen_host.collect.tree import Row, Tree, read_tree
-from zirofen_host.collect.mount import Mounts
 from zirofen_host.collect.model import Entry
 
 ALL_THE_TIME = "what matters for it came, went or changed through 8 walks"
@@ -201,7 +200,7 @@ class BusyTest(HostTest):
         options = self.options(json=True)
         with mock.patch.object(walk.Walk, "read", reading), mock.patch.object(walk.Walk, "__init__", started):
             taken = self.host.take(subtrees_by(options))
-        return check.report(taken, Mounts(""), options, True)
+        return self.value_of(check.report(taken, options, True))
 
     def others(self, found, of):
         self.assertEqual([(row[2], row[3]) for row in self.rows(found) if row[3] != of],

@@ -32,7 +32,13 @@ HOSTILE = ("<script>alert(1)</script>", '"onload="alert(2)" x="', "'><img src=//
 
 def real(name):
     with gzip.open(f"{HERE}/data/{name}", "rt", encoding="ascii") as opened:
-        return saved.check(json.load(opened), name)
+        return checked(json.load(opened), name)
+
+
+def checked(report, name):
+    """The value of a report, which is one."""
+    saved.check(report, name)
+    return report
 
 
 def page_of(*reports):
@@ -49,7 +55,7 @@ def hostile(report):
         # a path's names have no slash
         for quote in ("/", '"', "(", " "):
             text = text.replace(f"{quote}{name}", quote + json.dumps(bad.replace("/", "") if quote == "/" else bad)[1:-1])
-    return saved.check(json.loads(text), "hostile")
+    return checked(json.loads(text), "hostile")
 
 
 def many(count):
@@ -159,7 +165,7 @@ class WholeTest(PageTest):
         for kind in ("new", "worse", "changed", "gone"):
             each = {"line": f"a {kind} <b>", "before": "what &amp; was", "changes": [], "setting": None}
             report["baseline"][kind] = [each, dict(each)]
-        reader = self.read(saved.check(report, "x"))
+        reader = self.read(checked(report, "x"))
         for kind in ("new", "worse", "changed", "gone"):
             self.assertEqual(reader.text(f"host-1-{kind}-2"), f"a {kind} <b>before: what &amp; was")
         report["baseline"]["new"][0]["line"] = None
@@ -271,17 +277,17 @@ class MadeUpTest(HostTest, PageTest):
 
     def test_every_kind_of_part(self):
         self.a_host()
-        report = saved.of(self.report(json=True))
+        report = self.report(json=True)
         for key in PARTS:
             self.assertTrue(report[key], key)
         self.read(report)
 
     def test_nothing_to_ask(self):
-        self.assertIn("Nothing was found to ask", self.read(saved.of(self.report(json=True))).text())
+        self.assertIn("Nothing was found to ask", self.read(self.report(json=True)).text())
 
     def test_all_contained(self):
         self.host.cgroup("/good", owners=owned(1000))
-        text = self.read(saved.of(self.report(json=True))).text()
+        text = self.read(self.report(json=True)).text()
         self.assertIn("The one delegation is shown to be contained", text)
         self.assertIn("There are none.", text)
 
@@ -289,7 +295,7 @@ class MadeUpTest(HostTest, PageTest):
         self.host.cgroup("/good", owners=owned(1000))
         self.host.cgroup("/web", more=("cgroup.freeze",), modes={"cgroup.freeze": 0o646})
         self.assertIn("1 limit stands open to somebody, and 1 of 1 delegation is shown to be contained.",
-                      self.read(saved.of(self.report(json=True))).text())
+                      self.read(self.report(json=True)).text())
 
     @unittest.skipUnless(os.geteuid() == 0, "only root gives files away")
     def test_a_check_writes_its_page(self):
@@ -320,7 +326,7 @@ class MadeUpTest(HostTest, PageTest):
     def test_the_kept_answers_are_the_programs(self):
         self.program = REAL_PROGRAM
         with tempfile.TemporaryDirectory() as folder:
-            found = saved.of(example.Example(folder).report(REAL_PROGRAM))
+            found = example.Example(folder).report(REAL_PROGRAM)
         kept = {**example.kept(), "program": found["program"]}
         if not found["has_advice"]:
             # the rest is the same without it

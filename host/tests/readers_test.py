@@ -24,10 +24,6 @@ NO_READS = {
     ("show.page", "write"): "the page is written",
     ("show.page", "replace"): "the page is written",
 }
-# modules whose readers are still to be moved
-NOT_YET = {
-    "judge.saved", "judge.baseline",
-}
 
 
 def called(node):
@@ -68,15 +64,13 @@ class ReadersTest(unittest.TestCase):
     def test_nothing_else_reads(self):
         there = {name: list(reads(tree)) for name, tree in modules()}
         for name, found in there.items():
-            if name != BOUNDED and name not in NOT_YET:
+            if name != BOUNDED:
                 for function, line in found:
                     with self.subTest(name, line=line):
                         self.assertIn((name, function), NO_READS)
         self.assertTrue(there[BOUNDED])
         for name, function in NO_READS:
             self.assertIn(function, {each for each, _ in there[name]}, name)
-        for name in NOT_YET:
-            self.assertTrue([each for each, _ in there[name] if (name, each) not in NO_READS], f"{name} reads nothing any more")
 
     def test_a_reader_is_seen(self):
         for text in ("open('x')", "os.read(0, 1)", "with os.scandir(x) as y: pass", "opened.read()", "Path(x).read_text()",

@@ -1,9 +1,15 @@
-"""What is shown of a report, or of the value that JSON carries of one."""
+"""What is shown of a report, or of the value that JSON carries of one; and that value."""
+import json
+
 import made_up  # noqa: F401
-from zirofen_host.command import LACKING
 from zirofen_host.judge import as_json
 from zirofen_host.judge.model import Comparison, Report, Subtree
+from zirofen_host.judge.saved import LACKING
 from zirofen_host.show import lines
+
+
+def value_of(report):
+    return json.loads("".join(as_json.parts_of(report)))
 
 
 def made(value, kind=Report):

@@ -1,6 +1,6 @@
 """The command `zirofen-host`: what each subcommand does with what it was asked for."""
 import argparse
-import json
+import dataclasses
 import os
 import subprocess
 import sys
@@ -16,17 +16,11 @@ from zirofen_host.collect.accounts import accounts_here, accounts_of
 from zirofen_host.collect.processes import read_processes
 from zirofen_host.collect.model import User
 from zirofen_host.judge import as_json, baseline, check, one, saved, shell
-from zirofen_host.judge.model import (AboveFinding, Comparison, Difference, FaultFinding, HolderAnswer, Report, ReportCgroup,
-                                      ReportProcess)
 from zirofen_host.options import (PROC, AskOptions, CheckOptions, CommandsOptions, DelegationsOptions, PageOptions,
                                   SnapshotOptions, TreeOptions)
 from zirofen_host.profile import MOST_ROWS
 from zirofen_host.show import lines, listing, page, tree_view
 
-# what an earlier report may lack
-LACKING = {(HolderAnswer, "users"): 0, (FaultFinding, "uid"): None, (FaultFinding, "gids"): (), (AboveFinding, "uid"): 0,
-           (ReportCgroup, "enabled"): (), (ReportProcess, "capabilities"): (), (Comparison, "file"): "", (Comparison, "status"): 0,
-           (Difference, "status"): 0, (Difference, "what"): ""}
 ABOUT = f"""The helpers of zirofen for a running host: from its cgroups to answers. They are no part of what is proved.
 
 usage: {NAME} COMMAND ..      what each does: {NAME} COMMAND --help
@@ -45,20 +39,20 @@ def check_host(given: argparse.Namespace) -> int:
     options = CheckOptions(**vars(given))
     before = baseline.read(options.baseline) if options.baseline else None
     is_whole = bool(options.json or options.html or options.baseline_update)
-    found = check.report(*accepted.take(options, subtrees_by(options)), options, is_whole)
-    if before:
-        found["baseline"] = baseline.compared(found, before, options.baseline)
-    report = as_json.made_of(Report, found, "report", {})
+    report = check.report(accepted.take(options, subtrees_by(options))[0], options, is_whole)
+    comparison = baseline.compared(report, before, options.baseline) if before and options.baseline else None
+    if comparison:
+        report = dataclasses.replace(report, baseline=comparison)
     if options.html:
         page.write(options.html, [report])
     if options.json:
-        fault.write(json.JSONEncoder(indent=1).iterencode(found))
+        fault.write(as_json.parts_of(report))
         fault.write("\n")
     else:
-        fault.write_lines(lines.comparison_lines(report.baseline) if before else lines.lines_of(report))
+        fault.write_lines(lines.comparison_lines(comparison) if comparison else lines.lines_of(report))
     if options.baseline_update:
-        baseline.write(options.baseline_update, found)
-    return found["baseline"]["status"] if before else found["status"]
+        baseline.write(options.baseline_update, report)
+    return comparison.status if comparison else report.status
 
 
 def write_commands(given: argparse.Namespace) -> int:
@@ -88,7 +82,7 @@ def list_delegations(given: argparse.Namespace) -> int:
 
 def write_page(given: argparse.Namespace) -> int:
     options = PageOptions(tuple(given.reports), given.out)
-    page.write(options.out, [as_json.made_of(Report, saved.read(file), "report", LACKING) for file in options.reports])
+    page.write(options.out, [saved.read(file) for file in options.reports])
     return 0
 
 
@@ -109,12 +103,11 @@ def draw_tree(given: argparse.Namespace) -> int:
     options = TreeOptions(**vars(given))
     environment, is_terminal = tree_view.environment_of_start(), sys.stdout.isatty()
     if options.report:
-        found = saved.read(options.report)
+        report = saved.read(options.report)
     else:
-        found = saved.of(check.report(*snapshot.take(options, subtrees_by(options)), options, True))
-    found = as_json.made_of(Report, found, "report", LACKING)
+        report = check.report(snapshot.take(options, subtrees_by(options))[0], options, True)
     drawing = tree_view.drawing_of(options, environment, is_terminal)
-    tree_view.show(tree_view.draw(found, drawing), tree_view.pager_of(options, environment, is_terminal),
+    tree_view.show(tree_view.draw(report, drawing), tree_view.pager_of(options, environment, is_terminal),
                    "ascii" if drawing.is_ascii else "utf-8")
     return 0
 

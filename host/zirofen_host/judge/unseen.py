@@ -1,15 +1,14 @@
 """What no answer looks at, as far as a host tells of it: a line each, of a user, a cgroup or the host."""
 import subprocess
 from bisect import bisect_left
-from collections import defaultdict, namedtuple
+from collections import defaultdict
 
 from zirofen_host.collect.processes import MOST_DESCRIPTORS, open_for_writing
 from zirofen_host.profile import ANYBODY, LIMIT_FILES, SETTINGS, ancestors
 from zirofen_host.ask.questions import unit_of
 from zirofen_host.judge.finding_lines import some
 from zirofen_host.collect.walk import MANAGERS_MARK, OWNERS_MARK
-
-Line = namedtuple("Line", "kind place text")
+from zirofen_host.judge.model import Told
 
 # what a unit's settings are called where they are asked for, and the file that each sets
 PROPERTIES = {SETTINGS[file].rstrip("="): file for file in LIMIT_FILES if SETTINGS[file]}
@@ -54,7 +53,7 @@ class Unseen:
         held = defaultdict(set)
         for pid, file in (found for of in self.by_user(pids) for found in open_for_writing(self.proc, of)):
             if file is None:
-                yield Line("descriptor", self.uid(pids[pid]), f"more than {MOST_DESCRIPTORS} are open in his processes: not all "
+                yield Told("descriptor", self.uid(pids[pid]), f"more than {MOST_DESCRIPTORS} are open in his processes: not all "
                            "were looked at")
                 continue
             place, name = self.places.get(file, (b"", "cgroup.procs"))
@@ -65,7 +64,7 @@ class Unseen:
                 held[pids[pid], place, name].add(pid)
         for (uid, place, name), pids in sorted(held.items()):
             where = f"in process {some(list(map(str, sorted(pids))))}"
-            yield Line("descriptor", self.uid(uid), f"{name} at {place} is open for writing {where}, and he may not open it now")
+            yield Told("descriptor", self.uid(uid), f"{name} at {place} is open for writing {where}, and he may not open it now")
 
     def by_user(self, pids):
         """The processes of one user after another."""
@@ -80,7 +79,7 @@ class Unseen:
         for place, name in sorted(guarded):
             entry = self.tree.rows[place].entry(name)
             if entry.gid and entry.mode & 0o002 and not entry.mode & 0o020:
-                yield Line("group-class", place, f"only {self.names.group(entry.gid)} keeps its members from {name}, which they can drop")
+                yield Told("group-class", place, f"only {self.names.group(entry.gid)} keeps its members from {name}, which they can drop")
 
     def subordinates(self):
         asked = sorted({user.uid for user in self.answers.plan.users} - {ANYBODY})
@@ -89,14 +88,14 @@ class Unseen:
                 last = each.first + each.count - 1
                 mine = asked[bisect_left(asked, each.first):bisect_left(asked, last + 1)]
                 told = f"asked above: {some(list(map(str, mine)))}" if mine else "none of them has anything here"
-                yield Line("subordinate", self.uid(uid), f"uids {each.first} to {last} are his too; {told}")
+                yield Told("subordinate", self.uid(uid), f"uids {each.first} to {last} are his too; {told}")
 
     def deputies(self):
         """The manager acts as root for whoever has a unit of his own; a group has no manager."""
         for uid, paths in sorted(self.held.items()):
             mine = [path for path in paths if path in self.questions.meant and self.questions.holders[path].by == "owner"]
             if mine:
-                yield Line("deputy", self.uid(uid), "the service manager moves his processes, from anywhere, on request into "
+                yield Told("deputy", self.uid(uid), "the service manager moves his processes, from anywhere, on request into "
                            + some(mine))
 
     def outside(self):
@@ -107,7 +106,7 @@ class Unseen:
             if uid in mine and mine[uid].isdisjoint((at, *ancestors(at))):
                 places[uid].add(at)
         for uid, found in sorted(places.items()):
-            yield Line("outside", self.uid(uid), f"processes of his are in {some(sorted(found))}")
+            yield Told("outside", self.uid(uid), f"processes of his are in {some(sorted(found))}")
 
     def capabilities(self):
         """Processes that pass over owners: root's inside of what somebody else holds, and everybody else's."""
@@ -120,7 +119,7 @@ class Unseen:
                 found[at, inside, process.user.uid, process.capabilities].append(pid)
         for (at, inside, uid, names), pids in sorted(found.items()):
             where = "inside" if inside else "beside"
-            yield Line("capability", at, f"{where}: process {some(list(map(str, sorted(pids))))} of {self.uid(uid)} has "
+            yield Told("capability", at, f"{where}: process {some(list(map(str, sorted(pids))))} of {self.uid(uid)} has "
                        f"{' '.join('CAP_' + name for name in names)}, and passes over owners")
 
     def search_bits(self):
@@ -129,7 +128,7 @@ class Unseen:
             for user in self.questions.delegations.users("uid", uid):
                 seen |= {(uid, place) for path in paths for place in ancestors(path) if not self.searches(user, place)}
         for uid, place in sorted(seen):
-            yield Line("search", self.uid(uid), f"he can't search {place}: safer than the answer")
+            yield Told("search", self.uid(uid), f"he can't search {place}: safer than the answer")
 
     def searches(self, user, place):
         entry = self.rows[place].directory
@@ -139,18 +138,18 @@ class Unseen:
         for path, found in sorted(self.questions.marks.items()):
             if OWNERS_MARK in found and MANAGERS_MARK not in found:
                 owner = self.uid(self.rows[path].directory.uid)
-                yield Line("mark", path, f"{OWNERS_MARK} alone, which its owner {owner} can set: nothing is asked for it")
+                yield Told("mark", path, f"{OWNERS_MARK} alone, which its owner {owner} can set: nothing is asked for it")
 
     def groups(self):
         for uid, count in sorted(self.answers.plan.left_out.items()):
             if count:
-                yield Line("groups", self.uid(uid), f"{count} of his groups that stand in the tree were left out; "
+                yield Told("groups", self.uid(uid), f"{count} of his groups that stand in the tree were left out; "
                            "no entry that a guard stands on names them")
 
     def everybody(self):
         """Users who weren't asked of what everybody is let in to."""
         for path, count in self.answers.not_asked.items():
-            yield Line("everybody", path, f"{count} more users are let in as everybody is, and weren't asked: where the answer "
+            yield Told("everybody", path, f"{count} more users are let in as everybody is, and weren't asked: where the answer "
                        "is unsettled, one of them may escape")
 
     def restarts(self):
@@ -162,7 +161,7 @@ class Unseen:
             differing = [f"{file} is {values[file]}, and {name}={settings[name]}" for name, file in PROPERTIES.items()
                          if name in settings and file in values and not is_same(settings[name], file, values[file])]
             if differing:
-                yield Line("restart", path, f"{unit} is started anew with its own settings alone: {'; '.join(differing)}")
+                yield Told("restart", path, f"{unit} is started anew with its own settings alone: {'; '.join(differing)}")
 
     def settings_of(self, units):
         if not self.systemctl or not units:

@@ -5,7 +5,6 @@ from typing import Dict, Iterable, Iterator, List, Optional
 from zirofen_host.collect.model import User
 from zirofen_host.fault import Fault
 from zirofen_host.judge import shell
-from zirofen_host.judge.as_json import value_of
 from zirofen_host.judge.finding_lines import owner_text
 from zirofen_host.judge.model import DiffersFinding, EntryFinding, FaultFinding, OpenedFinding
 from zirofen_host.show import picture, words
@@ -115,7 +114,7 @@ class Article:
         if entry in words.NO_ENTRY:
             return f"{text(words.NO_ENTRY[entry])}: {code(part.path)}, {text(words.who(part.whom))}."
         name = "the directory" if entry == "dir" else code(entry)
-        owner = f" ({text(owner_text(value_of(part.owner)))})" if part.owner else ""
+        owner = f" ({text(owner_text(part.owner))})" if part.owner else ""
         return name + owner if len(self.finding.parts) > 1 else f"{self.subject()} {name}{owner} of {place_text(part)}."
 
     def of(self) -> str:

@@ -3,7 +3,6 @@ import itertools
 from typing import Callable, Dict, Iterable, Iterator, List, Sequence, Tuple, TypeVar, Union
 
 from zirofen_host.installed import MANUAL
-from zirofen_host.judge.as_json import value_of
 from zirofen_host.judge.baseline import KINDS
 from zirofen_host.judge.finding_lines import above_line, differs_line, entry_line, opened_line, some
 from zirofen_host.judge.model import (Comparison, Difference, DiffersFinding, EntryFinding, OpenedFinding, Report, Subtree,
@@ -62,7 +61,7 @@ def what_to_change(found: Sequence[Mended]) -> Iterator[str]:
 
 def entry_lines(entries: Sequence[EntryFinding]) -> Iterator[str]:
     """The line of entries at one place, with an example and what to change."""
-    yield entry_line([value_of(each) for each in entries])
+    yield entry_line(entries)
     example = entries[0].example
     if example:
         yield f"    by {example.who} of {example.subtree}: {example.lines[0]}"
@@ -88,14 +87,14 @@ def finding_lines(report: Report) -> Iterator[str]:
     for entries in alike(report.entries, entry_in_common):
         yield from entry_lines(entries)
     for opened in alike(report.opened, opened_in_common):
-        yield from (opened_line(value_of(each)) for each in opened)
+        yield from map(opened_line, opened)
         yield from what_to_change(opened)
     for fault in report.faults:
         yield f"fault: {fault.who} of {some(fault.subtrees)}: {fault.fault}"
     if report.entries and not report.has_advice:
         yield "what to change of an entry isn't told: this program has no advise"
     for differs in report.differs:
-        yield differs_line(value_of(differs))
+        yield differs_line(differs)
         yield from what_to_change([differs])
 
 
@@ -117,7 +116,7 @@ def lines_of(report: Report) -> Iterator[str]:
     if report.above:
         yield ""
         yield "What lies below what was handed to somebody is open to him, and isn't counted:"
-        yield from (above_line(value_of(each)) for each in report.above)
+        yield from map(above_line, report.above)
     yield ""
     yield f"What none of these answers looks at ({MANUAL}):"
     yield from map(place_text, report.unseen)
