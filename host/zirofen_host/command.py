@@ -4,7 +4,7 @@ import dataclasses
 import os
 import subprocess
 import sys
-from typing import Callable, Dict, List, NoReturn
+from typing import Callable, Dict, List, Mapping, NoReturn
 
 from zirofen_host import fault, installed
 from zirofen_host.arguments import ARGUMENTS, DESCRIPTIONS, NAME, parser_of
@@ -18,7 +18,7 @@ from zirofen_host.collect.model import User
 from zirofen_host.judge import as_json, baseline, check, one, saved, shell
 from zirofen_host.options import (PROC, AskOptions, CheckOptions, CommandsOptions, DelegationsOptions, PageOptions,
                                   SnapshotOptions, TreeOptions)
-from zirofen_host.profile import MOST_ROWS
+from zirofen_host.profile import MOST_ROWS, text_of
 from zirofen_host.show import lines, listing, page, tree_view
 
 ABOUT = f"""The helpers of zirofen for a running host: from its cgroups to answers. They are no part of what is proved.
@@ -89,7 +89,7 @@ def write_page(given: argparse.Namespace) -> int:
 def write_snapshot(given: argparse.Namespace) -> int:
     options = SnapshotOptions(**vars(given))
     taken, _ = snapshot.take(options, snapshot.all_that_changes, MOST_ROWS)
-    values = [{"changing": [os.fsdecode(path), why]} for path, why in taken.changing.items()]
+    values: List[Mapping[str, object]] = [{"changing": [text_of(path), why]} for path, why in taken.changing.items()]
     if options.with_host:
         values += elsewhere.carried(taken, accounts_of(options.accounts, taken))
     text = elsewhere.text_with(taken, values, not options.no_processes)

@@ -33,7 +33,7 @@ def name_notes(walked: walk.Walk) -> Iterator[Note]:
     for path, count in sorted(walked.left_out.items()):
         inside = "" if count == 1 else f", and {count - 1} cgroups inside"
         yield Note("name", shown(path), f"left out{inside}: no name of the format, or too long a path")
-    files = {os.fsencode(file) for found in walked.found.values() for file in found.files} | RESERVED
+    files = {*map(os.fsencode, {file for found in walked.found.values() for file in found.files}), *RESERVED}
     for path in sorted({*walked.found, *walked.left_out}):
         if path.rpartition(b"/")[2] in files:
             yield Note("file-name", shown(path), "named as a file: a controller with that file can't be enabled above")
