@@ -251,6 +251,24 @@ class BusyTest(HostTest):
         with mock.patch.object(walk.Walk, "children", children):
             self.one_is_spoiled(self.busy(act, b"/alice/in"))
 
+    def test_a_file_that_goes_between_two_walks(self):
+        """It was found by a walk, a process still has it open, and it isn't there at last."""
+        file, kept = f"{self.host.mount}/alice/memory.high", f"{self.host.folder}/kept"
+        os.link(file, kept)
+        self.host.process(7, uid=1000)
+        self.host.opens(7, 0, "/../kept", os.O_WRONLY)
+        self.host.opens(7, 1, "/cgroup.subtree_control", os.O_WRONLY)
+
+        def act(turn):
+            if turn == 2:
+                self.host.cgroup("/alice", owners=owned(1000, 1000), enabled="memory", values={"memory.low": 4096})
+            elif turn == 3:
+                os.unlink(file)
+        found = self.busy(act, b"/alice")
+        self.assertEqual((self.turn, found["faults"]), (4, []))
+        self.assertEqual(self.told(found, "descriptor"), [
+            "alice(1000): cgroup.subtree_control at / is open for writing in process 7, and he may not open it now"])
+
     def test_what_cant_matter_begins_no_walk_again(self):
         self.host.cgroup("/system")
         found = self.busy(lambda turn: self.come_and_go("/system/scope", turn), b"/system")
