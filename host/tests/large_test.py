@@ -30,8 +30,8 @@ class LargeTest(HostTest):
 
         def kept(text, head):
             tree = read_tree(written(text, head))
-            found.append((sorted(map(text_of, tree.rows)), [pid for pid, _, _ in sorted(tree.processes)],
-                          list(map(text_of, text.subtrees))))
+            pids = [pid for pid, _, _ in sorted(tree.processes)]
+            found.append((sorted(map(text_of, tree.rows)), pids, list(map(text_of, text.subtrees))))
             return written(text, head)
         patched = mock.patch.object(texts.Text, "written", kept)
         patched.start()

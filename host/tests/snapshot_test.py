@@ -7,9 +7,10 @@ import sys
 import unittest
 from unittest import mock
 
-from made_up import DELEGATED, KERNEL_THREAD, TOP, MadeUpTest
+from made_up import DELEGATED, KERNEL_THREAD, TOP, MadeUpTest, path
 from zirofen_host.collect import mount, snapshot, walk
 from zirofen_host.fault import Fault
+from zirofen_host.profile import text_of
 from zirofen_host.collect.mount import Mounts
 from zirofen_host.collect.snapshot import note_lines, tree_text
 from zirofen_host.collect.tree import read_tree, tree_text as text_of_tree
@@ -107,7 +108,7 @@ class SnapshotTest(MadeUpTest):
         for folder, _, _ in os.walk(os.fsencode(host.mount)):
             host.owners.setdefault(os.lstat(folder).st_ino, host.owners[os.lstat(host.mount).st_ino])
         taken = host.snapshot()
-        self.assertEqual(sorted(taken.tree.rows), ["/", "/plain", "/plain/...", "/plain/cgroup.procs.d"])
+        self.assertEqual(sorted(map(text_of, taken.tree.rows)), ["/", "/plain", "/plain/...", "/plain/cgroup.procs.d"])
         lines = [line for line in note_lines(taken) if line.startswith("name: ")]
         self.assertEqual(len(lines), 7)
         why = "no name of the format, or too long a path"
@@ -120,10 +121,10 @@ class SnapshotTest(MadeUpTest):
     def test_long_paths(self):
         host = self.host
         host.cgroup("/")
-        path = ""
+        deep = ""
         for _ in range(13):
-            path += "/" + "n" * 255
-            host.cgroup(path)
+            deep += "/" + "n" * 255
+            host.cgroup(deep)
         self.assertEqual(len(host.snapshot().tree.rows), 14)
         with mock.patch.object(walk, "LONGEST_FOLDER", 2000):
             taken = host.snapshot()
@@ -133,10 +134,10 @@ class SnapshotTest(MadeUpTest):
     def test_deep_paths_take_no_deep_calls(self):
         host = self.host
         host.cgroup("/")
-        path = ""
+        deep = ""
         for _ in range(200):
-            path += "/d"
-            host.cgroup(path)
+            deep += "/d"
+            host.cgroup(deep)
         os.rename(f"{host.mount}/d", f"{host.mount}/d d")
         host.cgroup("/e")
         usual = sys.getrecursionlimit()
@@ -163,12 +164,13 @@ class SnapshotTest(MadeUpTest):
         for pid in (5, 6, 12):
             host.process(pid)
         taken = host.snapshot()
-        self.assertEqual(taken.tree.rows["/set"].directory.mode, 0o755)
-        self.assertEqual(taken.tree.rows["/set"].files["cgroup.procs"].mode, 0o644)
-        self.assertEqual(taken.tree.rows["/idle"].values["cpu.weight"], 1)
-        self.assertEqual(taken.tree.rows["/worker"].enabled, ("cpu", "pids"))
-        self.assertEqual(taken.tree.processes, [(12, 0, "/")])
-        self.assertNotIn("memory.max", taken.tree.rows["/extra/below"].files)
+        rows = {text_of(path): row for path, row in taken.tree.rows.items()}
+        self.assertEqual(rows["/set"].directory.mode, 0o755)
+        self.assertEqual(rows["/set"].files["cgroup.procs"].mode, 0o644)
+        self.assertEqual(rows["/idle"].values["cpu.weight"], 1)
+        self.assertEqual(rows["/worker"].enabled, ("cpu", "pids"))
+        self.assertEqual(taken.tree.processes, [(12, 0, path("/"))])
+        self.assertNotIn("memory.max", rows["/extra/below"].files)
         self.assertEqual(sorted(note_lines(taken)), [
             "controller: /: cpuset left out, which 2 cgroups enable",
             "controller: /: io left out, which 0 cgroups enable",
@@ -186,12 +188,12 @@ class SnapshotTest(MadeUpTest):
     def test_only_a_part(self):
         host = self.host
         host.cgroup("/", pids=(3,))
-        for path, pid in (("/a", 4), ("/a/b", 5), ("/a/b/c", 6), ("/a/bb", 7), ("/d", 8)):
-            host.cgroup(path, pids=(pid,))
+        for place, pid in (("/a", 4), ("/a/b", 5), ("/a/b/c", 6), ("/a/bb", 7), ("/d", 8)):
+            host.cgroup(place, pids=(pid,))
             host.process(pid)
         host.process(3)
         taken = host.snapshot(only=b"/a/b")
-        self.assertEqual(sorted(taken.tree.rows), ["/", "/a", "/a/b", "/a/b/c"])
+        self.assertEqual(sorted(map(text_of, taken.tree.rows)), ["/", "/a", "/a/b", "/a/b/c"])
         self.assertEqual([pid for pid, _, _ in sorted(taken.tree.processes)], [3, 4, 5, 6])
         with self.assertRaisesRegex(Fault, "there is no cgroup /a/x"):
             host.snapshot(only=b"/a/x")
@@ -229,7 +231,7 @@ class SnapshotTest(MadeUpTest):
     def test_a_process_that_ended(self):
         self.host.cgroup("/", pids=(3, 4))
         self.host.process(4)
-        self.assertEqual(self.host.snapshot().tree.processes, [(4, 0, "/")])
+        self.assertEqual(self.host.snapshot().tree.processes, [(4, 0, path("/"))])
 
 
 MOUNTS = Mounts(r"""22 1 0:20 / / rw - ext4 /dev/sda1 rw

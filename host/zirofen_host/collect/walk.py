@@ -7,7 +7,7 @@ import os
 import stat
 import sys
 from collections import Counter
-from typing import (Callable, Collection, Dict, FrozenSet, Hashable, Iterable, List, Mapping, NamedTuple, Optional, Sequence, Set, Tuple,
+from typing import (Callable, Collection, Dict, FrozenSet, Iterable, List, Mapping, NamedTuple, Optional, Sequence, Set, Tuple,
                     TypeVar)
 
 from zirofen_host import progress
@@ -27,9 +27,9 @@ LONGEST_FOLDER = 4095
 CHANGED = "it came, went or changed while it was read"
 ALL_THE_TIME = f"what matters for it came, went or changed through {MOST_WALKS} walks"
 
-Held = TypeVar("Held", bound=Hashable)
 Of = TypeVar("Of")
-Pairs = Tuple[Tuple[str, Held], ...]
+# a uid, a gid and a mode
+Owned = Tuple[int, int, int]
 # why something is left out, by its path
 Whys = Mapping[CgroupPath, str]
 
@@ -40,6 +40,32 @@ class Vanished(Exception):
 
 class Unread(Exception):
     """A cgroup that can't be read, with why."""
+
+
+class Once:
+    """What is equal in many cgroups, which is held once."""
+
+    def __init__(self) -> None:
+        self.entries: Dict[Owned, Entry] = {}
+        self.files: Dict[Tuple[Tuple[str, Owned], ...], Mapping[str, Entry]] = {}
+        self.texts: Dict[Tuple[Tuple[str, str], ...], Mapping[str, str]] = {}
+
+    def entry(self, owned: Owned) -> Entry:
+        if owned not in self.entries:
+            self.entries[owned] = Entry(*owned)
+        return self.entries[owned]
+
+    def files_of(self, pairs: Tuple[Tuple[str, Owned], ...]) -> Mapping[str, Entry]:
+        found = self.files.get(pairs)
+        if found is None:
+            found = self.files[pairs] = {name: self.entry(owned) for name, owned in pairs}
+        return found
+
+    def texts_of(self, pairs: Tuple[Tuple[str, str], ...]) -> Mapping[str, str]:
+        found = self.texts.get(pairs)
+        if found is None:
+            found = self.texts[pairs] = dict(pairs)
+        return found
 
 
 class Walk:
@@ -58,10 +84,7 @@ class Walk:
         self.places: Dict[FilePlace, Tuple[CgroupPath, str]] = {}
         self.inside: Counter[CgroupPath] = Counter()
         self.counted = 0
-        # equal entries, files and texts are held once
-        self.entries: Dict[Entry, Entry] = {}
-        self.files: Dict[Pairs[Entry], Mapping[str, Entry]] = {}
-        self.texts: Dict[Pairs[str], Mapping[str, str]] = {}
+        self.once = Once()
 
     def walk(self) -> None:
         waiting: List[Tuple[CgroupPath, Optional[CgroupPath]]] = [(ROOT, None)]
@@ -132,27 +155,23 @@ class Walk:
                 continue
             status = os.lstat(name, dir_fd=folder)
             if stat.S_ISREG(status.st_mode):
-                name, entry = sys.intern(name), self.held(entry_of(status))
-                pairs.append((name, entry))
-                if is_set_by(name, entry.mode):
+                name, owned = sys.intern(name), owned_of(status)
+                pairs.append((name, owned))
+                if is_set_by(name, owned[2]):
                     self.places[status.st_dev, status.st_ino] = path, name
-        files = held_once(self.files, pairs)
+        files = self.once.files_of(tuple(pairs))
         for file in CONTROL_FILES:
             if file not in files:
                 raise FileNotFoundError(errno.ENOENT, os.strerror(errno.ENOENT), file)
         return self.cgroup(folder, files), names
 
     def cgroup(self, folder: int, files: Mapping[str, Entry]) -> Cgroup:
-        texts = held_once(self.texts, ((file, text_of(folder, file)) for file in LIMIT_FILES if file in files))
+        texts = self.once.texts_of(tuple((file, text_of(folder, file)) for file in LIMIT_FILES if file in files))
         kind = text_of(folder, "cgroup.type") if "cgroup.type" in files else "domain"
-        return Cgroup(directory=self.held(entry_of(os.stat(folder))), files=files, texts=texts,
+        return Cgroup(directory=self.once.entry(owned_of(os.stat(folder))), files=files, texts=texts,
                       enabled=tuple(text_of(folder, "cgroup.subtree_control").split()),
                       available=tuple(text_of(folder, "cgroup.controllers").split()),
                       kind=sys.intern(kind), marks=marks_of(folder), pids=pids_of(folder))
-
-    def held(self, entry: Entry) -> Entry:
-        """An entry that is equal to one before is that one."""
-        return self.entries.setdefault(entry, entry)
 
     def children(self, path: CgroupPath, folder: int, names: Iterable[bytes]) -> List[CgroupPath]:
         """The paths below that are to be walked; the others are written down as left out."""
@@ -205,18 +224,13 @@ class Settled(NamedTuple):
     spoiled: Whys
 
 
-def walk_over(mount: str, tops: Optional[Iterable[CgroupPath]] = None) -> Walk:
+def walk_over(mount: str, tops: Optional[Iterable[CgroupPath]] = None, before: Optional[Walk] = None) -> Walk:
+    """A walk; what is equal to what one before found is held once."""
     walk = Walk(mount, tops)
+    if before:
+        walk.once = before.once
     walk.walk()
     return walk
-
-
-def held_once(held: Dict[Pairs[Held], Mapping[str, Held]], some: Iterable[Tuple[str, Held]]) -> Mapping[str, Held]:
-    """A mapping of pairs; one that is equal to one before is that one."""
-    pairs = tuple(some)
-    if pairs not in held:
-        held[pairs] = dict(pairs)
-    return held[pairs]
 
 
 def put_in_place(mine: Dict[CgroupPath, Of], its: Mapping[CgroupPath, Of], later: Walk) -> None:
@@ -238,8 +252,8 @@ def is_somebodys(directory: Entry) -> bool:
     return bool(directory.uid or directory.mode & 0o022)
 
 
-def entry_of(status: os.stat_result) -> Entry:
-    return Entry(status.st_uid, status.st_gid, stat.S_IMODE(status.st_mode))
+def owned_of(status: os.stat_result) -> Owned:
+    return status.st_uid, status.st_gid, stat.S_IMODE(status.st_mode)
 
 
 def marks_of(folder: int) -> Mapping[str, bytes]:
@@ -318,7 +332,7 @@ def settled(mount: str, only: Optional[CgroupPath], subtrees_of: Callable[[Walk,
     before = walk_over(mount, tops)
     if most is not None and len(before.found) > most:
         raise Fault(f"{len(before.found)} cgroups, and a tree text has {most} at most: --only PATH writes less")
-    walk = walk_over(mount, tops)
+    walk = walk_over(mount, tops, before)
     if only is not None and only not in walk.found and only not in walk.unread:
         raise Fault(f"there is no cgroup {shown(only)}")
     changing: Whys = walk.differing(before)
@@ -327,7 +341,7 @@ def settled(mount: str, only: Optional[CgroupPath], subtrees_of: Callable[[Walk,
         again: Sequence[CgroupPath] = [ROOT] if ROOT in changing else [path for path, why in spoiled.items() if why == CHANGED]
         if not again:
             break
-        part = walk_over(mount, again)
+        part = walk_over(mount, again, walk)
         changing = {**{path: why for path, why in changing.items() if not part.covers(path)}, **part.differing(walk)}
         walk.take(part)
         spoiled = spoiled_by(changing, subtrees_of(walk, changing))
