@@ -6,9 +6,8 @@ import unittest
 from unittest import mock
 
 from check_test import BY_GROUP, MARK, HostTest, owned
-from made_up import MEMORY
+from made_up import MEMORY, path
 from zirofen_host import progress
-from zirofen_host.profile import path_of, text_of
 from zirofen_host.collect import walk
 from zirofen_host.ask import texts
 from zirofen_host.ask.questions import subtrees_by
@@ -126,15 +125,17 @@ class LargeTest(HostTest):
 
     def test_long_paths_fill_a_text_too(self):
         self.host.cgroup("/a")
-        rows = {path: Row(path, files={"cgroup.procs": Entry(1000, 0, 0o644)})
-                for number in range(4) for path in (f"/{number}", f"/{number}/{'n' * 200}")}
-        tree = Tree((), {"/": Row("/"), **rows})
+        rows = [Row(path(place), files={"cgroup.procs": Entry(1000, 0, 0o644)})
+                for number in range(4) for place in (f"/{number}", f"/{number}/{'n' * 200}")]
+        tree = Tree((), {row.path: row for row in (Row(path("/")), *rows)})
+        some = [path(f"/{number}") for number in range(4)]
         with mock.patch.object(texts, "ROOM", 1000):
-            packed = texts.texts_of(tree, ["/0", "/1", "/2", "/3"])
-        self.assertEqual([(text.subtrees, len(text.rows)) for text in packed.texts], [(["/0", "/1"], 5), (["/2", "/3"], 5)])
+            packed = texts.texts_of(tree, some)
+        self.assertEqual([(text.subtrees, len(text.rows)) for text in packed.texts], [(some[:2], 5), (some[2:], 5)])
         with mock.patch.object(texts, "ROOM", 300):
-            packed = texts.texts_of(tree, ["/0", f"/1/{'n' * 200}"])
-        self.assertEqual((packed.texts, packed.refused["/0"]), ([], "what it needs goes into no tree text: its paths are too long"))
+            packed = texts.texts_of(tree, [some[0], path(f"/1/{'n' * 200}")])
+        self.assertEqual((packed.texts, packed.refused[some[0]]),
+                         ([], "what it needs goes into no tree text: its paths are too long"))
 
     def test_one_text_is_refused_after_one_walk(self):
         for name in "abc":
@@ -166,9 +167,9 @@ class LargeTest(HostTest):
         for name in "ab":
             self.host.cgroup(f"/{name}", owners=owned(1000))
         self.report(keep=f"{self.host.folder}/kept")
-        for name, path in (("kept", "/a"), ("kept.2", "/b")):
+        for name, place in (("kept", "/a"), ("kept.2", "/b")):
             with open(f"{self.host.folder}/{name}", encoding="ascii") as text:
-                self.assertIn(path_of(path), read_tree(text.read()).rows)
+                self.assertIn(path(place), read_tree(text.read()).rows)
 
 
 class BusyTest(HostTest):

@@ -19,6 +19,7 @@ from zirofen_host.fault import Fault  # noqa: E402
 from zirofen_host.ask.delegations import Delegations  # noqa: E402
 from zirofen_host.collect.tree import read_tree  # noqa: E402
 from zirofen_host.collect.model import User  # noqa: E402
+from zirofen_host.profile import path_of, text_of  # noqa: E402
 
 
 def can(what):
@@ -46,7 +47,7 @@ def user_of(word):
 
 
 def failing(delegations, user, subtree):
-    for each in delegations.guarded(subtree):
+    for each in delegations.guarded(path_of(subtree)):
         entry = delegations.entry(each.path, each.name)
         if user.reaches(entry):
             yield each, entry
@@ -59,7 +60,7 @@ def answer(delegations, user, subtree):
     each, _ = found[0]
     if each.guard == "limit-file":
         return 1, ["escapes", f"set {subtree} {each.name} 0"]
-    return 2, [f"unsettled {each.guard} {each.path}"]
+    return 2, [f"unsettled {each.guard} {text_of(each.path)}"]
 
 
 def audit(delegations, users, subtrees, is_all):
@@ -80,12 +81,12 @@ def audit(delegations, users, subtrees, is_all):
 def advise(delegations, user, subtree):
     found = list(failing(delegations, user, subtree))
     for each, entry in found:
-        by = user.class_of(entry)
-        print(f"fails {each.guard} {each.path} {each.name} {entry.uid}:{entry.gid} {entry.mode:03o} {by}")
+        by, path = user.class_of(entry), text_of(each.path)
+        print(f"fails {each.guard} {path} {each.name} {entry.uid}:{entry.gid} {entry.mode:03o} {by}")
         if by == "owner":
-            print(f"chown {each.path} {each.name} 0:{entry.gid}")
+            print(f"chown {path} {each.name} 0:{entry.gid}")
         else:
-            print(f"chmod {each.path} {each.name} {entry.mode & (0o757 if by == 'group' else 0o775):03o}")
+            print(f"chmod {path} {each.name} {entry.mode & (0o757 if by == 'group' else 0o775):03o}")
     if not found:
         print("contained")
     return 1 if found else 0

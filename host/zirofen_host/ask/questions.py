@@ -95,9 +95,6 @@ class Questions:
         """Whether a uid's person has a directory above, in their own name or a subordinate one."""
         return path not in self.meant and any(self.is_of(place, uid) for place in ancestors(path))
 
-    def is_same_person(self, uid: int, other: int) -> bool:
-        return not self.accounts.persons(uid).isdisjoint(self.accounts.persons(other))
-
     def has_directory(self, user: User, path: CgroupPath) -> Optional[str]:
         """By which class a cgroup's directory was handed to a user; what everybody writes was handed to nobody."""
         entry = self.tree.rows[path].directory
@@ -111,7 +108,8 @@ class Questions:
         isn't meant as somebody's delegation, and they own what is above or are themselves who holds the subtree."""
         if subtree in self.meant:
             return None
-        is_theirs = any(self.is_same_person(user.uid, uid) for uid in self.holders[subtree].uids)
+        persons = self.accounts.persons(user.uid)
+        is_theirs = any(not persons.isdisjoint(self.accounts.persons(uid)) for uid in self.holders[subtree].uids)
         for place in reversed(list(ancestors(subtree))):
             by = self.has_directory(user, place)
             if by == OWNER or by and is_theirs or self.is_of(place, user.uid):
@@ -260,23 +258,21 @@ def plan_of(questions: Questions) -> Plan:
                 left_out[few.uid] = max(left_out[few.uid], count)
             else:
                 cut.append(Cut(user, path, len(of_path.intersection(user.gids[1:])) + 1))
-    some, expected_of = questions_for(questions, asked_as, named, asked)
-    return Plan(some, tuple(cut), tuple(users), named, asked_as, left_out, expected_of)
+    plan = Plan((), tuple(cut), tuple(users), named, asked_as, left_out, {})
+    return with_questions(plan, questions, asked)
 
 
-def questions_for(questions: Questions, asked_as: Mapping[User, User], named: Mapping[CgroupPath, AbstractSet[User]],
-                  asked: Mapping[CgroupPath, AbstractSet[User]]
-                  ) -> Tuple[Tuple[Question, ...], Dict[FrozenSet[int], Tuple[CgroupPath, ...]]]:
-    """Everybody of every subtree that isn't open to everybody; of the others those whom an entry names. And the subtrees of
-    which the owners above them aren't asked."""
-    everybody = frozenset(asked_as.values())
+def with_questions(plan: Plan, questions: Questions, asked: Mapping[CgroupPath, AbstractSet[User]]) -> Plan:
+    """A plan with everybody of every subtree that isn't open to everybody; of the others those whom an entry names. Further
+    users are asked of some subtrees alone."""
+    everybody = frozenset(plan.asked_as.values())
     by_users: DefaultDict[FrozenSet[User], List[CgroupPath]] = defaultdict(list)
     known: Dict[FrozenSet[User], FrozenSet[User]] = {}
     expected_of = {}
     for owners, paths in by_owners_above(questions).items():
         left = everybody - expected(questions, everybody, owners, paths)
         for path in paths:
-            users = left.intersection(named_as_asked(asked_as, named[path])) if questions.is_open(path) else left
+            users = left.intersection(named_as_asked(plan, path)) if questions.is_open(path) else left
             users = users | asked[path] if path in asked else users
             by_users[known.setdefault(users, users)].append(path)
         if len(left) < len(everybody):
@@ -284,11 +280,12 @@ def questions_for(questions: Questions, asked_as: Mapping[User, User], named: Ma
             for some in (paths[start:start + BLOCK] for start in range(0, len(paths), BLOCK)):
                 holders = frozenset(user for user in everybody if any(questions.is_asked_as_holder(user, path) for path in some))
                 by_users[holders] += some
-    return tuple(Question(tuple(sorted(users)), tuple(paths)) for users, paths in by_users.items() if users), expected_of
+    asks = tuple(Question(tuple(sorted(users)), tuple(paths)) for users, paths in by_users.items() if users)
+    return replace(plan, questions=asks, expected_of=expected_of)
 
 
-def named_as_asked(asked_as: Mapping[User, User], named: Iterable[User]) -> Set[User]:
-    return {asked_as[user] for user in named if user in asked_as}
+def named_as_asked(plan: Plan, path: CgroupPath) -> Set[User]:
+    return {plan.asked_as[user] for user in plan.named[path] if user in plan.asked_as}
 
 
 def by_owners_above(questions: Questions) -> Dict[FrozenSet[int], List[CgroupPath]]:
@@ -319,7 +316,7 @@ def further_of(questions: Questions, plan: Plan, found: Mapping[Pair, Answer]) -
     everybody, further, not_asked = set(plan.asked_as.values()), [], {}
     for path in questions.subtrees:
         if path not in escaped and questions.is_open(path):
-            of = named_as_asked(plan.asked_as, plan.named[path])
+            of = named_as_asked(plan, path)
             some = tuple(sorted(itertools.islice((user for user in holders if user not in of), FURTHER)))
             further += [Question(some, (path,))] if some else []
             left = len(everybody - of) - len(some)
