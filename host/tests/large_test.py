@@ -13,6 +13,7 @@ from zirofen_host.ask import texts
 from zirofen_host.ask.questions import subtrees_by
 from zirofen_host.judge import check
 from zirofen_host.collect.tree import Row, Tree, read_tree
+from zirofen_host.profile import text_of
 from zirofen_host.collect.model import Entry
 
 ALL_THE_TIME = "what matters for it came, went or changed through 8 walks"
