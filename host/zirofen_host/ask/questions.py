@@ -267,14 +267,12 @@ def with_questions(plan: Plan, questions: Questions, asked: Mapping[CgroupPath, 
     users are asked of some subtrees alone."""
     everybody = frozenset(plan.asked_as.values())
     by_users: DefaultDict[FrozenSet[User], List[CgroupPath]] = defaultdict(list)
-    known: Dict[FrozenSet[User], FrozenSet[User]] = {}
     expected_of = {}
     for owners, paths in by_owners_above(questions).items():
         left = everybody - expected(questions, everybody, owners, paths)
         for path in paths:
             users = left.intersection(named_as_asked(plan, path)) if questions.is_open(path) else left
-            users = users | asked[path] if path in asked else users
-            by_users[known.setdefault(users, users)].append(path)
+            by_users[users | asked[path] if path in asked else users].append(path)
         if len(left) < len(everybody):
             expected_of[owners] = tuple(paths)
             for some in (paths[start:start + BLOCK] for start in range(0, len(paths), BLOCK)):
