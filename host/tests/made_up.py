@@ -145,7 +145,7 @@ class MadeUp:
         """A snapshot as the helpers take it."""
         options = Options(**{"mount": self.mount, "only": only, "proc": self.proc, "plain_folder": True, **more})
         with self.owned():
-            return take(options, subtrees_of)[0]
+            return take(options, subtrees_of)
 
     def snapshot(self, only=None):
         return self.take(only=only)

@@ -1,7 +1,6 @@
 """The command `zirofen-host`: what each subcommand does with what it was asked for."""
 import argparse
 import dataclasses
-import os
 import subprocess
 import sys
 from typing import Callable, Dict, List, Mapping, NoReturn
@@ -18,7 +17,7 @@ from zirofen_host.collect.model import User
 from zirofen_host.judge import as_json, baseline, check, one, saved, shell
 from zirofen_host.options import (PROC, AskOptions, CheckOptions, CommandsOptions, DelegationsOptions, PageOptions,
                                   SnapshotOptions, TreeOptions)
-from zirofen_host.profile import MOST_ROWS, text_of
+from zirofen_host.profile import MOST_ROWS, path_of, text_of
 from zirofen_host.show import lines, listing, page, tree_view
 
 ABOUT = f"""The helpers of zirofen for a running host: from its cgroups to answers. They are no part of what is proved.
@@ -29,7 +28,7 @@ usage: {NAME} COMMAND ..      what each does: {NAME} COMMAND --help
 
 def ask(given: argparse.Namespace) -> int:
     options = AskOptions(**vars(given))
-    taken, _ = accepted.take(options, lambda *_: [os.fsencode(options.path)])
+    taken = accepted.take(options, lambda *_: [path_of(options.path)])
     told, status = one.ask(taken, options, lambda line: fault.warn(f"{NAME} ask: {line}"))
     fault.write_lines(told)
     return status
@@ -39,7 +38,7 @@ def check_host(given: argparse.Namespace) -> int:
     options = CheckOptions(**vars(given))
     before = baseline.read(options.baseline) if options.baseline else None
     is_whole = bool(options.json or options.html or options.baseline_update)
-    report = check.report(accepted.take(options, subtrees_by(options))[0], options, is_whole)
+    report = check.report(accepted.take(options, subtrees_by(options)), options, is_whole)
     comparison = baseline.compared(report, before, options.baseline) if before and options.baseline else None
     if comparison:
         report = dataclasses.replace(report, baseline=comparison)
@@ -88,7 +87,7 @@ def write_page(given: argparse.Namespace) -> int:
 
 def write_snapshot(given: argparse.Namespace) -> int:
     options = SnapshotOptions(**vars(given))
-    taken, _ = snapshot.take(options, snapshot.all_that_changes, MOST_ROWS)
+    taken = snapshot.take(options, snapshot.all_that_changes, MOST_ROWS)
     values: List[Mapping[str, object]] = [{"changing": [text_of(path), why]} for path, why in taken.changing.items()]
     if options.with_host:
         values += elsewhere.carried(taken, accounts_of(options.accounts, taken))
@@ -105,7 +104,7 @@ def draw_tree(given: argparse.Namespace) -> int:
     if options.report:
         report = saved.read(options.report)
     else:
-        report = check.report(snapshot.take(options, subtrees_by(options))[0], options, True)
+        report = check.report(snapshot.take(options, subtrees_by(options)), options, True)
     drawing = tree_view.drawing_of(options, environment, is_terminal)
     tree_view.show(tree_view.draw(report, drawing), tree_view.pager_of(options, environment, is_terminal),
                    "ascii" if drawing.is_ascii else "utf-8")

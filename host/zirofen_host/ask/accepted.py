@@ -3,14 +3,12 @@ import atexit
 import os
 import tempfile
 from dataclasses import replace
-from typing import Tuple
 
 from zirofen_host.ask.program import Program
 from zirofen_host.collect import bounded, elsewhere
 from zirofen_host.collect import snapshot as snapshots
 from zirofen_host.collect.elsewhere import Accepted
 from zirofen_host.collect.model import Snapshot
-from zirofen_host.collect.mount import Mounts
 from zirofen_host.collect.snapshot import SubtreesOf
 from zirofen_host.collect.tree import read_tree
 from zirofen_host.collect.walk import spoiled_of
@@ -19,8 +17,8 @@ from zirofen_host.options import Options
 from zirofen_host.profile import LONGEST_TEXT, CgroupPath, path_of
 
 
-def take(options: Options, subtrees_of: SubtreesOf) -> Tuple[Snapshot, Mounts]:
-    """A snapshot, and what is known of the mounts: of this host, or of a text."""
+def take(options: Options, subtrees_of: SubtreesOf) -> Snapshot:
+    """A snapshot of this host, or of a text."""
     if not options.tree:
         return snapshots.take(options, subtrees_of)
     if options.only or options.keep:
@@ -28,9 +26,7 @@ def take(options: Options, subtrees_of: SubtreesOf) -> Tuple[Snapshot, Mounts]:
     found = elsewhere.read(accept(options.tree, options.program), options.mount)
     subtrees = subtrees_of(found, found.changing) if found.changing else ()
     spoiled = spoiled_of(found.changing, [CgroupPath(os.fsencode(path)) for path in subtrees])
-    mounts = Mounts("")
-    mounts.second[found.mount] = "/", list(found.mount_options)
-    return replace(found, spoiled={path_of(path): why for path, why in spoiled.items()}), mounts
+    return replace(found, spoiled={path_of(path): why for path, why in spoiled.items()})
 
 
 def accept(file: str, program: str) -> Accepted:

@@ -152,8 +152,8 @@ def snapshot_of(settled: walk.Settled, processes: Mapping[int, Process], options
                     spoiled={path_of(path): why for path, why in settled.spoiled.items()})
 
 
-def take(options: Options, subtrees_of: SubtreesOf, most: Optional[int] = None) -> Tuple[Snapshot, Mounts]:
-    """A snapshot, and what is known of the mounts. More cgroups than `most` are a fault after one walk."""
+def take(options: Options, subtrees_of: SubtreesOf, most: Optional[int] = None) -> Snapshot:
+    """A snapshot of this host. More cgroups than `most` are a fault after one walk."""
     mounts = Mounts("") if options.plain_folder else refuse_what_is_no_host(options.mount)
     running: Dict[int, Process] = {}
 
@@ -164,7 +164,7 @@ def take(options: Options, subtrees_of: SubtreesOf, most: Optional[int] = None) 
         return [CgroupPath(os.fsencode(path)) for path in subtrees_of(found, changing)]
 
     settled = walk.settled(options.mount, options.only, subtrees_in, most)
-    return snapshot_of(settled, read_processes(options.proc), options, mounts), mounts
+    return snapshot_of(settled, read_processes(options.proc), options, mounts)
 
 
 def all_that_changes(_: Snapshot, changing: Changing) -> Iterable[CgroupPath]:
