@@ -8,6 +8,8 @@ import kit
 MOST_IN_A_CHECK = 32
 # How an edit joins others in a check: in a function that others change too, in one of its own, or in a copy of one.
 IN_ONE_FUNCTION, BESIDE, IN_A_COPY = 1, 2, 3
+# how a line of an edit begins: the kit's words, and comments to it
+WORDS = ("file", "old", "new", "# goal", "# breaks")
 FUNCTION = re.compile(r"( *)(?:pub(?:\([\w ]+\))? )?(?:const |unsafe )*fn (\w+)")
 BLOCK = re.compile(r"impl(?:<.*?>)? (?:(?:\w+::)*(?P<trait>\w+)(?:<.*>)? for )?(?P<type>\w+).*")
 
@@ -22,15 +24,16 @@ class Edit:
 
     def __init__(self, crate, file):
         self.crate, self.name, self.pairs, self.verdict = crate, f"{crate.name}/{file.removesuffix('.edit')}", [], None
-        self.copy, self.breaks = None, []
+        self.copy, self.breaks, self.unread = None, [], []
         path = old = self.goal = ""
         for line in text_of(f"{crate.folder}/must-fail/{file}").split("\n"):
             word, _, text = line.partition(":")
             text = text.removeprefix(" ")
             path, old = (text.strip(), old) if word == "file" else (path, text if word == "old" else old)
             self.pairs += [(path, old, text)] if word == "new" else []
-            self.goal = text.strip() if word == "goal" else self.goal
-            self.breaks += [text.strip()] if word == "breaks" else []
+            self.goal = text.strip() if word == "# goal" else self.goal
+            self.breaks += [text.strip()] if word == "# breaks" else []
+            self.unread += [line] if line and word not in WORDS else []
         try:
             self.apply({})
         except (OSError, ValueError) as error:

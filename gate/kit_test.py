@@ -183,10 +183,10 @@ class PlacesTest(unittest.TestCase):
     def test_jobs(self):
         known = {"low": [], **{f"c{it}": ["low"] for it in range(kit.MANY)}, "high": ["low", *(f"c{it}" for it in range(kit.MANY))]}
         with mock.patch.dict(os.environ, {"RT_JOBS": "4"}):
-            self.assertEqual([kit.jobs_of(known, it, 0) for it in ("low", "high")], [1, 2])
+            self.assertEqual([kit.jobs_of(known, *it) for it in (("low", 0), ("high", 0), ("high", 1))], [1, 2, 1])
         with mock.patch.dict(os.environ), mock.patch.object(kit, "processors", lambda: 4):
             os.environ.pop("RT_JOBS", None)
-            for free, others, jobs in ((64e9, 0, 4), (64e9, 2, 2), (64e9, 3, 1), (6e9, 0, 2), (1e9, 0, 1)):
+            for free, others, jobs in ((64e9, 0, 4), (64e9, 2, 2), (64e9, 3, 1), (8e9, 0, 2), (1e9, 0, 1)):
                 with mock.patch.object(kit, "free_memory", lambda free=free: free):
                     self.assertEqual(kit.jobs_of(known, "low", others), jobs)
 

@@ -1,6 +1,6 @@
 """What the must-fail edits and the contracts promise: the rules that edits keep, and the table of calls, clauses and edits.
 
-An edit can be applied, names no module that isn't there, and has one line `breaks: TEXT`, which says what it would break for a
+An edit can be applied, names no module that isn't there, and has one line `# breaks: TEXT`, which says what it would break for a
 user, in words that no other edit of its crate has. A page that names a call and behind a colon its clauses, as in
 "`Replay::step`: `memory`", names the call by the end of its path.
 """
@@ -123,22 +123,23 @@ def faults_of_edit(edit, sources, others):
     elif module_not_there(edit, sources):
         yield f"it names the module {module_not_there(edit, sources)}, which isn't there"
     if len(edit.breaks) != 1 or not edit.breaks[0]:
-        yield f"it has {len([*filter(None, edit.breaks)])} lines that say what it breaks for a user ('breaks: TEXT'), and not one"
+        yield f"it has {len([*filter(None, edit.breaks)])} lines that say what it breaks for a user ('# breaks: TEXT'), and not one"
+    if edit.unread:
+        yield f"it has a line that nothing reads: {edit.unread[0]}"
     twins = [it.name for it in others if it.breaks == edit.breaks] if edit.breaks else []
     if twins:
         yield f"it breaks for a user just what {twins[0]} does"
 
 
-def faults_of_edits(folders):
+def faults_of_edits(sources):
     """Returns how many edits there are, and what is wrong with them, in words."""
-    sources = Sources(folders)
     edits = [(it, found[:at]) for found in sources.edits.values() for at, it in enumerate(found)]
     return len(edits), [f"{it.name}: {why}" for it, before in edits for why in faults_of_edit(it, sources, before)]
 
 
-def faults_of_claims(text, folders):
+def faults_of_claims(text, sources):
     """Returns how many clauses of calls a page names, and which of them aren't there, in words."""
-    sources, count, faults = Sources(folders), 0, []
+    count, faults = 0, []
     for name, clauses in CLAIM.findall(text):
         calls = sources.named(name)
         for clause in NAME.findall(clauses):
@@ -165,9 +166,9 @@ def row_of(title, says, clauses, edits):
     return f"| {' | '.join(it.replace('|', chr(92) + '|') for it in cells)} |"
 
 
-def tables_of(folders, wanted):
+def tables_of(sources, wanted):
     """Returns Markdown: by crate and module each public call and each call of an edit, its clauses, and what its edits break."""
-    sources, lines = Sources(folders), ["# Promises"]
+    lines = ["# Promises"]
     for crate, edits in sources.edits.items():
         if wanted and crate not in wanted:
             continue

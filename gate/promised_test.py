@@ -124,7 +124,10 @@ class Crates(unittest.TestCase):
         for name, text in (("lib", ROOT), ("counts", COUNTS), ("inner", INNER)):
             self.write(f"src/{name}.rt", text)
         for name, (path, old, new, breaks) in EDITS.items():
-            self.write_edit(name, f"breaks: {breaks}\n", path=path, old=old, new=new)
+            self.write_edit(name, f"# breaks: {breaks}\n", path=path, old=old, new=new)
+
+    def sources(self):
+        return Sources([self.folder])
 
     def write(self, path, text):
         with open(f"{self.folder}/{path}", "w", encoding="utf-8") as it:
@@ -136,43 +139,47 @@ class Crates(unittest.TestCase):
 
 class Edits(Crates):
     def faults(self):
-        return faults_of_edits([self.folder])[1]
+        return faults_of_edits(self.sources())[1]
 
     def test_all_are_right(self):
-        self.assertEqual(faults_of_edits([self.folder]), (4, []))
+        self.assertEqual(faults_of_edits(self.sources()), (4, []))
 
     def test_edit_that_cannot_be_applied(self):
-        self.write_edit("doubled_thrice", "breaks: nothing\n", old="nowhere")
+        self.write_edit("doubled_thrice", "# breaks: nothing\n", old="nowhere")
         [fault] = self.faults()
         self.assertIn("low/doubled_thrice: it can't be applied", fault)
 
     def test_edit_that_names_a_module_that_is_not_there(self):
-        self.write_edit("doubled_thrice", "breaks: nothing\n", new="low::gone::helped()")
+        self.write_edit("doubled_thrice", "# breaks: nothing\n", new="low::gone::helped()")
         self.assertEqual(self.faults(), ["low/doubled_thrice: it names the module low::gone, which isn't there"])
-        self.write_edit("doubled_thrice", "breaks: nothing\n", new="low::inner::helped()")
+        self.write_edit("doubled_thrice", "# breaks: nothing\n", new="low::inner::helped()")
         self.assertEqual(self.faults(), [])
 
     def test_edit_that_says_nothing_of_a_user(self):
-        fault = "low/doubled_thrice: it has {} lines that say what it breaks for a user ('breaks: TEXT'), and not one".format
-        for text, count in (("", 0), ("breaks:\n", 0), ("breaks:  \n", 0), ("breaks: one\nbreaks: two\n", 2)):
+        fault = "low/doubled_thrice: it has {} lines that say what it breaks for a user ('# breaks: TEXT'), and not one".format
+        for text, count in (("", 0), ("# breaks:\n", 0), ("# breaks:  \n", 0), ("# breaks: one\n# breaks: two\n", 2)):
             self.write_edit("doubled_thrice", text)
             self.assertEqual(self.faults(), [fault(count)])
 
+    def test_line_that_nothing_reads(self):
+        self.write_edit("doubled_thrice", "# breaks: nothing\ngoal: returns\n")
+        self.assertEqual(self.faults(), ["low/doubled_thrice: it has a line that nothing reads: goal: returns"])
+
     def test_two_edits_that_say_the_same(self):
-        self.write_edit("some_more", "breaks: one more is shown\n")
+        self.write_edit("some_more", "# breaks: one more is shown\n")
         self.assertEqual(self.faults(), ["low/some_more: it breaks for a user just what low/shown_is_more does"])
 
 
 class Pages(Crates):
     def test_clauses_of_calls(self):
         page = "That (`Some::less`: `bound`, `held`; `low::shown`: `three`) and `Counts`: `more`. A `word`: `other` words."
-        self.assertEqual(faults_of_claims(page.split(" A ")[0], [self.folder]), (4, []))
-        self.assertEqual(faults_of_claims(page, [self.folder]), (5, ["there is no call, module or type word"]))
+        self.assertEqual(faults_of_claims(page.split(" A ")[0], self.sources()), (4, []))
+        self.assertEqual(faults_of_claims(page, self.sources()), (5, ["there is no call, module or type word"]))
 
     def test_clause_that_is_not_there(self):
         page = "`Some::less`: `bound` and `helt`; `inner::shown`: `three`"
         faults = ["no call of `Some::less` has a clause helt", "there is no call, module or type inner::shown"]
-        self.assertEqual(faults_of_claims(page, [self.folder]), (3, faults))
+        self.assertEqual(faults_of_claims(page, self.sources()), (3, faults))
 
     def test_edits_that_a_page_names(self):
         page = "| Rule | Edits |\n|---|---|\n| Less, by `none_*` | `less_*`, `{}` |\n\n| Other |\n|---|\n| `none` |\n"
@@ -180,16 +187,16 @@ class Pages(Crates):
         self.assertEqual(edits_missing(page.format("gone"), [*EDITS]), (2, ["there is no edit gone"]))
 
     def test_table(self):
-        self.assertEqual(tables_of([self.folder], []), TABLE)
-        self.assertEqual(tables_of([self.folder], ["low"]), TABLE)
-        self.assertEqual(tables_of([self.folder], ["high"]), "# Promises")
+        self.assertEqual(tables_of(self.sources(), []), TABLE)
+        self.assertEqual(tables_of(self.sources(), ["low"]), TABLE)
+        self.assertEqual(tables_of(self.sources(), ["high"]), "# Promises")
 
     def test_table_of_an_edit_that_cannot_be_applied(self):
         self.write_edit("less_by_nothing", "", old="nowhere")
-        self.assertNotIn("less_by_nothing", tables_of([self.folder], []))
+        self.assertNotIn("less_by_nothing", tables_of(self.sources(), []))
 
     def test_public_calls(self):
-        found = ["::".join(it.paths()[0][1:]) for it in Sources([self.folder]).calls if it.is_public]
+        found = ["::".join(it.paths()[0][1:]) for it in self.sources().calls if it.is_public]
         at_traits = ["counts::Counts::many", "counts::Counts::many"]
         self.assertEqual(sorted(found), [*at_traits, "counts::Some::less", "counts::all_are_few", "shown"])
 

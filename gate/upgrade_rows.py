@@ -7,7 +7,7 @@ import itertools
 
 from device_rows import ANSWERS, ASKED, FAULTS
 from trial_rows import CHECKS, REPLAYS, lines
-from zirofen_host.profile import CONTROLLERS, CONTROL_FILES, LIMIT_FILES, LONGEST_PATH, MOST_GROUPS, accepts
+from zirofen_host.profile import CONTROLLERS, CONTROL_FILES, LIMIT_FILES, LONGEST_PATH, MOST_GROUPS, accepts, is_root, text_of
 from zirofen_host.collect.tree import Row, Tree, tree_text
 from zirofen_host.collect.model import Entry
 
@@ -120,7 +120,7 @@ def operations(tree, paths, pids):
 
 def asked_of_all(tree):
     """Every command, of some users about some cgroups and processes of a tree."""
-    paths = some([path for path in tree.rows if path != "/"], SOME_PATHS)
+    paths = some([text_of(path) for path in tree.rows if not is_root(path)], SOME_PATHS)
     pids = some([each[0] for each in tree.processes], SOME_PIDS)
     users, script = users_of(tree), operations(tree, ["/", *paths], pids)
     listed = [word for uid, gids in users for word in ("--uid", ":".join([str(uid), ",".join(map(str, gids))]).rstrip(":"))]

@@ -3,9 +3,9 @@ import gzip
 import importlib.machinery
 import importlib.util
 import io
+import json
 import os
 import re
-import shutil
 import subprocess
 import sys
 import tarfile
@@ -95,7 +95,6 @@ class PackageTest(unittest.TestCase):
         with tarfile.open(fileobj=io.BytesIO(self.archive(".tar.gz"))) as files:
             self.assertEqual(len([it for it in files if it.isfile()]), len(self.files))
 
-    @unittest.skipUnless(shutil.which("dpkg-deb"), "there is no dpkg-deb")
     def test_dpkg_reads_it(self):
         [name] = [it for it in os.listdir(self.made) if it.endswith(".deb")]
         said = run("dpkg-deb", "--field", f"{self.made}/{name}", "Package", "Version", "Architecture", "Depends").stdout
@@ -104,8 +103,19 @@ class PackageTest(unittest.TestCase):
         out = f"{self.folder.name}/out"
         self.assertEqual(run("dpkg-deb", "--extract", f"{self.made}/{name}", out).returncode, 0)
         self.assertEqual(run(f"{out}/usr/bin/zirofen", "--version").stdout, f"zirofen {self.program.version}\n")
+        self.helpers_run(f"{out}/usr/bin", f"{out}/{package.DOCS}/examples/delegation.toml")
 
-    @unittest.skipUnless(shutil.which("lintian"), "there is no lintian")
+    def helpers_run(self, folder, tree):
+        """The installed helpers ask the installed program, and draw what it answered."""
+        environment = {**os.environ, "ZIROFEN": f"{folder}/zirofen"}
+        said = run(f"{folder}/zirofen-host", "--version", env=environment)
+        self.assertEqual((said.stdout, said.stderr), (f"zirofen-host {self.program.version}\n", ""))
+        checked = run(f"{folder}/zirofen-host", "check", "--json", "--tree", tree, "--accounts", "/etc", env=environment)
+        self.assertEqual((json.loads(checked.stdout)["program"], checked.stderr), (f"zirofen {self.program.version}", ""))
+        with open(f"{self.folder.name}/report.json", "w", encoding="ascii") as out:
+            out.write(checked.stdout)
+        self.assertIn("<!DOCTYPE html>", run(f"{folder}/zirofen-host", "page", out.name).stdout)
+
     def test_lintian_has_nothing_above_information(self):
         [name] = [it for it in os.listdir(self.made) if it.endswith(".deb")]
         said = run("lintian", "--allow-root", f"{self.made}/{name}")
@@ -121,7 +131,6 @@ class PackageTest(unittest.TestCase):
         self.assertEqual(said.stderr, "", path)
         return re.sub(r"\s+", " ", said.stdout)
 
-    @unittest.skipUnless(shutil.which("groff"), "there is no groff")
     def test_pages_say_what_help_and_docs_say(self):
         shown = self.shown("man1/zirofen.1")
         for words in ((), *((name,) for name in self.program.commands())):
@@ -163,16 +172,15 @@ class PackageTest(unittest.TestCase):
         return set(run("bash", "-c", code).stdout.split())
 
     def test_completions_are_offered_by_real_shells(self):
-        for shell in filter(shutil.which, ("bash", "fish")):
+        for shell in ("bash", "fish"):
             with self.subTest(shell):
                 self.assertLessEqual({"may", "check", "audit", "replay"}, self.complete(shell, ""))
                 self.assertLessEqual({"--uid", "--subtree", "--tree"}, self.complete(shell, "check", "--"))
                 self.assertNotIn("--subtree", self.complete(shell, "may", "--"))
-        if shutil.which("zsh"):
-            for path in (path for path in self.files if "zsh" in path):
-                with open(f"{self.folder.name}/_zirofen", "wb") as out:
-                    out.write(self.files[path].data)
-                self.assertEqual(run("zsh", "-n", f"{self.folder.name}/_zirofen").stderr, "")
+        for path in (path for path in self.files if "zsh" in path):
+            with open(f"{self.folder.name}/_zirofen", "wb") as out:
+                out.write(self.files[path].data)
+            self.assertEqual(run("zsh", "-n", f"{self.folder.name}/_zirofen").stderr, "")
 
     def test_the_version_is_the_first_of_the_changes(self):
         with open(f"{TOP}/CHANGELOG.md", encoding="ascii") as text:
@@ -193,6 +201,15 @@ class PackageTest(unittest.TestCase):
             self.assertNotRegex(said, r"\b(host|docs|examples)/")
             for page, number in re.findall(r"\b(zirofen[a-z-]*)\((\d)\)", said):
                 self.assertIn(f"usr/share/man/man{number}/{page}.{number}.gz", self.files)
+
+    def test_what_the_helpers_page_names_is_installed(self):
+        page = re.sub(r"\\f[BR]", "", self.page("man8/zirofen-host.8")).replace("\\-", "-")
+        self.assertNotRegex(page, r"(?<![\w/])(host|docs|examples|bench|packaging)/")
+        self.assertNotIn("/opt/", page)
+        there = {"/".join(it.split("/")[:end]) for it in self.files for end in range(1, 9)}
+        for path in re.findall(r"/usr/share/[\w./-]*\w", page):
+            self.assertIn(path.strip("/"), there)
+        self.assertIn("report.schema.json", page)
 
     def test_the_helpers_tell_the_programs_version(self):
         environment = {**os.environ, "ZIROFEN": self.program.path}

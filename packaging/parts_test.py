@@ -1,6 +1,7 @@
 """Tests of the parts of ./package that take no program: archives, pages, completions, and what is installed beside it."""
 import io
 import os
+import shutil
 import subprocess
 import sys
 import tarfile
@@ -40,6 +41,12 @@ PLAYED = """#!/bin/sh
 echo "$*" >>"$SAID"
 exit 2
 """
+
+
+def files_of(folder):
+    """What stands in a folder, but for what Python keeps beside it."""
+    found = (os.path.relpath(f"{at}/{name}", folder) for at, _, names in os.walk(folder) for name in names)
+    return sorted(each for each in found if "__pycache__" not in each)
 
 
 class ArchiveTest(unittest.TestCase):
@@ -114,6 +121,19 @@ class InstalledTest(unittest.TestCase):
         for name in os.listdir(f"{HERE}/debian"):
             with open(f"{HERE}/debian/{name}", encoding="ascii") as text:
                 self.assertNotRegex(text.read(), r"systemctl.*(enable|start)|deb-systemd-(helper|invoke) (enable|start)")
+
+    def test_the_helpers_as_a_package(self):
+        """By Debian's pip, with all that stands in the package's folder, and a command."""
+        shutil.copytree(f"{TOP}/host", f"{self.room}/host", ignore=shutil.ignore_patterns("tests", "__pycache__"))
+        into = f"{self.room}/into"
+        options = ("--quiet", "--root-user-action", "ignore", "--no-index", "--no-build-isolation", "--no-deps", "--no-cache-dir",
+                   "--no-compile")
+        ended = subprocess.run(["/usr/bin/python3", "-m", "pip", "install", *options, "--target", into, f"{self.room}/host"],
+                               capture_output=True, text=True)
+        self.assertEqual((ended.returncode, ended.stderr), (0, ""))
+        self.assertEqual(files_of(f"{into}/zirofen_host"), files_of(f"{TOP}/host/zirofen_host"))
+        ended = subprocess.run([f"{into}/bin/zirofen-host", "--help"], env={"PYTHONPATH": into}, capture_output=True, text=True)
+        self.assertEqual(ended.stdout, self.host("--help").stdout)
 
     def host(self, *words):
         environment = {**os.environ, "ZIROFEN": f"{self.room}/none"}

@@ -1,4 +1,4 @@
-"""A report between its dataclasses and JSON."""
+"""A report between its dataclasses and JSON, and its schema."""
 import glob
 import gzip
 import json
@@ -6,12 +6,11 @@ import os
 import unittest
 
 import example
+import report_schema
 from made_up import HERE
+from shown import value_of
 from zirofen_host.judge import as_json
 from zirofen_host.judge.model import ABSENT, Comparison, Report
-
-# keys that some reports haven't
-LACKING = {}
 
 
 def kept_reports():
@@ -26,28 +25,52 @@ class AsJsonTest(unittest.TestCase):
     def test_a_report_is_read_and_written_as_it_was(self):
         for name, report in kept_reports():
             with self.subTest(name):
-                made = as_json.made_of(Report, report, "report", LACKING)
-                self.assertEqual(json.dumps(as_json.value_of(made)), json.dumps(report))
+                made = as_json.made_of(Report, report, "report", {})
+                self.assertEqual("".join(as_json.parts_of(made)), json.dumps(report, indent=1))
 
     def test_what_is_absent_has_no_key(self):
         report = example.kept()
         without = {key: value for key, value in report.items() if key not in ("users", "groups", "cgroups", "processes")}
-        made = as_json.made_of(Report, without, "report", LACKING)
+        made = as_json.made_of(Report, without, "report", {})
         self.assertIs(made.cgroups, ABSENT)
-        self.assertEqual(json.dumps(as_json.value_of(made)), json.dumps(without))
+        self.assertEqual(json.dumps(value_of(made)), json.dumps(without))
 
     def test_the_place_of_what_is_wrong(self):
         for spoil, place in (({"host": 1}, "report.host"),
                              ({"unseen": [{"kind": "x", "place": "", "text": None}]}, "report.unseen[0].text"),
                              ({"subtrees": {}}, "report.subtrees"), ({"status": True}, "report.status"),
+                             ({"opened": [{"path": "/", "file": "x", "owner": {"uid": 0, "gid": 0, "mode": "8"}}]},
+                              "report.opened[0].owner.mode"),
                              ({"baseline": {"file": "x"}}, "report.baseline.time")):
             with self.subTest(place), self.assertRaisesRegex(as_json.Wrong, f"^{place}$".replace("[", "\\[").replace("]", "\\]")):
-                as_json.made_of(Report, {**example.kept(), **spoil}, "report", LACKING)
+                as_json.made_of(Report, {**example.kept(), **spoil}, "report", {})
 
     def test_what_may_lack(self):
         value = {"time": "", "new": [], "worse": [], "changed": [], "gone": []}
         lacking = {(Comparison, "file"): "", (Comparison, "status"): 0}
         self.assertEqual(as_json.made_of(Comparison, value, "it", lacking), Comparison("", "", (), (), (), (), 0))
+
+
+class SchemaTest(unittest.TestCase):
+    def test_it_is_that_of_the_dataclasses(self):
+        self.assertEqual(report_schema.schema_of(Report), report_schema.kept(), "host/tests/report_schema.py writes it anew")
+
+    def test_every_kept_report_is_as_it_says(self):
+        for name, report in kept_reports():
+            with self.subTest(name):
+                self.assertEqual(report_schema.faults_of(report), [])
+
+    def test_what_isnt_as_it_says(self):
+        report = example.kept()
+        owner = {"uid": 0, "gid": 0, "mode": "9"}
+        compared = [f"report.baseline.{key}" for key in ("file", "time", "new", "worse", "changed", "gone", "status")]
+        for spoil, places in (({"host": 1}, ["report.host"]), ({"version": 2}, ["report.version"]), ({"new": 1}, ["report.new"]),
+                              ({"status": True}, ["report.status"]), ({"baseline": {}}, compared),
+                              ({"entries": [{**report["entries"][0], "whom": []}]}, ["report.entries[0].whom"]),
+                              ({"entries": [{**report["entries"][0], "owner": owner}]}, ["report.entries[0].owner"]),
+                              ({"opened": [{**report["opened"][0], "owner": owner}]}, ["report.opened[0].owner.mode"])):
+            with self.subTest(places):
+                self.assertEqual(report_schema.faults_of({**report, **spoil}), places)
 
 
 if __name__ == "__main__":

@@ -134,9 +134,9 @@ class CommandsTest(HostTest):
         self.assertEqual(shell.change_commands(MOUNT, [
             ["chown", "/a", "cgroup.procs", "0:50"], ["chmod", "/a", "cgroup.procs", "646"],
             ["chmod", "/a", "cgroup.procs", "664"], ["set", "/a", "cgroup.max.depth", "max"],
-            ["chown", "/", "dir", "0:0"]], lambda *_: entry), [
+            ["chown", "/", "dir", "0:0"]], lambda *_: entry), (
                 "chown root /sys/fs/cgroup/a/cgroup.procs", "echo max >/sys/fs/cgroup/a/cgroup.max.depth",
-                "chown root:0 /sys/fs/cgroup", "chmod 644 /sys/fs/cgroup/a/cgroup.procs"])
+                "chown root:0 /sys/fs/cgroup", "chmod 644 /sys/fs/cgroup/a/cgroup.procs"))
         with self.assertRaisesRegex(Fault, "isn't known"):
             shell.change_commands(MOUNT, [["remove", "/a"]], lambda *_: entry)
 

@@ -4,11 +4,12 @@ import os
 import subprocess
 import sys
 import unittest
+from dataclasses import replace
 
 from check_test import MARK, HostTest, owned
 from made_up import COMMAND
 from zirofen_host.judge import baseline
-from zirofen_host.show.lines import comparison_lines
+from shown import comparison_lines, made
 from zirofen_host.fault import Fault
 
 
@@ -21,16 +22,16 @@ class BaselineTest(HostTest):
         self.host.cgroup("/up/b", owners=owned(1001))
 
     def keep(self):
-        baseline.write(self.file, self.report(json=True))
+        baseline.write(self.file, made(self.report(json=True)))
 
     def compared(self):
         found = self.report(json=True)
-        value = baseline.compared(found, baseline.read(self.file), self.file)
-        self.assertEqual(json.loads(json.dumps(value)), value)
-        lines = list(comparison_lines(value))
+        compared = baseline.compared(made(found), baseline.read(self.file), self.file)
+        self.assertEqual(made(self.value_of(replace(made(found), baseline=compared))).baseline, compared)
+        lines = list(comparison_lines(compared))
         self.assertEqual(all(line.startswith("    ") or line.split(":")[0] in baseline.KINDS for line in lines), any(
-            value[kind] for kind in baseline.KINDS))
-        return value["status"], lines
+            getattr(compared, kind) for kind in baseline.KINDS))
+        return compared.status, lines
 
     def test_nothing_is_new(self):
         self.keep()
@@ -105,15 +106,15 @@ class BaselineTest(HostTest):
     def test_another_host(self):
         found = self.report(json=True)
         before = {**found, "host": "other"}
-        value = baseline.compared(found, before, self.file)
-        self.assertEqual((value["status"], [each["before"] for each in value["changed"]]), (0, ["host: other"]))
+        compared = baseline.compared(made(found), made(before), self.file)
+        self.assertEqual((compared.status, [each.before for each in compared.changed]), (0, ["host: other"]))
 
     def test_nothing_to_ask_any_more(self):
         self.keep()
-        found = {**self.report(json=True), "asked": False, "entries": [], "subtrees": []}
-        self.assertEqual(baseline.compared(found, baseline.read(self.file), "")["status"], 4)
+        found = made({**self.report(json=True), "asked": False, "entries": [], "subtrees": []})
+        self.assertEqual(baseline.compared(found, baseline.read(self.file), "").status, 4)
         baseline.write(self.file, found)
-        self.assertEqual(baseline.compared(found, baseline.read(self.file), "")["status"], 0)
+        self.assertEqual(baseline.compared(found, baseline.read(self.file), "").status, 0)
 
     def test_what_is_no_baseline(self):
         for text, told in (("", "no report"), ("{", "no report"), ("[" * 100000, "no report"), ("[]", "version null"),
@@ -128,7 +129,7 @@ class BaselineTest(HostTest):
             baseline.read(f"{self.host.folder}/none")
 
     def test_what_cant_be_written(self):
-        found = self.report(json=True)
+        found = made(self.report(json=True))
         with self.assertRaisesRegex(Fault, "can't write the baseline"):
             baseline.write(f"{self.host.folder}/none/file", found)
         self.keep()

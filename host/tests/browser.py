@@ -19,6 +19,8 @@ class Browser:
     """One page of a browser. Events are kept in the order in which they came."""
 
     def __init__(self):
+        if not PROGRAM:
+            raise OSError("there is no chromium")
         self.room = tempfile.mkdtemp()
         (here_in, out), (self.into, there_in) = os.pipe()[::-1], os.pipe()
         # the browser reads descriptor 3 and writes descriptor 4

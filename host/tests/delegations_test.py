@@ -4,14 +4,19 @@ import subprocess
 import sys
 import tempfile
 import unittest
+from unittest import mock
 
-from made_up import COMMAND, DELEGATED, HERE, TOP, MadeUpTest
-from zirofen_host.collect.accounts import Account, Accounts, Group, Range
+from made_up import COMMAND, DELEGATED, HERE, TOP, MadeUpTest, accounts_with, path
+from zirofen_host.collect.accounts import accounts_here
+from zirofen_host.ask import questions
 from zirofen_host.ask.delegations import Delegations
+from zirofen_host.ask.model import Answer, Holders, Pair
+from zirofen_host.collect import elsewhere
 from zirofen_host.fault import Fault
-from zirofen_host.collect.processes import Process
-from zirofen_host.collect.tree import Row, Tree, read_tree
-from zirofen_host.collect.model import Entry, User
+from zirofen_host.profile import text_of
+from zirofen_host.collect.tree import read_tree
+from zirofen_host.collect.model import Account, Entry, Group, Range, Row, Tree, User
+from zirofen_host.collect.snapshot import tree_text
 
 PASSWD = """root:x:0:0::/root:/bin/sh
 alice:x:1000:1000::/home/alice:/bin/sh
@@ -31,78 +36,120 @@ def handed(uid, gid=0, mode=0o644, directory_mode=0o755):
             "files": {file: Entry(uid, gid, mode) for file in ("cgroup.procs", "cgroup.subtree_control")}}
 
 
+def row(place, **more):
+    return Row(path(place), **more)
+
+
 def tree(*rows, enabled=()):
-    return Tree(("memory",), {row.path: row for row in (Row("/", enabled=enabled), *rows)})
+    return Tree(("memory",), {each.path: each for each in (row("/", enabled=enabled), *rows)})
 
 
-def found(of, accounts=Accounts()):
-    return [(each.user.uid, each.user.gids, each.path) for each in Delegations(of, accounts).find()]
+def found(of, accounts=accounts_with()):
+    return [(each.user.uid, each.user.gids, text_of(each.path)) for each in Delegations(of, accounts).find()]
 
 
 class DelegationsTest(unittest.TestCase):
     def test_the_top_of_what_is_handed_over(self):
-        of = tree(Row("/a"), Row("/a/b", **handed(1000)), Row("/a/b/c", **handed(1000)), Row("/a/bb", **handed(1001)))
+        of = tree(row("/a"), row("/a/b", **handed(1000)), row("/a/b/c", **handed(1000)), row("/a/bb", **handed(1001)))
         self.assertEqual(found(of), [(1000, (), "/a/b"), (1001, (), "/a/bb")])
 
     def test_nothing_is_found_where_root_has_all(self):
-        self.assertEqual(found(tree(Row("/a"), Row("/a/b"))), [])
+        self.assertEqual(found(tree(row("/a"), row("/a/b"))), [])
 
     def test_another_user_within(self):
-        of = tree(Row("/a", **handed(1000)), Row("/a/b", **handed(100000)), Row("/a/b/c", **handed(100000)))
+        of = tree(row("/a", **handed(1000)), row("/a/b", **handed(100000)), row("/a/b/c", **handed(100000)))
         self.assertEqual(found(of), [(1000, (), "/a"), (100000, (), "/a/b")])
 
     def test_a_parent_directory_hides_no_delegation(self):
-        of = tree(Row("/a", directory=Entry(1000, 0, 0o755)), Row("/a/b", **handed(1000)))
+        of = tree(row("/a", directory=Entry(1000, 0, 0o755)), row("/a/b", **handed(1000)))
         self.assertEqual(found(of), [(1000, (), "/a"), (1000, (), "/a/b")])
 
     def test_a_limit_alone(self):
-        of = tree(Row("/a", files={"memory.max": Entry(1000, 0, 0o444)}), Row("/b"), enabled=("memory",))
+        of = tree(row("/a", files={"memory.max": Entry(1000, 0, 0o444)}), row("/b"), enabled=("memory",))
         self.assertEqual(found(of), [(1000, (), "/a")])
 
     def test_a_limit_of_his_own_making_is_none(self):
         limit = {"memory.max": Entry(1000, 0, 0o644)}
-        inner = Row("/a/b", **handed(1000))
+        inner = row("/a/b", **handed(1000))
         inner.files.update(limit)
-        of = tree(Row("/a", enabled=("memory",), **handed(1000)), inner, enabled=("memory",))
+        of = tree(row("/a", enabled=("memory",), **handed(1000)), inner, enabled=("memory",))
         self.assertEqual(found(of), [(1000, (), "/a")])
 
     def test_what_is_his_at_the_root(self):
-        of = tree(Row("/a", **handed(1000)), Row("/a/b", **handed(1000)))
-        of.rows["/"] = Row("/", **handed(1000))
+        of = tree(row("/a", **handed(1000)), row("/a/b", **handed(1000)))
+        of.rows[path("/")] = row("/", **handed(1000))
         self.assertEqual(found(of), [(1000, (), "/a")])
 
     def test_by_a_group(self):
-        accounts = Accounts([Account("alice", 1000, 1000), Account("bob", 1001, 50)],
-                            [Group(50, ["alice"]), Group(7, ["alice"])])
-        of = tree(Row("/a", **handed(0, 50, 0o664, 0o775)))
+        accounts = accounts_with([Account("alice", 1000, 1000), Account("bob", 1001, 50)],
+                                 [Group(50, ["alice"]), Group(7, ["alice"])])
+        of = tree(row("/a", **handed(0, 50, 0o664, 0o775)))
         self.assertEqual(found(of, accounts), [(1000, (1000, 7, 50), "/a"), (1001, (50,), "/a")])
 
     def test_a_group_that_may_not_write_counts_for_nothing(self):
-        self.assertEqual(found(tree(Row("/a", **handed(0, 50))), Accounts([Account("bob", 1001, 50)])), [])
+        self.assertEqual(found(tree(row("/a", **handed(0, 50))), accounts_with([Account("bob", 1001, 50)])), [])
 
     def test_a_group_without_known_members(self):
-        self.assertEqual(found(tree(Row("/a", **handed(0, 50, 0o664)))), [(65534, (50,), "/a")])
-        self.assertEqual(found(tree(Row("/a", **handed(0, 0, 0o664)))), [])
+        self.assertEqual(found(tree(row("/a", **handed(0, 50, 0o664)))), [(65534, (50,), "/a")])
+        self.assertEqual(found(tree(row("/a", **handed(0, 0, 0o664)))), [])
 
     def test_everybody(self):
-        self.assertEqual(found(tree(Row("/a", **handed(0, 0, 0o646)))), [(65534, (), "/a")])
+        self.assertEqual(found(tree(row("/a", **handed(0, 0, 0o646)))), [(65534, (), "/a")])
 
     def test_more_groups_than_a_user_may_have(self):
-        many = Accounts([Account("alice", 1000, 9)], [Group(gid, ["alice"]) for gid in range(100, 140)])
-        of = Delegations(tree(Row("/a", **handed(1000, 139, 0o664)), Row("/b", **handed(0, 138))), many)
+        many = accounts_with([Account("alice", 1000, 9)], [Group(gid, ["alice"]) for gid in range(100, 140)])
+        of = Delegations(tree(row("/a", **handed(1000, 139, 0o664)), row("/b", **handed(0, 138))), many)
         (_, user), = of.find()
         few, left_out = of.with_few_groups(user, {137})
         self.assertEqual((few.uid, few.gids[0], len(few.gids), {137, 138, 139} - set(few.gids)), (1000, 9, 32, set()))
         self.assertEqual(left_out, [])
-        of.gids_of_tree |= set(range(100, 140))
-        self.assertEqual(of.with_few_groups(user, set(range(130, 140)))[1], list(range(121, 130)))
+        with mock.patch.object(of, "gids_of_tree", set(range(100, 140))):
+            self.assertEqual(of.with_few_groups(user, set(range(130, 140)))[1], list(range(121, 130)))
+
+
+class QuestionsTest(unittest.TestCase):
+    """What is asked of a tree alone."""
+
+    ALICE, BOB = User(1000, (1000,)), User(1001, (1001,))
+
+    def questions(self, *rows, **more):
+        taken = elsewhere.read(elsewhere.Accepted("", "", tree(*rows, **more)), "/sys/fs/cgroup")
+        return questions.questions_of(taken, accounts_with([Account("alice", 1000, 1000), Account("bob", 1001, 1001)]))
+
+    def asked(self, some):
+        return [(users, [text_of(each) for each in paths]) for users, paths in some]
+
+    def test_everybody_is_asked_of_every_subtree(self):
+        of = self.questions(row("/a", **handed(1000)), row("/b", **handed(1001)))
+        self.assertEqual((of.subtrees, of.meant), ((path("/a"), path("/b")), {}))
+        self.assertEqual(of.holders[path("/a")], Holders("owner", (1000,), frozenset({1000})))
+        plan = questions.plan_of(of)
+        self.assertEqual(self.asked(plan.questions), [((self.ALICE, self.BOB), ["/a", "/b"])])
+        self.assertEqual((plan.users, plan.cut, questions.plan_of(of)), ((self.ALICE, self.BOB), (), plan))
+
+    def test_what_is_left_out_is_asked_of_no_more(self):
+        whole = self.questions(row("/a", **handed(1000)), row("/b", **handed(1001)))
+        of = whole.without([path("/a")])
+        self.assertEqual((of.subtrees, len(whole.subtrees), of.holders), ((path("/b"),), 2, whole.holders))
+        self.assertEqual(self.asked(questions.plan_of(of).questions), [((self.BOB,), ["/b"])])
+        self.assertEqual(questions.plan_of(of.without(whole.subtrees)).questions, ())
+
+    def test_where_everybody_is_let_in(self):
+        of = self.questions(row("/a", **handed(1000)), row("/b", **handed(1001)), row("/b/c"), enabled=("memory",))
+        of.tree.rows[path("/b")].files["memory.max"] = Entry(1001, 0, 0o666)
+        plan, anybody = questions.plan_of(of), User(65534, ())
+        self.assertEqual(self.asked(plan.questions), [((self.ALICE, self.BOB, anybody), ["/a"]), ((self.BOB, anybody), ["/b"])])
+        for lines, further, not_asked in ((("unsettled x",), [((self.ALICE,), ["/b"])], {}), (("escapes", "x"), [], {})):
+            answer = Answer(questions.ESCAPES if lines[0] == "escapes" else 2, lines)
+            some, left = questions.further_of(of, plan, {Pair(anybody, path("/b")): answer})
+            self.assertEqual((self.asked(some), left), (further, not_asked))
 
 
 class RealTreesTest(unittest.TestCase):
     """The delegations of trees that were taken from running hosts."""
 
-    ACCOUNTS = Accounts([Account("alice", 1000, 1000), Account("bob", 1001, 1001), Account("builder", 890, 890)],
-                        [Group(2000, ["alice", "bob"])], [Range("alice", 100000, 65536)], [Range("alice", 100000, 65536)])
+    ACCOUNTS = accounts_with([Account("alice", 1000, 1000), Account("bob", 1001, 1001), Account("builder", 890, 890)],
+                             [Group(2000, ["alice", "bob"])], [Range("alice", 100000, 65536)], [Range("alice", 100000, 65536)])
     MANAGER = "/user.slice/user-1000.slice/user@1000.service"
     CONTAINER = "libpod-0ef3b471c021517a3a177f12a695ad2792476642ea54fa128344eaebddc28d93.scope/container"
     ALICE, BOB = (1000, (1000, 2000)), (1001, (1001, 2000))
@@ -126,9 +173,9 @@ class RealTreesTest(unittest.TestCase):
 
 class AccountsTest(unittest.TestCase):
     def test_subordinate_ids(self):
-        accounts = Accounts([Account("alice", 1000, 1000)], [], [Range("alice", 100000, 10), Range("bob", 7, 1),
-                                                                 Range("alice", 300000, 10)],
-                            [Range("alice", 200000, 20)])
+        accounts = accounts_with([Account("alice", 1000, 1000)], [],
+                                 [Range("alice", 100000, 10), Range("bob", 7, 1), Range("alice", 300000, 10)],
+                                 [Range("alice", 200000, 20)])
         self.assertEqual(accounts.users_of(100003), [User(100003, (200003,))])
         self.assertEqual(accounts.users_of(300002), [User(300002, (200012,))])
         self.assertEqual(accounts.users_of(7), [User(7, ())])
@@ -138,31 +185,31 @@ class AccountsTest(unittest.TestCase):
 
     def test_subordinate_ids_that_overlap(self):
         ranges = [Range("bob", 50, 100), Range("alice", 0, 1000), Range("alice", 60, 5), Range("carol", 200, 10)]
-        accounts = Accounts([Account("alice", 1000, 1)], [], ranges, [])
-        self.assertEqual(accounts.owners(ranges, 62), [("alice", 62), ("bob", 12), ("alice", 1002)])
-        self.assertEqual(accounts.owners(ranges, 205), [("alice", 205), ("carol", 5)])
-        self.assertEqual((accounts.owners(ranges, 1000), accounts.owners(ranges, 999)), ([], [("alice", 999)]))
+        accounts = accounts_with([Account("alice", 1000, 1)], [], ranges, [])
+        owners = accounts.owners_of_uids.owners
+        self.assertEqual(owners(62), [("alice", 62), ("bob", 12), ("alice", 1002)])
+        self.assertEqual(owners(205), [("alice", 205), ("carol", 5)])
+        self.assertEqual((owners(1000), owners(999)), ([], [("alice", 999)]))
         self.assertEqual(accounts.persons(205), {205, 1000})
         self.assertEqual(accounts.subordinate_to(1000), ranges[1:3])
 
     def test_running_processes(self):
-        running = [Process(9, 62264, User(62264, (62264, 50)), False), Process(10, 1000, User(1000, (1000, 27)), False),
-                   Process(11, 1000, User(0, (0,)), False)]
-        accounts = Accounts([Account("alice", 1000, 1000)], [Group(27, ["alice"])], processes=running)
+        running = [User(62264, (62264, 50)), User(1000, (1000, 27)), User(0, (0,))]
+        accounts = accounts_with([Account("alice", 1000, 1000)], [Group(27, ["alice"])], running=running)
         self.assertEqual(accounts.users_of(62264), [User(62264, (62264, 50))])
         self.assertEqual(accounts.members_of(50), [User(62264, (62264, 50))])
         self.assertEqual(accounts.users_of(1000), [User(1000, (1000, 27))])
-        accounts = Accounts([Account("alice", 1000, 1000)], [Group(27, ["alice"]), Group(4, ["alice"])], processes=running)
+        accounts = accounts_with([Account("alice", 1000, 1000)], [Group(27, ["alice"]), Group(4, ["alice"])], running=running)
         self.assertEqual(accounts.users_of(1000), [User(1000, (1000, 4, 27)), User(1000, (1000, 27))])
 
     def test_account_files(self):
         with tempfile.TemporaryDirectory() as folder:
             with self.assertRaisesRegex(Fault, "neither passwd nor group"):
-                Accounts.of_folder(folder)
+                accounts_here(folder, ())
             for name, text in (("passwd", PASSWD + "+nis\nbroken:x:y:z::\n"), ("group", GROUP), ("subuid", SUBORDINATE)):
                 with open(f"{folder}/{name}", "w", encoding="ascii") as out:
                     out.write(text)
-            accounts = Accounts.of_folder(folder)
+            accounts = accounts_here(folder, ())
         self.assertEqual(accounts.users_of(1000), [User(1000, (1000, 50))])
         self.assertEqual(accounts.members_of(50), [User(1000, (1000, 50)), User(1001, (1001, 50))])
 
@@ -212,7 +259,7 @@ class ScriptTest(MadeUpTest):
         self.host.accounts(passwd=PASSWD, group=GROUP)
         taken = self.host.snapshot()
         accounts = self.host.read_accounts()
-        self.assertEqual(found(read_tree(taken.text()), accounts), [(1000, (1000, 50), "/a")])
+        self.assertEqual(found(read_tree(tree_text(taken)), accounts), [(1000, (1000, 50), "/a")])
         self.assertEqual(found(taken.tree, accounts), [(1000, (1000, 50), "/a")])
 
 

@@ -13,6 +13,7 @@ sys.dont_write_bytecode = True
 import browser  # noqa: E402
 import example  # noqa: E402
 from made_up import TOP  # noqa: E402
+from shown import made  # noqa: E402
 from zirofen_host.show import page  # noqa: E402
 
 # name, width, what the page is for, how much of its height, and the size of a picture's point
@@ -22,7 +23,7 @@ PICTURES = (("page.png", 1000, "screen", 1180, 0.75), ("page-phone.png", 390, "s
 
 def main():
     with tempfile.TemporaryDirectory() as folder, browser.Browser() as opened:
-        page.write(f"{folder}/page.html", [example.kept()])
+        page.write(f"{folder}/page.html", [made(example.kept())])
         for name, width, media, height, scale in PICTURES:
             opened.open(f"{folder}/page.html", width, media)
             file = os.path.join(TOP, "docs", name)

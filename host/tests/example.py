@@ -10,8 +10,7 @@ import sys
 import tempfile
 
 from made_up import HERE, MadeUp
-from zirofen_host.judge import check
-from zirofen_host.collect.mount import Mounts
+from zirofen_host.judge import as_json, check
 from zirofen_host.collect.tree import read_tree
 from zirofen_host.options import Options
 
@@ -91,7 +90,8 @@ class Example:
 def report_of(host, program, name, kernel):
     """What a program answers of a made-up host, as of one with a name and of a day."""
     options = Options(mount=host.mount, proc=host.proc, accounts=host.etc, program=program, plain_folder=True)
-    found = json.loads(json.dumps(check.report(host.snapshot(), Mounts(""), options, True)).replace(host.mount, "/sys/fs/cgroup"))
+    text = "".join(as_json.parts_of(check.report(host.snapshot(), options, True)))
+    found = json.loads(text.replace(host.mount, "/sys/fs/cgroup"))
     return {**found, "host": name, "kernel": kernel, "time": "2026-11-25T08:00:00Z"}
 
 

@@ -16,9 +16,9 @@ from made_up import COMMAND, TOP
 from zirofen_host import fault
 from zirofen_host.collect import processes, walk
 from zirofen_host.ask import questions
-from zirofen_host.judge import check
-from zirofen_host.show.lines import lines_of
-from zirofen_host.collect.accounts import Accounts
+from shown import lines_of
+from zirofen_host.collect.accounts import accounts_here
+from zirofen_host.collect.model import Entry
 from zirofen_host.collect.mount import Mounts
 from zirofen_host.ask.texts import Programs
 
@@ -121,7 +121,7 @@ class PlainOwners(dict):
     """Owners by inode, root's where none was set."""
 
     def __missing__(self, _):
-        return walk.Entry(0, 0, 0o644)
+        return Entry(0, 0, 0o644)
 
 
 class GarbageTest(HostTest):
@@ -140,9 +140,9 @@ class GarbageTest(HostTest):
     def test_garbage_in_the_accounts(self):
         self.host.accounts(passwd="a:x:\u00b2:1::/:\nb:x:4294967296:1::/:\nc:x:" + "9" * 5000 + ":1::/:\nd\n::::\nbob:x:1001:1001::/:\n",
                            group="g:x:\u00b2:bob\nh:x:-1:bob\nt:x:50:bob,,none\n", subuid="bob:x:y\nbob:1:99999999999\nbob:\n")
-        accounts = Accounts.of_folder(self.host.etc)
-        self.assertEqual(([each.uid for each in accounts.accounts], [each.gid for each in accounts.groups],
-                          accounts.subordinate_uids), ([1001], [50], []))
+        accounts = accounts_here(self.host.etc, ())
+        self.assertEqual(([each.uid for each in accounts.lists.accounts], [each.gid for each in accounts.lists.groups],
+                          accounts.lists.subordinate_uids), ([1001], [50], ()))
 
     def test_garbage_in_proc(self):
         self.host.cgroup("/bob", owners=owned(1001))
@@ -213,9 +213,9 @@ class GrowthTest(HostTest):
         asked = []
         ask = Programs.ask
 
-        def asking(of, plan):
+        def asking(of, plan, *more):
             asked.append(sum(len(users) * len(paths) for users, paths in plan))
-            return ask(of, plan)
+            return ask(of, plan, *more)
         with mock.patch.object(questions, "MANY", 20), mock.patch.object(questions, "BLOCK", 4), \
                 mock.patch.object(Programs, "ask", asking):
             few = self.chain(20, owner_of)
@@ -235,14 +235,14 @@ class GrowthTest(HostTest):
             with mock.patch.object(questions, "MANY", many), mock.patch.object(questions, "BLOCK", 3):
                 self.setUp()
                 self.chain(12, lambda number: owned(100000 + number, 50 if number % 2 else 0))
-                of = check.questions_of(self.host.snapshot(), self.host.read_accounts())
-                plan, _ = of.plan
-                pairs = {(user, path) for users, paths in plan for user in users for path in paths}
+                of = questions.questions_of(self.host.snapshot(), self.host.read_accounts())
+                plan = questions.plan_of(of)
+                pairs = {(user, path) for users, paths in plan.questions for user in users for path in paths}
                 for path in of.subtrees:
-                    for user in of.asked_as.values():
+                    for user in plan.asked_as.values():
                         if not of.is_above(user.uid, path):
                             self.assertIn((user, path), pairs)
-                    self.assertTrue(any(of.holds(user, path) and (user, path) in pairs for user in of.asked_as.values()))
+                    self.assertTrue(any(of.holds(user, path) and (user, path) in pairs for user in plan.asked_as.values()))
 
     def test_many_cgroups_that_a_group_writes(self):
         self.host.accounts(group="team:x:50:alice,bob,carol\n")

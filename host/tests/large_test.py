@@ -6,13 +6,14 @@ import unittest
 from unittest import mock
 
 from check_test import BY_GROUP, MARK, HostTest, owned
-from made_up import MEMORY
+from made_up import MEMORY, path
 from zirofen_host import progress
+from zirofen_host.profile import text_of
 from zirofen_host.collect import walk
 from zirofen_host.ask import texts
+from zirofen_host.ask.questions import subtrees_by
 from zirofen_host.judge import check
 from zirofen_host.collect.tree import Row, Tree, read_tree
-from zirofen_host.collect.mount import Mounts
 from zirofen_host.collect.model import Entry
 
 ALL_THE_TIME = "what matters for it came, went or changed through 8 walks"
@@ -28,7 +29,8 @@ class LargeTest(HostTest):
 
         def kept(text, head):
             tree = read_tree(written(text, head))
-            found.append((sorted(tree.rows), [pid for pid, _, _ in sorted(tree.processes)], text.subtrees))
+            found.append((sorted(map(text_of, tree.rows)), [pid for pid, _, _ in sorted(tree.processes)],
+                          list(map(text_of, text.subtrees))))
             return written(text, head)
         patched = mock.patch.object(texts.Text, "written", kept)
         patched.start()
@@ -124,15 +126,17 @@ class LargeTest(HostTest):
 
     def test_long_paths_fill_a_text_too(self):
         self.host.cgroup("/a")
-        rows = {path: Row(path, files={"cgroup.procs": Entry(1000, 0, 0o644)})
-                for number in range(4) for path in (f"/{number}", f"/{number}/{'n' * 200}")}
-        tree = Tree((), {"/": Row("/"), **rows})
+        rows = [Row(path(place), files={"cgroup.procs": Entry(1000, 0, 0o644)})
+                for number in range(4) for place in (f"/{number}", f"/{number}/{'n' * 200}")]
+        tree = Tree((), {row.path: row for row in (Row(path("/")), *rows)})
+        some = [path(f"/{number}") for number in range(4)]
         with mock.patch.object(texts, "ROOM", 1000):
-            packed = texts.Texts(tree, ["/0", "/1", "/2", "/3"])
-        self.assertEqual([(text.subtrees, len(text.rows)) for text in packed.list], [(["/0", "/1"], 5), (["/2", "/3"], 5)])
+            packed = texts.texts_of(tree, some)
+        self.assertEqual([(text.subtrees, len(text.rows)) for text in packed.texts], [(some[:2], 5), (some[2:], 5)])
         with mock.patch.object(texts, "ROOM", 300):
-            packed = texts.Texts(tree, ["/0", f"/1/{'n' * 200}"])
-        self.assertEqual((packed.list, packed.refused["/0"]), ([], "what it needs goes into no tree text: its paths are too long"))
+            packed = texts.texts_of(tree, [some[0], path(f"/1/{'n' * 200}")])
+        self.assertEqual((packed.texts, packed.refused[some[0]]),
+                         ([], "what it needs goes into no tree text: its paths are too long"))
 
     def test_one_text_is_refused_after_one_walk(self):
         for name in "abc":
@@ -164,9 +168,9 @@ class LargeTest(HostTest):
         for name in "ab":
             self.host.cgroup(f"/{name}", owners=owned(1000))
         self.report(keep=f"{self.host.folder}/kept")
-        for name, path in (("kept", "/a"), ("kept.2", "/b")):
+        for name, place in (("kept", "/a"), ("kept.2", "/b")):
             with open(f"{self.host.folder}/{name}", encoding="ascii") as text:
-                self.assertIn(path, read_tree(text.read()).rows)
+                self.assertIn(path(place), read_tree(text.read()).rows)
 
 
 class BusyTest(HostTest):
@@ -197,8 +201,8 @@ class BusyTest(HostTest):
             start(of, *words)
         options = self.options(json=True)
         with mock.patch.object(walk.Walk, "read", reading), mock.patch.object(walk.Walk, "__init__", started):
-            taken = self.host.take(check.subtrees_by(options))
-        return check.report(taken, Mounts(""), options, True)
+            taken = self.host.take(subtrees_by(options))
+        return self.value_of(check.report(taken, options, True))
 
     def others(self, found, of):
         self.assertEqual([(row[2], row[3]) for row in self.rows(found) if row[3] != of],
@@ -246,6 +250,24 @@ class BusyTest(HostTest):
             return remade(of, path, folder, names)
         with mock.patch.object(walk.Walk, "children", children):
             self.one_is_spoiled(self.busy(act, b"/alice/in"))
+
+    def test_a_file_that_goes_between_two_walks(self):
+        """It was found by a walk, a process still has it open, and it isn't there at last."""
+        file, kept = f"{self.host.mount}/alice/memory.high", f"{self.host.folder}/kept"
+        os.link(file, kept)
+        self.host.process(7, uid=1000)
+        self.host.opens(7, 0, "/../kept", os.O_WRONLY)
+        self.host.opens(7, 1, "/cgroup.subtree_control", os.O_WRONLY)
+
+        def act(turn):
+            if turn == 2:
+                self.host.cgroup("/alice", owners=owned(1000, 1000), enabled="memory", values={"memory.low": 4096})
+            elif turn == 3:
+                os.unlink(file)
+        found = self.busy(act, b"/alice")
+        self.assertEqual((self.turn, found["faults"]), (4, []))
+        self.assertEqual(self.told(found, "descriptor"), [
+            "alice(1000): cgroup.subtree_control at / is open for writing in process 7, and he may not open it now"])
 
     def test_what_cant_matter_begins_no_walk_again(self):
         self.host.cgroup("/system")

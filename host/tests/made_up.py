@@ -12,12 +12,12 @@ COMMAND = os.path.join(TOP, "host", "zirofen-host")
 sys.path.insert(0, os.path.join(TOP, "host"))
 
 from zirofen_host.collect import walk  # noqa: E402
-from zirofen_host.collect.accounts import Accounts  # noqa: E402
+from zirofen_host.collect.accounts import Accounts, accounts_here  # noqa: E402
 from zirofen_host.collect.processes import read_processes  # noqa: E402
 from zirofen_host.options import Options  # noqa: E402
-from zirofen_host.profile import LIMIT_FILES, parent_of  # noqa: E402
+from zirofen_host.profile import LIMIT_FILES, parent_of, path_of, text_of  # noqa: E402
 from zirofen_host.collect.snapshot import all_that_changes, take  # noqa: E402
-from zirofen_host.collect.model import Entry  # noqa: E402
+from zirofen_host.collect.model import AccountLists, Entry  # noqa: E402
 
 STATUS = ("Name:\t{name}\nUid:\t{uid}\t{uid}\t{uid}\t{uid}\nGid:\t{gid}\t{gid}\t{gid}\t{gid}\nGroups:\t{groups}\n"
           "CapEff:\t{capabilities:016x}\n")
@@ -26,6 +26,16 @@ KERNEL_THREAD = 0x00200040
 # where many files are made soonest
 MEMORY = "/dev/shm" if os.access("/dev/shm", os.W_OK | os.X_OK) else None
 DELEGATED = {"dir": 1000, "cgroup.procs": 1000, "cgroup.subtree_control": 1000}
+
+
+def path(text):
+    """A cgroup's path as a snapshot has it."""
+    return path_of(text)
+
+
+def accounts_with(accounts=(), groups=(), uids=(), gids=(), running=()):
+    """Accounts and groups, ranges of subordinate ids, and users of running processes."""
+    return Accounts(AccountLists(tuple(accounts), tuple(groups), tuple(uids), tuple(gids)), running)
 
 
 class MadeUp:
@@ -99,11 +109,11 @@ class MadeUp:
         """The cgroups and processes of a tree text, as plain files."""
         at = {}
         for pid, uid, path in tree.processes:
-            at.setdefault(path, []).append(pid)
+            at.setdefault(text_of(path), []).append(pid)
             self.process(pid, uid, gid=uid)
-        for path in sorted(tree.rows, key=len):
-            row = tree.rows[path]
-            names = ("dir", "cgroup.procs", "cgroup.subtree_control", *tree.limit_files(path))
+        for row in sorted(tree.rows.values(), key=lambda row: len(row.path)):
+            path = text_of(row.path)
+            names = ("dir", "cgroup.procs", "cgroup.subtree_control", *tree.limit_files(row.path))
             self.cgroup(path, owners={name: (row.entry(name).uid, row.entry(name).gid) for name in names},
                         modes={name: row.entry(name).mode for name in names}, values=row.values,
                         enabled=" ".join(tree.controllers if path == "/" and not row.enabled else row.enabled),
@@ -118,8 +128,9 @@ class MadeUp:
                 out.write(" ".join(names) + "\n")
         self.enabled["/"] = list(row.enabled)
 
-    def entry_of(self, status):
-        return self.owners[status.st_ino]
+    def owned_of(self, status):
+        entry = self.owners[status.st_ino]
+        return entry.uid, entry.gid, entry.mode
 
     def marks_of(self, folder):
         return self.marks.get(os.stat(folder).st_ino, {})
@@ -127,20 +138,20 @@ class MadeUp:
     @contextlib.contextmanager
     def owned(self):
         """Owners and marks as they are kept beside."""
-        with mock.patch.object(walk, "entry_of", self.entry_of), mock.patch.object(walk, "marks_of", self.marks_of):
+        with mock.patch.object(walk, "owned_of", self.owned_of), mock.patch.object(walk, "marks_of", self.marks_of):
             yield
 
     def take(self, subtrees_of=all_that_changes, only=None, **more):
         """A snapshot as the helpers take it."""
         options = Options(**{"mount": self.mount, "only": only, "proc": self.proc, "plain_folder": True, **more})
         with self.owned():
-            return take(options, subtrees_of)[0]
+            return take(options, subtrees_of)
 
     def snapshot(self, only=None):
         return self.take(only=only)
 
     def read_accounts(self):
-        return Accounts.of_folder(self.etc, read_processes(self.proc).values())
+        return accounts_here(self.etc, read_processes(self.proc).values())
 
 
 class MadeUpTest(unittest.TestCase):

@@ -16,9 +16,10 @@ sys.path.insert(0, os.path.dirname(HERE))
 
 from zirofen_host.collect.accounts import Accounts  # noqa: E402
 from zirofen_host.fault import Fault  # noqa: E402
-from zirofen_host.ask.questions import Questions  # noqa: E402
+from zirofen_host.ask.delegations import Delegations  # noqa: E402
 from zirofen_host.collect.tree import read_tree  # noqa: E402
 from zirofen_host.collect.model import User  # noqa: E402
+from zirofen_host.profile import path_of, text_of  # noqa: E402
 
 
 def can(what):
@@ -45,28 +46,28 @@ def user_of(word):
     return User(int(uid), tuple(map(int, gids.split(",") if gids else ())))
 
 
-def failing(questions, user, subtree):
-    for each in questions.delegations.guarded(subtree):
-        entry = questions.delegations.entry(each.path, each.name)
+def failing(delegations, user, subtree):
+    for each in delegations.guarded(path_of(subtree)):
+        entry = delegations.entry(each.path, each.name)
         if user.reaches(entry):
             yield each, entry
 
 
-def answer(questions, user, subtree):
-    found = list(failing(questions, user, subtree))
+def answer(delegations, user, subtree):
+    found = list(failing(delegations, user, subtree))
     if not found:
         return 0, ["contained"]
     each, _ = found[0]
     if each.guard == "limit-file":
         return 1, ["escapes", f"set {subtree} {each.name} 0"]
-    return 2, [f"unsettled {each.guard} {each.path}"]
+    return 2, [f"unsettled {each.guard} {text_of(each.path)}"]
 
 
-def audit(questions, users, subtrees, is_all):
+def audit(delegations, users, subtrees, is_all):
     statuses = [0]
     for word in users:
         for subtree in subtrees:
-            status, lines = answer(questions, user_of(word), subtree)
+            status, lines = answer(delegations, user_of(word), subtree)
             if status:
                 statuses.append(status)
                 print("\n".join([f"pair {word if is_all else word.split(':')[0]} {subtree}", *lines]))
@@ -77,24 +78,24 @@ def audit(questions, users, subtrees, is_all):
     return 1 if 1 in statuses else max(statuses)
 
 
-def advise(questions, user, subtree):
-    found = list(failing(questions, user, subtree))
+def advise(delegations, user, subtree):
+    found = list(failing(delegations, user, subtree))
     for each, entry in found:
-        by = user.class_of(entry)
-        print(f"fails {each.guard} {each.path} {each.name} {entry.uid}:{entry.gid} {entry.mode:03o} {by}")
+        by, path = user.class_of(entry), text_of(each.path)
+        print(f"fails {each.guard} {path} {each.name} {entry.uid}:{entry.gid} {entry.mode:03o} {by}")
         if by == "owner":
-            print(f"chown {each.path} {each.name} 0:{entry.gid}")
+            print(f"chown {path} {each.name} 0:{entry.gid}")
         else:
-            print(f"chmod {each.path} {each.name} {entry.mode & (0o757 if by == 'group' else 0o775):03o}")
+            print(f"chmod {path} {each.name} {entry.mode & (0o757 if by == 'group' else 0o775):03o}")
     if not found:
         print("contained")
     return 1 if found else 0
 
 
 @functools.lru_cache(maxsize=8)
-def questions_in(file, _):
+def delegations_in(file, _):
     with open(file, encoding="ascii") as text:
-        return Questions(read_tree(text.read()), Accounts(), {})
+        return Delegations(read_tree(text.read()), Accounts())
 
 
 def fault(line, status=3):
@@ -121,17 +122,17 @@ def main(words):
         return fault("fault: subtree missing")
     file = given["--tree"][0]
     try:
-        questions = questions_in(file, (os.stat(file).st_ino, os.stat(file).st_mtime_ns))
+        delegations = delegations_in(file, (os.stat(file).st_ino, os.stat(file).st_mtime_ns))
     except (Fault, UnicodeDecodeError):
         return fault("fault: tree not-toml")
     if words[0] == "replay":
         return 0
     if words[0] == "audit":
-        return audit(questions, given["--uid"], given["--subtree"], is_all)
+        return audit(delegations, given["--uid"], given["--subtree"], is_all)
     user = User(int(given["--uid"][0]), tuple(map(int, given.get("--gid", ()))))
     if words[0] == "advise":
-        return advise(questions, user, given["--subtree"][0])
-    status, lines = answer(questions, user, given["--subtree"][0])
+        return advise(delegations, user, given["--subtree"][0])
+    status, lines = answer(delegations, user, given["--subtree"][0])
     print("\n".join(lines))
     return status
 

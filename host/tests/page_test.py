@@ -15,8 +15,10 @@ import example
 from check_test import BY_GROUP, MARK, REAL_PROGRAM, HostTest, owned
 from made_up import COMMAND, HERE
 from page_reader import PageReader
+from shown import made
 from zirofen_host.judge import saved
 from zirofen_host.show import page, view, words
+from zirofen_host.show.finding import Place
 from zirofen_host.fault import Fault
 
 PARTS = ("subtrees", "entries", "opened", "faults", "differs", "above", "unseen", "snapshot")
@@ -28,14 +30,19 @@ HOSTILE = ("<script>alert(1)</script>", '"onload="alert(2)" x="', "'><img src=//
            "\x1b[31m\x07", "<!-- \xe9\u05d0", "]]><![CDATA[", "\ud800")
 
 
-def setUpModule():
-    if not browser.PROGRAM:
-        print("page_test: there is no chromium here: no page was opened in a browser")
-
-
 def real(name):
     with gzip.open(f"{HERE}/data/{name}", "rt", encoding="ascii") as opened:
-        return saved.check(json.load(opened), name)
+        return checked(json.load(opened), name)
+
+
+def checked(report, name):
+    """The value of a report, which is one."""
+    saved.check(report, name)
+    return report
+
+
+def page_of(*reports):
+    return page.page([made(each) for each in reports])
 
 
 def hostile(report):
@@ -48,7 +55,7 @@ def hostile(report):
         # a path's names have no slash
         for quote in ("/", '"', "(", " "):
             text = text.replace(f"{quote}{name}", quote + json.dumps(bad.replace("/", "") if quote == "/" else bad)[1:-1])
-    return saved.check(json.loads(text), "hostile")
+    return checked(json.loads(text), "hostile")
 
 
 def many(count):
@@ -70,7 +77,7 @@ class PageTest(unittest.TestCase):
     maxDiff = None
 
     def read(self, *reports):
-        made = page.page(list(reports))
+        made = page_of(*reports)
         reader = PageReader(made)
         self.assertEqual(reader.faults, [])
         self.assertEqual((reader.tags.count("script"), reader.tags.count("style")), (1, 1))
@@ -127,7 +134,8 @@ class WholeTest(PageTest):
         reader = self.read(*reports)
         links = [link for link in reader.links if link.count("-") == 1]
         self.assertEqual(len(links), len(reports))
-        kinds = [page.HostPage(view.Host(reports[int(link.rpartition("-")[2]) - 1]), 1, True).kind for link in links]
+        hosts = [view.host_of(made(reports[int(link.rpartition("-")[2]) - 1])) for link in links]
+        kinds = [page.HostPage(each, Place("host-1", True)).kind for each in hosts]
         self.assertEqual(kinds, sorted(kinds, key=words.STANDINGS.index))
         self.assertLess(kinds.index("escapes"), kinds.index("contained"))
 
@@ -144,7 +152,7 @@ class WholeTest(PageTest):
         report = many(400)
         self.assertEqual(len(report["subtrees"]), 806)
         start = time.process_time()
-        made = page.page([report])
+        made = page_of(report)
         self.assertLess(time.process_time() - start, 5)
         self.assertLess(len(made.encode()), 2_000_000)
         self.assertEqual(made.count("<svg"), 401)
@@ -157,7 +165,7 @@ class WholeTest(PageTest):
         for kind in ("new", "worse", "changed", "gone"):
             each = {"line": f"a {kind} <b>", "before": "what &amp; was", "changes": [], "setting": None}
             report["baseline"][kind] = [each, dict(each)]
-        reader = self.read(saved.check(report, "x"))
+        reader = self.read(checked(report, "x"))
         for kind in ("new", "worse", "changed", "gone"):
             self.assertEqual(reader.text(f"host-1-{kind}-2"), f"a {kind} <b>before: what &amp; was")
         report["baseline"]["new"][0]["line"] = None
@@ -173,7 +181,7 @@ class WholeTest(PageTest):
         self.read(report)
 
     def test_the_policy_has_the_sums_of_what_is_in_the_page(self):
-        made = page.page([example.kept()])
+        made = page_of(example.kept())
         for tag in ("style", "script"):
             inline = made.partition(f"<{tag}>")[2].partition(f"</{tag}>")[0]
             self.assertIn(f"{tag}-src {page.sum_of(inline)};", made)
@@ -202,7 +210,7 @@ class PictureTest(PageTest):
         subtree = next(each for each in report["subtrees"] if each["path"] == self.MANAGER)
         subtree["answers"][0]["lines"] = ["escapes", *lines]
         reader = self.read(report)
-        svg = page.page([report]).split("<svg")[2].partition("</svg>")[0]
+        svg = page_of(report).split("<svg")[2].partition("</svg>")[0]
         lines = re.findall('<text class="([a-z]+)"[^>]*>([^<]*)', svg)
         return svg, lines, reader.text("host-1-finding-2")
 
@@ -269,17 +277,17 @@ class MadeUpTest(HostTest, PageTest):
 
     def test_every_kind_of_part(self):
         self.a_host()
-        report = saved.of(self.report(json=True))
+        report = self.report(json=True)
         for key in PARTS:
             self.assertTrue(report[key], key)
         self.read(report)
 
     def test_nothing_to_ask(self):
-        self.assertIn("Nothing was found to ask", self.read(saved.of(self.report(json=True))).text())
+        self.assertIn("Nothing was found to ask", self.read(self.report(json=True)).text())
 
     def test_all_contained(self):
         self.host.cgroup("/good", owners=owned(1000))
-        text = self.read(saved.of(self.report(json=True))).text()
+        text = self.read(self.report(json=True)).text()
         self.assertIn("The one delegation is shown to be contained", text)
         self.assertIn("There are none.", text)
 
@@ -287,7 +295,7 @@ class MadeUpTest(HostTest, PageTest):
         self.host.cgroup("/good", owners=owned(1000))
         self.host.cgroup("/web", more=("cgroup.freeze",), modes={"cgroup.freeze": 0o646})
         self.assertIn("1 limit stands open to somebody, and 1 of 1 delegation is shown to be contained.",
-                      self.read(saved.of(self.report(json=True))).text())
+                      self.read(self.report(json=True)).text())
 
     @unittest.skipUnless(os.geteuid() == 0, "only root gives files away")
     def test_a_check_writes_its_page(self):
@@ -303,7 +311,7 @@ class MadeUpTest(HostTest, PageTest):
         self.assertEqual([name for name in os.listdir(self.host.folder) if name.startswith(".")], [])
         with self.assertRaisesRegex(Fault, "^can't write the page: Is a directory$"), \
                 mock.patch.object(os.path, "exists", lambda _: False):
-            page.write(self.host.etc, [example.kept()])
+            page.write(self.host.etc, [made(example.kept())])
         self.assertEqual([name for name in os.listdir(self.host.folder) if name.startswith(".")], [])
         with open(f"{self.host.folder}/before.json", "w", encoding="ascii") as before:
             subprocess.run([*words_, "--json"], stdout=before)
@@ -318,7 +326,7 @@ class MadeUpTest(HostTest, PageTest):
     def test_the_kept_answers_are_the_programs(self):
         self.program = REAL_PROGRAM
         with tempfile.TemporaryDirectory() as folder:
-            found = saved.of(example.Example(folder).report(REAL_PROGRAM))
+            found = example.Example(folder).report(REAL_PROGRAM)
         kept = {**example.kept(), "program": found["program"]}
         if not found["has_advice"]:
             # the rest is the same without it
@@ -394,7 +402,7 @@ class ScriptTest(unittest.TestCase):
         return subprocess.run(words_, capture_output=True, text=True, encoding="utf-8", **more)
 
     def test_reports_of_files_and_of_standard_input(self):
-        made = page.page([example.kept()])
+        made = page_of(example.kept())
         self.assertEqual((self.page(example.KEPT).stdout, self.page(example.KEPT).returncode), (made, 0))
         with open(example.KEPT, encoding="ascii") as text:
             self.assertEqual(self.page("-", input=text.read()).stdout, made)
@@ -408,7 +416,6 @@ class ScriptTest(unittest.TestCase):
             self.assertIn("page", ended.stderr)
 
 
-@unittest.skipUnless(browser.PROGRAM, "there is no chromium")
 class BrowserTest(unittest.TestCase):
     """Pages in a real browser."""
 
@@ -422,7 +429,7 @@ class BrowserTest(unittest.TestCase):
 
     def written(self, name, *reports):
         file = f"{self.folder}/{name}.html"
-        page.write(file, list(reports))
+        page.write(file, [made(each) for each in reports])
         return file
 
     def test_no_error_no_request_no_script_of_a_name(self):

@@ -18,19 +18,11 @@ METHODS = {"read", "readline", "readlines", "read_text", "read_bytes", "iterdir"
 # what a function reads that no user can choose, or that it writes and doesn't read
 NO_READS = {
     ("show.markup", "read"): "the package's own templates",
-    ("show.tree_view", "environment_of_start"): "the environment of this process",
-    ("ask.texts", "__init__"): "the tree text is written",
+    ("ask.texts", "write"): "the tree text is written",
     ("ask.accepted", "accept"): "the copy of a tree text is written",
     ("judge.baseline", "write"): "the baseline is written",
     ("show.page", "write"): "the page is written",
     ("show.page", "replace"): "the page is written",
-}
-# modules whose readers are still to be moved
-NOT_YET = {
-    "collect.mount", "collect.walk", "collect.processes", "collect.accounts",
-    "ask.accepted",
-    "judge.saved", "judge.baseline",
-    "command",
 }
 
 
@@ -44,19 +36,26 @@ def called(node):
     return ""
 
 
-def is_read(node):
+def own(tree):
+    """What is of the package itself where a function is called of it: a module that is imported, and the object at work."""
+    imports = [node for node in ast.walk(tree) if isinstance(node, ast.ImportFrom) and (node.module or "").startswith("zirofen_host")]
+    return {"self"} | {alias.asname or alias.name for node in imports for alias in node.names}
+
+
+def is_read(node, own_names):
     name = called(node)
-    return name in READS or "." in name and name.rpartition(".")[2] in METHODS
+    of, _, method = name.rpartition(".")
+    return name in READS or "." in name and of not in own_names and method in METHODS
 
 
 def reads(tree):
     """The innermost function of each call that reads, and its line."""
-    left = [(tree, "")]
+    left, own_names = [(tree, "")], own(tree)
     while left:
         node, function = left.pop()
         if isinstance(node, (ast.FunctionDef, ast.AsyncFunctionDef)):
             function = node.name
-        if isinstance(node, ast.Call) and is_read(node):
+        if isinstance(node, ast.Call) and is_read(node, own_names):
             yield function, node.lineno
         left += [(each, function) for each in ast.iter_child_nodes(node)]
 
@@ -65,15 +64,13 @@ class ReadersTest(unittest.TestCase):
     def test_nothing_else_reads(self):
         there = {name: list(reads(tree)) for name, tree in modules()}
         for name, found in there.items():
-            if name != BOUNDED and name not in NOT_YET:
+            if name != BOUNDED:
                 for function, line in found:
                     with self.subTest(name, line=line):
                         self.assertIn((name, function), NO_READS)
         self.assertTrue(there[BOUNDED])
         for name, function in NO_READS:
             self.assertIn(function, {each for each, _ in there[name]}, name)
-        for name in NOT_YET:
-            self.assertTrue([each for each, _ in there[name] if (name, each) not in NO_READS], f"{name} reads nothing any more")
 
     def test_a_reader_is_seen(self):
         for text in ("open('x')", "os.read(0, 1)", "with os.scandir(x) as y: pass", "opened.read()", "Path(x).read_text()",

@@ -7,11 +7,13 @@ import sys
 import unittest
 from unittest import mock
 
-from made_up import DELEGATED, KERNEL_THREAD, TOP, MadeUpTest
+from made_up import DELEGATED, KERNEL_THREAD, TOP, MadeUpTest, path
 from zirofen_host.collect import mount, snapshot, walk
 from zirofen_host.fault import Fault
+from zirofen_host.profile import text_of
 from zirofen_host.collect.mount import Mounts
-from zirofen_host.collect.tree import read_tree, tree_text
+from zirofen_host.collect.snapshot import note_lines, tree_text
+from zirofen_host.collect.tree import read_tree, tree_text as text_of_tree
 
 WRITTEN = r"""
 format = 2
@@ -57,7 +59,7 @@ at = '/'
 class SnapshotTest(MadeUpTest):
     def body(self, snapshot):
         """The text without the comment at its head."""
-        return snapshot.text().split("\n", 2)[2]
+        return tree_text(snapshot).split("\n", 2)[2]
 
     def kinds(self, snapshot):
         return [(note.kind, note.place) for note in snapshot.notes]
@@ -77,8 +79,8 @@ class SnapshotTest(MadeUpTest):
         host.process(2, flags=KERNEL_THREAD)
         taken = host.snapshot()
         self.assertEqual(self.body(taken), WRITTEN)
-        self.assertEqual(taken.note_lines(), [])
-        self.assertIn("left out 1 kernel threads", taken.text())
+        self.assertEqual(note_lines(taken), [])
+        self.assertIn("left out 1 kernel threads", tree_text(taken))
 
     def test_example_trees_come_back(self):
         for file in sorted(glob.glob(f"{TOP}/examples/*.toml")):
@@ -89,7 +91,7 @@ class SnapshotTest(MadeUpTest):
                 tree = read_tree(text.read())
                 self.host.tree(tree)
                 taken = self.host.snapshot()
-                self.assertEqual(tree_text(taken.tree, []), tree_text(tree, []))
+                self.assertEqual(text_of_tree(taken.tree, []), text_of_tree(tree, []))
                 self.assertEqual(set(self.kinds(taken)) - {("controller", "/")}, set())
 
     def test_odd_names(self):
@@ -106,36 +108,36 @@ class SnapshotTest(MadeUpTest):
         for folder, _, _ in os.walk(os.fsencode(host.mount)):
             host.owners.setdefault(os.lstat(folder).st_ino, host.owners[os.lstat(host.mount).st_ino])
         taken = host.snapshot()
-        self.assertEqual(sorted(taken.tree.rows), ["/", "/plain", "/plain/...", "/plain/cgroup.procs.d"])
-        lines = [line for line in taken.note_lines() if line.startswith("name: ")]
+        self.assertEqual(sorted(map(text_of, taken.tree.rows)), ["/", "/plain", "/plain/...", "/plain/cgroup.procs.d"])
+        lines = [line for line in note_lines(taken) if line.startswith("name: ")]
         self.assertEqual(len(lines), 7)
         why = "no name of the format, or too long a path"
         self.assertIn(rf"name: b'/plain/\xff\xfe': left out, and 2 cgroups inside: {why}", lines)
         self.assertIn(rf"name: b'/plain/\x1b[31m': left out: {why}", lines)
         self.assertIn("file-name: /plain/memory.max: named as a file: a controller with that file can't be enabled above",
-                      taken.note_lines())
+                      note_lines(taken))
         self.assertTrue(all(line.isprintable() and line.isascii() for line in lines))
 
     def test_long_paths(self):
         host = self.host
         host.cgroup("/")
-        path = ""
+        deep = ""
         for _ in range(13):
-            path += "/" + "n" * 255
-            host.cgroup(path)
+            deep += "/" + "n" * 255
+            host.cgroup(deep)
         self.assertEqual(len(host.snapshot().tree.rows), 14)
         with mock.patch.object(walk, "LONGEST_FOLDER", 2000):
             taken = host.snapshot()
         self.assertLess(len(taken.tree.rows), 9)
-        self.assertRegex(taken.note_lines()[0], "left out, and [0-9]+ cgroups inside: .* too long a path")
+        self.assertRegex(note_lines(taken)[0], "left out, and [0-9]+ cgroups inside: .* too long a path")
 
     def test_deep_paths_take_no_deep_calls(self):
         host = self.host
         host.cgroup("/")
-        path = ""
+        deep = ""
         for _ in range(200):
-            path += "/d"
-            host.cgroup(path)
+            deep += "/d"
+            host.cgroup(deep)
         os.rename(f"{host.mount}/d", f"{host.mount}/d d")
         host.cgroup("/e")
         usual = sys.getrecursionlimit()
@@ -146,7 +148,7 @@ class SnapshotTest(MadeUpTest):
         plain = host.snapshot()
         sys.setrecursionlimit(usual)
         self.assertEqual((len(odd.tree.rows), len(plain.tree.rows)), (2, 202))
-        self.assertIn("and 199 cgroups inside", odd.note_lines()[0])
+        self.assertIn("and 199 cgroups inside", note_lines(odd)[0])
 
     def test_what_is_bent(self):
         host = self.host
@@ -162,13 +164,14 @@ class SnapshotTest(MadeUpTest):
         for pid in (5, 6, 12):
             host.process(pid)
         taken = host.snapshot()
-        self.assertEqual(taken.tree.rows["/set"].directory.mode, 0o755)
-        self.assertEqual(taken.tree.rows["/set"].files["cgroup.procs"].mode, 0o644)
-        self.assertEqual(taken.tree.rows["/idle"].values["cpu.weight"], 1)
-        self.assertEqual(taken.tree.rows["/worker"].enabled, ("cpu", "pids"))
-        self.assertEqual(taken.tree.processes, [(12, 0, "/")])
-        self.assertNotIn("memory.max", taken.tree.rows["/extra/below"].files)
-        self.assertEqual(sorted(taken.note_lines()), [
+        rows = {text_of(path): row for path, row in taken.tree.rows.items()}
+        self.assertEqual(rows["/set"].directory.mode, 0o755)
+        self.assertEqual(rows["/set"].files["cgroup.procs"].mode, 0o644)
+        self.assertEqual(rows["/idle"].values["cpu.weight"], 1)
+        self.assertEqual(rows["/worker"].enabled, ("cpu", "pids"))
+        self.assertEqual(taken.tree.processes, [(12, 0, path("/"))])
+        self.assertNotIn("memory.max", rows["/extra/below"].files)
+        self.assertEqual(sorted(note_lines(taken)), [
             "controller: /: cpuset left out, which 2 cgroups enable",
             "controller: /: io left out, which 0 cgroups enable",
             "file-name: /idle/memory.stat: named as a file: a controller with that file can't be enabled above",
@@ -185,12 +188,12 @@ class SnapshotTest(MadeUpTest):
     def test_only_a_part(self):
         host = self.host
         host.cgroup("/", pids=(3,))
-        for path, pid in (("/a", 4), ("/a/b", 5), ("/a/b/c", 6), ("/a/bb", 7), ("/d", 8)):
-            host.cgroup(path, pids=(pid,))
+        for place, pid in (("/a", 4), ("/a/b", 5), ("/a/b/c", 6), ("/a/bb", 7), ("/d", 8)):
+            host.cgroup(place, pids=(pid,))
             host.process(pid)
         host.process(3)
         taken = host.snapshot(only=b"/a/b")
-        self.assertEqual(sorted(taken.tree.rows), ["/", "/a", "/a/b", "/a/b/c"])
+        self.assertEqual(sorted(map(text_of, taken.tree.rows)), ["/", "/a", "/a/b", "/a/b/c"])
         self.assertEqual([pid for pid, _, _ in sorted(taken.tree.processes)], [3, 4, 5, 6])
         with self.assertRaisesRegex(Fault, "there is no cgroup /a/x"):
             host.snapshot(only=b"/a/x")
@@ -207,28 +210,28 @@ class SnapshotTest(MadeUpTest):
             return listed(folder, file)
 
         with host.owned(), mock.patch.object(walk, "text_of", gone):
-            found = walk.Walk(host.mount)
+            found = walk.walk_over(host.mount)
         self.assertEqual((sorted(found.found), found.gone, found.unread), ([b"/"], {b"/a"}, {}))
 
     def test_no_cgroup_at_all(self):
         with self.assertRaisesRegex(Fault, "isn't a cgroup"):
-            walk.Walk(f"{self.host.mount}/none")
+            walk.walk_over(f"{self.host.mount}/none")
         open(f"{self.host.mount}/file", "w", encoding="ascii").close()
         with self.assertRaisesRegex(Fault, "isn't a cgroup"):
-            walk.Walk(self.host.mount)
+            walk.walk_over(self.host.mount)
 
     def test_too_many_processes(self):
         self.host.cgroup("/", pids=range(1, 5))
         for pid in range(1, 5):
             self.host.process(pid)
         with mock.patch.object(snapshot, "MOST_PROCESSES", 3), self.assertRaisesRegex(Fault, "4 processes.*--only"):
-            self.host.snapshot().text()
-        self.assertNotIn("process", self.host.snapshot().text(with_processes=False).split("left out 0 kernel threads")[1])
+            tree_text(self.host.snapshot())
+        self.assertNotIn("process", tree_text(self.host.snapshot(), with_processes=False).split("left out 0 kernel threads")[1])
 
     def test_a_process_that_ended(self):
         self.host.cgroup("/", pids=(3, 4))
         self.host.process(4)
-        self.assertEqual(self.host.snapshot().tree.processes, [(4, 0, "/")])
+        self.assertEqual(self.host.snapshot().tree.processes, [(4, 0, path("/"))])
 
 
 MOUNTS = Mounts(r"""22 1 0:20 / / rw - ext4 /dev/sda1 rw

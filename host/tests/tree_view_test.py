@@ -13,11 +13,12 @@ import example
 from check_test import HostTest, owned
 from made_up import COMMAND, HERE, TOP
 from page_test import HOSTILE, REAL, hostile, many, real
+from shown import made
 from zirofen_host.options import TreeOptions
 from zirofen_host.show import tree_view, words
 from zirofen_host.fault import Fault
 from zirofen_host.show.tree_view import Drawing
-from zirofen_host.show.view import Host
+from zirofen_host.show.view import host_of
 
 COLOUR = re.compile("\x1b\\[[0-9;]*m")
 KEPT = f"{HERE}/data/tree"
@@ -29,7 +30,7 @@ def name_of(width, is_ascii, is_coloured):
 
 
 def drawn(report, *how, **more):
-    return tree_view.draw(report, Drawing(*how, **more))
+    return tree_view.draw(made(report), Drawing(*how, **more))
 
 
 class TreeTest(unittest.TestCase):
@@ -57,7 +58,7 @@ class TreeTest(unittest.TestCase):
 
     def test_every_delegation_is_told_with_how_it_stands(self):
         for report in (example.kept(), many(3), *map(real, REAL)):
-            host, lines = Host(report), drawn(report)
+            host, lines = host_of(made(report)), drawn(report)
             for path in host.subtrees:
                 name = path.rpartition("/")[2]
                 told = ", ".join(f"{words.SIGNS[kind][0]} {kind}" for kind, _ in host.standing[path])

@@ -1,23 +1,23 @@
 """The command `zirofen-host`: what each subcommand does with what it was asked for."""
 import argparse
-import json
-import os
+import dataclasses
 import subprocess
 import sys
-from typing import Callable, Dict, List, NoReturn
+from typing import Callable, Dict, List, Mapping, NoReturn
 
 from zirofen_host import fault, installed
 from zirofen_host.arguments import ARGUMENTS, DESCRIPTIONS, NAME, parser_of
 from zirofen_host.ask import accepted
 from zirofen_host.ask.delegations import Delegations
-from zirofen_host.collect import elsewhere, snapshot
-from zirofen_host.collect.accounts import accounts_of
+from zirofen_host.ask.questions import subtrees_by
+from zirofen_host.collect import bounded, elsewhere, snapshot
+from zirofen_host.collect.accounts import accounts_here, accounts_of
 from zirofen_host.collect.processes import read_processes
 from zirofen_host.collect.model import User
-from zirofen_host.judge import baseline, check, one, saved, shell
+from zirofen_host.judge import as_json, baseline, check, one, saved, shell
 from zirofen_host.options import (PROC, AskOptions, CheckOptions, CommandsOptions, DelegationsOptions, PageOptions,
                                   SnapshotOptions, TreeOptions)
-from zirofen_host.profile import MOST_ROWS
+from zirofen_host.profile import MOST_ROWS, path_of, text_of
 from zirofen_host.show import lines, listing, page, tree_view
 
 ABOUT = f"""The helpers of zirofen for a running host: from its cgroups to answers. They are no part of what is proved.
@@ -28,7 +28,7 @@ usage: {NAME} COMMAND ..      what each does: {NAME} COMMAND --help
 
 def ask(given: argparse.Namespace) -> int:
     options = AskOptions(**vars(given))
-    taken, _ = accepted.take(options, lambda *_: [os.fsencode(options.path)])
+    taken = accepted.take(options, lambda *_: [path_of(options.path)])
     told, status = one.ask(taken, options, lambda line: fault.warn(f"{NAME} ask: {line}"))
     fault.write_lines(told)
     return status
@@ -38,19 +38,20 @@ def check_host(given: argparse.Namespace) -> int:
     options = CheckOptions(**vars(given))
     before = baseline.read(options.baseline) if options.baseline else None
     is_whole = bool(options.json or options.html or options.baseline_update)
-    found = check.report(*accepted.take(options, check.subtrees_by(options)), options, is_whole)
-    if before:
-        found["baseline"] = baseline.compared(found, before, options.baseline)
+    report = check.report(accepted.take(options, subtrees_by(options)), options, is_whole)
+    comparison = baseline.compared(report, before, options.baseline) if before and options.baseline else None
+    if comparison:
+        report = dataclasses.replace(report, baseline=comparison)
     if options.html:
-        page.write(options.html, [saved.of(found)])
+        page.write(options.html, [report])
     if options.json:
-        fault.write(json.JSONEncoder(indent=1).iterencode(found))
+        fault.write(as_json.parts_of(report))
         fault.write("\n")
     else:
-        fault.write_lines(lines.comparison_lines(found["baseline"]) if before else lines.lines_of(found))
+        fault.write_lines(lines.comparison_lines(comparison) if comparison else lines.lines_of(report))
     if options.baseline_update:
-        baseline.write(options.baseline_update, found)
-    return found["baseline"]["status"] if before else found["status"]
+        baseline.write(options.baseline_update, report)
+    return comparison.status if comparison else report.status
 
 
 def write_commands(given: argparse.Namespace) -> int:
@@ -58,8 +59,11 @@ def write_commands(given: argparse.Namespace) -> int:
     if options.uid is None and options.gid:
         parser_of("commands").error("--gid goes with --uid")
     user = None if options.uid is None else User(options.uid, options.gid)
+    given_in = bounded.read_named(bounded.STANDARD_INPUT, bounded.OPERATIONS)
+    if given_in.is_cut:
+        raise fault.Fault(f"the operations are longer than {bounded.OPERATIONS} bytes")
     try:
-        text = sys.stdin.buffer.read().decode("ascii")
+        text = given_in.text("ascii")
     except UnicodeDecodeError:
         raise fault.Fault("the operations aren't ASCII") from None
     fault.write_lines(shell.commands(options.mount, text, user))
@@ -71,7 +75,7 @@ def list_delegations(given: argparse.Namespace) -> int:
     tree = accepted.accept(options.tree or "-", options.program).tree
     proc = options.proc or (None if options.accounts else PROC)
     running = read_processes(proc).values() if proc else ()
-    found = Delegations(tree, accounts_of(options, running))
+    found = Delegations(tree, accounts_here(options.accounts, running))
     return 0 if listing.write_lines(found) else fault.FAULT
 
 
@@ -83,13 +87,12 @@ def write_page(given: argparse.Namespace) -> int:
 
 def write_snapshot(given: argparse.Namespace) -> int:
     options = SnapshotOptions(**vars(given))
-    taken, mounts = snapshot.take(options, snapshot.all_that_changes, MOST_ROWS)
-    values = [{"changing": [os.fsdecode(path), why]} for path, why in taken.changing.items()]
+    taken = snapshot.take(options, snapshot.all_that_changes, MOST_ROWS)
+    values: List[Mapping[str, object]] = [{"changing": [text_of(path), why]} for path, why in taken.changing.items()]
     if options.with_host:
-        accounts = accounts_of(options, taken.processes.values())
-        values += elsewhere.carried(taken, accounts, mounts, options)
+        values += elsewhere.carried(taken, accounts_of(options.accounts, taken))
     text = elsewhere.text_with(taken, values, not options.no_processes)
-    for line in taken.note_lines():
+    for line in snapshot.note_lines(taken):
         fault.warn(line)
     fault.write(text)
     return 0
@@ -99,11 +102,11 @@ def draw_tree(given: argparse.Namespace) -> int:
     options = TreeOptions(**vars(given))
     environment, is_terminal = tree_view.environment_of_start(), sys.stdout.isatty()
     if options.report:
-        found = saved.read(options.report)
+        report = saved.read(options.report)
     else:
-        found = saved.of(check.report(*snapshot.take(options, check.subtrees_by(options)), options, True))
+        report = check.report(snapshot.take(options, subtrees_by(options)), options, True)
     drawing = tree_view.drawing_of(options, environment, is_terminal)
-    tree_view.show(tree_view.draw(found, drawing), tree_view.pager_of(options, environment, is_terminal),
+    tree_view.show(tree_view.draw(report, drawing), tree_view.pager_of(options, environment, is_terminal),
                    "ascii" if drawing.is_ascii else "utf-8")
     return 0
 

@@ -1,7 +1,7 @@
 """What a tree text can carry: paths, names, files, values and their defaults."""
 import os
 import re
-from typing import Dict, FrozenSet, Iterable, Iterator, NewType, Optional, Sequence, Tuple, TypeVar, Union
+from typing import Dict, FrozenSet, Iterable, Iterator, List, NewType, Optional, Tuple, TypeVar, Union, cast, overload
 
 # a cgroup's path from the mount on, with the bytes that its names have; the root's is /
 CgroupPath = NewType("CgroupPath", bytes)
@@ -92,16 +92,25 @@ def is_number(word: str) -> bool:
     return word.isascii() and word.isdigit() and (word == "0" or word[0] != "0")
 
 
+def path_of(text: Union[str, bytes]) -> CgroupPath:
+    """A path by its text, or by the bytes that a kernel gives."""
+    return cast(CgroupPath, os.fsdecode(text))
+
+
 def is_root(path: AnyPath) -> bool:
     """Whether a path is that of the topmost cgroup."""
     return path in ("/", ROOT)
 
 
-def parts_of(path: AnyPath) -> Sequence[Union[str, bytes]]:
+@overload
+def parts_of(path: str) -> List[str]: ...
+@overload
+def parts_of(path: CgroupPath) -> List[bytes]: ...
+
+
+def parts_of(path: Union[str, CgroupPath]) -> Union[List[str], List[bytes]]:
     """The names on the way to a cgroup, by which paths are in the order of their tree."""
-    if isinstance(path, str):
-        return path.split("/")
-    return path.split(b"/")
+    return path.split("/") if isinstance(path, str) else path.split(b"/")
 
 
 def text_of(path: AnyPath) -> str:

@@ -6,6 +6,7 @@ import gzip
 import io
 import json
 import os
+import random
 import sys
 import tempfile
 import unittest
@@ -14,7 +15,7 @@ import unittest.mock
 TOP = os.path.dirname(os.path.dirname(os.path.abspath(__file__)))
 sys.path[:0] = [TOP, os.path.join(TOP, "..", "model")]
 from second import commands, rules, texts
-from trial import advice, asking, classes, comparing, machine, making, script, tally, turned
+from trial import advice, asking, classes, comparing, machine, made, making, script, tally, turned
 
 # how many wrong programs have to be found
 WRONG = 10
@@ -103,6 +104,16 @@ class KernelTest(unittest.TestCase):
                  if any(not each.kind for _, _, compared in self.compared(turn) for each in compared.differences)]
         self.assertEqual(found, list(turned.TURNED))
         self.assertGreaterEqual(len(found), WRONG)
+
+    def test_each_wrong_program_is_wrong_at_its_own_step_of_the_made_case(self):
+        case = made.made_case(random.Random("made"))
+        answers, state = [], case.state
+        for user, step in case.steps:
+            state, refusal = rules.step(state, user, step)
+            answers.append(f"refused {refusal}" if refusal else "ok")
+        for name, turn in turned.TURNED.items():
+            said = turned.answers_of(turn, case, answers)
+            self.assertEqual([at for at, pair in enumerate(zip(said, answers)) if len(set(pair)) > 1], [list(made.STEPS).index(name)], name)
 
     def test_state_that_differs_is_found(self):
         case, answers, record = next(each for each in recorded("operations") if not comparing.compare(*each).differences)

@@ -45,9 +45,16 @@ class RunTest(unittest.TestCase):
             self.assertRegex(said.splitlines()[-1], r"^\d+ passed, 0 failed$")
             with open(results) as text:
                 report = text.read()
-            for part in ("## 6.1\n", "## 6.12\n", "- Operations: 2 cases", "- Contained: 2 cases", "- Unexplained: 0."):
+            for part in ("## 6.1\n", "## 6.12\n", "- Operations: 3 cases", "- Contained: 2 cases", "- Unexplained: 0."):
                 self.assertIn(part, report)
             self.assertTrue(all(name in report.replace("\n  ", " ") for name in tally.WRONG))
+
+    def test_a_wrong_program_that_is_not_found_fails(self):
+        with tempfile.TemporaryDirectory() as room, unittest.mock.patch.object(tally, "WRONG", [*tally.WRONG, "is right"]):
+            status, said = self.run_with(room, "--seed", "1", "--cases", "1", "--kernel", "6")
+            self.assertEqual(status, 1)
+            self.assertRegex(said.splitlines()[-1], r"^\d+ passed, 1 failed$")
+            self.assertIn("not found: is right", said.replace("\n  ", " "))
 
     def test_what_a_kernel_lets_through_is_found(self):
         def kernel(_kernel, script, _seconds):

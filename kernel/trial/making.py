@@ -12,6 +12,7 @@ NO_IDENTITY = 4294967295
 SOMEBODY = 4294967294
 SEARCH = 0o111
 STEPS = 16
+MOST_ROWS, LONGEST_PATH = 16, 1024
 TRIES = 100
 # what a user can try without privileges, and the model leaves out
 OTHERS = ("threads", "rename", "born", "xattr", "chown", "write")
@@ -125,11 +126,16 @@ def settled(rng, tree):
     return tree, text, cases.state_of(text.encode())
 
 
+def is_small(tree):
+    """A machine under emulation tells a small tree soon, and takes no path that is as long as one may be behind its own folder's."""
+    return max(len(tree.rows), len(tree.processes)) <= MOST_ROWS and all(len(row["path"]) <= LONGEST_PATH for row in tree.rows.values())
+
+
 def random_tree(rng):
-    """A random tree with a subtree, settled, with its text and its state."""
+    """A small random tree with a subtree, settled, with its text and its state."""
     while True:
         tree, text, state = settled(rng, trees.random_tree(rng))
-        if state and tree.subtree:
+        if state and tree.subtree and is_small(tree):
             return tree, text, state
 
 

@@ -1,12 +1,16 @@
 """A second model of Zirofen: operation lines, command lines and reports. Written from docs/MODEL.md and docs/FORMATS.md
 alone, and from no code of crates/; keep it so.
 """
+import functools
+import itertools
 import re
 
 from . import rules
+from .documents import Fault
 from .rules import text_of
-from .texts import Fault, LAST_ID, LONGEST_LINE, MOST_GIDS, MOST_STEPS, tree_of
+from .texts import LAST_ID, tree_of
 
+MOST_GIDS, MOST_STEPS, LONGEST_LINE = 32, 65536, 8192
 NUMBER = r"0|[1-9][0-9]*"
 # of each command its options: whether one must be there, and whether it may come again
 OPTIONS = {
@@ -19,6 +23,7 @@ OPTIONS = {
 }
 
 
+@functools.lru_cache(maxsize=1024)
 def operation_of(line):
     """The operation of a line without its newline, or None."""
     try:
@@ -224,15 +229,14 @@ def check(call, state, tops, _files, lines):
 def audit(call, state, tops, _files, lines):
     listed = "--all" in call.given
     kinds = set()
-    for user in dict.fromkeys(call.users):
-        for top in dict.fromkeys(tops):
-            answer = rules.answer(state, user, top)
-            if answer[0] != "contained":
-                gids = ":" + ",".join(map(str, user[1])) if listed and user[1] else ""
-                lines += [f"pair {user[0]}{gids} {text_of(top)}", *answer_lines(answer)]
-                kinds.add(answer[0])
-                if not listed:
-                    return STATUS[answer[0]]
+    for user, top in itertools.product(dict.fromkeys(call.users), dict.fromkeys(tops)):
+        answer = rules.answer(state, user, top)
+        if answer[0] != "contained":
+            gids = ":" + ",".join(map(str, user[1])) if listed and user[1] else ""
+            lines += [f"pair {user[0]}{gids} {text_of(top)}", *answer_lines(answer)]
+            kinds.add(answer[0])
+            if not listed:
+                return STATUS[answer[0]]
     if not kinds:
         lines.append("contained")
     return STATUS[min(kinds, key=["escapes", "unsettled"].index, default="contained")]

@@ -5,6 +5,7 @@ the code's mistakes. It is plain and slow: each count is taken anew from all pat
 
 A path is a tuple of names. A user is (uid, gids). A state and what it holds are never changed: a step makes another state.
 """
+import itertools
 from dataclasses import dataclass, replace
 
 CONTROLLERS = ("cpu", "memory", "pids")
@@ -141,6 +142,11 @@ def default_of(file):
 def accepts(file, value):
     _, _, least, greatest, takes_max = LIMIT_FILES[file]
     return takes_max if value == MAX else least <= value <= greatest
+
+
+def rising(state):
+    """The live PIDs in their order."""
+    return sorted(state.live)
 
 
 def lives_at(state, path):
@@ -371,7 +377,9 @@ def verdict(states, top):
     """Over the states of a run, the first of which is its start."""
     limits = states[0].cgroups[top].values
     for number, after in enumerate(states):
-        what = broken(limits, states[max(number - 1, 0)], after, top)
+        before = states[max(number - 1, 0)]
+        # a step that left the state as it was breaks nothing
+        what = broken(limits, before, after, top) if number == 0 or after is not before else None
         if what:
             return f"broken {number} {what}"
     return "kept"
@@ -400,11 +408,10 @@ def plain_tries(state, top):
     yield []
     for file in files_at(state, top):
         yield [("set", top, file, other_value(file, state.cgroups[top].values[file]))]
-    for controller in CONTROLLERS:
-        yield [("control", top[:-1], (("-", controller),))]
-        yield [("control", top[:-1], (("+", controller),))]
+    for controller, sign in itertools.product(CONTROLLERS, "-+"):
+        yield [("control", top[:-1], ((sign, controller),))]
     yield [("rmdir", top)]
-    for pid in sorted(state.live):
+    for pid in rising(state):
         is_in = inside(state.live[pid][1], top)
         yield from ([("move", pid, path)] for path in sorted(state.cgroups) if inside(path, top) != is_in)
     yield from probes(state, top)
@@ -417,7 +424,7 @@ def probes(state, top):
             number += 1
         probe = ancestor + (f"probe{number}",)
         if len(text_of(probe)) <= LONGEST_PATH:
-            for pid in sorted(state.live):
+            for pid in rising(state):
                 if inside(state.live[pid][1], top):
                     yield [("mkdir", probe), ("move", pid, probe)]
 

@@ -1,76 +1,14 @@
-"""A second model of Zirofen: tree texts, operation lines, command lines and reports. Written from docs/MODEL.md and
-docs/FORMATS.md alone, and from no code of crates/; keep it so.
-
-TOML is read by Python's tomllib, which is TOML 1.0. What it takes means the same in TOML 1.1, but for the two things that
-`number_faults` and `too_deep` look at. It refuses what is new in 1.1, and of a text that it refuses and that has one of these
-(`NEWER`) nothing is said but that the program ends with a status and, where that is 3, with a line of a fault:
-
-- the escapes \\e and \\x in a text in double quotes;
-- a newline, a comment or a comma before the brace that closes an inline table;
-- a time without seconds.
-
-Nor is more said of a text that may be nested deeper than 80.
+"""A second model of Zirofen: tree texts. Written from docs/MODEL.md and docs/FORMATS.md alone, and from no code of crates/; keep
+it so.
 """
-import math
-import re
-import tomllib
+import functools
+import itertools
 
 from . import rules
+from .documents import Fault, document_of
 from .rules import Cgroup, Entry, State
 
-MOST_BYTES, MOST_ROWS, MOST_GIDS, MOST_STEPS, LONGEST_LINE = 16777216, 4096, 32, 65536, 8192
-LAST_ID = 2 ** 32 - 1
-NEWER = re.compile(rb"\\[ex]|\{[^}]*[\n#]|,\s*\}|\d\d:\d\d(?!:\d\d)")
-NESTED = 80
-
-
-class Fault(Exception):
-    """Its text stands behind `fault: `."""
-
-
-class Unsure(Exception):
-    """This model doesn't say what the program answers."""
-
-
-def too_deep(data):
-    """Whether a text can be nested deeper than 80: by all its brackets and braces, and the dots of a line."""
-    depth = most = 0
-    for byte in data if data.count(b"[") + data.count(b"{") > NESTED // 2 else b"":
-        depth += (byte in b"[{") - (byte in b"]}")
-        most = max(most, depth)
-    return most + max(line.count(b".") for line in data.split(b"\n")) > NESTED // 2
-
-
-def number_faults(value):
-    """Whether an integer past 64 bits stands in a document."""
-    if isinstance(value, dict):
-        return any(map(number_faults, value.values()))
-    if isinstance(value, list):
-        return any(map(number_faults, value))
-    return isinstance(value, int) and not -2 ** 63 <= value < 2 ** 63
-
-
-def float_of(word):
-    """The float that a word spells; one that is past its range makes the text no TOML."""
-    if math.isinf(float(word)) and "inf" not in word:
-        raise ValueError
-    return float(word)
-
-
-def document_of(data):
-    if len(data) > MOST_BYTES:
-        raise Fault("tree too-long")
-    if too_deep(data):
-        raise Unsure
-    try:
-        document = tomllib.loads(data.decode("utf-8").removeprefix("\ufeff"), parse_float=float_of)
-    except (ValueError, RecursionError):
-        if NEWER.search(data):
-            raise Unsure from None
-        raise Fault("tree not-toml") from None
-    if number_faults(document):
-        raise Fault("tree not-toml")
-    return document
+MOST_ROWS, LAST_ID = 4096, 2 ** 32 - 1
 
 
 def is_a(value, kind):
@@ -115,8 +53,9 @@ def process_form(table):
     return has_form(table, {"pid": number, "uid": number, "at": lambda value: is_a(value, str)}, {})
 
 
+@functools.lru_cache(maxsize=2)
 def tree_of(data):
-    """The state of a tree text; raises its first fault."""
+    """The state of a tree text; raises its first fault. It is kept, since it is asked for again."""
     document = document_of(data)
     if not has_form(document, {"format": number, "controllers": texts}, {"cgroup": rows_form, "process": rows_form}):
         raise Fault("tree shape top")
@@ -129,8 +68,9 @@ def tree_of(data):
     first("shape process", processes, lambda row: not process_form(row))
     if not set(document["controllers"]) <= set(rules.CONTROLLERS):
         raise Fault("tree bad-controller top")
-    for place, row in enumerate(rows, 1):
-        own_faults(form, row, f"cgroup {place}")
+    for (place, row), (what, is_bad) in itertools.product(enumerate(rows, 1), OWN_FAULTS):
+        if is_bad(form, row):
+            raise Fault(f"tree {what} cgroup {place}")
     return state_of(document["controllers"], rows, processes)
 
 
@@ -141,18 +81,24 @@ def first(what, rows, is_bad):
             raise Fault(f"tree {what} {place}")
 
 
-def own_faults(form, row, place):
-    files = row.get("files", {})
-    entries = [row.get("dir", {}), *files.values()]
-    values = [(name, table["value"]) for name, table in files.items() if "value" in table]
-    if rules.path_of(row["path"]) is None:
-        raise Fault(f"tree bad-path {place}")
-    if not set(row.get("enabled", [])) <= set(rules.CONTROLLERS):
-        raise Fault(f"tree bad-controller {place}")
-    if any(bad_entry(form, entry) for entry in entries):
-        raise Fault(f"tree bad-entry {place}")
-    if any(bad_value(name, value) for name, value in values):
-        raise Fault(f"tree bad-value {place}")
+def bad_path(_form, row):
+    return rules.path_of(row["path"]) is None
+
+
+def bad_controller(_form, row):
+    return not set(row.get("enabled", [])) <= set(rules.CONTROLLERS)
+
+
+def has_bad_entry(form, row):
+    return any(bad_entry(form, entry) for entry in [row.get("dir", {}), *row.get("files", {}).values()])
+
+
+def has_bad_value(_form, row):
+    return any("value" in table and bad_value(name, table["value"]) for name, table in row.get("files", {}).items())
+
+
+# of a cgroup's row by itself, in order
+OWN_FAULTS = [("bad-path", bad_path), ("bad-controller", bad_controller), ("bad-entry", has_bad_entry), ("bad-value", has_bad_value)]
 
 
 def bad_entry(form, table):

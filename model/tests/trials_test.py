@@ -1,4 +1,5 @@
 """Tests of what model/run and model/hostile stand on; they need no program."""
+import collections
 import json
 import os
 import random
@@ -7,7 +8,7 @@ import tomllib
 import unittest
 
 sys.path.insert(0, os.path.dirname(os.path.dirname(os.path.abspath(__file__))))
-from second import commands, rules, texts
+from second import commands, rules
 from trials import cases, labels, programs, spelling, trees, wrong
 
 ALL = frozenset([*commands.OPTIONS, "audit --all"])
@@ -40,19 +41,31 @@ class ModelTest(unittest.TestCase):
         self.assertEqual(rules.entry_changes((1000, ()), entry, "/ dir"), ["chown / dir 0:5"])
         self.assertEqual(rules.entry_changes((1001, ()), rules.Entry(0, 5, 0o666), "/ dir"), ["chmod / dir 664"])
 
-    def test_texts_that_are_new_in_toml_1_1_are_left_open(self):
-        for new in ('x = "\\e"', 'x = "\\x41"', "x = { a = 1,\n}", "x = { a = 1, }", "x = 07:32", "a = " + "[" * 90):
-            with self.assertRaises(texts.Unsure, msg=new):
-                texts.tree_of(new.encode())
-        with self.assertRaises(texts.Fault):
-            texts.tree_of(b"x = ")
-
 
 class TrialsTest(unittest.TestCase):
-    def test_each_wrong_model_differs_by_one_line_that_stands(self):
-        self.assertGreaterEqual(len(wrong.TURNED), 20)
-        for number in range(len(wrong.TURNED)):
-            wrong.respond_of(number)
+    def test_each_wrong_model_differs_by_a_text_that_stands_once(self):
+        self.assertGreaterEqual(len(wrong.TURNED), 70)
+        for name in wrong.TURNED:
+            self.assertIsNot(wrong.respond_of(name), commands.respond)
+            self.assertIsNone(programs.expected_of(cases.Case(["upgrade"], b"x = 07:32"), wrong.respond_of(name)), name)
+
+    def test_trees_are_as_large_as_is_said(self):
+        most = collections.Counter()
+        for number in range(1500):
+            tree = trees.random_tree(random.Random(number))
+            entries = [entry for row in tree.rows.values() for entry in [row.get("dir", {}), *row.get("files", {}).values()]]
+            sizes = {"gids": len({entry["gid"] for entry in entries if "gid" in entry}), "cgroups": len(tree.rows),
+                     "processes": len(tree.processes), "gids of a user": len(tree.user[1]),
+                     "bytes of a path": max(len(row["path"]) for row in tree.rows.values())}
+            most |= collections.Counter(sizes)
+        self.assertEqual(most, {"gids": 33, "cgroups": 60, "processes": 40, "gids of a user": 32, "bytes of a path": 4095})
+
+    def test_probes_come_up_at_every_depth(self):
+        found = set()
+        for number in range(400):
+            tree = trees.tree_to_probe(random.Random(number))
+            found |= {len(path) for path in tree.rows if path and path[-1].startswith("probe") and path[:-1] in rules.upwards(tree.subtree)}
+        self.assertGreaterEqual(found, set(range(2, 13)))
 
     def test_each_spelling_spells_the_document(self):
         for number in range(100):
@@ -75,6 +88,11 @@ class TrialsTest(unittest.TestCase):
         self.assertEqual(programs.form_fault((b"", 3, b"fault: tree not-toml\n")), "")
         for written in ((b"", 3, b""), (b"", -11, b""), (b"", 4, b"fault: usage\n"), (b"", 3, b"oh\nfault: usage\n")):
             self.assertNotEqual(programs.form_fault(written), "", written)
+
+    def test_a_program_is_run_with_the_stack_that_is_said(self):
+        with programs.Room("/bin/sh", 256 * 1024) as room:
+            self.assertEqual(room.run(cases.Case(["-c", "ulimit -s; exit 3"])), (b"256\n", 3, b""))
+            self.assertEqual(room.run(cases.Case(["-c", "kill -SEGV $$"]))[1], -11)
 
     def test_all_that_is_wanted_can_be_said(self):
         self.assertEqual(len(set(labels.wanted(ALL))), len(labels.wanted(ALL)))

@@ -2,7 +2,7 @@
 import random
 from dataclasses import dataclass, field
 
-from second import commands, rules, texts
+from second import commands, documents, rules, texts
 from second.rules import text_of
 from trials import faults, spelling, trees
 
@@ -27,7 +27,7 @@ class Case:
         return Case(record["words"], record["stdin"].encode("latin-1"), files, record["full"])
 
     def expected(self, respond=commands.respond):
-        """The lines of standard output, the status and the first line of standard error; raises texts.Unsure."""
+        """The lines of standard output, the status and the first line of standard error; raises documents.Unsure."""
         lines, status, fault = respond(self.words, self.stdin, {**self.files, "folder": False})
         if self.full and lines and not fault:
             return [], 3, "fault: write"
@@ -39,14 +39,14 @@ def random_case(seed, number, known):
     rng = random.Random(f"{seed} {number}")
     tree = trees.random_tree(rng)
     parts = tree.document(rng)
-    faulty = rng.random() < 0.22
+    faulty = rng.random() < 0.25
     if faulty:
         faults.turn_document(rng, parts)
     data = spelling.document(rng, parts)
     if rng.random() < 0.05:
         data = faults.turn_bytes(rng, data)
-    if rng.random() < 0.002:
-        data += b"\n" * (texts.MOST_BYTES + 1 - len(data))
+    if rng.random() < 0.003:
+        data += b"#" * (documents.MOST_BYTES + rng.choice([0, 0, 1]) - len(data))
     able = [name for name in MAKERS if name.removesuffix(" alone") in known]
     command = rng.choices(able, [WEIGHTS[name] for name in able])[0]
     case = Case(MAKERS[command](rng, tree, state_of(data)))
@@ -57,8 +57,9 @@ def random_case(seed, number, known):
     else:
         case.files[TREE] = data
         case.words[1:1] = ["--tree", TREE]
-    if rng.random() < 0.09:
-        turn_words(rng, case)
+    if rng.random() < 0.15:
+        for _ in range(rng.choice([1, 1, 1, 2, 3])):
+            turn_words(rng, case)
     case.full = not command.startswith("replay") and rng.random() < 0.01
     return case
 
@@ -66,7 +67,7 @@ def random_case(seed, number, known):
 def state_of(data):
     try:
         return texts.tree_of(data)
-    except (texts.Fault, texts.Unsure):
+    except (documents.Fault, documents.Unsure):
         return None
 
 
@@ -114,14 +115,27 @@ def advise_words(rng, tree, state):
 
 
 def audit_words(rng, tree, state):
-    words = ["audit"]
-    for _ in range(rng.choice([1, 1, 2, 3, 4])):
-        uid, gids = rng.choice([tree.user, trees.user_of(rng)])
-        zeros = rng.choice(["", "", "", "00"])
-        words += ["--uid", f"{zeros}{uid}" + (":" + ",".join(map(str, gids)) if gids else "")]
-    for _ in range(rng.choice([1, 1, 2, 3])):
-        words += ["--subtree", subtree_word(rng, tree, state)]
+    words, users, tops = ["audit"], rng.choice([1, 1, 2, 3, 4]), rng.choice([1, 1, 2, 3])
+    below = [path for path in tree.rows if path]
+    many = rng.random() < (0.15 if len(below) < 12 else 0.6)
+    if many:
+        users, tops = rng.choice([(40, 1), (40, 2), (20, 5), (9, 9), (3, 20), (40, 20)])
+    for _ in range(users):
+        words += ["--uid", listed_user(rng, *rng.choice([tree.user, trees.user_of(rng), other_user(rng, tree)]))]
+    for _ in range(tops):
+        words += ["--subtree", text_of(rng.choice(below)) if below and many else subtree_word(rng, tree, state)]
     return words
+
+
+def listed_user(rng, uid, gids):
+    zeros = rng.choice(["", "", "", "00"])
+    return f"{zeros}{uid}" + (":" + ",".join(map(str, gids)) if gids else "")
+
+
+def other_user(rng, tree):
+    """Who is the tree's user but for the uid or the order of the groups."""
+    uid, gids = tree.user
+    return rng.choice([(rng.randrange(2000, 2040), ()), (rng.randrange(2000, 2040), gids), (uid, gids[::-1]), (uid, gids[1:])])
 
 
 def all_words(rng, tree, state):
@@ -142,7 +156,7 @@ def upgrade_words(_rng, _tree, _state):
 
 MAKERS = {"may": may_words, "check": check_words, "audit": audit_words, "audit --all": all_words, "advise": advise_words,
           "replay": replay_words, "replay alone": replay_alone_words, "upgrade": upgrade_words}
-WEIGHTS = {"may": 14, "check": 30, "audit": 12, "audit --all": 8, "advise": 12, "replay": 28, "replay alone": 6, "upgrade": 5}
+WEIGHTS = {"may": 14, "check": 30, "audit": 12, "audit --all": 12, "advise": 14, "replay": 28, "replay alone": 6, "upgrade": 7}
 
 
 # Operations
@@ -150,18 +164,18 @@ WEIGHTS = {"may": 14, "check": 30, "audit": 12, "audit --all": 8, "advise": 12, 
 
 def operations(rng, tree, data, words):
     """A list of operations, most of which are chosen in the tree that those before them leave."""
-    if rng.random() < 0.012:
-        count = rng.choice([texts.MOST_STEPS, texts.MOST_STEPS + 1]) if rng.random() < 0.7 else texts.MOST_STEPS - 1
+    if rng.random() < 0.018:
+        count = rng.choice([commands.MOST_STEPS, commands.MOST_STEPS + 1]) if rng.random() < 0.85 else commands.MOST_STEPS - 1
         return b"exit 99\n" * count + rng.choice([b"", b"\n", b"x"])
     state, lines = state_of(data), []
     user = asked_in(words)
     if state:
         lines = escape_lines(rng, state, user, tree)
-        for _ in range(rng.choice([0, 1, 3, 6, 10, 16])):
-            operation = random_operation(rng, tree, state, user)
+        for _ in range(rng.choice([0, 1, 3, 6, 10, 16]) if rng.random() < 0.98 else rng.choice([60, 200, 500])):
+            operation = next_operation(rng, tree, state, user, lines[-1:])
             state = rules.step(state, user, operation)[0]
             lines.append(commands.spelling(operation).encode("ascii"))
-    if rng.random() < 0.12:
+    if rng.random() < 0.16:
         lines.insert(rng.randrange(len(lines) + 1), bad_line(rng, lines))
     return b"".join(line + b"\n" for line in lines) + (rng.choice([b"exit 7", b"x", b" "]) if rng.random() < 0.04 else b"")
 
@@ -177,6 +191,21 @@ def escape_lines(rng, state, user, tree):
     answer = rules.answer(state, user, tree.subtree)
     found = answer[1] if answer[0] == "escapes" else rng.choice(list(rules.plain_tries(state, tree.subtree)))
     return [commands.spelling(operation).encode("ascii") for operation in found]
+
+
+def next_operation(rng, tree, state, user, last):
+    """A random one, or one that follows from the last: a move of a child, a fork of a PID that was used, a set of a file that came."""
+    kind, *words = last[0].decode("ascii").split(" ") if last and rng.random() < 0.6 else [""]
+    if kind in ("exit", "fork") and rng.random() < 0.4:
+        return "fork", some_pid(rng, state, user), int(words[-1])
+    if kind == "fork":
+        return "move", int(words[1]), written_path(rng, state, user, rules.PROCS)
+    below = rules.children(state, rules.path_of(words[0])) if kind == "control" and rules.path_of(words[0]) in state.cgroups else []
+    if below and words[-1][0] == "+":
+        child = rng.choice(below)
+        file = rng.choice(rules.files_at(state, child))
+        return rng.choice([("set", child, file, 1), ("chmod", child, file, 0o600)])
+    return random_operation(rng, tree, state, user)
 
 
 def random_operation(rng, tree, state, user):
@@ -230,7 +259,8 @@ def some_child(rng, _tree, state, user):
 def some_removal(rng, _tree, state, user):
     bare = [path for path in state.cgroups if path and not rules.children(state, path)]
     own = [path for path in state.cgroups if path and rules.writes(user, state.cgroups[path[:-1]].entries[rules.DIR])]
-    return (rng.choice(rng.choice([bare, own]) or list(state.cgroups)) if rng.random() < 0.7 else some_path(rng, state),)
+    full = [path for path in own if rules.lives_at(state, path)]
+    return (rng.choice(rng.choice([bare, own, full]) or list(state.cgroups)) if rng.random() < 0.7 else some_path(rng, state),)
 
 
 def some_value(rng, _tree, state, user):
@@ -264,8 +294,8 @@ def bad_line(rng, lines):
         b"", b" ", near + b" ", near + b"\r", b" " + near, near.replace(b" ", b"  ", 1), near.upper(), b"move 010 /", b"move 0 /",
         b"move 4194304 /", b"move +7 /", b"mkdir a", b"mkdir /cgroup.procs", b"mkdir /\xc3\xa9", b"control", b"control / +",
         b"control / + cpu", b"control / +io", b"set / cgroup.procs 1", b"set / pids.max 00", b"set / pids.max -1",
-        b"set / pids.max 18446744073709551616", b"chmod / dir 0755", b"chmod / dir 75", b"chmod / dir 789", b"fork 7", b"exit",
-        b"\xff", near + b"\0", b"exit 7 ", b"exit -0", b"exit 07", b"x" * 8192, b"x" * 8193, b"mkdir /" + b"a" * 8186,
+        *[b"set / pids.max 18446744073709551616"] * 6, b"chmod / dir 0755", b"chmod / dir 75", b"chmod / dir 789", b"fork 7", b"exit",
+        b"\xff", near + b"\0", b"exit 7 ", b"exit -0", b"exit 07", b"x" * 8192, b"x" * 8192, b"x" * 8193, b"mkdir /" + b"a" * 8186,
         b"control /" + b" +cpu" * 1635 + b" +memory", b"control /" + b" +pids" * 1364])
 
 
@@ -276,51 +306,57 @@ def turn_words(rng, case):
     TURNS[rng.randrange(len(TURNS))](rng, case)
 
 
-def replace_after(case, option, word):
-    if option in case.words:
-        case.words[case.words.index(option) + 1] = word
+def replace_after(rng, case, option, word):
+    """Another word behind an option, one of those that are given."""
+    given = [at for at, each in enumerate(case.words[:-1]) if each == option]
+    if given:
+        case.words[rng.choice(given) + 1] = word
 
 
 def turn_number(rng, case):
     option = rng.choice(["--uid", "--uid", "--gid", "--pid"])
-    replace_after(case, option, rng.choice(["x", "", "4294967296", "1e3", "0x10", " 5", "5 ", "1.0", "99999999999999999999"]))
+    replace_after(rng, case, option, rng.choice(["x", "", "4294967296", "1e3", "0x10", " 5", "5 ", "1.0", "99999999999999999999"]))
 
 
 def spell_number(rng, case):
     option = rng.choice(["--uid", "--gid", "--pid"])
-    replace_after(case, option, rng.choice(["+1000", "01000", "0001000", "+0"]))
+    replace_after(rng, case, option, rng.choice(["+1000", "01000", "0001000", "+0"]))
 
 
 def many_groups(rng, case):
-    if case.words[0] == "audit":
-        replace_after(case, "--uid", "1000:" + ",".join(map(str, range(rng.choice([32, 33])))))
+    if case.words[:1] == ["audit"]:
+        replace_after(rng, case, "--uid", "1000:" + ",".join(map(str, range(rng.choice([32, 33])))))
     else:
         case.words += [word for gid in range(rng.choice([32, 33])) for word in ("--gid", str(gid))]
 
 
 def odd_listed_user(rng, case):
-    replace_after(case, "--uid", rng.choice(["1000:", "1000:1,", "1000: 5", ":5", "1000:,", "1000:4294967296", "1000:+5", "0:5",
+    replace_after(rng, case, "--uid", rng.choice(["1000:", "1000:1,", "1000: 5", ":5", "1000:,", "1000:4294967296", "1000:+5", "0:5",
                                              "1000:5:6", "0001000:007"]))
 
 
 def uid_0(rng, case):
-    replace_after(case, "--uid", rng.choice(["0", "00"]))
+    replace_after(rng, case, "--uid", rng.choice(["0", "00"]))
 
 
 def odd_pid(rng, case):
-    replace_after(case, "--pid", rng.choice(["0", "4194304", "4294967295"]))
+    replace_after(rng, case, "--pid", rng.choice(["0", "4194304", "4294967295"]))
 
 
 def odd_path(rng, case):
-    replace_after(case, rng.choice(["--to", "--subtree"]), rng.choice(["", "c0", "/a/", "/cgroup.procs", "/é", "/a b"]))
+    replace_after(rng, case, "--to" if "--to" in case.words else "--subtree",
+                  rng.choice(["", "c0", "/a/", "/cgroup.procs", "/é", "/a b"]))
 
 
 def odd_subtree(rng, case):
-    replace_after(case, "--subtree", rng.choice(["/", "/nowhere"]))
+    if case.words[:1] == ["audit"] and rng.random() < 0.6:
+        case.words += rng.sample(["--subtree=/", "--subtree=/nowhere"], 2)
+    replace_after(rng, case, "--subtree", rng.choice(["/", "/nowhere"]))
 
 
 def lose_word(rng, case):
-    del case.words[rng.randrange(len(case.words))]
+    if case.words:
+        del case.words[rng.randrange(len(case.words))]
 
 
 def double_option(rng, case):
@@ -342,8 +378,23 @@ def join_option(rng, case):
 
 
 def no_file(rng, case):
-    replace_after(case, rng.choice(["--tree", "--ops"]), rng.choice(["none.toml", "folder", "none/none", ""]))
+    given = [option for option in ("--tree", "--ops") if option in case.words] or ["--tree"]
+    replace_after(rng, case, rng.choice(given), rng.choice(["none.toml", "folder", "none/none", ""]))
+
+
+def odd_users(rng, case):
+    """Two users of an audit, each with a fault of their own."""
+    if case.words[:1] == ["audit"]:
+        case.words += rng.sample(["--uid=0", "--uid=5:" + ",".join(map(str, range(33)))], 2)
+
+
+def two_words(rng, case):
+    """Two faults, or three, that follow one another in their order."""
+    in_order = [no_file, uid_0, many_groups, *[odd_pid] * ("--pid" in case.words), odd_path, *[odd_subtree] * ("--subtree" in case.words)]
+    at = rng.randrange(len(in_order) - 1)
+    for turn in in_order[at:at + rng.choice([2, 2, 3])]:
+        turn(rng, case)
 
 
 TURNS = [turn_number, spell_number, many_groups, odd_listed_user, uid_0, odd_pid, odd_path, odd_subtree, lose_word, double_option,
-         unknown_word, join_option, no_file]
+         unknown_word, join_option, no_file, *[odd_users] * 2, *[two_words] * 4]

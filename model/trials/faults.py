@@ -4,13 +4,15 @@ from trials.spelling import Raw
 
 
 def any_row(rng, parts):
-    return rng.choice(parts["cgroup"])
+    """The first and the last stand out, so that a row often has two faults."""
+    rows = parts["cgroup"]
+    return rng.choice([rng.choice(rows), rng.choice(rows), rows[0], rows[-1]])
 
 
 def any_process(rng, parts):
     if not parts.get("process"):
         parts["process"] = [{"pid": 1, "uid": 0, "at": "/"}]
-    return rng.choice(parts["process"])
+    return rng.choice([rng.choice(parts["process"]), parts["process"][-1]])
 
 
 def wrong(rng, *good):
@@ -37,7 +39,8 @@ def form(rng, parts):
 
 
 def too_many(rng, parts):
-    parts[rng.choice(["cgroup", "process"])] = Raw("[" + "1," * 4097 + "]")
+    """A row past as many as may be, or as many, which are then no tables."""
+    parts[rng.choice(["cgroup", "process"])] = Raw("[" + "1," * rng.choice([4096, 4097]) + "]")
 
 
 def shape_cgroup(rng, parts):
@@ -133,7 +136,7 @@ def no_parent(rng, parts):
 
 
 def top_down(rng, parts):
-    any_row(rng, parts).setdefault("enabled", []).append(rng.choice(rules.CONTROLLERS))
+    rng.choice(parts["cgroup"]).setdefault("enabled", []).extend(rng.sample(rules.CONTROLLERS, 2))
 
 
 def no_such_file(rng, parts):
@@ -150,7 +153,7 @@ def bad_entry_of_process(rng, parts):
 
 
 def duplicate_pid(rng, parts):
-    parts["process"] = [*parts.get("process", []), {"pid": any_process(rng, parts)["pid"], "uid": 0, "at": "/"}]
+    parts["process"] = [*parts.get("process", []), {"pid": any_process(rng, parts)["pid"], "uid": 0, "at": rng.choice(["/", "/", "/zz"])}]
 
 
 def no_such_place(rng, parts):
@@ -173,14 +176,15 @@ FAULTS = [shape_top, form, shape_cgroup, gid_in_form_1, shape_process, bad_contr
 
 
 def turn_document(rng, parts):
-    """One fault, or two, of which the first by the order of the faults is the answer."""
-    rng.choice(FAULTS)(rng, parts)
-    if rng.random() < 0.35:
+    """One fault or more, mostly such as are near in the order of the faults, of which the first is the answer."""
+    first = rng.randrange(len(FAULTS))
+    FAULTS[first](rng, parts)
+    for _ in range(rng.choice([0, 0, 0, 1, 1, 2])):
         try:
-            rng.choice(FAULTS)(rng, parts)
+            rng.choice(FAULTS[max(0, first - 3):first + 4] if rng.random() < 0.85 else FAULTS)(rng, parts)
         except (KeyError, TypeError, AttributeError, IndexError):
             pass
-    if rng.random() < 0.025:
+    if rng.random() < 0.04:
         too_many(rng, parts)
 
 

@@ -1,15 +1,13 @@
 """Runs a program on cases, and compares what it writes with what it should."""
-import functools
 import os
 import re
-import resource
 import shutil
 import signal
 import subprocess
 import tempfile
 import tomllib
 
-from second import commands
+from second import commands, documents
 
 SECONDS = 60
 
@@ -33,8 +31,10 @@ class Room:
     """A folder in which a program is run, with as many bytes of stack as are said; it holds a folder named so."""
 
     def __init__(self, program, stack=None):
+        # a shell sets the limit: what runs between fork and exec costs a copy of this process
+        limit = ["sh", "-c", f'ulimit -s {stack // 1024} && exec "$@"', "sh"] if stack else []
+        self.words = [*limit, program]
         self.program = program
-        self.limit = stack and functools.partial(resource.setrlimit, resource.RLIMIT_STACK, (stack, stack))
         self.at = tempfile.mkdtemp()
         os.mkdir(os.path.join(self.at, "folder"))
 
@@ -57,8 +57,8 @@ class Room:
 
     def start(self, case, stdout):
         try:
-            ended = subprocess.run([self.program, *case.words], cwd=self.at, input=case.stdin, stdout=stdout,
-                                   stderr=subprocess.PIPE, timeout=SECONDS, preexec_fn=self.limit)
+            ended = subprocess.run([*self.words, *case.words], cwd=self.at, input=case.stdin, stdout=stdout,
+                                   stderr=subprocess.PIPE, timeout=SECONDS)
         except subprocess.TimeoutExpired:
             return b"", -signal.SIGALRM, b"took too long"
         return ended.stdout or b"", ended.returncode, ended.stderr
@@ -76,8 +76,8 @@ def expected_of(case, respond=commands.respond):
     try:
         return case.expected(respond)
     except Exception as fault:
-        # a wrong model has classes of its own
-        if type(fault).__name__ == "Unsure":
+        # a wrong model may have a class of its own
+        if type(fault).__name__ == documents.Unsure.__name__:
             return None
         raise
 

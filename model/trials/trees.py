@@ -5,9 +5,15 @@ from second import rules
 from second.rules import text_of
 
 NAMES = ["a", "b", "c", "probe0", "probe1", "x.y", "a-b", "memory.stat", "~", "it's", 'q"q', "\\x2d", "a=[b]#"]
+# names of which one is the front of another, and what follows is less than a slash: in order otherwise than their texts are
+FRONTS = ["a", "a-b", "a!", "a.b", "b"]
+LONG = ["n" * 255, "m" * 254, "o" * 200]
 UIDS = [0, 1000, 1001, 1002, 4294967295]
-GIDS = [0, 5, 6, 50, 4294967295]
-PIDS = [1, 7, 10, 11, 12, 99, 4194303]
+# as many as a user may not have, and as many processes as a tree has at most
+GIDS = [0, 5, 6, 50, 4294967295, *range(100, 128)]
+PIDS = [1, 7, 10, 11, 12, 99, 4194303, *range(200, 233)]
+FEW_PIDS = PIDS[:7]
+MOST_PATHS, DEEPEST = 60, 12
 NUMBERS = [0, 1, 2, 3, 100, 4096, 10000, rules.MOST]
 
 
@@ -39,12 +45,17 @@ class Tree:
 
 def user_of(rng):
     gids = rng.choice([(), (), (5,), (5, 6), (50, 5), (0,), (6, 4294967295)])
+    if rng.random() < 0.2:
+        gids = tuple(rng.sample(GIDS, rng.choice([3, 4, 17, 24, 32, 32])))
     return rng.choice([1000, 1000, 1000, 1001, 4294967295]), gids
 
 
 def random_tree(rng):
-    if rng.random() < 0.06:
+    chance = rng.random()
+    if chance < 0.07:
         return tree_to_probe(rng)
+    if chance < 0.19:
+        return tree_of_doors(rng)
     paths = random_paths(rng)
     form = rng.choice([1, 2, 2])
     user = user_of(rng)
@@ -59,36 +70,71 @@ def random_tree(rng):
         delegate(rng, tree, user, tree.subtree)
         if rng.random() < 0.3:
             delegate(rng, tree, user_of(rng), rng.choice(paths))
-        for _ in range(rng.choice([0, 1, 1, 1, 2])):
+        for _ in range(rng.choice([0, 1, 1, 1, 2, 3])):
             open_one(rng, tree)
+        if tree.subtree and rng.random() < 0.08:
+            open_two(rng, tree)
     else:
         scatter(rng, tree)
     set_values(rng, tree)
+    if rng.random() < 0.06:
+        overfill(rng, tree)
     add_processes(rng, tree)
     return tree
 
 
 def tree_to_probe(rng):
-    """A cgroup that enables something, above a subtree with a process: its files are shared, so that a probe may be made."""
-    above, form, user = (rng.choice(NAMES),), rng.choice([1, 2]), user_of(rng)
-    controller = rng.choice(rules.CONTROLLERS)
-    rows = {path: {"path": text_of(path), "enabled": [controller]} for path in ((), above)}
-    top = above + (rng.choice(NAMES),)
-    for path in (top, above + ("probe0",))[:rng.choice([1, 2])]:
-        rows[path] = {"path": text_of(path)}
-    tree = Tree(form, [controller], rows, [], user, top)
+    """Cgroups that enable something, down to a subtree with a process. The files of one are shared, so that a probe may be made
+    there, and some probes are there; its path may be as long that the probe's is as long as a path may be, or nearly so."""
+    controller, names = rng.choice(rules.CONTROLLERS), [rng.choice(NAMES) for _ in range(rng.choice([1, 1, 2, 3, 5, DEEPEST - 1]))]
+    shared = rng.randrange(1, len(names) + 1)
+    if rng.random() < 0.3:
+        names = ["n" * 255] * 15 + ["n" * rng.choice([246, 247, 247, 248])]
+        shared = len(names)
+    above = [tuple(names[:length]) for length in range(len(names) + 1)]
+    rows = {path: {"path": text_of(path), "enabled": [controller]} for path in above}
+    top = above[-1] + (rng.choice(NAMES[:3]),)
+    beside = [above[shared] + (f"probe{number}",) for number in range(rng.choice([0, 0, 1, 2, 3]))]
+    for path in [top, *beside]:
+        if len(text_of(path)) <= rules.LONGEST_PATH:
+            rows.setdefault(path, {"path": text_of(path)})
+    tree = Tree(rng.choice([1, 2]), [controller], rows, [], user_of(rng), top)
     for name in (rules.PROCS, rules.DIR):
-        share(rng, tree, above, name)
+        share(rng, tree, above[shared], name)
+    if rng.random() < 0.5:
+        tree.entry(above[shared], rules.DIR).update(tree.entry(above[shared], rules.PROCS))
     tree.processes.append({"pid": rng.choice(PIDS), "uid": 1000, "at": text_of(top)})
     return tree
 
 
+def tree_of_doors(rng):
+    """A cgroup that enables something and whose processes the user may move, above a subtree and other places, some of which take
+    them. Mostly there are more processes, which nobody but root moves."""
+    controller, above = rng.choice(rules.CONTROLLERS), (rng.choice(NAMES),)
+    rows = {path: {"path": text_of(path), "enabled": [controller]} for path in ((), above)}
+    places = [above + (name,) for name in [FRONTS[0], *rng.sample(FRONTS[1:], rng.choice([1, 2, 3]))]]
+    places += [path + (name,) for path in places for name in rng.sample(FRONTS, rng.choice([0, 1, 2]))]
+    rows.update((path, {"path": text_of(path)}) for path in places)
+    tree = Tree(rng.choice([1, 2]), [controller], rows, [], user_of(rng), rng.choice(places))
+    for path in [above, *(path for path in places if rng.random() < 0.6)]:
+        share(rng, tree, path, rules.PROCS)
+    pids = rng.sample(PIDS, rng.choice([1, 2, 12, 40, 40]))
+    for number, pid in enumerate(pids):
+        at = rng.choice(places) if number < 2 else ()
+        tree.processes.append({"pid": pid, "uid": rng.choice(UIDS), "at": text_of(at)})
+    return tree
+
+
 def random_paths(rng):
-    paths = [()]
-    for _ in range(rng.choice([1, 2, 3, 4, 5, 6, 8, 11] if rng.random() < 0.97 else [0])):
-        parent = rng.choice(paths[-2:] if rng.random() < 0.4 else paths)
-        path = parent + (rng.choice(NAMES),)
-        if path not in paths:
+    """Mostly a few; else up to as many as a tree has, some of them deep or with long names."""
+    paths, names, deep = [()], rng.choice([NAMES, NAMES, NAMES, FRONTS]), 0.4
+    count = rng.choice([1, 2, 3, 4, 5, 6, 8, 11] if rng.random() < 0.97 else [0])
+    if rng.random() < 0.08:
+        count, names, deep = rng.choice([16, 24, 32, 48]), rng.choice([NAMES, FRONTS, LONG]), rng.choice([0.2, 0.6, 0.95])
+    for _ in range(count if count < 16 else 2 * count):
+        parent = rng.choice(paths[-2:] if rng.random() < deep else paths)
+        path = parent + (rng.choice(names),)
+        if path not in paths and len(path) <= DEEPEST and len(text_of(path)) <= rules.LONGEST_PATH and len(paths) < MOST_PATHS:
             paths.append(path)
     return paths
 
@@ -126,10 +172,11 @@ def open_one(rng, tree):
     if not top:
         return
     guarded = [(path, rules.PROCS) for path in rules.upwards(top)[1:]]
-    guarded += [(top[:-1], rules.CONTROL), (top[:-1], rules.DIR)] * 2
-    if rng.random() < 0.3:
-        guarded = [(top, file) for file in files_at(tree, top)]
-    share(rng, tree, *rng.choice(guarded))
+    guarded += [(top[:-1], rules.CONTROL)] * 3 + [(top[:-1], rules.DIR)] * 2
+    if rng.random() < 0.35:
+        open_limits(rng, tree, top)
+    else:
+        share(rng, tree, *rng.choice(guarded))
     if rng.random() < 0.35:
         # so that it may be removed
         for path in [path for path in tree.rows if rules.inside(path, top) and path != top]:
@@ -139,16 +186,40 @@ def open_one(rng, tree):
         parent = rng.choice(rules.upwards(top)[1:])
         for name in (rules.PROCS, rules.DIR):
             share(rng, tree, parent, name)
-    elif rng.random() < 0.15:
+    elif rng.random() < 0.2:
         tree.entry(top, rng.choice([rules.DESCENDANTS, rules.DEPTH]))["value"] = rng.choice([0, 0, 1])
+
+
+def open_two(rng, tree):
+    """Gives the user two guarded entries, of which they have to open the one that is tried first."""
+    top = tree.subtree
+    guarded = [(top, file) for file in files_at(tree, top)]
+    if rng.random() < 0.4:
+        guarded += [(top[:-1], rules.CONTROL), (top[:-1], rules.DIR)]
+    first, other = sorted(rng.sample(range(len(guarded)), 2))
+    tree.entry(*guarded[first]).update({"uid": tree.user[0], "mode": 0o444})
+    tree.entry(*guarded[other]).update({"uid": tree.user[0]})
+
+
+def open_limits(rng, tree, top):
+    """Shares a limit file of the subtree, or some."""
+    files = files_at(tree, top)
+    if rng.random() < 0.25:
+        files = [file for file in files if file == "cpu.weight"]
+    for file in rng.sample(files, min(len(files), rng.choice([1, 1, 1, 2, 4]))):
+        share(rng, tree, top, file)
+        if file == "cpu.weight":
+            tree.entry(top, file)["value"] = rng.choice([1, 50, 100, 10000])
 
 
 def share(rng, tree, path, name):
     uid, gids = tree.user
+    # of many groups the first and above all the last
+    gids = [*gids[:3], *gids[3:][-1:] * 4]
     entry = tree.entry(path, name)
     ways = [{"uid": uid}, {"uid": uid, "mode": 0o444}, {"uid": uid, "mode": 0o446}, {"mode": 0o646}, {"uid": 7, "mode": 0o602}]
     if tree.form == 2:
-        ways += [{"gid": gid, "mode": mode} for gid in [*gids, 77] for mode in (0o664, 0o664, 0o646, 0o620)]
+        ways += [{"gid": gid, "mode": mode} for gid in [*gids, 77] for mode in (0o664, 0o666, 0o646, 0o620)]
         ways += [{"uid": uid, "gid": gid, "mode": mode} for gid in gids for mode in (0o464, 0o446, 0o664, 0o666)]
     entry.update(rng.choice(ways))
 
@@ -175,6 +246,14 @@ def set_values(rng, tree):
                 tree.entry(path, file)["value"] = value_of(rng, tree, path, file)
 
 
+def overfill(rng, tree):
+    """Makes one with cgroups below it, where there is one, the subtree, and both its limits less than what is there."""
+    able = [path for path in tree.rows if path and any(rules.inside(other, path) and other != path for other in tree.rows)]
+    tree.subtree = rng.choice(able or [tree.subtree])
+    for file in (rules.DESCENDANTS, rules.DEPTH):
+        tree.entry(tree.subtree, file)["value"] = 0
+
+
 def value_of(rng, tree, path, file):
     if file in (rules.DESCENDANTS, rules.DEPTH) and rng.random() < 0.7:
         levels = [len(other) - len(path) for other in tree.rows if rules.inside(other, path)]
@@ -185,6 +264,7 @@ def value_of(rng, tree, path, file):
 
 def add_processes(rng, tree):
     places = [path for path in tree.rows if not path or not tree.rows[path].get("enabled")]
-    for pid in rng.sample(PIDS, rng.choice([0, 1, 2, 3, 4, 5])):
+    many = rng.random() < 0.05
+    for pid in rng.sample(PIDS, rng.choice([10, 20, 40])) if many else rng.sample(FEW_PIDS, rng.choice([0, 1, 2, 3, 4, 5])):
         uid = rng.choice([tree.user[0], tree.user[0], *UIDS])
         tree.processes.append({"pid": pid, "uid": uid, "at": text_of(rng.choice(places))})

@@ -1,66 +1,178 @@
-"""Wrong models: the second model with one line turned. Each has to be told apart from the program."""
+"""Wrong models: the second model with one thing turned. Each has to be told apart from the program."""
 import functools
-import os
 import sys
 import types
 
-import second
+from second import commands, documents, rules, texts
 
-MODULES = ("rules", "texts", "commands")
-# the module, a line of it, and what stands in its place
-TURNED = [
-    ("rules", "if values[DESCENDANTS] != MAX and len(below(state, top)) >= values[DESCENDANTS]:",
-     "if values[DESCENDANTS] != MAX and len(below(state, top)) > values[DESCENDANTS]:"),
-    ("rules", "if values[DEPTH] != MAX and len(parent) - len(top) >= values[DEPTH]:",
-     "if values[DEPTH] != MAX and len(parent) - len(top) > values[DEPTH]:"),
-    ("rules", "return entry.mode & bit != 0", "return entry.mode & (bit | 0o002) != 0"),
-    ("rules", 'return "group" if entry.gid in user[1] else "others"', 'return "group" if entry.gid in user[1][:1] else "others"'),
-    ("rules", "return Entry(user[0], user[1][0] if user[1] else 0, mode)", "return Entry(0, user[1][0] if user[1] else 0, mode)"),
-    ("rules", "found += entry_bar(state, user, common(state.live[pid][1], to), PROCS)",
-     "found += entry_bar(state, user, state.live[pid][1], PROCS)"),
-    ("rules", "if to and to in state.cgroups and state.cgroups[to].enabled:", "if to in state.cgroups and state.cgroups[to].enabled:"),
-    ("rules", "if path and enabled_after(state, path, changes) - state.cgroups[path].enabled and lives_at(state, path):",
-     "if enabled_after(state, path, changes) - state.cgroups[path].enabled and lives_at(state, path):"),
-    ("rules", "return {controller: sign for sign, controller in changes}",
-     "return {controller: sign for sign, controller in reversed(changes)}"),
-    ("rules", "entries[file] = old.entries.get(file, made_by(user, FILE_MODE))", "entries[file] = old.entries.get(file, Entry())"),
-    ("rules", "found = entry_bar(state, user, path[:-1], DIR)", "found = entry_bar(state, user, path, DIR)"),
-    ("rules", "live={**state.live, child: state.live[parent]}, used=state.used | {child})",
-     "live={**state.live, child: state.live[parent]}, used=state.used)"),
-    ("rules", "limits = states[0].cgroups[top].values", "limits = states[-1].cgroups.get(top, states[0].cgroups[top]).values"),
-    ("rules", "return writes(user, entry) or owns(user, entry)", "return writes(user, entry)"),
-    ("rules", 'found = [("common-ancestor", path, PROCS) for path in upwards(top)[1:]]',
-     'found = [("common-ancestor", path, PROCS) for path in upwards(top)[1:2]]'),
-    ("rules", 'return found + [("parent-control", top[:-1], CONTROL), ("parent-dir", top[:-1], DIR)]',
-     'return found + [("parent-dir", top[:-1], DIR), ("parent-control", top[:-1], CONTROL)]'),
-    ("rules", 'return 1 if value == 100 else 100', 'return 100 if value == 1 else 1'),
-    ("rules", "yield from probes(state, top)", "yield from []"),
-    ("rules", "if owns(user, entry) and not writes(user, entry):", "if owns(user, entry):"),
-    ("texts", 'return not (0 <= uid <= LAST_ID and 0 <= gid <= LAST_ID and 0 <= mode <= 0o777) or form == 1 and mode & 0o020 != 0',
-     'return not (0 <= uid <= LAST_ID and 0 <= gid <= LAST_ID and 0 <= mode <= 0o777)'),
-    ("rules", 'found.append(("chmod", path, name, entry.mode | 0o200))', 'found.append(("chmod", path, name, 0o644))'),
-    ("commands", "if number > MOST_STEPS:", "if number > MOST_STEPS + 1:"),
-    ("commands", "if uid == 0:", "if uid == 0 and not gids:"),
-]
+# in the order in which one takes from another: those before the one that is turned are the right model's own
+MODULES = {"documents": documents, "rules": rules, "texts": texts, "commands": commands}
+USERS = "itertools.product(dict.fromkeys(call.users), dict.fromkeys(tops))"
+MEMBER = 'return "group" if entry.gid in user[1] else "others"'
+LIVE_ITEMS = "for other, process in state.live.items() if other != pid}"
+PID_BOUND = "if call.pid is not None and not 1 <= call.pid <= rules.LAST_PID"
+HAS_CHILDREN = '    if children(state, path):\n        found.append(f"has-children {text_of(path)}")\n'
+HAS_PROCESSES = '    if lives_at(state, path):\n        found.append(f"has-processes {text_of(path)}")\n'
+SHAPES = ['    first("shape cgroup", rows, lambda row: not cgroup_form(form)(row))\n',
+          '    first("shape process", processes, lambda row: not process_form(row))\n']
+REFUSED_PLACES = ['("duplicate-pid", pid in live)', '("no-such-place", path not in cgroups)']
+OVER = ["DESCENDANTS: len(below(state, top))", "DEPTH: depth_below(state, top)"]
+MANY_GIDS = '        if len(gids) > MOST_GIDS:\n'
+
+
+def asked_once(same):
+    """The users of an audit, of whom those that are the same in something are one."""
+    return USERS.replace("dict.fromkeys(call.users)", f"[user for at, user in enumerate(call.users) "
+                         f"if {same}(user) not in map({same}, call.users[:at])]")
+
+
+# of each the module, what stands there once, and what stands in its place
+OF_RULES = {
+    "lets one cgroup more than cgroup.max.descendants": (
+        "len(below(state, top)) >= values[DESCENDANTS]", "len(below(state, top)) > values[DESCENDANTS]"),
+    "lets one level more than cgroup.max.depth": ("len(parent) - len(top) >= values[DEPTH]", "len(parent) - len(top) > values[DEPTH]"),
+    "asks the limits of the farthest cgroup first": ("for top in upwards(parent):", "for top in reversed(upwards(parent)):"),
+    "asks the others' bit of everybody": ("return entry.mode & bit != 0", "return entry.mode & (bit | 0o002) != 0"),
+    "of the gids the first counts": (MEMBER, MEMBER.replace("user[1]", "user[1][:1]")),
+    "of the gids the first 2 count": (MEMBER, MEMBER.replace("user[1]", "user[1][:2]")),
+    "of the gids the first 16 count": (MEMBER, MEMBER.replace("user[1]", "user[1][:16]")),
+    "of the gids the first 31 count": (MEMBER, MEMBER.replace("user[1]", "user[1][:31]")),
+    "what a user makes is root's": ("return Entry(user[0], user[1][0]", "return Entry(0, user[1][0]"),
+    "a limit file that comes is root's": ("old.entries.get(file, made_by(user, FILE_MODE))", "old.entries.get(file, Entry())"),
+    "the source of a move is asked, and not the common ancestor": (
+        "entry_bar(state, user, common(state.live[pid][1], to), PROCS)", "entry_bar(state, user, state.live[pid][1], PROCS)"),
+    "a move asks for the process first": (
+        '        found.append(f"no-such-process {pid}")', '        found.insert(0, f"no-such-process {pid}")'),
+    "the root isn't exempt of a move": (
+        "if to and to in state.cgroups and state.cgroups[to].enabled:", "if to in state.cgroups and state.cgroups[to].enabled:"),
+    "the root isn't exempt of a control": (
+        "if path and enabled_after(state, path, changes) - state.cgroups[path].enabled and lives_at(state, path):",
+        "if enabled_after(state, path, changes) - state.cgroups[path].enabled and lives_at(state, path):"),
+    "of several changes the first counts": (
+        "return {controller: sign for sign, controller in changes}", "return {controller: sign for sign, controller in reversed(changes)}"),
+    "of what isn't available the last first": (
+        'found.append(f"not-available {controller}")', 'found.insert(0, f"not-available {controller}")'),
+    "an rmdir asks for the cgroup's own directory": (
+        "found = entry_bar(state, user, path[:-1], DIR)", "found = entry_bar(state, user, path, DIR)"),
+    "an rmdir looks at processes first": (HAS_CHILDREN + HAS_PROCESSES, HAS_PROCESSES + HAS_CHILDREN),
+    "a bad value comes first": ('else found + [f"bad-value {file}"]', 'else [f"bad-value {file}"] + found'),
+    "a fork's PID may be used again": ("used=state.used | {child})", "used=state.used)"),
+    "an ended process's PID may be used again": (LIVE_ITEMS + ")", LIVE_ITEMS + ", used=state.used - {pid})"),
+    "a fork's child is at the root": ("child: state.live[parent]}", "child: (state.live[parent][0], ())}"),
+    "what begins as the subtree's text is inside": (
+        "return path[:len(top)] == top", "return text_of(path).startswith(text_of(top))"),
+    "limits are compared with those at the end": (
+        "limits = states[0].cgroups[top].values", "limits = states[-1].cgroups.get(top, states[0].cgroups[top]).values"),
+    "a limit file that goes is no change": (
+        "if after.cgroups[top].values != limits:", "if not after.cgroups[top].values.items() <= limits.items():"),
+    "of two counts the depth is told": ("if DESCENDANTS in exceeded:", "if DESCENDANTS in exceeded and DEPTH not in exceeded:"),
+    "of two counts the depth is mended first": ("{%s, %s}" % (*OVER,), "{%s, %s}" % (*OVER[::-1],)),
+    "who owns an entry doesn't reach it": ("return writes(user, entry) or owns(user, entry)", "return writes(user, entry)"),
+    "of the common ancestors the parent is guarded alone": (
+        'for path in upwards(top)[1:]]', 'for path in upwards(top)[1:2]]'),
+    "limit files in the order of their names": (
+        "for file in LIMIT_FILES if file in state", "for file in sorted(LIMIT_FILES) if file in state"),
+    "the parent's directory is guarded first": (
+        '[("parent-control", top[:-1], CONTROL), ("parent-dir", top[:-1], DIR)]',
+        '[("parent-dir", top[:-1], DIR), ("parent-control", top[:-1], CONTROL)]'),
+    "tries another weight": ("return 1 if value == 100 else 100", "return 100 if value == 1 else 1"),
+    "tries to disable all before it enables": (
+        'controller, sign in itertools.product(CONTROLLERS, "-+")', 'sign, controller in itertools.product("-+", CONTROLLERS)'),
+    "tries processes inside alone": ("if inside(path, top) != is_in)", "if is_in and not inside(path, top))"),
+    "tries the first 4 processes": ("return sorted(state.live)", "return sorted(state.live)[:4]"),
+    "tries paths in the order of their texts": (
+        "for path in sorted(state.cgroups) if", "for path in sorted(state.cgroups, key=text_of) if"),
+    "tries no probes": ("yield from probes(state, top)", "yield from []"),
+    "tries probes at the parent alone": ("for ancestor in upwards(top)[1:]:", "for ancestor in upwards(top)[1:2]:"),
+    "tries no probe of 4095 bytes": ("if len(text_of(probe)) <= LONGEST_PATH:", "if len(text_of(probe)) < LONGEST_PATH:"),
+    "tries probe0 and probe1 alone": (
+        'while ancestor + (f"probe{number}",) in state.cgroups:', 'if ancestor + (f"probe{number}",) in state.cgroups:'),
+    "opens what is open": ("if owns(user, entry) and not writes(user, entry):", "if owns(user, entry):"),
+    "opens to 0o644": ("found.append((\"chmod\", path, name, entry.mode | 0o200))", 'found.append(("chmod", path, name, 0o644))'),
+    "opens the last entry first": ('found.append(("chmod", path, name', 'found.insert(0, ("chmod", path, name'),
+    "tries all without the opening first": (
+        "        if opened:\n            yield", "    for operations in plain_tries(state, top) if opened else []:\n            yield"),
+    "names the last guard that fails": ("failed[0][0], failed[0][1])", "failed[-1][0], failed[-1][1])"),
+    "advises less than the class's bit": ("entry.mode & ~bit:03o", "entry.mode & ~0o022:03o"),
+    "advises no mode behind an owner": (
+        "    if writes(user, entry):\n        bit", "    if writes(user, entry) and not changes:\n        bit"),
+    "a name of 255 bytes is none": ("1 <= len(name) <= LONGEST_NAME", "1 <= len(name) < LONGEST_NAME"),
+    "a path of 4095 bytes is none": ("len(text) > LONGEST_PATH", "len(text) >= LONGEST_PATH"),
+}
+OF_COMMANDS = {
+    "a list is too long behind one operation more": ("if number > MOST_STEPS:", "if number > MOST_STEPS + 1:"),
+    "a line of 8192 bytes is too long": ("if len(line) > LONGEST_LINE:", "if len(line) >= LONGEST_LINE:"),
+    "a list is read whole first": (
+        'in lines_of(files[call.one("--ops")]):', 'in list(lines_of(files[call.one("--ops")])):'),
+    "a value may be 2^64": ("int(word) < 2 ** 64", "int(word) <= 2 ** 64"),
+    "a verdict counts what is accepted alone": ("states.append(state)", "states += [] if refusal else [state]"),
+    "uid 0 is a fault without groups alone": ("if uid == 0:", "if uid == 0 and not gids:"),
+    "faults of all uids come before those of gids": (MANY_GIDS, "    for _, gids in call.users:\n" + MANY_GIDS),
+    "33 groups are taken": ("if len(gids) > MOST_GIDS:", "if len(gids) > MOST_GIDS + 1:"),
+    "the path is tested before the PID": (PID_BOUND, PID_BOUND + ' and rules.path_of(call.one("--to")) is not None'),
+    "PID 4194303 is a fault": (PID_BOUND, PID_BOUND.replace("<= rules", "< rules")),
+    "words are tested before files are read": ("    tree = files.get(named)\n", "    test_arguments(call)\n    tree = files.get(named)\n"),
+    "of the subtrees the root is a fault first": (
+        "for word in call.subtrees()]\n    return", 'for word in sorted(call.subtrees(), key=lambda word: word != "/")]\n    return'),
+    "audit goes by subtree first": (
+        f"user, top in {USERS}", "top, user in itertools.product(dict.fromkeys(tops), dict.fromkeys(call.users))"),
+    "audit asks who is named again": (USERS, USERS.replace("dict.fromkeys(call.users)", "call.users")),
+    "audit takes users of one uid for one": (USERS, asked_once("(lambda user: user[0])")),
+    "audit takes groups in another order for the same": (USERS, asked_once("(lambda user: (user[0], set(user[1])))")),
+    "audit asks of the first 16 users": (USERS, USERS.replace("call.users", "call.users[:16]")),
+    "audit asks of the first 8 subtrees": (USERS, USERS.replace("(tops)", "(tops[:8])")),
+    "audit --all stops behind 24 lines": ("    if not kinds:\n", "    del lines[24:]\n    if not kinds:\n"),
+    "audit --all has the status of the least": ("STATUS[min(kinds", "STATUS[max(kinds"),
+    "upgrade writes cgroups in the order of their texts": (
+        "for path in sorted(state.cgroups)]", "for path in sorted(state.cgroups, key=text_of)]"),
+    "upgrade writes processes in the order of their digits": (
+        "in sorted(state.live.items())]", "in sorted(state.live.items(), key=lambda each: str(each[0]))]"),
+}
+OF_TEXTS = {
+    "format 1 has the group's bit": ("0 <= mode <= 0o777) or form == 1 and mode & 0o020 != 0", "0 <= mode <= 0o777)"),
+    "format 1 has gids": ("if form == 2:", "if form:"),
+    "4096 rows are too many": ("max(len(rows), len(processes)) > MOST_ROWS", "max(len(rows), len(processes)) >= MOST_ROWS"),
+    "the shape of processes is tested first": ("".join(SHAPES), "".join(SHAPES[::-1])),
+    "tests of a row by itself go by the test": (
+        "for (place, row), (what, is_bad) in itertools.product(enumerate(rows, 1), OWN_FAULTS):",
+        "for (what, is_bad), (place, row) in itertools.product(OWN_FAULTS, enumerate(rows, 1)):"),
+    "of equal rows the first is a fault": ("in paths[:each[0]])", "in paths[each[0] + 1:])"),
+    "a row enables what its tree has": ("(at[path[:-1]] if path else set(controllers))", "set(controllers)"),
+    "of a process the place is tested before its PID": (", ".join(REFUSED_PLACES), ", ".join(REFUSED_PLACES[::-1])),
+    "a directory's mode is a file's": ('entry_of(row.get("dir", {}), rules.DIR_MODE)', 'entry_of(row.get("dir", {}), rules.FILE_MODE)'),
+}
+OF_DOCUMENTS = {
+    "a byte order mark is no TOML": ('.removeprefix("\\ufeff")', ""),
+    "16777216 bytes are too many": ("len(data) > MOST_BYTES", "len(data) >= MOST_BYTES"),
+}
+TURNED = {name: (module, *turn) for module, turns in zip(MODULES, (OF_DOCUMENTS, OF_RULES, OF_TEXTS, OF_COMMANDS))
+          for name, turn in turns.items()}
 
 
 @functools.lru_cache(maxsize=None)
-def respond_of(number):
+def respond_of(name):
     """The answers of a wrong model."""
-    package = types.ModuleType(f"wrong{number}")
+    turned, text, other = TURNED[name]
+    package = types.ModuleType(f"wrong{list(TURNED).index(name)}")
     package.__path__ = []
     sys.modules[package.__name__] = package
-    turned, line, other = TURNED[number]
-    for name in MODULES:
-        with open(os.path.join(os.path.dirname(second.__file__), f"{name}.py")) as source:
-            text = source.read()
-        if name == turned:
-            if text.count(line) != 1:
-                raise ValueError(f"stands not once in {name}.py: {line}")
-            text = text.replace(line, other)
-        module = types.ModuleType(f"{package.__name__}.{name}")
-        module.__package__ = package.__name__
-        sys.modules[module.__name__] = module
-        exec(compile(text, module.__name__, "exec"), module.__dict__)
-        setattr(package, name, module)
+    names = list(MODULES)
+    for module in names:
+        made = MODULES[module]
+        if names.index(module) >= names.index(turned):
+            made = made_anew(package, module, *([text, other] if module == turned else []))
+        sys.modules[f"{package.__name__}.{module}"] = made
+        setattr(package, module, made)
     return package.commands.respond
+
+
+def made_anew(package, module, text="", other=""):
+    """A module of a package, made from its source with a text turned that stands there once."""
+    with open(MODULES[module].__file__) as source:
+        whole = source.read()
+    if text and whole.count(text) != 1:
+        raise ValueError(f"stands not once in {module}.py: {text}")
+    made = types.ModuleType(f"{package.__name__}.{module}")
+    made.__package__ = package.__name__
+    exec(compile(whole.replace(text, other) if text else whole, made.__name__, "exec"), made.__dict__)
+    return made

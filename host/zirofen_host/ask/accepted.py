@@ -2,44 +2,40 @@
 import atexit
 import os
 import tempfile
+from dataclasses import replace
 
 from zirofen_host.ask.program import Program
+from zirofen_host.collect import bounded, elsewhere
 from zirofen_host.collect import snapshot as snapshots
-from zirofen_host.collect.elsewhere import Accepted, Elsewhere
-from zirofen_host.collect.mount import Mounts
+from zirofen_host.collect.elsewhere import Accepted
+from zirofen_host.collect.model import Snapshot
+from zirofen_host.collect.snapshot import SubtreesOf
 from zirofen_host.collect.tree import read_tree
 from zirofen_host.collect.walk import spoiled_of
 from zirofen_host.fault import Fault
-from zirofen_host.profile import LONGEST_TEXT
+from zirofen_host.options import Options
+from zirofen_host.profile import LONGEST_TEXT, CgroupPath, path_of
 
 
-def take(options, subtrees_of):
-    """A snapshot, and what is known of the mounts: of this host, or of a text."""
+def take(options: Options, subtrees_of: SubtreesOf) -> Snapshot:
+    """A snapshot of this host, or of a text."""
     if not options.tree:
         return snapshots.take(options, subtrees_of)
     if options.only or options.keep:
         raise Fault("--only and --keep go with a host, and not with --tree")
-    found = Elsewhere(accept(options.tree, options.program), options.mount)
-    found.spoiled = {os.fsdecode(path): why for path, why in
-                     spoiled_of(found.changing, subtrees_of(found, found.changing) if found.changing else ()).items()}
-    mounts = Mounts("")
-    if found.about["mount"]:
-        mounts.second[found.mount] = "/", found.about["options"]
-    return found, mounts
+    found = elsewhere.read(accept(options.tree, options.program), options.mount)
+    subtrees = subtrees_of(found, found.changing) if found.changing else ()
+    spoiled = spoiled_of(found.changing, [CgroupPath(os.fsencode(path)) for path in subtrees])
+    return replace(found, spoiled={path_of(path): why for path, why in spoiled.items()})
 
 
-def bytes_of(file):
-    """What a text's file has; - is standard input."""
+def accept(file: str, program: str) -> Accepted:
+    """A text that the program takes; what it refuses is a fault."""
     try:
-        with open(0 if file == "-" else file, "rb", closefd=file != "-") as opened:
-            return opened.read(LONGEST_TEXT + 1)
+        # one byte more than a text has tells the program that it is too long
+        content = bounded.read_named(file, LONGEST_TEXT + 1).data
     except OSError as error:
         raise Fault(f"can't read the tree text: {error.strerror}") from None
-
-
-def accept(file, program):
-    """A text that the program takes; what it refuses is a fault."""
-    content = bytes_of(file)
     folder = tempfile.TemporaryDirectory()
     # the file stands for as long as it may be asked of
     atexit.register(folder.cleanup)

@@ -1,6 +1,6 @@
 """What is asked, and what the program answers: the second form of what is told."""
 from dataclasses import dataclass
-from typing import FrozenSet, Mapping, NamedTuple, Optional, Tuple
+from typing import AbstractSet, FrozenSet, Mapping, NamedTuple, Optional, Tuple
 
 from zirofen_host.collect.model import User
 from zirofen_host.profile import CgroupPath
@@ -26,8 +26,7 @@ class Holders:
     uids: FrozenSet[int]
 
 
-@dataclass(frozen=True)
-class Question:
+class Question(NamedTuple):
     """Each of these users asked of each of these subtrees."""
     users: Tuple[User, ...]
     subtrees: Tuple[CgroupPath, ...]
@@ -35,7 +34,7 @@ class Question:
 
 @dataclass(frozen=True)
 class Cut:
-    """Who isn't asked of a subtree, since too many of his groups matter there."""
+    """Who isn't asked of a subtree, since too many of their groups matter there."""
     user: User
     subtree: CgroupPath
     count: int
@@ -46,7 +45,10 @@ class Plan:
     """What to ask, and what isn't asked, with why."""
     questions: Tuple[Question, ...]
     cut: Tuple[Cut, ...]
-    # each user as he is asked, with the groups that matter
+    # everybody who reaches an entry of a guard, or owns or has a process in a subtree, and of which subtree that is so
+    users: Tuple[User, ...]
+    named: Mapping[CgroupPath, AbstractSet[User]]
+    # each user as they are asked, with the groups that matter
     asked_as: Mapping[User, User]
     # how many of a uid's groups were left out
     left_out: Mapping[int, int]
@@ -66,11 +68,18 @@ class Answer:
     lines: Tuple[str, ...]
 
 
-@dataclass(frozen=True)
-class Advice:
+class Advice(NamedTuple):
     """A guard that fails, as words, and what to change."""
     fails: Tuple[str, ...]
     changes: Tuple[Tuple[str, ...], ...]
+
+
+@dataclass(frozen=True)
+class Abilities:
+    """What the program can do, and its version where it tells it."""
+    has_audit_all: bool
+    has_advise: bool
+    version: Optional[str]
 
 
 @dataclass(frozen=True)
@@ -82,7 +91,7 @@ class Answers:
     found: Mapping[Pair, Answer]
     # how many users weren't asked of a subtree that everybody is let in to
     not_asked: Mapping[CgroupPath, int]
-    # subtrees of which nothing could be asked, each with the program's line
+    # subtrees of which nothing was asked, each with why
     refused: Mapping[CgroupPath, str]
     version: Optional[str]
     has_advise: bool

@@ -6,12 +6,15 @@ which tells the first pair that isn't contained, again and again from behind the
 import os
 import signal
 import subprocess
-from collections import namedtuple
 from concurrent.futures import ThreadPoolExecutor
-from functools import cached_property
+from dataclasses import dataclass
+from typing import Callable, Collection, Dict, Iterable, Iterator, List, NamedTuple, Optional, Sequence, Tuple, TypeVar
 
 from zirofen_host import progress
+from zirofen_host.ask.model import Abilities, Advice, Answer, Pair, Question
+from zirofen_host.collect.model import User
 from zirofen_host.fault import FAULT, Fault
+from zirofen_host.profile import CgroupPath, text_of
 
 CONTAINED, ESCAPES, UNSETTLED = 0, 1, 2
 # the worst first: an answer that is missing may be any
@@ -21,207 +24,216 @@ NOT_BUILT = 70
 # bytes of one run's arguments, each with its pointer; a kernel takes two millions at least, with the environment
 ROOM = 900_000
 
-Answer = namedtuple("Answer", "status lines")
-Ended = namedtuple("Ended", "status lines")
+Item = TypeVar("Item")
+Result = TypeVar("Result")
+Answered = Dict[Pair, Answer]
+Audit = Callable[[Sequence[User], Sequence[CgroupPath]], Answered]
+
+
+class Ended(NamedTuple):
+    """How a run ended that is no fault."""
+    status: int
+    lines: List[str]
+
+
+NOTHING_TOLD = Ended(CONTAINED, ["contained"])
 
 
 class Refused(Exception):
     """The program's fault for one run; of the whole text, or maybe of one pair alone."""
 
-    def __init__(self, line, is_whole, help_lines=()):
+    def __init__(self, line: str, is_whole: bool, help_lines: Iterable[str] = ()) -> None:
         super().__init__(line)
         self.is_whole, self.help_lines = is_whole, tuple(help_lines)
 
-    def fault(self):
+    def fault(self) -> Fault:
         return Fault(str(self), self.help_lines)
 
 
-def size(words):
+def size(words: Iterable[str]) -> int:
     return sum(len(word) + 9 for word in words)
 
 
-def user_word(user):
+def user_word(user: User) -> str:
     return f"{user.uid}:{','.join(map(str, user.gids))}" if user.gids else str(user.uid)
 
 
-def user_words(user):
+def user_words(user: User) -> List[str]:
     return ["--uid", str(user.uid), *(word for gid in user.gids for word in ("--gid", str(gid)))]
 
 
-def answer_of(ended, lines):
+def answer_of(ended: Optional[int], lines: Sequence[str]) -> Answer:
     """An answer by its lines, which the status has to go with."""
     status = WORDS.get(lines[0].split(" ")[0]) if lines else None
     if status is None or status != ended:
         raise Refused(f"ended with status {ended} and {lines[0] if lines else 'no line'!r}", False)
-    return Answer(status, lines)
+    return Answer(status, tuple(lines))
 
 
+@dataclass(frozen=True)
 class Program:
     """The program, and the tree text that it is asked of."""
+    path: str
+    tree: str
 
-    def __init__(self, program, tree):
-        self.program = program
-        self.tree = tree
+    def start(self, words: Sequence[str]) -> "subprocess.CompletedProcess[str]":
+        return subprocess.run([self.path, *words], stdin=subprocess.DEVNULL, capture_output=True, text=True, errors="replace")
 
-    def start(self, words):
-        return subprocess.run([self.program, *words], stdin=subprocess.DEVNULL, capture_output=True, text=True,
-                              errors="replace")
-
-    def run(self, *words):
+    def try_start(self, words: Sequence[str]) -> "subprocess.CompletedProcess[str]":
         try:
-            ended = self.start(words)
+            return self.start(words)
         except OSError as error:
-            raise Fault(f"can't run {self.program}: {error.strerror}") from None
+            raise Fault(f"can't run {self.path}: {error.strerror}") from None
+
+    def run(self, *words: str) -> Ended:
+        ended = self.try_start(words)
         if ended.returncode in (CONTAINED, ESCAPES, UNSETTLED) and ended.stdout:
             return Ended(ended.returncode, ended.stdout.splitlines())
         told = told_by(ended)
         raise Refused(told[0], ended.returncode == NOT_BUILT or told[0].startswith("fault: tree"), help_below(told))
 
-    def refuse_text(self):
+    def refuse_text(self) -> None:
         """Ends with the program's fault line where it doesn't take the text: no operation is tried in it."""
-        try:
-            ended = self.start(["replay", "--tree", self.tree, "--uid", "65534", "--ops", os.devnull])
-        except OSError as error:
-            raise Fault(f"can't run {self.program}: {error.strerror}") from None
+        ended = self.try_start(["replay", "--tree", self.tree, "--uid", "65534", "--ops", os.devnull])
         if ended.returncode != CONTAINED:
             told = told_by(ended)
             raise Fault(told[0], help_below(told))
 
-    def at_once(self, call, items):
-        """Calls with each of the items, several at once; the results in their order."""
-        results = []
-        with ThreadPoolExecutor(os.cpu_count()) as workers:
-            for result in workers.map(call, items):
-                results.append(result)
-                progress.tell(f"{len(results)} of {len(items)} runs of the program are done")
-        return results
-
-    def help_of(self, *words):
+    def ask(self, questions: Iterable[Question], has_audit_all: bool) -> Answered:
+        """The answers that aren't contained."""
+        audit: Audit = self.audit_all if has_audit_all else self.audit_in_turn
+        runs = list(fitting(questions))
+        if not has_audit_all:
+            runs = [Question(some, run.subtrees) for run in runs for some in shares_of(run.users, os.cpu_count() or 1)]
+        found: Answered = {}
         try:
-            return "\n".join(self.run(*words, "--help").lines)
-        except Refused as refused:
-            if refused.is_whole:
-                raise refused.fault() from None
-            return ""
-
-    @cached_property
-    def has_audit_all(self):
-        return "--all" in self.help_of("audit").split()
-
-    @cached_property
-    def has_advise(self):
-        return any(line.split()[:1] == ["advise"] for line in self.help_of().splitlines())
-
-    @cached_property
-    def version(self):
-        try:
-            return self.run("--version").lines[0]
-        except Refused:
-            return None
-
-    def ask(self, questions):
-        """The answers that aren't contained, by user and subtree. A question is a list of users and one of subtrees."""
-        try:
-            audit = self.audit_all if self.has_audit_all else self.audit_in_turn
-            runs = [(audit, *block) for block in self.fitting(questions)]
-            if not self.has_audit_all:
-                runs = [(audit, some, subtrees) for _, users, subtrees in runs for some in parts_of(users, os.cpu_count())]
-            found = {}
-            for answers in self.at_once(lambda run: self.settle(*run), runs):
+            for answers in at_once(lambda run: settle(audit, run.users, run.subtrees), runs):
                 found.update(answers)
-            return found
         except Refused as refused:
             raise refused.fault() from None
-
-    def fitting(self, questions):
-        for users, subtrees in questions:
-            for some_users in blocks_of(users, lambda user: ["--uid", user_word(user)], ROOM // 2):
-                yield from ((some_users, some) for some in blocks_of(subtrees, lambda path: ["--subtree", path], ROOM // 2))
-
-    def settle(self, audit, users, subtrees):
-        """The answers of a run; where it ends with a fault, those of its halves, down to the pair that has it."""
-        try:
-            return audit(users, subtrees)
-        except Refused as refused:
-            if refused.is_whole:
-                raise
-            if len(users) == len(subtrees) == 1:
-                return {(users[0], subtrees[0]): Answer(FAULT, [str(refused)])}
-        if len(subtrees) > 1:
-            halves = [(users, half) for half in halves_of(subtrees)]
-        else:
-            halves = [(half, subtrees) for half in halves_of(users)]
-        found = {}
-        for half in halves:
-            found.update(self.settle(audit, *half))
         return found
 
-    def audit(self, users, subtrees, *options):
+    def audit(self, users: Sequence[User], subtrees: Sequence[CgroupPath], *options: str) -> Ended:
         words = [word for user in users for word in ("--uid", user_word(user))]
-        words += [word for path in subtrees for word in ("--subtree", path)]
+        words += [word for path in subtrees for word in ("--subtree", text_of(path))]
         return self.run("audit", *options, "--tree", self.tree, *words)
 
-    def audit_all(self, users, subtrees):
+    def audit_all(self, users: Sequence[User], subtrees: Sequence[CgroupPath]) -> Answered:
         ended = self.audit(users, subtrees, "--all")
-        by_word, paths = {user_word(user): user for user in users}, set(subtrees)
-        found = {}
+        by_word, paths = {user_word(user): user for user in users}, {text_of(path): path for path in subtrees}
+        found: Answered = {}
         for head, lines in sections(ended.lines):
             word, path = (head.split(" ") + ["", ""])[1:3]
-            pair = by_word.get(word), path
-            if head != f"pair {word} {path}" or word not in by_word or path not in paths or pair in found:
+            pair = Pair(by_word[word], paths[path]) if word in by_word and path in paths else None
+            if head != f"pair {word} {path}" or pair is None or pair in found:
                 raise Refused(f"an answer that wasn't asked for: {head!r}", False)
             found[pair] = answer_of(WORDS.get(lines[0].split(" ")[0] if lines else ""), lines)
         statuses = {answer.status for answer in found.values()}
-        if CONTAINED in statuses or ended.status != worst(statuses) or not found and ended.lines != ["contained"]:
+        if CONTAINED in statuses or ended.status != worst(statuses) or not found and ended.lines != NOTHING_TOLD.lines:
             raise Refused(f"ended with status {ended.status}, which its answers don't have", False)
         return found
 
-    def audit_in_turn(self, users, subtrees):
-        """Without `--all`: the users before the one of the first pair that is told are contained, and so is he before its
-        subtree; he is asked of alone from there on, and then those behind him. One uid may have several lists of groups."""
-        found, left = {}, users
-        while left:
-            ended = self.audit(left, subtrees)
-            if ended == Ended(CONTAINED, ["contained"]):
-                break
-            told = self.told_pair(ended, left, subtrees)
-            for user in (user for user in left if user.uid == told[0]):
+    def audit_in_turn(self, users: Sequence[User], subtrees: Sequence[CgroupPath]) -> Answered:
+        """Without `--all`: the users before the one of the first pair that is told are contained, and so are they before its
+        subtree; they are asked of alone from there on, and then those behind them. One uid may have several lists of groups."""
+        found: Answered = {}
+        left = users
+        while left and (ended := self.audit(left, subtrees)) != NOTHING_TOLD:
+            uid, _ = told_pair(ended, left, subtrees)
+            for user in (user for user in left if user.uid == uid):
                 found.update(self.audit_one(user, subtrees))
-            first = [user.uid for user in left].index(told[0])
-            left = [user for user in left[first:] if user.uid != told[0]]
+            first = [user.uid for user in left].index(uid)
+            left = [user for user in left[first:] if user.uid != uid]
         return found
 
-    def told_pair(self, ended, users, subtrees):
-        words = ended.lines[0].split(" ")
-        if words[0] != "pair" or words[1] not in {str(user.uid) for user in users} or words[2:] not in [[path] for path in subtrees]:
-            raise Refused(f"an answer that wasn't asked for: {ended.lines[0]!r}", False)
-        return int(words[1]), words[2]
-
-    def audit_one(self, user, subtrees):
-        found, left = {}, subtrees
-        while left:
-            ended = self.audit([user], left)
-            if ended == Ended(CONTAINED, ["contained"]):
-                break
-            _, path = self.told_pair(ended, [user], left)
-            found[user, path] = answer_of(ended.status, ended.lines[1:])
+    def audit_one(self, user: User, subtrees: Sequence[CgroupPath]) -> Answered:
+        found: Answered = {}
+        left = subtrees
+        while left and (ended := self.audit([user], left)) != NOTHING_TOLD:
+            _, path = told_pair(ended, [user], left)
+            found[Pair(user, path)] = answer_of(ended.status, ended.lines[1:])
             left = left[left.index(path) + 1:]
         return found
 
-    def advise(self, user, subtree):
-        """What fails for a user and a subtree, each with its changes, as lists of words; Refused is for the caller."""
-        ended = self.run("advise", "--tree", self.tree, *user_words(user), "--subtree", subtree)
-        found = []
-        for line in ended.lines:
-            words = line.split(" ")
-            if words[0] == "fails":
-                found.append((words[1:], []))
-            elif found:
-                found[-1][1].append(words)
-        return found
+    def advise(self, user: User, subtree: CgroupPath) -> List[Advice]:
+        """What fails for a user and a subtree, each with its changes, as words; Refused is for the caller."""
+        ended = self.run("advise", "--tree", self.tree, *user_words(user), "--subtree", text_of(subtree))
+        lines = [tuple(line.split(" ")) for line in ended.lines]
+        starts = [number for number, words in enumerate(lines) if words[0] == "fails"]
+        return [Advice(lines[start][1:], tuple(lines[start + 1:end])) for start, end in zip(starts, [*starts[1:], len(lines)])]
 
 
-def told_by(ended):
+def abilities_of(path: str) -> Abilities:
+    """What the program can do, by what it says of itself."""
+    program = Program(path, "")
+    audit, whole = help_of(program, "audit"), help_of(program)
+    return Abilities("--all" in audit.split(), any(line.split()[:1] == ["advise"] for line in whole.splitlines()),
+                     version_of(program))
+
+
+def help_of(program: Program, *words: str) -> str:
+    try:
+        return "\n".join(program.run(*words, "--help").lines)
+    except Refused as refused:
+        if refused.is_whole:
+            raise refused.fault() from None
+        return ""
+
+
+def version_of(program: Program) -> Optional[str]:
+    try:
+        return program.run("--version").lines[0]
+    except Refused:
+        return None
+
+
+def at_once(call: Callable[[Item], Result], items: Sequence[Item]) -> List[Result]:
+    """Calls with each of the items, several at once; the results in their order."""
+    results = []
+    with ThreadPoolExecutor(os.cpu_count()) as workers:
+        for result in workers.map(call, items):
+            results.append(result)
+            progress.tell(f"{len(results)} of {len(items)} runs of the program are done")
+    return results
+
+
+def fitting(questions: Iterable[Question]) -> Iterator[Question]:
+    """The questions in parts whose words fit into one run each."""
+    for question in questions:
+        for users in blocks_of(question.users, lambda user: ["--uid", user_word(user)], ROOM // 2):
+            for subtrees in blocks_of(question.subtrees, lambda path: ["--subtree", text_of(path)], ROOM // 2):
+                yield Question(tuple(users), tuple(subtrees))
+
+
+def settle(audit: Audit, users: Sequence[User], subtrees: Sequence[CgroupPath]) -> Answered:
+    """The answers of a run; where it ends with a fault, those of its halves, down to the pair that has it."""
+    try:
+        return audit(users, subtrees)
+    except Refused as refused:
+        if refused.is_whole:
+            raise
+        if len(users) == len(subtrees) == 1:
+            return {Pair(users[0], subtrees[0]): Answer(FAULT, (str(refused),))}
+    found: Answered = {}
+    if len(subtrees) > 1:
+        for some in shares_of(subtrees, 2):
+            found.update(settle(audit, users, some))
+    else:
+        for of in shares_of(users, 2):
+            found.update(settle(audit, of, subtrees))
+    return found
+
+
+def told_pair(ended: Ended, users: Sequence[User], subtrees: Sequence[CgroupPath]) -> Tuple[int, CgroupPath]:
+    """The uid and the subtree of the pair that a run told."""
+    words = ended.lines[0].split(" ")
+    paths = {text_of(path): path for path in subtrees}
+    if len(words) != 3 or words[0] != "pair" or words[1] not in {str(user.uid) for user in users} or words[2] not in paths:
+        raise Refused(f"an answer that wasn't asked for: {ended.lines[0]!r}", False)
+    return int(words[1]), paths[words[2]]
+
+
+def told_by(ended: "subprocess.CompletedProcess[str]") -> List[str]:
     """The lines of a fault; the first is the fault. Where a signal ended the program, whatever it wrote is none."""
     if ended.returncode < 0:
         return [f"the program was ended by the signal {signal_name(-ended.returncode)}, which is no answer: "
@@ -229,24 +241,24 @@ def told_by(ended):
     return [line for line in ended.stderr.split("\n") if line] or [f"ended with status {ended.returncode}"]
 
 
-def help_below(told):
+def help_below(told: Sequence[str]) -> List[str]:
     """The lines of help below a fault, which stand two spaces in."""
     return [line for line in told[1:] if line.startswith("  ")]
 
 
-def signal_name(number):
+def signal_name(number: int) -> str:
     try:
         return signal.Signals(number).name
     except ValueError:
         return str(number)
 
 
-def blocks_of(items, words, room):
+def blocks_of(items: Iterable[Item], words: Callable[[Item], Iterable[str]], room: int) -> Iterator[List[Item]]:
     """Items in lists whose words fit."""
-    by_words = ((item, words(item)) for item in items)
-    block, used = [], 0
-    for item, its_words in by_words:
-        cost = size(its_words)
+    block: List[Item] = []
+    used = 0
+    for item in items:
+        cost = size(words(item))
         if block and used + cost > room:
             yield block
             block, used = [], 0
@@ -256,20 +268,15 @@ def blocks_of(items, words, room):
         yield block
 
 
-def parts_of(items, count):
-    """Items in at most so many lists of about one length, in their order."""
+def shares_of(items: Sequence[Item], count: int) -> List[Tuple[Item, ...]]:
+    """Items in at most so many parts of about one length, in their order."""
     length = -(-len(items) // count)
-    return [items[start:start + length] for start in range(0, len(items), length)]
+    return [tuple(items[start:start + length]) for start in range(0, len(items), length)]
 
 
-def halves_of(items):
-    middle = len(items) // 2
-    return items[:middle], items[middle:]
-
-
-def sections(lines):
+def sections(lines: Iterable[str]) -> List[Tuple[str, List[str]]]:
     """The lines behind each `pair`."""
-    found = []
+    found: List[Tuple[str, List[str]]] = []
     for line in lines:
         if line.startswith("pair "):
             found.append((line, []))
@@ -278,5 +285,5 @@ def sections(lines):
     return found
 
 
-def worst(statuses):
+def worst(statuses: Collection[int]) -> int:
     return next((status for status in WORST_FIRST if status in statuses), CONTAINED)

@@ -1,36 +1,43 @@
 """What is asked of a host: its subtrees, and everybody who can matter for one of them."""
 import itertools
 import re
-from collections import Counter, defaultdict, namedtuple
+from collections import Counter, defaultdict
+from dataclasses import dataclass, replace
 from functools import cached_property
+from typing import (AbstractSet, Callable, Collection, Container, DefaultDict, Dict, FrozenSet, Iterable, List, Mapping, Optional,
+                    Set, Tuple)
 
-from zirofen_host.ask.program import ESCAPES
 from zirofen_host.ask.delegations import Delegations
-from zirofen_host.profile import ANYBODY, HANDED_OVER, MOST_GROUPS, ancestors, parent_of, topmost
+from zirofen_host.ask.model import Answer, Cut, Guarded, Holders, Pair, Plan, Question
+from zirofen_host.ask.program import ESCAPES
+from zirofen_host.collect.accounts import Accounts, accounts_of
+from zirofen_host.collect.model import CLASSES, GROUP, OTHERS, OWNER, Snapshot, Tree, User
+from zirofen_host.collect.snapshot import SubtreesOf
 from zirofen_host.collect.tree import in_order
-from zirofen_host.collect.model import CLASSES, OTHERS, User
 from zirofen_host.collect.walk import MANAGERS_MARK
+from zirofen_host.options import Options
+from zirofen_host.profile import ANYBODY, HANDED_OVER, MOST_GROUPS, CgroupPath, ancestors, is_root, parent_of, text_of, topmost
 
 # a unit of the system's manager stands in slices alone; those of a user's manager stand in a unit
-_UNIT = re.compile(r"(/[^/]+\.slice)*/[^/]+\.(service|scope)\Z")
+_UNIT = re.compile(r"(/[^/]+\.slice)*/([^/]+\.(service|scope))\Z")
 _USERS_MANAGER = re.compile(r"user@([1-9][0-9]*)\.service\Z")
 
-# by which class somebody holds a subtree, and which uids or which gid that class is
-Holders = namedtuple("Holders", "by ids uids")
-Cut = namedtuple("Cut", "user subtree count")
 # of those whom nothing but everybody's bits lets in, so many are asked of each subtree
 FURTHER = 8
 # so many pairs of whoever has what is above are asked one by one; the subtrees of a block are asked of who holds one of them
 MANY, BLOCK = 256, 32
 
+NOBODY = Holders(None, (), frozenset())
 
-def unit_of(path):
+
+def unit_of(path: CgroupPath) -> Optional[str]:
     """The name of a unit of the system's manager, or None."""
-    return path.rpartition("/")[2] if _UNIT.match(path) else None
+    unit = _UNIT.match(text_of(path))
+    return unit[2] if unit else None
 
 
-def with_groups(user, matter, gids_of_tree):
-    """A user with his primary group and those further ones that stand in the tree, and how many of these were left out;
+def with_groups(user: User, matter: Container[int], gids_of_tree: Container[int]) -> Tuple[Optional[User], int]:
+    """A user with their primary group and those further ones that stand in the tree, and how many of these were left out;
     or None, and how many matter, where these are too many."""
     further = [gid for gid in user.gids[1:] if gid in gids_of_tree]
     first = [gid for gid in further if gid in matter]
@@ -41,244 +48,275 @@ def with_groups(user, matter, gids_of_tree):
     return User(user.uid, user.gids[:1] + tuple(sorted(kept))), len(further) - len(kept)
 
 
+@dataclass(frozen=True)
 class Questions:
-    """The subtrees of a tree, and the users to ask them of."""
+    """The subtrees of a tree that are asked of, and who holds them or has what is above."""
+    tree: Tree
+    accounts: Accounts
+    marks: Mapping[CgroupPath, Mapping[str, bytes]]
+    delegations: Delegations
+    # what is meant to be handed over, each with why
+    meant: Mapping[CgroupPath, str]
+    # those of which something can be asked
+    subtrees: Tuple[CgroupPath, ...]
+    # who holds each subtree, also of those of which nothing can be asked
+    holders: Mapping[CgroupPath, Holders]
 
-    def __init__(self, tree, accounts, marks):
-        self.tree = tree
-        self.accounts = accounts
-        self.marks = marks
-        self.delegations = Delegations(tree, accounts)
-        self.meant = {path: why for path in tree.rows if (why := self.why_meant(path))}
-        found = {each.path for each in self.delegations.find()}
-        self.subtrees = in_order(found | set(self.meant))
+    def without(self, paths: Container[CgroupPath]) -> "Questions":
+        """The same without subtrees of which nothing can be asked."""
+        return replace(self, subtrees=tuple(path for path in self.subtrees if path not in paths))
 
-    def leave_out(self, paths):
-        """Leaves out subtrees of which nothing can be asked."""
-        self.subtrees = [path for path in self.subtrees if path not in paths]
-
-    def guarded(self, subtree):
-        """The entries of a subtree that its guards stand on; a long list for one that lies deep, and not kept."""
+    def guarded(self, subtree: CgroupPath) -> Iterable[Guarded]:
+        """The entries of a subtree that its guards stand on."""
         return self.delegations.guarded(subtree)
 
-    def why_meant(self, path):
-        """Why a cgroup is meant to be handed over: by the system manager's mark, or as a unit with a user of its own."""
-        if path == "/":
-            return None
-        if self.marks.get(path, {}).get(MANAGERS_MARK, b"0") != b"0":
-            return MANAGERS_MARK
-        name = unit_of(path)
-        is_own = name and (_USERS_MANAGER.match(name) or self.tree.rows[path].directory.uid)
-        return "unit" if is_own else None
-
-    @cached_property
-    def users(self):
-        """Everybody who reaches an entry of a guard, or owns or has a process in a subtree."""
-        return sorted(set().union(*self.named.values())) if self.named else []
-
-    @cached_property
-    def named(self):
-        """The users that the entries and the processes of each subtree name, and its guards' entries."""
-        uids = defaultdict(set)
-        for uid, at in {(uid, at) for _, uid, at in self.tree.processes}:
-            for path in (at, *ancestors(at)):
-                uids[path].add(uid)
-        found = {}
-        for path in self.subtrees:
-            entries = {self.delegations.entry(each.path, each.name) for each in self.guarded(path)}
-            entries |= {self.delegations.entry(path, name) for name in HANDED_OVER}
-            users = {user for entry in entries for user in self.delegations.users_at(entry)}
-            users |= {user for uid in uids[path] - {0} for user in self.delegations.users("uid", uid)}
-            found[path] = {user for user in users if user.uid}
-        return found
-
-    def is_open(self, subtree):
+    def is_open(self, subtree: CgroupPath) -> bool:
         """Whether everybody writes an entry on which a guard of a subtree stands."""
         return any(self.delegations.entry(each.path, each.name).mode & 0o002 for each in self.guarded(subtree))
 
-    @cached_property
-    def holders(self):
-        """Who holds each subtree: its own user, or those of the group that it was handed to."""
-        of = self.delegations
-        found = {}
-        for path in self.subtrees:
-            held = None if path in self.meant else self.strongest(path, of.reached_newly)
-            # what is meant for somebody, or has a limit alone that somebody reaches, is held by whom it is his
-            found[path] = held or self.strongest(path, of.reached) or Holders(None, [], set())
-        return found
-
-    def strongest(self, path, reached):
-        """Those who hold a subtree by what they reach, as far as owner goes before group and group before everybody."""
-        held = defaultdict(set)
-        for user in self.delegations.candidates(self.tree.rows[path]):
-            for name in reached(user, path):
-                entry = self.delegations.entry(path, name)
-                by = user.class_of(entry)
-                held[by].add((entry.gid if by == "group" else entry.uid if by == "owner" else None, user.uid))
-        for by in CLASSES:
-            if held[by]:
-                return Holders(by, sorted({number for number, _ in held[by] if number is not None}),
-                               {uid for _, uid in held[by]})
-        return None
-
-    def holds(self, user, subtree):
-        """Whether he is among those who hold a subtree. Of somebody unknown no more is known than his group."""
-        by, ids, uids = self.holders[subtree]
-        if user.uid not in uids or user.uid != ANYBODY or by == "owner":
-            return user.uid in uids
-        return user.gids[:1] == tuple(ids[:1]) if by == "group" else not user.gids
-
-    def gids_that_matter(self, subtree):
+    def gids_that_matter(self, subtree: CgroupPath) -> Set[int]:
         return {self.delegations.entry(each.path, each.name).gid for each in self.guarded(subtree)}
 
-    @cached_property
-    def plan(self):
-        """What to ask: lists of users with lists of subtrees, and what is left out since the program takes so many groups.
-        Where everybody writes, somebody of whom nothing is known stands for those whom nothing else lets in."""
-        matter = set().union(*map(self.gids_that_matter, self.subtrees)) if self.subtrees else set()
-        self.left_out, self.asked_as, self.expected_of, cut, asked = Counter(), {}, {}, [], defaultdict(set)
-        for user in self.users:
-            few = self.as_asked(user, matter)
-            if few:
-                self.asked_as[user] = few
-                continue
-            for path in self.subtrees:
-                few = self.as_asked(user, self.gids_that_matter(path))
-                if few:
-                    asked[path].add(few)
-                else:
-                    cut.append(Cut(user, path, len(self.gids_that_matter(path).intersection(user.gids[1:])) + 1))
-        return self.questions_of(asked), cut
+    def holds(self, user: User, subtree: CgroupPath) -> bool:
+        """Whether a user is among those who hold a subtree. Of somebody unknown no more is known than their group."""
+        holders = self.holders[subtree]
+        if user.uid not in holders.uids or user.uid != ANYBODY or holders.by == OWNER:
+            return user.uid in holders.uids
+        return user.gids[:1] == holders.ids[:1] if holders.by == GROUP else not user.gids
 
-    def as_asked(self, user, matter):
-        """A user with the groups that he is asked with, or None; what is left out of them is counted."""
-        few, count = with_groups(user, matter, self.delegations.gids_of_tree)
-        if few:
-            self.left_out[few.uid] = max(self.left_out[few.uid], count)
-        return few
-
-    def questions_of(self, asked):
-        """Everybody of every subtree that isn't open to everybody; of the others those whom an entry names."""
-        everybody = frozenset(self.asked_as.values())
-        by_users, known = defaultdict(list), {}
-        for owners, paths in self.by_owners_above().items():
-            left = everybody - self.expected(everybody, owners, paths)
-            for path in paths:
-                users = left & self.named_as_asked(path) if self.is_open(path) else left
-                users = users | asked[path] if asked[path] else users
-                by_users[known.setdefault(users, users)].append(path)
-            if len(left) < len(everybody):
-                self.expected_of[owners] = paths
-                for some in (paths[start:start + BLOCK] for start in range(0, len(paths), BLOCK)):
-                    by_users[frozenset(user for user in everybody if any(self.is_asked_as_holder(user, path) for path in some))] += some
-        return [(sorted(users), paths) for users, paths in by_users.items() if users]
-
-    def named_as_asked(self, path):
-        return {self.asked_as[user] for user in self.named[path] if user in self.asked_as}
-
-    def by_owners_above(self):
-        """The subtrees by who has a directory above, where they aren't meant as somebody's; subordinate ids are their owner's."""
-        found = defaultdict(list)
-        for path in self.subtrees:
-            above = () if path in self.meant else ancestors(path)
-            uids = {self.tree.rows[place].directory.uid for place in above if place != "/"} - {0}
-            found[frozenset(root for uid in uids for root in self.accounts.roots(uid))].append(path)
-        return found
-
-    def expected(self, users, owners, paths):
-        """Whom not to ask of subtrees since what he can do there is expected: where these are so many pairs that whoever has
-        what is above them makes them by the thousand."""
-        theirs = frozenset(user for user in users if not owners.isdisjoint(self.accounts.roots(user.uid))) if owners else frozenset()
-        return theirs if len(theirs) * len(paths) > MANY else frozenset()
-
-    def is_asked_as_holder(self, user, path):
-        """Whether he holds a subtree and isn't above it, or nobody holds it who isn't."""
+    def is_asked_as_holder(self, user: User, path: CgroupPath) -> bool:
+        """Whether a user holds a subtree and isn't above it, or nobody holds it who isn't."""
         if not self.holds(user, path):
             return False
         is_above = [self.is_above(uid, path) for uid in self.holders[path].uids]
         return all(is_above) or not self.is_above(user.uid, path)
 
-    def is_above(self, uid, path):
-        """Whether a uid's person has a directory above, in his own name or a subordinate one."""
+    def is_above(self, uid: int, path: CgroupPath) -> bool:
+        """Whether a uid's person has a directory above, in their own name or a subordinate one."""
         return path not in self.meant and any(self.is_of(place, uid) for place in ancestors(path))
 
-    def further(self, answers):
-        """What to ask where everybody is let in, and of all that were asked nobody escapes: some of those who hold something
-        elsewhere, who may be able to do more than anybody. Of the rest it is told how many weren't asked."""
-        escaped = {path for (user, path), answer in answers.items() if answer.status == ESCAPES
-                   and not self.holds(user, path) and not self.handed_above(user, path)}
-        holders = [few for user, few in self.asked_as.items() if user.uid in self.uids_that_hold]
-        everybody, questions, self.not_asked = set(self.asked_as.values()), [], {}
-        for path in self.subtrees:
-            if path not in escaped and self.is_open(path):
-                of = self.named_as_asked(path)
-                some = list(itertools.islice((user for user in holders if user not in of), FURTHER))
-                questions += [(sorted(some), [path])] if some else []
-                left = len(everybody - of) - len(some)
-                self.not_asked.update({path: left} if left else {})
-        return questions
-
-    @cached_property
-    def uids_that_hold(self):
-        return {uid for held in self.holders.values() for uid in held.uids}
-
-    def is_same_person(self, uid, other):
-        return not self.accounts.persons(uid).isdisjoint(self.accounts.persons(other))
-
-    def has_directory(self, user, path):
-        """By which class a cgroup's directory was handed to him; what everybody writes was handed to nobody."""
+    def has_directory(self, user: User, path: CgroupPath) -> Optional[str]:
+        """By which class a cgroup's directory was handed to a user; what everybody writes was handed to nobody."""
         entry = self.tree.rows[path].directory
         by = user.class_of(entry)
-        if path == "/" or by == OTHERS or not user.reaches(entry) or by == "group" and not entry.gid:
+        if by == OTHERS or is_root(path) or not user.reaches(entry) or by == GROUP and not entry.gid:
             return None
         return by
 
-    def handed_above(self, user, subtree):
-        """The topmost cgroup above a subtree that he was handed, where that explains what he can do to the subtree: it isn't
-        meant as somebody's delegation, and he owns what is above or is himself who holds the subtree."""
+    def handed_above(self, user: User, subtree: CgroupPath) -> Optional[CgroupPath]:
+        """The topmost cgroup above a subtree that a user was handed, where that explains what they can do to the subtree: it
+        isn't meant as somebody's delegation, and they own what is above or are themselves who holds the subtree."""
         if subtree in self.meant:
             return None
-        is_his = any(self.is_same_person(user.uid, uid) for uid in self.holders[subtree].uids)
+        persons = self.accounts.persons(user.uid)
+        is_theirs = any(not persons.isdisjoint(self.accounts.persons(uid)) for uid in self.holders[subtree].uids)
         for place in reversed(list(ancestors(subtree))):
             by = self.has_directory(user, place)
-            if by == "owner" or by and is_his or self.is_of(place, user.uid):
+            if by == OWNER or by and is_theirs or self.is_of(place, user.uid):
                 return place
         return None
 
-    def is_of(self, path, uid):
-        """Whether a cgroup's directory is that of a person, by his own uid or by subordinate ones."""
+    def is_of(self, path: CgroupPath, uid: int) -> bool:
+        """Whether a cgroup's directory is that of a person, by their own uid or by subordinate ones."""
         owner = self.tree.rows[path].directory.uid
-        return path != "/" and owner != 0 and not self.accounts.roots(owner).isdisjoint(self.accounts.roots(uid))
+        return owner != 0 and not is_root(path) and not self.accounts.roots(owner).isdisjoint(self.accounts.roots(uid))
 
-    def expected_above(self):
-        """Who has something above subtrees of which his pairs weren't asked: by uid and the topmost place that is his."""
-        found = defaultdict(set)
-        for owners, paths in self.expected_of.items():
+    def expected_above(self, plan: Plan) -> Dict[Tuple[int, CgroupPath], Set[CgroupPath]]:
+        """Who has something above subtrees of which their pairs weren't asked: by uid and the topmost place that is theirs."""
+        found: Dict[Tuple[int, CgroupPath], Set[CgroupPath]] = defaultdict(set)
+        for owners, paths in plan.expected_of.items():
             for path in topmost(paths):
                 for uid in owners:
                     handed = next((place for place in reversed(list(ancestors(path))) if self.is_of(place, uid)), None)
-                    if handed:
+                    if handed is not None:
                         found[uid, handed].add(path)
         return found
 
-    def is_inside_his(self, user, path):
+    def is_inside_his(self, user: User, path: CgroupPath) -> bool:
         """Whether a cgroup lies properly inside one that was handed to that person."""
         persons = self.accounts.persons(user.uid)
-        return any(place != "/" and (self.tree.rows[place].directory.uid in persons or self.has_directory(user, place))
+        return any(not is_root(place) and (self.tree.rows[place].directory.uid in persons or self.has_directory(user, place))
                    for place in ancestors(path))
 
-    def already_over(self, subtree):
+    def already_over(self, subtree: CgroupPath) -> bool:
         row = self.tree.rows[subtree]
         limits = [row.values.get(name, "max") for name in ("cgroup.max.descendants", "cgroup.max.depth")]
-        return any(limit != "max" and count > limit for count, limit in zip(self.below[subtree], limits))
+        return any(isinstance(limit, int) and count > limit for count, limit in zip(self.below[subtree], limits))
 
     @cached_property
-    def below(self):
+    def below(self) -> Mapping[CgroupPath, Tuple[int, int]]:
         """Numbers of descendants, and of levels below, of each cgroup."""
-        counts, depths = Counter(), Counter()
+        counts: Dict[CgroupPath, int] = Counter()
+        depths: Dict[CgroupPath, int] = Counter()
         for path in sorted(self.tree.rows, key=len, reverse=True):
-            if path != "/":
-                parent = parent_of(path)
+            parent = parent_of(path)
+            if parent is not None:
                 counts[parent] += counts[path] + 1
                 depths[parent] = max(depths[parent], depths[path] + 1)
         return {path: (counts[path], depths[path]) for path in self.tree.rows}
+
+
+def questions_of(snapshot: Snapshot, accounts: Accounts) -> Questions:
+    """What can be asked of a snapshot."""
+    marks = {path: found.marks for path, found in snapshot.cgroups.items() if found.marks}
+    delegations, meant = Delegations(snapshot.tree, accounts), meant_in(snapshot)
+    subtrees = subtrees_in(delegations, meant)
+    return Questions(snapshot.tree, accounts, marks, delegations, meant, tuple(subtrees),
+                     {path: holders_of(delegations, path, path in meant) for path in subtrees})
+
+
+def subtrees_by(options: Options) -> SubtreesOf:
+    """Which subtrees are asked of, by a snapshot that may have changed while it was taken."""
+    accounts: List[Accounts] = []
+
+    def subtrees_of(snapshot: Snapshot, _: Mapping[CgroupPath, str]) -> List[CgroupPath]:
+        if not accounts:
+            accounts.append(accounts_of(options.accounts, snapshot))
+        return subtrees_in(Delegations(snapshot.tree, accounts[0]), meant_in(snapshot))
+    return subtrees_of
+
+
+def subtrees_in(delegations: Delegations, meant: Iterable[CgroupPath]) -> List[CgroupPath]:
+    """What was handed over and what is meant to be."""
+    return in_order({each.path for each in delegations.find()}.union(meant))
+
+
+def meant_in(snapshot: Snapshot) -> Dict[CgroupPath, str]:
+    return {path: why for path in snapshot.tree.rows if (why := why_meant(snapshot, path))}
+
+
+def why_meant(snapshot: Snapshot, path: CgroupPath) -> Optional[str]:
+    """Why a cgroup is meant to be handed over: by the system manager's mark, or as a unit with a user of its own."""
+    if is_root(path):
+        return None
+    if snapshot.cgroups[path].marks.get(MANAGERS_MARK, b"0") != b"0":
+        return MANAGERS_MARK
+    name = unit_of(path)
+    return "unit" if name and (_USERS_MANAGER.match(name) or snapshot.tree.rows[path].directory.uid) else None
+
+
+def holders_of(delegations: Delegations, path: CgroupPath, is_meant: bool) -> Holders:
+    """Who holds a subtree: its own user, or those of the group that it was handed to."""
+    held = None if is_meant else strongest(delegations, path, delegations.reached_newly)
+    # what is meant for somebody, or has a limit alone that somebody reaches, is held by whom it is
+    return held or strongest(delegations, path, delegations.reached) or NOBODY
+
+
+def strongest(delegations: Delegations, path: CgroupPath, reached: Callable[[User, CgroupPath], Iterable[str]]) -> Optional[Holders]:
+    """Those who hold a subtree by what they reach, as far as owner goes before group and group before everybody."""
+    held: DefaultDict[str, Set[Tuple[Optional[int], int]]] = defaultdict(set)
+    for user in delegations.candidates(delegations.tree.rows[path]):
+        for name in reached(user, path):
+            entry = delegations.entry(path, name)
+            by = user.class_of(entry)
+            held[by].add((entry.gid if by == GROUP else entry.uid if by == OWNER else None, user.uid))
+    for by in CLASSES:
+        if held[by]:
+            return Holders(by, tuple(sorted({number for number, _ in held[by] if number is not None})),
+                           frozenset(uid for _, uid in held[by]))
+    return None
+
+
+def named_by(questions: Questions) -> Dict[CgroupPath, Set[User]]:
+    """The users that the entries and the processes of each subtree name, and its guards' entries."""
+    of = questions.delegations
+    uids: DefaultDict[CgroupPath, Set[int]] = defaultdict(set)
+    for uid, at in {(uid, at) for _, uid, at in questions.tree.processes}:
+        for path in (at, *ancestors(at)):
+            uids[path].add(uid)
+    found = {}
+    for path in questions.subtrees:
+        entries = {of.entry(each.path, each.name) for each in questions.guarded(path)}
+        entries |= {of.entry(path, name) for name in HANDED_OVER}
+        users = {user for entry in entries for user in of.users_at(entry)}
+        users |= {user for uid in uids[path] - {0} for user in of.users("uid", uid)}
+        found[path] = {user for user in users if user.uid}
+    return found
+
+
+def plan_of(questions: Questions) -> Plan:
+    """What to ask, and what is left out since the program takes so many groups. Where everybody writes, somebody of whom
+    nothing is known stands for those whom nothing else lets in."""
+    named = named_by(questions)
+    users = sorted(set().union(*named.values())) if named else []
+    matter: Set[int] = set().union(*map(questions.gids_that_matter, questions.subtrees))
+    asked_as: Dict[User, User] = {}
+    left_out: Dict[int, int] = Counter()
+    asked: DefaultDict[CgroupPath, Set[User]] = defaultdict(set)
+    cut = []
+    for user in users:
+        few, count = with_groups(user, matter, questions.delegations.gids_of_tree)
+        if few:
+            asked_as[user] = few
+            left_out[few.uid] = max(left_out[few.uid], count)
+            continue
+        for path in questions.subtrees:
+            of_path = questions.gids_that_matter(path)
+            few, count = with_groups(user, of_path, questions.delegations.gids_of_tree)
+            if few:
+                asked[path].add(few)
+                left_out[few.uid] = max(left_out[few.uid], count)
+            else:
+                cut.append(Cut(user, path, len(of_path.intersection(user.gids[1:])) + 1))
+    plan = Plan((), tuple(cut), tuple(users), named, asked_as, left_out, {})
+    return with_questions(plan, questions, asked)
+
+
+def with_questions(plan: Plan, questions: Questions, asked: Mapping[CgroupPath, AbstractSet[User]]) -> Plan:
+    """A plan with everybody of every subtree that isn't open to everybody; of the others those whom an entry names. Further
+    users are asked of some subtrees alone."""
+    everybody = frozenset(plan.asked_as.values())
+    by_users: DefaultDict[FrozenSet[User], List[CgroupPath]] = defaultdict(list)
+    expected_of = {}
+    for owners, paths in by_owners_above(questions).items():
+        left = everybody - expected(questions, everybody, owners, paths)
+        for path in paths:
+            users = left.intersection(named_as_asked(plan, path)) if questions.is_open(path) else left
+            by_users[users | asked[path] if path in asked else users].append(path)
+        if len(left) < len(everybody):
+            expected_of[owners] = tuple(paths)
+            for some in (paths[start:start + BLOCK] for start in range(0, len(paths), BLOCK)):
+                holders = frozenset(user for user in everybody if any(questions.is_asked_as_holder(user, path) for path in some))
+                by_users[holders] += some
+    asks = tuple(Question(tuple(sorted(users)), tuple(paths)) for users, paths in by_users.items() if users)
+    return replace(plan, questions=asks, expected_of=expected_of)
+
+
+def named_as_asked(plan: Plan, path: CgroupPath) -> Set[User]:
+    return {plan.asked_as[user] for user in plan.named[path] if user in plan.asked_as}
+
+
+def by_owners_above(questions: Questions) -> Dict[FrozenSet[int], List[CgroupPath]]:
+    """The subtrees by who has a directory above, where they aren't meant as somebody's; subordinate ids are their owner's."""
+    found = defaultdict(list)
+    for path in questions.subtrees:
+        above = () if path in questions.meant else ancestors(path)
+        uids = {questions.tree.rows[place].directory.uid for place in above if not is_root(place)} - {0}
+        found[frozenset(root for uid in uids for root in questions.accounts.roots(uid))].append(path)
+    return found
+
+
+def expected(questions: Questions, users: Iterable[User], owners: FrozenSet[int], paths: Collection[CgroupPath]) -> FrozenSet[User]:
+    """Whom not to ask of subtrees since what they can do there is expected: where these are so many pairs that whoever has
+    what is above them makes them by the thousand."""
+    roots = questions.accounts.roots
+    theirs = frozenset(user for user in users if not owners.isdisjoint(roots(user.uid))) if owners else frozenset()
+    return theirs if len(theirs) * len(paths) > MANY else frozenset()
+
+
+def further_of(questions: Questions, plan: Plan, found: Mapping[Pair, Answer]) -> Tuple[Tuple[Question, ...], Dict[CgroupPath, int]]:
+    """What to ask where everybody is let in, and of all that were asked nobody escapes: some of those who hold something
+    elsewhere, who may be able to do more than anybody. Of the rest it is told how many weren't asked."""
+    escaped = {path for (user, path), answer in found.items() if answer.status == ESCAPES
+               and not questions.holds(user, path) and not questions.handed_above(user, path)}
+    uids = {uid for path in questions.subtrees for uid in questions.holders[path].uids}
+    holders = [few for user, few in plan.asked_as.items() if user.uid in uids]
+    everybody, further, not_asked = set(plan.asked_as.values()), [], {}
+    for path in questions.subtrees:
+        if path not in escaped and questions.is_open(path):
+            of = named_as_asked(plan, path)
+            some = tuple(sorted(itertools.islice((user for user in holders if user not in of), FURTHER)))
+            further += [Question(some, (path,))] if some else []
+            left = len(everybody - of) - len(some)
+            not_asked.update({path: left} if left else {})
+    return tuple(further), not_asked

@@ -4,8 +4,8 @@ Each reader has its bound as an argument, and tells in what it gives whether som
 """
 import errno
 import os
-from dataclasses import dataclass
-from typing import Iterable, List, Mapping, Optional, Tuple, Union
+from itertools import islice
+from typing import Container, Mapping, NamedTuple, Optional, Sequence, Tuple, Union
 
 Place = Union[str, bytes]
 
@@ -32,8 +32,7 @@ NAMED = os.O_RDONLY | os.O_CLOEXEC
 STANDARD_INPUT = "-"
 
 
-@dataclass(frozen=True)
-class Read:
+class Read(NamedTuple):
     """What was read, and whether there was more."""
     data: bytes
     is_cut: bool
@@ -42,28 +41,29 @@ class Read:
         return self.data.decode(encoding, errors)
 
 
-@dataclass(frozen=True)
-class Listed:
+class Listed(NamedTuple):
     """The names in a folder, with whether each is a folder, and whether there were more."""
-    names: Tuple[Tuple[str, bool], ...]
+    names: Sequence[Tuple[str, bool]]
     is_cut: bool
 
 
-@dataclass(frozen=True)
-class Attributes:
+class Attributes(NamedTuple):
     """Extended attributes by name, and whether one was longer."""
     values: Mapping[str, bytes]
     is_cut: bool
 
 
+NO_ATTRIBUTES = Attributes({}, False)
+
+
 def read_opened(opened: int, most: int) -> Read:
     """What an opened file has from where it stands, up to so many bytes."""
-    parts, size = [], 0
-    while size <= most and (part := os.read(opened, min(PART, most + 1 - size))):
+    parts, left = [], most + 1
+    while left and (part := os.read(opened, PART if left > PART else left)):
         parts.append(part)
-        size += len(part)
+        left -= len(part)
     data = b"".join(parts)
-    return Read(data[:most], len(data) > most)
+    return Read(data, False) if left else Read(data[:most], True)
 
 
 def read_file(path: Place, most: int, flags: int = NAMED, folder: Optional[int] = None) -> Read:
@@ -85,15 +85,11 @@ def open_folder(path: Place, folder: Optional[int] = None, flags: int = FOLDER) 
     return os.open(path, flags, dir_fd=folder)
 
 
-def list_folder(folder: Union[Place, int], most: int) -> Listed:
+def list_folder(folder: Union[str, int], most: int) -> Listed:
     """The names in a folder, up to so many."""
-    names: List[Tuple[str, bool]] = []
     with os.scandir(folder) as entries:
-        for entry in entries:
-            if len(names) == most:
-                return Listed(tuple(names), True)
-            names.append((os.fsdecode(entry.name), entry.is_dir(follow_symlinks=False)))
-    return Listed(tuple(names), False)
+        names = [(entry.name, entry.is_dir(follow_symlinks=False)) for entry in islice(entries, most + 1)]
+    return Listed(names[:most], True) if len(names) > most else Listed(names, False)
 
 
 def read_link(path: Place) -> str:
@@ -101,14 +97,15 @@ def read_link(path: Place) -> str:
     return os.readlink(os.fsdecode(path))
 
 
-def read_attributes(folder: int, wanted: Iterable[str], most: int) -> Attributes:
+def read_attributes(folder: int, wanted: Container[str], most: int) -> Attributes:
     """Those of some extended attributes that an opened folder has, each up to so many bytes. None where they are gone by then,
     or the file system has none."""
     try:
-        there = set(os.listxattr(folder))
-        values = {name: os.getxattr(folder, name) for name in wanted if name in there}
+        values = {name: os.getxattr(folder, name) for name in os.listxattr(folder) if name in wanted}
     except OSError as error:
         if error.errno in (errno.ENODATA, errno.ENOTSUP):
-            return Attributes({}, False)
+            return NO_ATTRIBUTES
         raise
+    if not values:
+        return NO_ATTRIBUTES
     return Attributes({name: value[:most] for name, value in values.items()}, any(len(value) > most for value in values.values()))

@@ -6,171 +6,222 @@ what a check on the host itself would have looked at, but for open descriptors a
 import json
 import os
 import re
-from collections import namedtuple
+from dataclasses import dataclass, replace
+from typing import Callable, Dict, Iterable, Iterator, List, Mapping, Optional, Tuple
 
-from zirofen_host.collect.accounts import Account, Accounts, Group, Range, is_id
-from zirofen_host.fault import Fault
+from zirofen_host.collect import snapshot as snapshots
+from zirofen_host.collect.accounts import Accounts, is_id
+from zirofen_host.collect.model import (About, Account, AccountLists, Carried, Cgroup, Entry, Group, Note, Process, Range, Row, Snapshot,
+                                        Source, Tree, User)
 from zirofen_host.collect.mount import read_kernel_list
-from zirofen_host.collect.processes import Process
-from zirofen_host.profile import CONTROL_FILES, KERNEL_LIST, LIMIT_FILES, LONGEST_TEXT, is_other_limit
-from zirofen_host.collect.snapshot import Note
-from zirofen_host.collect.model import Entry, User
-from zirofen_host.collect.walk import Found
+from zirofen_host.collect.tree import number_in, table_in, text_in, texts_in
+from zirofen_host.fault import Fault
+from zirofen_host.profile import CONTROL_FILES, LIMIT_FILES, LONGEST_TEXT, CgroupPath, is_other_limit, is_root, path_of, text_of
 
 MARK = "#= "
-# a text that the program takes: a copy of the file, its text and its tree
-Accepted = namedtuple("Accepted", "file text tree")
+ABOUT = {"host", "kernel", "time", "mount", "options", "delegate"}
 _ENTRY = re.compile(r"([0-9]{1,10}):([0-9]{1,10}):([0-7]{3,4})\Z")
 
 
-class Elsewhere:
-    """A snapshot as it is read back from a text."""
+@dataclass(frozen=True)
+class Accepted:
+    """A text that the program takes: a copy of the file, its text and its tree."""
+    file: str
+    text: str
+    tree: Tree
 
-    def __init__(self, accepted, mount):
-        self.file, self.tree = accepted.file, accepted.tree
-        self.places, self.processes, self.notes, self.spoiled, self.changing = {}, {}, [], {}, {}
-        self.about = {"host": None, "kernel": None, "time": None, "mount": None, "options": [], "delegate": None}
-        self.values, self.lists = {}, {name: [] for name in ("account", "group", "subuid", "subgid")}
-        self.is_carried = False
-        self.cgroups = {path: self.found(path, row) for path, row in self.tree.rows.items()}
-        self.read_carried(accepted.text)
-        self.mount = self.about["mount"] or mount
-        for pid, uid, _ in self.tree.processes:
-            self.processes.setdefault(pid, Process(pid, uid, User(uid, ()), False))
 
-    def found(self, path, row):
-        """A cgroup as the tree alone has it, in which a default value isn't written. The root has no limits."""
-        if path != "/":
-            values = {name: row.values.get(name, LIMIT_FILES[name][1]) for name in self.tree.limit_files(path)}
-            row.values.clear()
-            row.values.update(values)
-        files = {name: row.entry(name) for name in (*CONTROL_FILES, *self.tree.limit_files(path))}
-        return Found(row.directory, files, {}, list(row.enabled), [], "domain", {}, [])
+class Gathered:
+    """What a text carries beside its tree, as far as it was read."""
 
-    def read_carried(self, text):
-        for number, line in enumerate(text.split("\n"), 1):
-            if line.startswith(MARK):
-                try:
-                    ((key, value),) = json.loads(line[len(MARK):]).items()
-                    getattr(self, f"take_{key}")(value)
-                except (AttributeError, KeyError, IndexError, TypeError, ValueError, RecursionError):
-                    raise Fault(f"line {number} of the text: what it carries isn't known") from None
+    def __init__(self, paths: Iterable[CgroupPath]) -> None:
+        self.files: Dict[CgroupPath, Dict[str, Entry]] = {path: {} for path in paths}
+        self.marks: Dict[CgroupPath, Dict[str, bytes]] = {path: {} for path in self.files}
+        self.values: Dict[Tuple[CgroupPath, str], str] = {}
+        self.processes: Dict[int, Process] = {}
+        self.accounts: List[Account] = []
+        self.groups: List[Group] = []
+        self.subordinate_uids: List[Range] = []
+        self.subordinate_gids: List[Range] = []
+        self.notes: List[Note] = []
+        self.changing: Dict[CgroupPath, str] = {}
+        self.about = About()
+        self.mount: Optional[str] = None
+        self.options: Tuple[str, ...] = ()
+        self.kernel_list: Tuple[str, ...] = ()
 
-    def take_about(self, value):
+    def take_about(self, value: object) -> None:
         """The host itself. All else that is carried stands behind it."""
-        if {*value} != {*self.about} or not all(isinstance(each, str) for each in [value["mount"], *value["options"]]):
+        about = table_in(value)
+        if {*about} != ABOUT:
             raise ValueError
-        self.about, self.is_carried = value, True
+        host, kernel, time = (None if about[key] is None else text_in(about[key]) for key in ("host", "kernel", "time"))
+        self.about = About(host, kernel, time)
+        self.mount, self.options = text_in(about["mount"]), texts_in(about["options"])
+        self.kernel_list = texts_in(about["delegate"] or [])
 
-    def take_cgroup(self, value):
-        found = self.cgroups[value["path"]]
-        found.files.update({name: entry_of(word) for name, word in value["files"].items()})
-        found.marks.update({name: mark.encode("latin-1") for name, mark in value["marks"].items()})
-        self.values.update({(value["path"], name): str(text) for name, text in value["values"].items()})
+    def take_cgroup(self, value: object) -> None:
+        cgroup = table_in(value)
+        path = path_of(text_in(cgroup["path"]))
+        self.files[path].update({name: entry_of(word) for name, word in table_in(cgroup["files"]).items()})
+        self.marks[path].update({name: text_in(mark).encode("latin-1") for name, mark in table_in(cgroup["marks"]).items()})
+        self.values.update({(path, name): str(text) for name, text in table_in(cgroup["values"]).items()})
 
-    def take_process(self, value):
-        pid, uid, effective, gids, name, capabilities = value
-        numbers = [pid, uid, effective, *gids]
-        if not all(isinstance(number, int) for number in numbers) or not all(isinstance(each, str) for each in (name, *capabilities)):
-            raise ValueError
-        self.processes[pid] = Process(pid, uid, User(effective, tuple(gids)), False, name, tuple(capabilities))
+    def take_process(self, value: object) -> None:
+        pid, uid, effective, gids, name, capabilities = parts_in(value)
+        user = User(number_in(effective), tuple(map(number_in, parts_in(gids))))
+        self.processes[number_in(pid)] = Process(number_in(pid), number_in(uid), user, False, text_in(name), texts_in(capabilities))
 
-    def take_account(self, value):
-        name, uid, gid = value
-        self.lists["account"].append(Account(str(name), id_of(uid), id_of(gid)))
+    def take_account(self, value: object) -> None:
+        name, uid, gid = parts_in(value)
+        self.accounts.append(Account(str(name), id_of(uid), id_of(gid)))
 
-    def take_group(self, value):
-        gid, members, name = value
-        self.lists["group"].append(Group(id_of(gid), list(map(str, members)), str(name)))
+    def take_group(self, value: object) -> None:
+        gid, members, name = parts_in(value)
+        self.groups.append(Group(id_of(gid), tuple(map(str, parts_in(members))), str(name)))
 
-    def take_subuid(self, value, name="subuid"):
-        owner, first, count = value
-        self.lists[name].append(Range(str(owner), id_of(first), id_of(count - 1) + 1))
+    def take_subuid(self, value: object) -> None:
+        self.subordinate_uids.append(range_of(value))
 
-    def take_subgid(self, value):
-        self.take_subuid(value, "subgid")
+    def take_subgid(self, value: object) -> None:
+        self.subordinate_gids.append(range_of(value))
 
-    def take_note(self, value):
-        self.notes.append(Note(*map(str, value)))
+    def take_note(self, value: object) -> None:
+        kind, place, detail = map(str, parts_in(value))
+        self.notes.append(Note(kind, place, detail))
 
-    def take_changing(self, value):
-        path, why = value
-        self.changing[os.fsencode(path)] = str(why)
+    def take_changing(self, value: object) -> None:
+        path, why = parts_in(value)
+        self.changing[CgroupPath(os.fsencode(text_in(path)))] = str(why)
 
-    @property
-    def processes_told(self):
-        """The processes whose groups the text carries."""
-        return self.processes.values() if self.is_carried else ()
-
-    @property
-    def kernel_list(self):
-        return set(self.about["delegate"] or ()) or read_kernel_list(None)
-
-    def accounts(self, processes):
-        """The accounts that the text carries."""
-        if not self.is_carried:
-            raise Fault("a text of another host takes its accounts: --accounts FOLDER, or zirofen-host snapshot --with-host there")
-        return Accounts(*self.lists.values(), processes)
-
-    def value_of(self, path, name):
-        return self.values.get((path, name))
-
-    def head(self):
-        return ["A part of a text that was taken elsewhere"]
-
-    def unseen(self):
-        """What a text doesn't tell."""
-        if self.is_carried:
-            return "this is judged by a text: open descriptors and the settings of units aren't told by it"
-        return ("this is judged by a text that carries nothing of its host: open descriptors, settings of units, marks, other files, "
-                "capabilities and the groups of processes aren't told; zirofen-host snapshot --with-host carries all but the first two")
+    def carried(self) -> Optional[Carried]:
+        if self.mount is None:
+            return None
+        lists = AccountLists(tuple(self.accounts), tuple(self.groups), tuple(self.subordinate_uids), tuple(self.subordinate_gids))
+        return Carried(lists, self.values)
 
 
-def entry_of(word):
-    uid, gid, mode = _ENTRY.match(word).groups()
+# what takes a value by its key
+TAKERS: Mapping[str, Callable[[Gathered, object], None]] = {
+    "about": Gathered.take_about, "account": Gathered.take_account, "cgroup": Gathered.take_cgroup,
+    "changing": Gathered.take_changing, "group": Gathered.take_group, "note": Gathered.take_note,
+    "process": Gathered.take_process, "subgid": Gathered.take_subgid, "subuid": Gathered.take_subuid}
+
+
+def read(accepted: Accepted, mount: str) -> Snapshot:
+    """A snapshot as it is read back from a text; where the text doesn't name the mount, it is the given one."""
+    tree = with_defaults(accepted.tree)
+    gathered = gather(accepted.text, tree)
+    processes = gathered.processes
+    for pid, uid, _ in tree.processes:
+        processes.setdefault(pid, Process(pid, uid, User(uid, ()), False))
+    return Snapshot(about=gathered.about, mount=gathered.mount or mount, mount_options=gathered.options,
+                    cgroups={path: cgroup_of(tree, row, gathered) for path, row in tree.rows.items()}, tree=tree, processes=processes,
+                    kernel_threads=0, places={}, kernel_list=frozenset(gathered.kernel_list) or read_kernel_list(None),
+                    notes=tuple(gathered.notes), changing=gathered.changing, spoiled={},
+                    source=Source(accepted.file, gathered.carried()))
+
+
+def with_defaults(tree: Tree) -> Tree:
+    """A tree with the values that aren't written since they are the default. The root has no limits."""
+    rows = {}
+    for path, row in tree.rows.items():
+        values = {name: row.values.get(name, LIMIT_FILES[name][1]) for name in tree.limit_files(path)}
+        rows[path] = row if is_root(path) else replace(row, values=values)
+    return replace(tree, rows=rows)
+
+
+def gather(text: str, tree: Tree) -> Gathered:
+    """What the comments of a text carry."""
+    gathered = Gathered(tree.rows)
+    for number, line in enumerate(text.split("\n"), 1):
+        if line.startswith(MARK):
+            try:
+                ((key, value),) = table_in(json.loads(line[len(MARK):])).items()
+                TAKERS[key](gathered, value)
+            except (KeyError, IndexError, TypeError, ValueError, RecursionError):
+                raise Fault(f"line {number} of the text: what it carries isn't known") from None
+    return gathered
+
+
+def cgroup_of(tree: Tree, row: Row, gathered: Gathered) -> Cgroup:
+    """A cgroup as the tree has it, with what is carried of it."""
+    files = {name: row.entry(name) for name in (*CONTROL_FILES, *tree.limit_files(row.path))}
+    return Cgroup(row.directory, {**files, **gathered.files[row.path]}, {}, row.enabled, (), "domain", gathered.marks[row.path], ())
+
+
+def told_unseen(snapshot: Snapshot) -> str:
+    """What a text doesn't tell."""
+    if snapshot.source.carried:
+        return "this is judged by a text: open descriptors and the settings of units aren't told by it"
+    return ("this is judged by a text that carries nothing of its host: open descriptors, settings of units, marks, other files, "
+            "capabilities and the groups of processes aren't told; zirofen-host snapshot --with-host carries all but the first two")
+
+
+def parts_in(value: object) -> List[object]:
+    if not isinstance(value, list):
+        raise TypeError
+    return value
+
+
+def entry_of(word: object) -> Entry:
+    found = _ENTRY.match(text_in(word))
+    if found is None:
+        raise ValueError
+    uid, gid, mode = found.groups()
     return Entry(id_of(int(uid)), id_of(int(gid)), int(mode, 8))
 
 
-def id_of(number):
+def id_of(number: object) -> int:
     if not is_id(str(number)) or isinstance(number, bool):
         raise ValueError
-    return int(number)
+    return int(str(number))
 
 
-def carried(snapshot, accounts, mounts, options):
+def range_of(value: object) -> Range:
+    owner, first, count = parts_in(value)
+    return Range(str(owner), id_of(first), id_of(number_in(count) - 1) + 1)
+
+
+def carried(snapshot: Snapshot, accounts: Accounts) -> Iterator[Mapping[str, object]]:
     """What a text carries beside its tree, as lines of comments."""
-    about = {**snapshot.about, "mount": snapshot.mount, "options": mounts.options(snapshot.mount),
-             "delegate": sorted(read_kernel_list(None if options.plain_folder else KERNEL_LIST))}
-    yield {"about": about}
+    about = snapshot.about
+    yield {"about": {"host": about.host, "kernel": about.kernel, "time": about.time, "mount": snapshot.mount,
+                     "options": list(snapshot.mount_options), "delegate": sorted(snapshot.kernel_list)}}
     for note in snapshot.notes:
-        yield {"note": list(note)}
+        yield {"note": [note.kind, note.place, note.detail]}
     for path, found in snapshot.cgroups.items():
-        others = {name: entry for name, entry in found.files.items()
-                  if is_other_limit(name) or entry.uid or entry.mode & 0o022 or entry.mode > 0o777}
-        values = {name: snapshot.value_of(path, name) for name in others if is_other_limit(name)}
-        yield {"cgroup": {"path": path, "files": {name: word_of(entry) for name, entry in others.items()},
-                          "values": {name: value for name, value in values.items() if value is not None},
-                          "marks": {name: mark.decode("latin-1") for name, mark in found.marks.items()}}}
+        yield {"cgroup": carried_of(snapshot, path, found)}
     for process in snapshot.processes.values():
         if not process.is_kernel_thread:
             yield {"process": [process.pid, process.uid, process.user.uid, list(process.user.gids), process.name,
                                list(process.capabilities)]}
-    for account in accounts.accounts:
+    for account in accounts.lists.accounts:
         yield {"account": list(account)}
-    for group in accounts.groups:
+    for group in accounts.lists.groups:
         yield {"group": [group.gid, list(group.members), group.name]}
-    for name, ranges in (("subuid", accounts.subordinate_uids), ("subgid", accounts.subordinate_gids)):
-        yield from ({name: list(each)} for each in ranges)
+    for name, ranges in (("subuid", accounts.lists.subordinate_uids), ("subgid", accounts.lists.subordinate_gids)):
+        yield from ({name: [each.owner, each.first, each.count]} for each in ranges)
 
 
-def word_of(entry):
+def carried_of(snapshot: Snapshot, path: CgroupPath, found: Cgroup) -> Mapping[str, object]:
+    """What a text carries of a cgroup: other files than the tree's, as far as they matter, other limits, and marks."""
+    others = {name: entry for name, entry in found.files.items()
+              if is_other_limit(name) or entry.uid or entry.mode & 0o022 or entry.mode > 0o777}
+    values = {name: snapshots.value_of(snapshot, path, name) for name in others if is_other_limit(name)}
+    return {"path": text_of(path), "files": {name: word_of(entry) for name, entry in others.items()},
+            "values": {name: value for name, value in values.items() if value is not None},
+            "marks": {name: mark.decode("latin-1") for name, mark in found.marks.items()}}
+
+
+def word_of(entry: Entry) -> str:
     return f"{entry.uid}:{entry.gid}:{entry.mode:03o}"
 
 
-def text_with(snapshot, values, with_processes):
+def text_with(snapshot: Snapshot, values: Iterable[Mapping[str, object]], with_processes: bool) -> str:
     """The tree text of a snapshot with what it carries."""
     lines = "".join(f"{MARK}{json.dumps(value, separators=(',', ':'))}\n" for value in values)
-    text = snapshot.text(with_processes) + "\n" + lines if lines else snapshot.text(with_processes)
+    text = snapshots.tree_text(snapshot, with_processes) + ("\n" + lines if lines else "")
     if len(text) > LONGEST_TEXT:
         raise Fault(f"{len(text)} bytes, and a tree text has {LONGEST_TEXT} at most: --only PATH writes less, and so does a text "
                     "without --with-host, whose accounts are named by --accounts")

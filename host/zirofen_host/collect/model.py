@@ -1,6 +1,6 @@
 """What is collected of a host, or read back from a text of another one: the first form of what is told."""
 from dataclasses import dataclass, field
-from typing import FrozenSet, List, Mapping, NamedTuple, Optional, Sequence, Tuple, Union
+from typing import Collection, FrozenSet, List, Mapping, NamedTuple, Optional, Sequence, Tuple, Union
 
 from zirofen_host.profile import DIRECTORY_MODE, FILE_MODE, LIMIT_FILES, CgroupPath, parent_of
 
@@ -37,7 +37,7 @@ class User(NamedTuple):
         return bool(entry.mode & {OWNER: 0o200, GROUP: 0o020, OTHERS: 0o002}[self.class_of(entry)])
 
     def reaches(self, entry: Entry) -> bool:
-        """An owner may set the mode first, so he reaches what he owns."""
+        """An owner may set the mode first, so they reach what they own."""
         return entry.uid == self.uid or self.writes(entry)
 
 
@@ -184,3 +184,8 @@ class Snapshot:
     changing: Mapping[CgroupPath, str]
     spoiled: Mapping[CgroupPath, str]
     source: Source = Source()
+
+    @property
+    def processes_told(self) -> Collection[Process]:
+        """The processes of which all is known that accounts are found by; of a text that carries nothing, none."""
+        return () if self.source.file is not None and self.source.carried is None else self.processes.values()

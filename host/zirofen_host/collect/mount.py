@@ -1,6 +1,8 @@
 """Mounts of cgroups, and whether a snapshot can be taken here."""
 import os
+from typing import Dict, FrozenSet, List, Optional, Tuple
 
+from zirofen_host.collect import bounded
 from zirofen_host.fault import Fault
 from zirofen_host.profile import CONTROL_FILES, USUAL_LIST
 
@@ -12,8 +14,10 @@ WHOLE_UID_MAP = ["0", "0", "4294967295"]
 class Mounts:
     """What a mountinfo text says of cgroups."""
 
-    def __init__(self, text):
-        self.second, self.first = {}, []
+    def __init__(self, text: str) -> None:
+        # of version 2 the top and the options by where it is mounted, of version 1 the options
+        self.second: Dict[str, Tuple[str, List[str]]] = {}
+        self.first: List[str] = []
         # a path may have all that ends a line or parts words elsewhere, but for what stands for itself in octal digits
         for line in text.split("\n"):
             before, after = (part.split(" ") for part in line.partition(" - ")[::2])
@@ -24,7 +28,7 @@ class Mounts:
             elif after[0] == "cgroup":
                 self.first.append(after[2])
 
-    def refuse(self, mount):
+    def refuse(self, mount: str) -> None:
         """Ends with a clear line where a folder isn't the top of a cgroup v2 mount."""
         found = self.second.get(mount.rstrip("/") or "/")
         if found is None:
@@ -33,40 +37,39 @@ class Mounts:
         if found[0] != "/":
             raise Fault(f"{mount} is a part of the hierarchy, {found[0]}, and not the whole")
 
-    def options(self, mount):
-        return self.second.get(mount.rstrip("/") or "/", ("/", []))[1]
+    def options(self, mount: str) -> List[str]:
+        found = self.second.get(mount.rstrip("/") or "/")
+        return found[1] if found else []
 
 
-def unescaped(text):
+def unescaped(text: str) -> str:
     """A path of a mountinfo text, where a space is written as three octal digits."""
     for octal, byte in (("\\040", " "), ("\\011", "\t"), ("\\012", "\n"), ("\\134", "\\")):
         text = text.replace(octal, byte)
     return text
 
 
-def refuse_what_is_no_host(mount):
+def refuse_what_is_no_host(mount: str) -> Mounts:
     """Ends with a clear line where owners, paths or PIDs would be told wrongly."""
     if os.geteuid() != 0:
         raise Fault("run this as root: others don't see every process, nor every descriptor")
-    with open("/proc/self/uid_map", encoding="ascii") as opened:
-        if opened.read().split() != WHOLE_UID_MAP:
-            raise Fault("inside a user namespace: owners would be told wrongly. Run this on the host")
-    if os.readlink("/proc/self/ns/cgroup") != FIRST_NAMESPACE:
+    if bounded.read_file("/proc/self/uid_map", bounded.PROC_FILE).text("ascii").split() != WHOLE_UID_MAP:
+        raise Fault("inside a user namespace: owners would be told wrongly. Run this on the host")
+    if bounded.read_link("/proc/self/ns/cgroup") != FIRST_NAMESPACE:
         raise Fault("inside a cgroup namespace: what is above its root isn't seen. Run this on the host")
     mounts = mounts_of_host()
     mounts.refuse(mount)
     return mounts
 
 
-def mounts_of_host():
-    with open("/proc/self/mountinfo", encoding="utf-8", errors="surrogateescape", newline="\n") as opened:
-        return Mounts(opened.read())
+def mounts_of_host() -> Mounts:
+    return Mounts(bounded.read_file("/proc/self/mountinfo", bounded.PROC_FILE).text("utf-8", "surrogateescape"))
 
 
-def read_kernel_list(file):
-    """The files that this kernel says are made to be handed over with a subtree."""
+def read_kernel_list(file: Optional[str]) -> FrozenSet[str]:
+    """The files that this kernel says are made to be handed over with a subtree; without a file of it, the usual ones."""
     try:
-        with open(file, encoding="ascii", errors="replace") as opened:
-            return {*opened.read().split(), *CONTROL_FILES}
-    except (OSError, TypeError):
-        return set(USUAL_LIST)
+        listed = bounded.read_file(file, bounded.PROC_FILE).text("ascii", "replace").split() if file else USUAL_LIST
+    except OSError:
+        listed = USUAL_LIST
+    return frozenset((*listed, *CONTROL_FILES))

@@ -1,8 +1,10 @@
 """Processes, as /proc tells of them."""
 import os
+from typing import Dict, Iterable, Iterator, List, Mapping, Optional, Tuple
 
+from zirofen_host.collect import bounded
+from zirofen_host.collect.model import FilePlace, Process, User
 from zirofen_host.fault import Fault
-from zirofen_host.collect.model import Process, User
 
 KERNEL_THREAD = 0x00200000
 WRITES = os.O_WRONLY | os.O_RDWR
@@ -15,18 +17,23 @@ FIRST_USER_NAMESPACE = "user:[4026531837]"
 # descriptors of one user that are looked at
 MOST_DESCRIPTORS = 4096
 
+Fields = Mapping[str, List[str]]
 
-def status_fields(text):
+
+def status_fields(text: str) -> Fields:
     """The words behind each key; a process's name may have all that parts lines but for a newline."""
     return {key: value.split() for key, _, value in (line.partition(":") for line in text.split("\n"))}
 
 
-def text_of(path):
-    with open(path, encoding="utf-8", errors="replace", newline="\n") as opened:
-        return opened.read()
+def text_of(path: str) -> str:
+    return bounded.read_file(path, bounded.PROC_FILE).text("utf-8", "replace")
 
 
-def read_process(proc, pid):
+def names_in(folder: str) -> List[str]:
+    return [name for name, _ in bounded.list_folder(folder, bounded.NAMES).names]
+
+
+def read_process(proc: str, pid: int) -> Optional[Process]:
     """A process, or None where it has ended. Its uid is the real one; as a user it acts under the effective ones."""
     try:
         fields = status_fields(text_of(f"{proc}/{pid}/status"))
@@ -41,30 +48,30 @@ def read_process(proc, pid):
         raise Fault(f"what {proc}/{pid} tells of the process isn't known") from None
 
 
-def capabilities_of(proc, pid, fields):
+def capabilities_of(proc: str, pid: int, fields: Fields) -> Tuple[str, ...]:
     """Those that count on the host: a user namespace's own don't reach outside of it."""
-    bits = int(fields.get("CapEff", ("0",))[0], 16)
+    bits = int(fields.get("CapEff", ["0"])[0], 16)
     names = tuple(name for number, name in CAPABILITIES.items() if bits >> number & 1)
     try:
-        return names if not names or os.readlink(f"{proc}/{pid}/ns/user") == FIRST_USER_NAMESPACE else ()
+        return names if not names or bounded.read_link(f"{proc}/{pid}/ns/user") == FIRST_USER_NAMESPACE else ()
     except OSError:
         return names
 
 
-def read_processes(proc):
+def read_processes(proc: str) -> Dict[int, Process]:
     """All processes by their PIDs."""
-    read = (read_process(proc, int(name)) for name in os.listdir(proc) if name.isdigit())
+    read = (read_process(proc, int(name)) for name in names_in(proc) if name.isdigit())
     return {process.pid: process for process in read if process}
 
 
-def open_for_writing(proc, pids):
+def open_for_writing(proc: str, pids: Iterable[int]) -> Iterator[Tuple[int, Optional[FilePlace]]]:
     """What these processes hold open for writing on a mount of cgroups, as (pid, device and inode), since a path looks otherwise
     in a container; and at last, where there is more than is looked at, (pid, None)."""
     left = MOST_DESCRIPTORS
     for pid in pids:
         folder, kinds = f"{proc}/{pid}/fd", kinds_of_mounts(f"{proc}/{pid}/mountinfo")
         try:
-            numbers = os.listdir(folder)
+            numbers = names_in(folder)
         except OSError:
             continue
         for number in numbers[:left]:
@@ -77,7 +84,7 @@ def open_for_writing(proc, pids):
             return
 
 
-def kinds_of_mounts(file):
+def kinds_of_mounts(file: str) -> Optional[Mapping[str, str]]:
     """The file system of each mount of a process by its number, or None where nothing tells of them."""
     try:
         lines = text_of(file).split("\n")
@@ -87,9 +94,9 @@ def kinds_of_mounts(file):
     return {before.split(" ")[0]: after.split(" ")[0] for before, _, after in parts}
 
 
-def file_for_writing(info, link, kinds):
+def file_for_writing(info: str, link: str, kinds: Optional[Mapping[str, str]]) -> Optional[FilePlace]:
     """The device and the inode of a descriptor that is for writing. No other file system is asked: it may be a user's own,
-    which answers when he likes."""
+    which answers when they like."""
     try:
         fields = status_fields(text_of(info))
         if int(fields["flags"][0], 8) & WRITES == 0:

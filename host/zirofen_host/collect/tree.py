@@ -1,23 +1,29 @@
 """A tree text of format 2: what is in it, and its spelling."""
+import sys
+from typing import Callable, Iterable, List, Mapping, Sequence, Tuple
+
+from zirofen_host.collect.model import Entry, Placed, Row, Tree, Value
 from zirofen_host.fault import Fault
-from zirofen_host.profile import CONTROL_FILES, CONTROLLERS, DIRECTORY_MODE, FILE_MODE, LIMIT_FILES, parent_of
-from zirofen_host.collect.model import Entry, Row, Tree
+from zirofen_host.profile import (CONTROL_FILES, CONTROLLERS, DIRECTORY_MODE, FILE_MODE, LIMIT_FILES, CgroupPath, is_root, parent_of,
+                                  parts_of, path_of, text_of)
+
+Table = Mapping[str, object]
 
 
-def literal(text):
+def literal(text: str) -> str:
     """A TOML text in single quotes, in which a backslash is a backslash."""
     if "'" not in text:
         return f"'{text}'"
     return '"' + text.replace("\\", "\\\\").replace('"', '\\"') + '"'
 
 
-def entry_parts(entry, usual_mode):
+def entry_parts(entry: Entry, usual_mode: int) -> List[str]:
     parts = [f"uid = {entry.uid}"] if entry.uid else []
     parts += [f"gid = {entry.gid}"] if entry.gid else []
     return parts + ([f"mode = 0o{entry.mode:03o}"] if entry.mode != usual_mode else [])
 
 
-def file_line(row, file):
+def file_line(row: Row, file: str) -> List[str]:
     """The line of a file, or nothing where all of it is default."""
     parts = entry_parts(row.entry(file), FILE_MODE)
     if file in row.values and row.values[file] != LIMIT_FILES[file][1]:
@@ -26,8 +32,8 @@ def file_line(row, file):
     return [f'"{file}" = {{ {", ".join(parts)} }}'] if parts else []
 
 
-def row_lines(row):
-    lines = ["", "[[cgroup]]", f"path = {literal(row.path)}"]
+def row_lines(row: Row) -> List[str]:
+    lines = ["", "[[cgroup]]", f"path = {literal(text_of(row.path))}"]
     if row.enabled:
         lines.append(f"enabled = [{names(row.enabled)}]")
     parts = entry_parts(row.directory, DIRECTORY_MODE)
@@ -37,70 +43,105 @@ def row_lines(row):
     return lines + (["[cgroup.files]"] + files if files else [])
 
 
-def names(controllers):
+def names(controllers: Iterable[str]) -> str:
     return ", ".join(f'"{name}"' for name in CONTROLLERS if name in controllers)
 
 
-def row_text(row):
+def row_text(row: Row) -> str:
     return "\n".join(row_lines(row)) + "\n"
 
 
-def process_text(process):
+def process_text(process: Placed) -> str:
     pid, uid, path = process
-    return f"\n[[process]]\npid = {pid}\nuid = {uid}\nat = {literal(path)}\n"
+    return f"\n[[process]]\npid = {pid}\nuid = {uid}\nat = {literal(text_of(path))}\n"
 
 
-def in_order(rows):
+def in_order(paths: Iterable[CgroupPath]) -> List[CgroupPath]:
     """Paths so that what is inside of one comes right behind it."""
-    return sorted(rows, key=lambda path: path.split("/"))
+    return sorted(paths, key=parts_of)
 
 
-def head_text(controllers, head):
-    """The begin of a text, with comment lines at its head."""
+def head_text(controllers: Iterable[str], head: Iterable[str]) -> str:
     return "\n".join([*(f"# {line}" for line in head), "", "format = 2", f"controllers = [{names(controllers)}]", ""])
 
 
-def tree_text(tree, head):
+def tree_text(tree: Tree, head: Iterable[str]) -> str:
     """The text of a tree, with comment lines at its head."""
     return "".join([head_text(tree.controllers, head), *(row_text(tree.rows[path]) for path in in_order(tree.rows)),
                     *map(process_text, sorted(tree.processes))])
 
 
-def read_entry(table, usual_mode):
-    return Entry(table.get("uid", 0), table.get("gid", 0), table.get("mode", usual_mode))
+def table_in(value: object) -> Table:
+    if not isinstance(value, dict):
+        raise TypeError
+    return value
 
 
-def read_row(table):
-    files = table.get("files", {})
-    return Row(path=table["path"],
-               directory=read_entry(table.get("dir", {}), DIRECTORY_MODE),
+def tables_in(value: object) -> Sequence[Table]:
+    if not isinstance(value, list):
+        raise TypeError
+    return [table_in(each) for each in value]
+
+
+def number_in(value: object) -> int:
+    if not isinstance(value, int):
+        raise TypeError
+    return value
+
+
+def text_in(value: object) -> str:
+    if not isinstance(value, str):
+        raise TypeError
+    return value
+
+
+def texts_in(value: object) -> Tuple[str, ...]:
+    if not isinstance(value, list):
+        raise TypeError
+    return tuple(map(text_in, value))
+
+
+def value_in(value: object) -> Value:
+    return value if isinstance(value, str) else number_in(value)
+
+
+def read_entry(table: Table, usual_mode: int) -> Entry:
+    return Entry(number_in(table.get("uid", 0)), number_in(table.get("gid", 0)), number_in(table.get("mode", usual_mode)))
+
+
+def read_row(table: Table) -> Row:
+    files = {name: table_in(entry) for name, entry in table_in(table.get("files", {})).items()}
+    return Row(path=path_of(text_in(table["path"])),
+               directory=read_entry(table_in(table.get("dir", {})), DIRECTORY_MODE),
                files={name: read_entry(entry, FILE_MODE) for name, entry in files.items()},
-               values={name: entry["value"] for name, entry in files.items() if "value" in entry},
-               enabled=tuple(table.get("enabled", ())))
+               values={name: value_in(entry["value"]) for name, entry in files.items() if "value" in entry},
+               enabled=texts_in(table.get("enabled", [])))
 
 
-def toml_reader():
+def toml_reader() -> Callable[[str], Table]:
     """What reads TOML here."""
-    try:
-        import tomllib
-    except ImportError:
+    if sys.version_info >= (3, 11):
+        from tomllib import loads
+    else:
         try:
-            import tomli as tomllib
+            from tomli import loads
         except ImportError:
             raise Fault("reading a tree text takes Python 3.11 or newer, or the package tomli") from None
-    return tomllib
+    reader: Callable[[str], Table] = loads
+    return reader
 
 
-def read_tree(text):
+def read_tree(text: str) -> Tree:
     """The tree of a text that the program takes, so that nothing is looked at twice here."""
     reader = toml_reader()
     try:
-        document = reader.loads(text)
-        rows = {row.path: row for row in map(read_row, document.get("cgroup", ()))}
-        processes = [(each["pid"], each["uid"], each["at"]) for each in document.get("process", ())]
-        tree = Tree(tuple(document["controllers"]), rows, processes)
+        document = reader(text)
+        rows = {row.path: row for row in map(read_row, tables_in(document.get("cgroup", [])))}
+        processes = [Placed(number_in(each["pid"]), number_in(each["uid"]), path_of(text_in(each["at"])))
+                     for each in tables_in(document.get("process", []))]
+        tree = Tree(texts_in(document["controllers"]), rows, processes)
     except (AttributeError, KeyError, TypeError, ValueError, RecursionError):
         raise Fault("this is no tree text that this helper reads, which is TOML 1.0") from None
-    if "/" not in rows or any(path != "/" and parent_of(path) not in rows for path in rows):
+    if not any(map(is_root, rows)) or any(not is_root(path) and parent_of(path) not in rows for path in rows):
         raise Fault("this is no tree text: a cgroup has none above it")
     return tree

@@ -1,9 +1,11 @@
-"""Between a report's dataclasses and values that JSON carries: one key for each field, in their order."""
+"""Between a report's dataclasses and JSON: one key for each field, in their order."""
 import dataclasses
+import functools
+import json
 import typing
-from typing import Dict, List, Mapping, Tuple, Type, TypeVar, Union
+from typing import Annotated, Dict, Iterator, List, Mapping, Tuple, Type, TypeVar, Union, cast
 
-from zirofen_host.judge.model import ABSENT, Absent
+from zirofen_host.judge.model import ABSENT, Absent, Report
 
 Json = Union[None, bool, int, str, List["Json"], Dict[str, "Json"]]
 Made = TypeVar("Made")
@@ -15,38 +17,48 @@ class Wrong(Exception):
     """A place where a value isn't of the type that it should have."""
 
 
-def value_of(made: object) -> Json:
-    """The value of a dataclass, or of what is in one."""
-    if made is None or isinstance(made, (bool, int, str)):
-        return made
-    if isinstance(made, (tuple, list)):
-        return [value_of(each) for each in made]
-    if isinstance(made, Mapping):
-        return {key: value_of(each) for key, each in made.items()}
+def parts_of(report: Report) -> Iterator[str]:
+    """The JSON of a report, a part after another."""
+    return json.JSONEncoder(indent=1, default=keys_of).iterencode(report)
+
+
+def keys_of(made: object) -> Dict[str, object]:
+    """The keys of a dataclass, of which those that are ABSENT have none."""
     if not dataclasses.is_dataclass(made):
         raise TypeError(f"a report has no {type(made).__name__}")
-    names, values = [each.name for each in dataclasses.fields(made)], vars(made)
-    return {name: value_of(values[name]) for name in names if values[name] is not ABSENT}
+    return {name: value for name, value in vars(made).items() if value is not ABSENT}
+
+
+@functools.lru_cache(maxsize=None)
+def fields_of(kind: type) -> Tuple[Tuple[str, object, bool], ...]:
+    """The name and the type of each field, and whether its key has to be there."""
+    hints = typing.get_type_hints(kind, include_extras=True)
+    return tuple((each.name, hints[each.name], each.default is dataclasses.MISSING) for each in dataclasses.fields(kind))
 
 
 def made_of(kind: Type[Made], value: Json, place: str, lacking: Lacking) -> Made:
     """A dataclass by its value; what isn't one is Wrong. Keys that it has no field for are passed over."""
     if not isinstance(value, dict):
         raise Wrong(place)
-    hints, found = typing.get_type_hints(kind), {}
-    for each in dataclasses.fields(kind):
-        if each.name in value:
-            found[each.name] = part_of(hints[each.name], value[each.name], f"{place}.{each.name}", lacking)
-        elif (kind, each.name) in lacking:
-            found[each.name] = lacking[kind, each.name]
-        elif each.default is dataclasses.MISSING:
-            raise Wrong(f"{place}.{each.name}")
+    found, made = {}, cast(type, kind)
+    for name, hint, is_wanted in fields_of(made):
+        if name in value:
+            found[name] = part_of(hint, value[name], f"{place}.{name}", lacking)
+        elif (kind, name) in lacking:
+            found[name] = lacking[kind, name]
+        elif is_wanted:
+            raise Wrong(f"{place}.{name}")
     return kind(**found)
 
 
 def part_of(hint: object, value: Json, place: str, lacking: Lacking) -> object:
     """What is in a dataclass, by its type."""
     origin, within = typing.get_origin(hint), typing.get_args(hint)
+    if origin is Annotated:
+        part = part_of(within[0], value, place, lacking)
+        if not within[1].holds(part):
+            raise Wrong(place)
+        return part
     if origin is Union:
         return one_of(within, value, place, lacking)
     if origin is tuple and isinstance(value, list):

@@ -1,45 +1,58 @@
 """What is new, worse, gone or changed since an earlier report."""
+import dataclasses
 import json
 import os
-from collections import namedtuple
+from typing import Dict, FrozenSet, Iterable, List, NamedTuple, Optional, Tuple, Union
 
 from zirofen_host.ask.program import CONTAINED, ESCAPES, WORDS, WORST_FIRST, worst
+from zirofen_host.collect.bounded import REPORT_FILE, read_file
 from zirofen_host.fault import FAULT, Fault
-from zirofen_host.judge import report as reporting
+from zirofen_host.judge import as_json
 from zirofen_host.judge.finding_lines import above_line, differs_line, entry_line, opened_line
+from zirofen_host.judge.model import (ABSENT, NOTHING_ASKED, VERSION, Comparison, Difference, DiffersFinding, EntryFinding,
+                                      OpenedFinding, Report, Subtree, Whom)
+from zirofen_host.judge.saved import LACKING
 from zirofen_host.profile import shown
 
 KINDS = ("new", "worse", "changed", "gone")
-# a finding: its status, its line, what it lets in, and what mends it
-Finding = namedtuple("Finding", "status line lets_in value")
+# a finding by its kind, where it stands, and what it is of
+Key = Tuple[str, str, str]
 
 
-def read(file):
+class Found(NamedTuple):
+    """A finding: its status, its line, what it lets in, and what mends it."""
+    status: int
+    line: str
+    lets_in: FrozenSet[Tuple[object, ...]] = frozenset()
+    mended: Union[EntryFinding, OpenedFinding, DiffersFinding, None] = None
+
+
+def read(file: str) -> Report:
     """An earlier report; only one of this version of its keys can be compared."""
+    none = Fault(f"the baseline {shown(file)} is no report of zirofen-host check --json")
     try:
-        with open(file, encoding="ascii") as opened:
-            before = json.load(opened)
+        before = json.loads(read_file(file, REPORT_FILE).text("ascii"))
     except OSError as error:
         raise Fault(f"can't read the baseline {shown(file)}: {error.strerror}") from None
     except (ValueError, RecursionError):
-        raise Fault(f"the baseline {shown(file)} is no report of zirofen-host check --json") from None
+        raise none from None
     version = before.get("version") if isinstance(before, dict) else None
-    if version != reporting.VERSION:
-        raise Fault(f"the baseline {shown(file)} has version {json.dumps(version)[:40]}, and this helper compares version "
-                    f"{reporting.VERSION}")
+    if version != VERSION:
+        raise Fault(f"the baseline {shown(file)} has version {json.dumps(version)[:40]}, and this helper compares version {VERSION}")
     try:
-        compared(before, before, file)
-        return before
-    except (AttributeError, KeyError, IndexError, TypeError, ValueError, RecursionError):
-        raise Fault(f"the baseline {shown(file)} is no report of zirofen-host check --json") from None
+        report = as_json.made_of(Report, before, "report", LACKING)
+        found_in(report)
+        return report
+    except (as_json.Wrong, KeyError, IndexError, RecursionError):
+        raise none from None
 
 
-def write(file, found):
+def write(file: str, report: Report) -> None:
     """Leaves a report as a baseline: the whole of it, or what stood there before."""
     new = f"{file}.new"
     try:
         with open(os.open(new, os.O_WRONLY | os.O_CREAT | os.O_TRUNC | os.O_NOFOLLOW, 0o644), "w", encoding="ascii") as out:
-            json.dump({key: value for key, value in found.items() if key != "baseline"}, out, indent=1)
+            out.writelines(as_json.parts_of(dataclasses.replace(report, baseline=ABSENT)))
             out.write("\n")
             out.flush()
             os.fsync(out.fileno())
@@ -48,61 +61,64 @@ def write(file, found):
         raise Fault(f"can't write the baseline {shown(file)}: {error.strerror}") from None
 
 
-def findings(report):
+def found_in(report: Report) -> Dict[Key, Found]:
     """All that a report tells of, by what it is and where it stands."""
-    found = {}
-    for each in report["subtrees"]:
-        found["subtree", each["path"], ""] = subtree(each)
-    for each in report["entries"]:
-        found["entry", each["path"], each["entry"]] = Finding(
-            WORDS[each["answer"]], entry_line([each]), lets_in(each["whom"], each["subtrees"]), each)
-    for each in report["opened"]:
-        found["opened", each["path"], each["file"]] = Finding(
-            ESCAPES, opened_line(each), lets_in(each["whom"], ()), each)
-    for each in report["faults"]:
-        for path in each["subtrees"]:
-            found["fault", path, each["fault"]] = Finding(FAULT, f"fault: {each['who']} of {path}: {each['fault']}", set(), None)
-    for each in report["differs"]:
-        found["differs", each["path"], ""] = Finding(CONTAINED, differs_line(each), set(each["entries"]), each)
-    for each in report["above"]:
-        found["above", each["handed"], each["who"]] = Finding(CONTAINED, above_line(each), set(), None)
+    found = {("subtree", each.path, ""): subtree_found(each) for each in report.subtrees}
+    for entry in report.entries:
+        found["entry", entry.path, entry.entry] = Found(
+            WORDS[entry.answer], entry_line([entry]), let_in(entry.whom, entry.subtrees), entry)
+    for opened in report.opened:
+        found["opened", opened.path, opened.file] = Found(ESCAPES, opened_line(opened), let_in(opened.whom, ()), opened)
+    for fault in report.faults:
+        for path in fault.subtrees:
+            found["fault", path, fault.fault] = Found(FAULT, f"fault: {fault.who} of {path}: {fault.fault}")
+    for differs in report.differs:
+        found["differs", differs.path, ""] = Found(
+            CONTAINED, differs_line(differs), frozenset((name,) for name in differs.entries), differs)
+    for above in report.above:
+        found["above", above.handed, above.who] = Found(CONTAINED, above_line(above))
     return found
 
 
-def subtree(found):
+def subtree_found(subtree: Subtree) -> Found:
     """What those who hold a subtree were answered."""
-    if not found["answers"]:
-        return Finding(CONTAINED, f"{found['path']}: held by root alone", set(), None)
-    statuses = {CONTAINED if each["is_above"] else WORDS.get(each["lines"][0].split(" ")[0], FAULT) for each in found["answers"]}
-    told = "; ".join(f"{each['lines'][0]}, by {each['who']} who holds it" for each in found["answers"])
-    return Finding(worst(statuses), f"{found['path']}: {told}", set(), None)
+    if not subtree.answers:
+        return Found(CONTAINED, f"{subtree.path}: held by root alone")
+    statuses = {CONTAINED if each.is_above else WORDS.get(each.lines[0].split(" ")[0], FAULT) for each in subtree.answers}
+    told = "; ".join(f"{each.lines[0]}, by {each.who} who holds it" for each in subtree.answers)
+    return Found(worst(statuses), f"{subtree.path}: {told}")
 
 
-def lets_in(whom, subtrees):
+def let_in(whom: Iterable[Whom], subtrees: Iterable[str]) -> FrozenSet[Tuple[object, ...]]:
     """Whom and to what, as far as more of it is worse."""
-    return {("whom", each["by"], each["id"], user) for each in whom for user in (None, *each["users"])} | \
-        {("subtree", path) for path in subtrees}
+    users = {("whom", each.by, each.id, user) for each in whom for user in (None, *each.users)}
+    return frozenset({*users, *(("subtree", path) for path in subtrees)})
 
 
-def compared(found, before, file):
-    """What differs, as a value that JSON can carry, with its status."""
-    now, then = findings(found), findings(before)
-    value = {"file": file, "time": before["time"], **{kind: [] for kind in KINDS}}
-    for key in sorted(set(now) | set(then)):
+def compared(report: Report, before: Report, file: str) -> Comparison:
+    """What differs from an earlier report, with its status."""
+    now, then = found_in(report), found_in(before)
+    differing: Dict[str, List[Difference]] = {kind: [] for kind in KINDS}
+    for key in sorted({*now, *then}):
         kind = kind_of(now.get(key), then.get(key))
         if kind:
-            value[kind].append(told(key, now.get(key), then.get(key)))
-    for key in ("host", "program", "kernel", "mount"):
-        if found[key] != before[key]:
-            value["changed"].append({"what": key, "line": f"{key}: {found[key]}", "before": f"{key}: {before[key]}",
-                                     "status": CONTAINED, "changes": [], "setting": None})
-    statuses = {each["status"] for kind in ("new", "worse") for each in value[kind]}
-    nothing = not found["asked"] and before["asked"]
-    value["status"] = worst(statuses) or (reporting.NOTHING_ASKED if nothing else CONTAINED)
-    return value
+            differing[kind].append(difference(key, now.get(key), then.get(key)))
+    differing["changed"] += changes_of_host(report, before)
+    statuses = {each.status for kind in ("new", "worse") for each in differing[kind]}
+    nothing = not report.asked and before.asked
+    new, worse, changed, gone = (tuple(differing[kind]) for kind in KINDS)
+    return Comparison(file, before.time, new, worse, changed, gone,
+                      worst(statuses) or (NOTHING_ASKED if nothing else CONTAINED))
 
 
-def kind_of(now, then):
+def changes_of_host(report: Report, before: Report) -> Iterable[Difference]:
+    for what, now, then in (("host", report.host, before.host), ("program", report.program, before.program),
+                            ("kernel", report.kernel, before.kernel), ("mount", report.mount, before.mount)):
+        if now != then:
+            yield Difference(what, f"{what}: {now}", f"{what}: {then}", CONTAINED, (), None)
+
+
+def kind_of(now: Optional[Found], then: Optional[Found]) -> Optional[str]:
     if then is None:
         return "new"
     if now is None:
@@ -112,7 +128,8 @@ def kind_of(now, then):
     return "changed" if now.line != then.line else None
 
 
-def told(key, now, then):
-    value = now.value if now and now.value else {}
-    return {"what": key[0], "line": (now or then).line, "before": then.line if now and then else None,
-            "status": now.status if now else CONTAINED, "changes": value.get("changes", []), "setting": value.get("setting")}
+def difference(key: Key, now: Optional[Found], then: Optional[Found]) -> Difference:
+    mended = now.mended if now else None
+    told = now or then
+    return Difference(key[0], told.line if told else "", then.line if now and then else None, now.status if now else CONTAINED,
+                      mended.changes if mended else (), mended.setting if mended else None)

@@ -1,45 +1,42 @@
 """The one line of each finding, as a report and a comparison of two have it."""
+from typing import Iterable, Sequence
+
+from zirofen_host.collect.model import GROUP, OTHERS
+from zirofen_host.judge.model import AboveFinding, DiffersFinding, EntryFinding, OpenedFinding, Owner, Whom
 
 # names in a line; where there are more, it tells how many
 SHOWN = 8
 
 
-def some(names):
+def some(names: Sequence[str]) -> str:
     more = f" and {len(names) - SHOWN} more" if len(names) > SHOWN else ""
     return " ".join(names[:SHOWN]) + more
 
 
-def whom_text(whom):
+def whom_text(whom: Iterable[Whom]) -> str:
     """Whom an entry lets in."""
-    texts = []
-    for each in whom:
-        if each["by"] == "others":
-            texts.append("everybody")
-        elif each["by"] == "group":
-            texts.append(f"{each['name']}: {some(each['users'])}" if each["users"] else each["name"])
-        else:
-            texts.append(each["name"])
-    return ", ".join(texts)
+    return ", ".join("everybody" if each.by == OTHERS else f"{each.name}: {some(each.users)}" if each.by == GROUP and each.users
+                     else each.name for each in whom)
 
 
-def owner_text(entry):
-    return f"{entry['uid']}:{entry['gid']} {entry['mode']}"
+def owner_text(owner: Owner) -> str:
+    return f"{owner.uid}:{owner.gid} {owner.mode}"
 
 
-def entry_line(entries):
+def entry_line(entries: Sequence[EntryFinding]) -> str:
     """The line of the entries at one place that let in the same to the same."""
     entry = entries[0]
-    what = " ".join(f"{each['entry']} ({owner_text(each['owner'])})" if each["owner"] else each["entry"] for each in entries)
-    return f"{entry['path']} {what}: {entry['answer']}, by {whom_text(entry['whom'])}, of {some(entry['subtrees'])}"
+    what = " ".join(f"{each.entry} ({owner_text(each.owner)})" if each.owner else each.entry for each in entries)
+    return f"{entry.path} {what}: {entry.answer}, by {whom_text(entry.whom)}, of {some(entry.subtrees)}"
 
 
-def opened_line(each):
-    return f"opened {each['path']} {each['file']} by {whom_text(each['whom'])}"
+def opened_line(each: OpenedFinding) -> str:
+    return f"opened {each.path} {each.file} by {whom_text(each.whom)}"
 
 
-def differs_line(each):
-    return f"differs {each['path']}: {some(each['entries'])}: not as a service manager leaves it"
+def differs_line(each: DiffersFinding) -> str:
+    return f"differs {each.path}: {some(each.entries)}: not as a service manager leaves it"
 
 
-def above_line(each):
-    return f"above: {each['who']}, below {each['handed']}: {some(each['subtrees'])}"
+def above_line(each: AboveFinding) -> str:
+    return f"above: {each.who}, below {each.handed}: {some(each.subtrees)}"

@@ -1,8 +1,14 @@
 """A report: the third form of what is told. Its JSON has the keys and the order of these fields, of which those that are ABSENT
 have no key; the paths in it are texts, as they are shown."""
+import re
 from dataclasses import dataclass
 from enum import Enum
-from typing import Mapping, Optional, Tuple, Union
+from typing import Annotated, Mapping, Optional, Tuple, Union
+
+# of the keys that a report has
+VERSION = 1
+# the status of a report of a host on which nothing was found to ask
+NOTHING_ASKED = 4
 
 
 class Absent(Enum):
@@ -10,14 +16,37 @@ class Absent(Enum):
 
 
 ABSENT = Absent.ABSENT
+# what a limit file has; one that can't be read has none
+FileValue = Union[int, str, None, Absent]
+
+
+@dataclass(frozen=True)
+class Matching:
+    """A text that a pattern matches."""
+    pattern: str
+
+    def holds(self, text: str) -> bool:
+        return re.fullmatch(self.pattern, text) is not None
+
+
+@dataclass(frozen=True)
+class Filled:
+    """A list with something in it."""
+
+    def holds(self, parts: Tuple[object, ...]) -> bool:
+        return bool(parts)
+
+
+Mode = Annotated[str, Matching("[0-7]{3,4}")]
+# the lines of an answer, of which the first has its word
+Lines = Annotated[Tuple[str, ...], Filled()]
 
 
 @dataclass(frozen=True)
 class Owner:
     uid: int
     gid: int
-    # octal digits
-    mode: str
+    mode: Mode
 
 
 @dataclass(frozen=True)
@@ -33,7 +62,7 @@ class HolderAnswer:
     uids: Tuple[int, ...]
     users: int
     gids: Tuple[int, ...]
-    lines: Tuple[str, ...]
+    lines: Lines
     # it lies in what was handed to the same person
     is_above: bool
 
@@ -56,13 +85,16 @@ class Whom:
     users: Tuple[str, ...]
 
 
+AllLetIn = Annotated[Tuple[Whom, ...], Filled()]
+
+
 @dataclass(frozen=True)
 class Example:
     who: str
     uid: int
     gids: Tuple[int, ...]
     subtree: str
-    lines: Tuple[str, ...]
+    lines: Lines
 
 
 @dataclass(frozen=True)
@@ -72,7 +104,7 @@ class EntryFinding:
     entry: str
     owner: Optional[Owner]
     answer: str
-    whom: Tuple[Whom, ...]
+    whom: AllLetIn
     subtrees: Tuple[str, ...]
     example: Optional[Example]
     changes: Tuple[str, ...]
@@ -85,7 +117,7 @@ class OpenedFinding:
     path: str
     file: str
     owner: Owner
-    whom: Tuple[Whom, ...]
+    whom: AllLetIn
     changes: Tuple[str, ...]
     setting: Optional[str]
 
@@ -118,9 +150,6 @@ class AboveFinding:
     subtrees: Tuple[str, ...]
 
 
-Finding = Union[EntryFinding, OpenedFinding, FaultFinding, DiffersFinding, AboveFinding]
-
-
 @dataclass(frozen=True)
 class Told:
     """What no answer looks at, or what a tree text leaves out."""
@@ -146,9 +175,8 @@ class ReportGroup:
 class ReportFile:
     uid: int
     gid: int
-    mode: str
-    # of a limit that can't be read, none
-    value: Union[int, str, None, Absent] = ABSENT
+    mode: Mode
+    value: FileValue = ABSENT
 
 
 @dataclass(frozen=True)

@@ -1,28 +1,38 @@
 """Users and groups by name, as a line can show them."""
+from dataclasses import dataclass
+from typing import Mapping, Optional
+
+from zirofen_host.collect.accounts import Accounts
+from zirofen_host.collect.model import GROUP, User
 from zirofen_host.profile import ANYBODY, shown
 
 
+@dataclass(frozen=True)
 class Names:
-    """The names of a host's accounts."""
+    """The names of a host's accounts, by uid and by gid."""
+    users: Mapping[int, str]
+    groups: Mapping[int, str]
 
-    def __init__(self, accounts):
-        self.users = accounts.names
-        self.groups = {group.gid: group.name for group in accounts.groups if group.name}
+    def user(self, uid: int) -> str:
+        return f"{shown(self.users[uid])}({uid})" if uid in self.users else f"uid {uid}"
 
-    def user(self, uid):
-        if uid in self.users:
-            return f"{shown(self.users[uid])}({uid})"
-        return f"uid {uid}"
-
-    def member(self, uid):
+    def member(self, uid: int) -> str:
         """A member of a group, who may be unknown."""
         return self.user(uid) if uid != ANYBODY else "members unknown"
 
-    def who(self, user):
-        """A user as he was asked of; uid 65534 stands for somebody of whom nothing or a group alone is known."""
+    def who(self, user: User) -> str:
+        """A user as they were asked of; uid 65534 stands for somebody of whom nothing or a group alone is known."""
         if user.uid != ANYBODY:
             return self.user(user.uid)
         return f"a member of {self.group(user.gids[0])}" if user.gids else "anybody"
 
-    def group(self, gid):
+    def group(self, gid: int) -> str:
         return f"group {shown(self.groups[gid])}({gid})" if gid in self.groups else f"group {gid}"
+
+    def by_class(self, by: str, number: Optional[int]) -> str:
+        """Somebody that an entry lets in."""
+        return "everybody" if number is None else self.group(number) if by == GROUP else self.user(number)
+
+
+def names_of(accounts: Accounts) -> Names:
+    return Names(accounts.names, {group.gid: group.name for group in accounts.lists.groups if group.name})

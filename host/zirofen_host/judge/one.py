@@ -2,24 +2,38 @@
 import os
 import pwd
 import tempfile
+from dataclasses import dataclass
+from typing import AbstractSet, Callable, Dict, Iterable, Iterator, List, Optional, Tuple
 
-from zirofen_host.collect.accounts import accounts_of, is_id
-from zirofen_host.ask.program import Answer, Refused, answer_of, user_words, worst
 from zirofen_host.ask.delegations import Delegations
-from zirofen_host.fault import FAULT, Fault
-from zirofen_host.profile import MOST_GROUPS, ancestors, shown
+from zirofen_host.ask.model import Answer
+from zirofen_host.ask.program import Program, Refused, abilities_of, answer_of, user_words, worst
 from zirofen_host.ask.questions import with_groups
+from zirofen_host.ask.texts import texts_of, write
+from zirofen_host.collect.accounts import Accounts, accounts_of, is_id
+from zirofen_host.collect.model import OTHERS, Snapshot, Tree, User
+from zirofen_host.fault import FAULT, Fault
 from zirofen_host.judge.shell import change_commands
-from zirofen_host.ask.texts import Programs, Texts
-from zirofen_host.collect.tree import Tree
-from zirofen_host.collect.model import User
+from zirofen_host.options import AskOptions
+from zirofen_host.profile import MOST_GROUPS, CgroupPath, ancestors, is_root, path_of, shown, text_of
+
+Warn = Callable[[str], None]
 
 
-def uid_of(word, accounts, on_host):
+@dataclass(frozen=True)
+class One:
+    """A subtree on a mount, and the program with a text that has it."""
+    path: CgroupPath
+    mount: str
+    delegations: Delegations
+    program: Program
+
+
+def uid_of(word: str, accounts: Accounts, on_host: bool) -> Optional[int]:
     """The uid of a name or of a number; a name is looked up as the host does, also where it isn't listed."""
     if is_id(word):
         return int(word)
-    for account in accounts.accounts:
+    for account in accounts.lists.accounts:
         if account.name == word:
             return account.uid
     try:
@@ -28,8 +42,8 @@ def uid_of(word, accounts, on_host):
         return None
 
 
-def users_of(word, accounts, on_host):
-    """The users behind a name or a uid, one for each list of groups that he was seen with."""
+def users_of(word: str, accounts: Accounts, on_host: bool) -> List[User]:
+    """The users behind a name or a uid, one for each list of groups that they were seen with."""
     uid = uid_of(word, accounts, on_host)
     if uid is None:
         raise Fault(f"there is no account {word!r}")
@@ -44,91 +58,90 @@ def users_of(word, accounts, on_host):
     return users
 
 
-def is_known(user, tree, accounts):
-    """Whether a uid has anything here: an account, a process, an entry that he owns or writes as himself or in a group."""
+def is_known(user: User, tree: Tree, accounts: Accounts) -> bool:
+    """Whether a uid has anything here: an account, a process, an entry that it owns or writes as itself or in a group."""
     return (user.uid in accounts.names or any(user.uid == uid for _, uid, _ in tree.processes)
-            or any(user.reaches(entry) and user.class_of(entry) != "others" for row in tree.rows.values()
+            or any(user.reaches(entry) and user.class_of(entry) != OTHERS for row in tree.rows.values()
                    for entry in (row.directory, *row.files.values())))
 
 
-class Asked:
-    """A user and a subtree that are asked of."""
+def program_for(snapshot: Snapshot, options: AskOptions, folder: str, uids: AbstractSet[int]) -> Program:
+    """The program, with a text that has the subtree; where there is none, the program says so of the root alone."""
+    path, tree = path_of(options.path), snapshot.tree
+    for place in (path, *ancestors(path)) if options.path.startswith("/") else ():
+        if place in snapshot.spoiled:
+            raise Fault(f"nothing is asked of {shown(options.path)}: {snapshot.spoiled[place]}")
+    if path not in tree.rows or is_root(path):
+        root = path_of("/")
+        tree = Tree(tree.controllers, {root: tree.rows[root]})
+    texts = texts_of(tree, [path], not options.no_processes)
+    if texts.refused:
+        raise Fault(f"nothing is asked of {options.path}: {texts.refused[path]}")
+    texts.fill(lambda _: uids)
+    return write(texts, options, folder, snapshot).of[path]
 
-    def __init__(self, snapshot, options, warn):
-        self.options, self.warn, self.tree, self.mount = options, warn, snapshot.tree, snapshot.mount
-        accounts = accounts_of(options, snapshot.processes_told, snapshot.accounts)
-        self.delegations = Delegations(snapshot.tree, accounts)
-        self.users = users_of(options.user, accounts, not options.accounts and not snapshot.file)
-        if not any(is_known(user, snapshot.tree, accounts) for user in self.users):
-            warn(f"uid {self.users[0].uid} owns nothing, writes nothing of his own, has no process and no account here")
 
-    def asked(self):
-        """Each list of groups once, as far as it matters, with how many of his groups matter where these are too many."""
-        path = self.options.path
-        is_there = path in self.tree.rows and path != "/"
-        guarded = self.delegations.guarded(path) if is_there else ()
-        matter = {self.delegations.entry(each.path, each.name).gid for each in guarded}
-        found = {}
-        for user in self.users:
-            few, count = with_groups(user, matter, self.delegations.gids_of_tree)
-            if few and count:
-                self.warn(f"{count} of his groups that stand in the tree are left out: no entry that a guard stands on has them")
-            found[few or user] = None if few else count
-        return found
+def as_asked(one: One, users: Iterable[User], warn: Warn) -> Dict[User, int]:
+    """Each list of groups once, as far as it matters, with how many groups matter where these are too many, else none."""
+    is_there = one.path in one.delegations.tree.rows and not is_root(one.path)
+    guarded = one.delegations.guarded(one.path) if is_there else ()
+    matter = {one.delegations.entry(each.path, each.name).gid for each in guarded}
+    found = {}
+    for user in users:
+        few, count = with_groups(user, matter, one.delegations.gids_of_tree)
+        if few and count:
+            warn(f"{count} of his groups that stand in the tree are left out: no entry that a guard stands on has them")
+        found[few or user] = 0 if few else count
+    return found
 
-    def check(self, program, user, too_many):
-        if too_many:
-            return Answer(FAULT, [f"{too_many} of his groups matter here, and the program takes {MOST_GROUPS}"])
-        try:
-            ended = program.run("check", "--tree", program.tree, *user_words(user), "--subtree", self.options.path)
-            return answer_of(ended.status, ended.lines)
-        except Refused as refused:
-            return Answer(FAULT, [str(refused), *refused.help_lines])
 
-    def changes(self, program, user):
-        try:
-            advice = program.advise(user, self.options.path)
-        except Refused as refused:
-            raise refused.fault() from None
-        for words, changes in advice:
-            yield f"fails {' '.join(words)}"
-            for command in change_commands(self.mount, changes, self.delegations.entry):
-                yield f"    change: {command}"
+def answer(one: One, user: User, too_many: int) -> Answer:
+    if too_many:
+        return Answer(FAULT, (f"{too_many} of his groups matter here, and the program takes {MOST_GROUPS}",))
+    try:
+        ended = one.program.run("check", "--tree", one.program.tree, *user_words(user), "--subtree", text_of(one.path))
+        return answer_of(ended.status, ended.lines)
+    except Refused as refused:
+        return Answer(FAULT, (str(refused), *refused.help_lines))
 
-    def lines(self, program):
-        """The report, and its status; where the answers differ by his groups, each has them at its head."""
-        answers = {user: self.check(program, user, count) for user, count in sorted(self.asked().items())}
-        if all(answer.status == FAULT for answer in answers.values()):
+
+def changes(one: One, user: User) -> Iterator[str]:
+    """What fails, with the commands that change it."""
+    try:
+        advice = one.program.advise(user, one.path)
+    except Refused as refused:
+        raise refused.fault() from None
+    for fails, changed in advice:
+        yield f"fails {' '.join(fails)}"
+        for command in change_commands(one.mount, changed, lambda path, name: one.delegations.entry(path_of(path), name)):
+            yield f"    change: {command}"
+
+
+def lines_of(one: One, answers: Dict[User, Answer]) -> Iterator[str]:
+    """The lines of the answers; where they differ by the groups, each has these at its head."""
+    differ = len({each.lines for each in answers.values()}) > 1
+    is_advised = any(each.status not in (0, FAULT) for each in answers.values()) and abilities_of(one.program.path).has_advise
+    for number, (user, each) in enumerate(answers.items()):
+        if differ:
+            yield f"# uid {user.uid}, groups {','.join(map(str, user.gids)) or '-'}"
+        elif number:
+            continue
+        yield from each.lines
+        if each.status not in (0, FAULT) and is_advised:
+            yield from (f"# {line}" for line in changes(one, user))
+
+
+def ask(snapshot: Snapshot, options: AskOptions, warn: Warn) -> Tuple[List[str], int]:
+    """The report of one user and one subtree, and its status."""
+    accounts = accounts_of(options.accounts, snapshot)
+    users = users_of(options.user, accounts, not options.accounts and snapshot.source.file is None)
+    if not any(is_known(user, snapshot.tree, accounts) for user in users):
+        warn(f"uid {users[0].uid} owns nothing, writes nothing of his own, has no process and no account here")
+    with tempfile.TemporaryDirectory() as folder:
+        program = program_for(snapshot, options, folder, {user.uid for user in users})
+        one = One(path_of(options.path), snapshot.mount, Delegations(snapshot.tree, accounts), program)
+        answers = {user: answer(one, user, count) for user, count in sorted(as_asked(one, users, warn).items())}
+        if all(each.status == FAULT for each in answers.values()):
             line, *help_lines = next(iter(answers.values())).lines
             raise Fault(line, help_lines)
-        lines = []
-        for user, answer in answers.items():
-            if len({tuple(each.lines) for each in answers.values()}) > 1:
-                lines.append(f"# uid {user.uid}, groups {','.join(map(str, user.gids)) or '-'}")
-            elif lines:
-                continue
-            lines += answer.lines
-            if answer.status not in (0, FAULT) and program.has_advise:
-                lines += [f"# {line}" for line in self.changes(program, user)]
-        return lines, worst({answer.status for answer in answers.values()})
-
-
-def program_for(snapshot, options, folder, uids):
-    """The program, with a text that has the subtree; where there is none, the program says so of the root alone."""
-    path, tree = options.path, snapshot.tree
-    for place in (path, *ancestors(path)) if path.startswith("/") else ():
-        if place in snapshot.spoiled:
-            raise Fault(f"nothing is asked of {shown(path)}: {snapshot.spoiled[place]}")
-    if path not in tree.rows or path == "/":
-        tree = Tree(tree.controllers, {"/": tree.rows["/"]})
-    texts = Texts(tree, [path], not options.no_processes)
-    if texts.refused:
-        raise Fault(f"nothing is asked of {path}: {texts.refused[path]}")
-    texts.fill(lambda _: uids)
-    return Programs(options, folder, texts, snapshot).of[path]
-
-
-def ask(snapshot, options, warn):
-    asked = Asked(snapshot, options, warn)
-    with tempfile.TemporaryDirectory() as folder:
-        return asked.lines(program_for(snapshot, options, folder, {user.uid for user in asked.users}))
+        return list(lines_of(one, answers)), worst({each.status for each in answers.values()})

@@ -1,82 +1,73 @@
-"""Limits that somebody sets at a cgroup that isn't his: seen by the helper on the host, and not proved.
+"""Limits that somebody sets at a cgroup that isn't theirs: seen by the helper on the host, and not proved.
 
 The answers speak of the limit files of a tree text at subtrees that are asked of. Everything else by which something
 is set is looked at here.
 """
-from collections import namedtuple
 from dataclasses import replace
+from typing import Container, Dict, Iterable, Iterator, List, Set, Tuple
 
-from zirofen_host.profile import ANYBODY, HANDED_OVER, LIMIT_FILES, is_set_by
-from zirofen_host.collect.model import OTHERS
+from zirofen_host.ask.questions import Questions
+from zirofen_host.collect.model import GROUP, OTHERS, OWNER, Entry, Snapshot, User
+from zirofen_host.judge.judged import LetIn, Place
+from zirofen_host.profile import ANYBODY, HANDED_OVER, LIMIT_FILES, CgroupPath, is_root, is_set_by, parts_of
 
-Opened = namedtuple("Opened", "path file entry whom")
-# somebody that an entry lets in: by its owner, by its group or with everybody, and the uids that were found so
-Whom = namedtuple("Whom", "by id uids")
-
-GROUP_OR_OTHERS_WRITE = 0o022
-
-
-class Openings:
-    """Finds open limits on a host, given what the answers show already."""
-
-    def __init__(self, snapshot, questions, kernel_list):
-        self.rows = snapshot.cgroups
-        self.questions = questions
-        self.kernel_list = kernel_list
-        self.asked = set(questions.subtrees)
-
-    def find(self, shown):
-        """Every opening, but for the entries at the root that the answers show."""
-        found = []
-        for path in sorted(self.rows, key=lambda path: path.split("/")):
-            row = self.rows[path]
-            for name, entry in sorted({"dir": row.directory, **row.files}.items()):
-                if entry.uid or entry.mode & GROUP_OR_OTHERS_WRITE:
-                    if self.is_looked_at(path, name, entry) and (path, name) not in shown:
-                        whom = self.whom(path, name, entry)
-                        found += [Opened(path, name, entry, whom)] if whom else []
-        return found
-
-    def is_looked_at(self, path, name, entry):
-        """What is handed over is asked of below the root, and the limit files are where the subtree is."""
-        if name in HANDED_OVER:
-            return path == "/"
-        if name in LIMIT_FILES:
-            return path not in self.asked
-        return is_set_by(name, entry.mode)
-
-    def whom(self, path, name, entry):
-        of = self.questions.delegations.users
-        whom = []
-        if entry.uid:
-            uids = {user.uid for user in of("uid", entry.uid) if not self.is_his(user, path, name)}
-            whom += [Whom("owner", entry.uid, uids)] if uids else []
-        if entry.mode & 0o020:
-            users = (user for user in of("gid", entry.gid) if user.uid != entry.uid)
-            uids = {user.uid for user in users if not self.is_his(user, path, name)}
-            whom += [Whom("group", entry.gid, uids)] if uids else []
-        if entry.mode & 0o002:
-            whom.append(Whom(OTHERS, None, {ANYBODY}))
-        return whom
-
-    def is_his(self, user, path, name):
-        """Whether it lies inside of what was handed to him, or is made to be handed over with what was."""
-        if self.questions.is_inside_his(user, path):
-            return True
-        return name in self.kernel_list and bool(self.questions.has_directory(user, path))
+GROUP_WRITES, OTHERS_WRITE = 0o020, 0o002
 
 
-def what_differs(snapshot, path, kernel_list):
+def find_openings(snapshot: Snapshot, questions: Questions) -> Iterator[Tuple[Place, Entry, List[LetIn]]]:
+    """Every opening, with whom it lets in."""
+    asked = set(questions.subtrees)
+    for path in sorted(snapshot.cgroups, key=parts_of):
+        found = snapshot.cgroups[path]
+        for name, entry in sorted({"dir": found.directory, **found.files}.items()):
+            is_writable = entry.uid or entry.mode & (GROUP_WRITES | OTHERS_WRITE)
+            if is_writable and is_looked_at(asked, Place(path, name), entry):
+                whom = whom_of(snapshot, questions, Place(path, name), entry)
+                if whom:
+                    yield Place(path, name), entry, whom
+
+
+def is_looked_at(asked: Container[CgroupPath], place: Place, entry: Entry) -> bool:
+    """What is handed over is asked of below the root, and the limit files are where the subtree is."""
+    if place.name in HANDED_OVER:
+        return is_root(place.path)
+    if place.name in LIMIT_FILES:
+        return place.path not in asked
+    return is_set_by(place.name, entry.mode)
+
+
+def whom_of(snapshot: Snapshot, questions: Questions, place: Place, entry: Entry) -> List[LetIn]:
+    """Whom an entry lets in, but for those whose it is."""
+    def others(users: Iterable[User]) -> Set[int]:
+        return {user.uid for user in users if not is_theirs(snapshot, questions, user, place)}
+
+    of, whom = questions.delegations.users, []
+    if entry.uid:
+        whom.append(LetIn(OWNER, entry.uid, others(of("uid", entry.uid))))
+    if entry.mode & GROUP_WRITES:
+        whom.append(LetIn(GROUP, entry.gid, others(user for user in of("gid", entry.gid) if user.uid != entry.uid)))
+    if entry.mode & OTHERS_WRITE:
+        whom.append(LetIn(OTHERS, None, {ANYBODY}))
+    return [each for each in whom if each.uids]
+
+
+def is_theirs(snapshot: Snapshot, questions: Questions, user: User, place: Place) -> bool:
+    """Whether it lies inside of what was handed to a user, or is made to be handed over with what was."""
+    if questions.is_inside_his(user, place.path):
+        return True
+    return place.name in snapshot.kernel_list and bool(questions.has_directory(user, place.path))
+
+
+def what_differs(snapshot: Snapshot, path: CgroupPath) -> Dict[str, Entry]:
     """The entries at a subtree that was meant to be handed over which differ from what a manager leaves there: a directory
     or a file of the list that more than its owner writes, and other files that aren't root's."""
-    row = snapshot.cgroups[path]
-    differs = {}
-    for name, entry in {"dir": row.directory, **row.files}.items():
+    found, differs = snapshot.cgroups[path], {}
+    for name, entry in {"dir": found.directory, **found.files}.items():
         if name.endswith(".pressure"):
             # a manager hands this over to whoever wants to be woken
             continue
-        handed = name == "dir" or name in kernel_list
-        by_group = entry.mode & 0o020 and entry.gid
-        if entry.mode & 0o002 or by_group and (entry.uid or not handed) or entry.uid and not handed:
+        handed = name == "dir" or name in snapshot.kernel_list
+        by_group = entry.mode & GROUP_WRITES and entry.gid
+        if entry.mode & OTHERS_WRITE or by_group and (entry.uid or not handed) or entry.uid and not handed:
             differs[name] = replace(entry, uid=0 if handed else entry.uid)
     return differs

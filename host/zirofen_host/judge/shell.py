@@ -1,8 +1,13 @@
 """Shell commands for a mount: of operations, and of what to change."""
 import shlex
+from typing import Callable, Dict, Iterable, List, Mapping, Optional, Sequence, Tuple
 
+from zirofen_host.collect.model import Entry, User
 from zirofen_host.fault import Fault
-from zirofen_host.profile import CONTROL_FILES, CONTROLLERS, LIMIT_FILES, is_number
+from zirofen_host.profile import CONTROL_FILES, CONTROLLERS, LIMIT_FILES, is_number, is_root
+
+# the words of what to change, as the program advises it
+Change = Sequence[str]
 
 ENTRIES = ("dir", *CONTROL_FILES, *LIMIT_FILES)
 # lines of a report that stand around operations
@@ -10,56 +15,56 @@ ANSWERS = ("escapes", "contained", "unsettled", "pair")
 NOBODYS_GROUP = 65534
 
 
-def place(mount, path, entry="dir"):
+def place(mount: str, path: str, entry: str = "dir") -> str:
     """An entry of a cgroup on a mount, quoted for a shell."""
-    folder = mount.rstrip("/") + ("" if path == "/" else path) or "/"
+    folder = mount.rstrip("/") + ("" if is_root(path) else path) or "/"
     return shlex.quote(folder if entry == "dir" else f"{folder}/{entry}")
 
 
-def is_path(word):
-    return word == "/" or word.startswith("/") and all(word[1:].split("/")) and not {".", ".."} & set(word.split("/"))
+def is_path(word: str) -> bool:
+    return is_root(word) or word.startswith("/") and all(word[1:].split("/")) and not {".", ".."} & set(word.split("/"))
 
 
-def move(mount, pid, path):
+def move(mount: str, pid: str, path: str) -> Optional[str]:
     return f"echo {pid} >{place(mount, path, 'cgroup.procs')}" if is_number(pid) and is_path(path) else None
 
 
-def control(mount, path, *changes):
+def control(mount: str, path: str, *changes: str) -> Optional[str]:
     known = all(each[:1] in ("+", "-") and each[1:] in CONTROLLERS for each in changes)
     return f"echo '{' '.join(changes)}' >{place(mount, path, 'cgroup.subtree_control')}" if known and is_path(path) else None
 
 
-def make(mount, path):
+def make(mount: str, path: str) -> Optional[str]:
     return f"mkdir {place(mount, path)}" if is_path(path) else None
 
 
-def remove(mount, path):
+def remove(mount: str, path: str) -> Optional[str]:
     return f"rmdir {place(mount, path)}" if is_path(path) else None
 
 
-def set_limit(mount, path, file, value):
+def set_limit(mount: str, path: str, file: str, value: str) -> Optional[str]:
     known = file in LIMIT_FILES and (value == "max" or is_number(value))
     return f"echo {value} >{place(mount, path, file)}" if known and is_path(path) else None
 
 
-def set_mode(mount, path, entry, mode):
+def set_mode(mount: str, path: str, entry: str, mode: str) -> Optional[str]:
     known = entry in ENTRIES and len(mode) == 3 and not mode.strip("01234567")
     return f"chmod {mode} {place(mount, path, entry)}" if known and is_path(path) else None
 
 
-def fork(_, parent, child):
+def fork(_: str, parent: str, child: str) -> Optional[str]:
     return f"# fork {parent} {child}" if is_number(parent) and is_number(child) else None
 
 
-def leave(_, pid):
+def leave(_: str, pid: str) -> Optional[str]:
     return f"# exit {pid}" if is_number(pid) else None
 
 
-OPERATIONS = {"move": move, "control": control, "mkdir": make, "rmdir": remove, "set": set_limit, "chmod": set_mode,
-              "fork": fork, "exit": leave}
+OPERATIONS: Dict[str, Callable[..., Optional[str]]] = {
+    "move": move, "control": control, "mkdir": make, "rmdir": remove, "set": set_limit, "chmod": set_mode, "fork": fork, "exit": leave}
 
 
-def operation_command(mount, words):
+def operation_command(mount: str, words: Sequence[str]) -> Optional[str]:
     """The command of an operation, a comment where a shell has none, or None where the words are no operation."""
     try:
         return OPERATIONS[words[0]](mount, *words[1:])
@@ -67,7 +72,7 @@ def operation_command(mount, words):
         return None
 
 
-def as_user(user, command):
+def as_user(user: Optional[User], command: str) -> str:
     """A command that is carried out as a user, whatever root may do."""
     if user is None or command.startswith("#"):
         return command
@@ -76,7 +81,7 @@ def as_user(user, command):
     return f"setpriv --reuid {user.uid} --regid {primary} {groups} sh -c {shlex.quote(command)}"
 
 
-def commands(mount, text, user=None):
+def commands(mount: str, text: str, user: Optional[User] = None) -> List[str]:
     """The commands of the operations in a text, a line each; what else an answer has is a comment."""
     lines = []
     for number, line in enumerate(text.split("\n"), 1):
@@ -84,7 +89,7 @@ def commands(mount, text, user=None):
         if not line:
             continue
         if line.startswith("#") or words[0] in ANSWERS:
-            command = "# " + line.lstrip("# ")
+            command: Optional[str] = "# " + line.lstrip("# ")
         else:
             command = operation_command(mount, words)
         if command is None or not line.isprintable():
@@ -93,10 +98,11 @@ def commands(mount, text, user=None):
     return lines
 
 
-def change_commands(mount, changes, entry_of):
+def change_commands(mount: str, changes: Iterable[Change], entry_of: Callable[[str, str], Entry]) -> Tuple[str, ...]:
     """The commands of all changes that the program advises, for one entry after another. Each mode that is advised takes
     bits from the one that stands, so that of several modes of an entry those bits are left which all of them have."""
-    others, modes = {}, {}
+    others: Dict[str, None] = {}
+    modes: Dict[str, int] = {}
     for words in changes:
         if len(words) != 4 or words[0] not in ("chown", "chmod", "set"):
             raise Fault(f"an advice that isn't known: {' '.join(words)!r}")
@@ -110,17 +116,17 @@ def change_commands(mount, changes, entry_of):
             others[f"chown {'root' if uid == '0' else uid}{'' if same_group else ':' + gid} {at}"] = None
         else:
             others[f"echo {value} >{at}"] = None
-    return [*others, *(f"chmod {mode:03o} {at}" for at, mode in modes.items())]
+    return (*others, *(f"chmod {mode:03o} {at}" for at, mode in modes.items()))
 
 
-def closing_commands(mount, path, entries):
+def closing_commands(mount: str, path: str, entries: Mapping[str, Entry]) -> Tuple[str, ...]:
     """Commands that give entries back to root and take the write bits of others, the fewest; entries by name."""
-    found = {}
+    found: Dict[Tuple[str, str], List[str]] = {}
     for name, entry in sorted(entries.items()):
         changes = [("chown", "root")] if entry.uid else []
         bits = [letter for letter, bit in (("g", 0o020), ("o", 0o002)) if entry.mode & bit and (bit != 0o020 or entry.gid)]
         changes += [("chmod", f"{''.join(bits)}-w")] if bits else []
         for change in changes:
             found.setdefault(change, []).append(name)
-    return [f"{word} {what} {' '.join(place(mount, path, name) for name in names)}"
-            for (word, what), names in sorted(found.items(), reverse=True)]
+    return tuple(f"{word} {what} {' '.join(place(mount, path, name) for name in names)}"
+                 for (word, what), names in sorted(found.items(), reverse=True))

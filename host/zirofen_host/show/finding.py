@@ -1,148 +1,199 @@
 """A finding as an article of the page."""
-from zirofen_host.judge import shell
-from zirofen_host.show import words
-from zirofen_host.fault import Fault
-from zirofen_host.show.markup import capital, code, commands, filled, items, paragraph, places, sentence, text
-from zirofen_host.show.picture import Picture
-from zirofen_host.judge.finding_lines import owner_text
-from zirofen_host.show.lines import together
+from dataclasses import dataclass
+from typing import Dict, Iterable, Iterator, List, Optional
+
 from zirofen_host.collect.model import User
-from zirofen_host.show.view import DIFFERS
-from zirofen_host.show.words import ESCAPES, FAULT, OPENED, SIGNS, UNSETTLED
+from zirofen_host.fault import Fault
+from zirofen_host.judge import shell
+from zirofen_host.judge.finding_lines import owner_text
+from zirofen_host.judge.model import DiffersFinding, EntryFinding, FaultFinding, OpenedFinding
+from zirofen_host.show import picture, words
+from zirofen_host.show.lines import together
+from zirofen_host.show.markup import capital, code, commands, filled, items, paragraph, places, sentence, text
+from zirofen_host.show.steps import OVER, Steps, steps_of
+from zirofen_host.show.view import Escape, Grouped, Host, Part, entry_of, place_of, subtrees_of, whom_of
+from zirofen_host.show.words import ESCAPES, SIGNS, UNSETTLED
 
 
-def settings_by_unit(settings):
+def settings_by_unit(settings: Iterable[str]) -> List[str]:
     """Settings as sentences list them, those of one unit together."""
-    units = {}
+    units: Dict[str, List[str]] = {}
     for setting in dict.fromkeys(settings):
         name, _, unit = setting.rpartition(" of ")
         units.setdefault(unit, []).append(name)
     return [f"{words.listed(names)} of {unit}" for unit, names in units.items()]
 
 
-class Finding:
+@dataclass(frozen=True)
+class Place:
+    """Where in a page a host's part is: its id, and whether it is the only one."""
+    id: str
+    is_alone: bool
+
+    def level(self, number: int) -> str:
+        """Headings are one level lower below an overview."""
+        return f"h{number if self.is_alone else number + 1}"
+
+
+@dataclass(frozen=True)
+class Broken:
+    """How a subtree is broken: an escape, carried out in words where operations were found, and where it is told already."""
+    escape: Escape
+    steps: Optional[Steps]
+    told_before: Optional[str]
+
+
+@dataclass(frozen=True)
+class Article:
     """A finding as an article of the page."""
+    host: Host
+    at: Place
+    number: int
+    finding: Grouped
+    broken: Optional[Broken]
 
-    def __init__(self, page, number):
-        self.page, self.host, self.number = page, page.host, number
-        self.finding = page.host.findings[number]
-        self.kind, self.parts = self.finding.kind, self.finding.parts
-        self.id = f"{page.id}-finding-{number + 1}"
-        self.escape = self.host.escape(self.finding) if self.finding.key == "entries" else None
-        is_broken = self.escape and self.kind == ESCAPES
-        self.steps = words.Steps(self.host, self.escape.subtree, self.escape.lines[1:]) if is_broken else None
+    @property
+    def id(self) -> str:
+        return id_of(self.at, self.number)
 
-    def html(self):
-        sign = SIGNS[self.kind][0] if self.kind in SIGNS else "~"
-        return filled("finding.html", id=self.id, kind=self.kind, sign=sign, word=text(self.kind), title=self.title(),
-                      heading=self.page.level(3), what=self.what(), of=self.of(), picture=self.picture(),
+    @property
+    def steps(self) -> Optional[Steps]:
+        return self.broken.steps if self.broken else None
+
+    def html(self) -> str:
+        kind = self.finding.kind
+        return filled("finding.html", id=self.id, kind=kind, sign=SIGNS[kind][0] if kind in SIGNS else "~", word=text(kind),
+                      title=self.title(), heading=self.at.level(3), what=self.what(), of=self.of(), picture=self.picture(),
                       steps=self.told_steps(), change=self.change(), try_it=self.try_it())
 
-    def title(self):
+    def title(self) -> str:
         """What is the matter, in one line."""
-        part = self.parts[0]
-        if self.kind == DIFFERS:
-            return f"{code(part['path'])} isn't as a service manager leaves it"
-        if self.kind == FAULT:
-            return f"No answer of {self.titled(part['subtrees'][0])}"
-        if self.kind == OPENED:
-            verb = "sets" if words.is_one(part["whom"]) else "set"
-            return f"{text(capital(words.who(part['whom'])))} {verb} limits of {code(part['path'])}"
-        if self.steps and self.steps.breaks[0] == "over":
-            return f"{code(self.escape.subtree)} is over its own limits"
-        verb = words.broken(self.steps.breaks) if self.steps else "breaks" if self.kind == ESCAPES else "may break"
-        if self.escape:
-            return f"{text(capital(self.escape.who))} {verb} {self.titled(self.escape.subtree)}"
-        return f"{text(capital(words.who(part['whom'])))} {verb} {self.titled(part['subtrees'][0])}"
+        part, kind = self.finding.parts[0], self.finding.kind
+        if isinstance(part, DiffersFinding):
+            return f"{code(part.path)} isn't as a service manager leaves it"
+        if isinstance(part, FaultFinding):
+            return f"No answer of {self.titled(part.subtrees[0])}"
+        if isinstance(part, OpenedFinding):
+            verb = "sets" if words.is_one(part.whom) else "set"
+            return f"{text(capital(words.who(part.whom)))} {verb} limits of {code(part.path)}"
+        if self.broken and self.steps and self.steps.breaks.kind == OVER:
+            return f"{code(self.broken.escape.subtree)} is over its own limits"
+        verb = self.steps.breaks.verb if self.steps else "breaks" if kind == ESCAPES else "may break"
+        if self.broken:
+            return f"{text(capital(self.broken.escape.who))} {verb} {self.titled(self.broken.escape.subtree)}"
+        return f"{text(capital(words.who(part.whom)))} {verb} {self.titled(part.subtrees[0])}"
 
-    def titled(self, subtree):
+    def titled(self, subtree: str) -> str:
         """A subtree, and how many more the finding is of; of an escape the one that was broken alone."""
-        others = 0 if self.steps else len(self.parts[0]["subtrees"]) - 1
+        others = 0 if self.steps else len(subtrees_of(self.finding.parts[0])) - 1
         return code(subtree) + (f" and {words.count(others, 'other')}" if others else "")
 
-    def what(self):
+    def what(self) -> str:
         """Each part of the report's, once: in a sentence, or below one where there are more."""
-        ids = [f"{self.page.id}-{self.finding.key}-{number + 1}" for number in self.finding.numbers]
+        ids = [f"{self.at.id}-{self.finding.key}-{number + 1}" for number in self.finding.numbers]
         if len(ids) == 1:
-            return f'<p id="{ids[0]}">{self.part(self.parts[0])}</p>'
-        told = "\n".join(f'<li id="{name}">{self.part(part)}</li>' for name, part in zip(ids, self.parts))
+            return f'<p id="{ids[0]}">{self.part(self.finding.parts[0])}</p>'
+        told = "\n".join(f'<li id="{name}">{self.part(part)}</li>' for name, part in zip(ids, self.finding.parts))
         return paragraph(self.lead()) + f"<ul>\n{told}\n</ul>"
 
-    def lead(self):
+    def lead(self) -> str:
         """Whom the entries below it let in, and where."""
-        if self.finding.key not in ("entries", "opened"):
-            return ""
-        return f"{self.subject()} these of {self.place()}:"
+        first = self.finding.parts[0]
+        return f"{self.subject()} these of {place_text(first)}:" if whom_of(first) else ""
 
-    def subject(self):
-        return text(capital("; ".join(words.how(each) for each in self.parts[0]["whom"])))
+    def subject(self) -> str:
+        return text(capital("; ".join(words.how(each) for each in whom_of(self.finding.parts[0]))))
 
-    def place(self):
-        """The cgroup, and how it stands to the subtrees."""
-        part = self.parts[0]
-        return code(part["path"]) + (f", which {words.where(part['path'], part['subtrees'])}" if "subtrees" in part else "")
-
-    def part(self, part):
+    def part(self, part: Part) -> str:
         """A part of the report's."""
-        if self.kind == FAULT:
-            return f"{text(part['who'])}: {code(part['fault'])}"
-        if self.kind == DIFFERS:
-            return f"Who owns or writes these isn't as it leaves them: {', '.join(map(code, part['entries']))}."
-        entry = part.get("entry") or part["file"]
+        if isinstance(part, FaultFinding):
+            return f"{text(part.who)}: {code(part.fault)}"
+        if isinstance(part, DiffersFinding):
+            return f"Who owns or writes these isn't as it leaves them: {', '.join(map(code, part.entries))}."
+        entry = entry_of(part)
         if entry in words.NO_ENTRY:
-            return f"{text(words.NO_ENTRY[entry])}: {code(part['path'])}, {text(words.who(part['whom']))}."
+            return f"{text(words.NO_ENTRY[entry])}: {code(part.path)}, {text(words.who(part.whom))}."
         name = "the directory" if entry == "dir" else code(entry)
-        owner = f" ({text(owner_text(part['owner']))})" if part["owner"] else ""
-        return name + owner if len(self.parts) > 1 else f"{self.subject()} {name}{owner} of {self.place()}."
+        owner = f" ({text(owner_text(part.owner))})" if part.owner else ""
+        return name + owner if len(self.finding.parts) > 1 else f"{self.subject()} {name}{owner} of {place_text(part)}."
 
-    def of(self):
+    def of(self) -> str:
         """The subtrees that it opens, where the title doesn't name the one, and what an unsettled guard means."""
-        subtrees = self.parts[0].get("subtrees", ())
+        subtrees = subtrees_of(self.finding.parts[0])
         told = f"<p>The subtrees are {places(subtrees)}.</p>" if len(subtrees) > 1 else ""
-        if self.kind == UNSETTLED and self.escape:
-            guard = text(words.guard(self.escape.lines[0]))
+        if self.finding.kind == UNSETTLED and self.broken:
+            guard = text(words.guard(self.broken.escape.lines[0]))
             told += f"<p>No operations were found that break it, and it isn't shown to hold: {guard}.</p>"
         return told
 
-    def picture(self):
-        """The escape as it was told before, or its picture."""
-        if not self.steps:
+    def picture(self) -> str:
+        """The escape as it was told already, or its picture."""
+        if not self.broken or not self.broken.steps:
             return ""
-        before = self.page.pictured.setdefault(tuple(map(str, self.escape)), self)
-        if before is not self:
-            return f'<p>It is done as by <a href="#{before.id}">the finding above</a>, which names another entry.</p>'
-        drawn = Picture(self.host, self.escape, self.finding, self.steps).svg(f"{self.id}-picture")
-        caption = f"Dashed: the subtree's edge. Marked: what lets {text(self.escape.who)} in."
-        return f"<figure>{drawn}<figcaption>{caption}</figcaption></figure>"
+        if self.broken.told_before:
+            return f'<p>It is done as by <a href="#{self.broken.told_before}">the finding above</a>, which names another entry.</p>'
+        entries = [each for each in self.finding.parts if isinstance(each, EntryFinding)]
+        shown = picture.Shown(self.host, self.broken.escape, self.broken.steps.breaks, entries)
+        caption = f"Dashed: the subtree's edge. Marked: what lets {text(self.broken.escape.who)} in."
+        return f"<figure>{picture.svg(shown, f'{self.id}-picture')}<figcaption>{caption}</figcaption></figure>"
 
-    def is_told_first(self):
-        return bool(self.steps) and self.page.pictured.get(tuple(map(str, self.escape))) is self
+    def told_here(self) -> Optional[Steps]:
+        """The steps, where they are told for the first time and there are some."""
+        return self.steps if self.broken and not self.broken.told_before and self.steps and self.steps.told else None
 
-    def told_steps(self):
-        if not self.is_told_first() or not self.steps.told:
+    def told_steps(self) -> str:
+        steps = self.told_here()
+        if not self.broken or not steps:
             return ""
-        heading = self.page.level(4)
-        return (f"<{heading}>What {text(self.escape.who)} can do</{heading}>"
-                f"<ol>\n{items(map(sentence, self.steps.told))}\n</ol>")
+        heading = self.at.level(4)
+        return (f"<{heading}>What {text(self.broken.escape.who)} can do</{heading}>"
+                f"<ol>\n{items(map(sentence, steps.told))}\n</ol>")
 
-    def change(self):
-        changes = together(command for part in self.parts for command in part.get("changes", ()))
-        settings = settings_by_unit(part["setting"] for part in self.parts if part.get("setting"))
+    def change(self) -> str:
+        mended = [each for each in self.finding.parts if not isinstance(each, FaultFinding)]
+        changes = together(command for each in mended for command in each.changes)
+        settings = settings_by_unit(each.setting for each in mended if each.setting)
         if not changes and not settings:
-            is_missing = self.finding.key == "entries" and not self.host.report["has_advice"]
+            is_missing = self.finding.key == "entries" and not self.host.report.has_advice
             return "<p>What to change isn't told: the program of this report has no advise.</p>" if is_missing else ""
-        heading = self.page.level(4)
+        heading = self.at.level(4)
         behind = f"<p>What brings it back when the unit is started again: {text(', '.join(settings))}.</p>" if settings else ""
         return f"<{heading}>What to change</{heading}>{commands(changes)}{behind}"
 
-    def try_it(self):
+    def try_it(self) -> str:
         """The escape as commands, as far as the lines of the report are operations."""
-        if not self.is_told_first() or not self.steps.told:
+        if not self.broken or not self.told_here():
             return ""
-        user = User(self.escape.uid, tuple(self.escape.gids)) if self.escape.uid is not None else None
+        escape = self.broken.escape
+        user = None if escape.uid is None else User(escape.uid, escape.gids)
         try:
-            lines = shell.commands(self.host.report["mount"], "\n".join(self.escape.lines[1:]), user)
+            lines = shell.commands(self.host.report.mount, "\n".join(escape.lines[1:]), user)
         except Fault:
-            lines = [f"# {line}" for line in self.escape.lines[1:]]
+            lines = [f"# {line}" for line in escape.lines[1:]]
         return ("<details><summary>Try it: as commands, which do harm where they work</summary>"
                 f"{commands(lines)}</details>")
+
+
+def id_of(at: Place, number: int) -> str:
+    return f"{at.id}-finding-{number + 1}"
+
+
+def place_text(part: Part) -> str:
+    """The cgroup of an entry, and how it stands to the subtrees."""
+    subtrees = subtrees_of(part)
+    return code(place_of(part)) + (f", which {words.where(place_of(part), subtrees)}" if subtrees else "")
+
+
+def articles(host: Host, at: Place) -> Iterator[Article]:
+    """The findings in their order; an escape is told at the first that it is of."""
+    first: Dict[Escape, int] = {}
+    for number, finding in enumerate(host.findings):
+        part, broken = finding.parts[0], None
+        escape = host.escape(part) if isinstance(part, EntryFinding) else None
+        if escape and finding.kind == ESCAPES:
+            before = first.setdefault(escape, number)
+            steps = steps_of(host, escape.subtree, escape.lines[1:])
+            broken = Broken(escape, steps, None if before == number else id_of(at, before))
+        elif escape:
+            broken = Broken(escape, None, None)
+        yield Article(host, at, number, finding, broken)

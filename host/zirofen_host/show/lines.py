@@ -1,42 +1,49 @@
-"""A report as it is printed, made of its value alone."""
+"""A report as it is printed, made of it alone."""
 import itertools
+from typing import Callable, Dict, Iterable, Iterator, List, Sequence, Tuple, TypeVar, Union
 
 from zirofen_host.installed import MANUAL
 from zirofen_host.judge.baseline import KINDS
 from zirofen_host.judge.finding_lines import above_line, differs_line, entry_line, opened_line, some
+from zirofen_host.judge.model import (Comparison, Difference, DiffersFinding, EntryFinding, OpenedFinding, Report, Subtree,
+                                      Told)
 
 # how far the table's columns are filled up; a longer word stands out
 WIDEST = (12, 24, 48)
+# what brings changes and a setting
+Mended = Union[EntryFinding, OpenedFinding, DiffersFinding, Difference]
+One = TypeVar("One")
+# the table's columns, and what stands below them
+Row = Tuple[str, str, str, str, Sequence[str]]
 
 
-def gids_text(gids):
+def gids_text(gids: Iterable[int]) -> str:
     return ",".join(map(str, gids)) or "-"
 
 
-def rows_of(subtree):
+def rows_of(subtree: Subtree) -> Iterator[Row]:
     """The table's rows of a subtree: one for each answer of whoever holds it."""
-    for each in subtree["answers"]:
-        if each["is_above"]:
-            yield each["who"], gids_text(each["gids"]), f"above: {each['lines'][0]}", subtree["path"], ()
-        else:
-            yield each["who"], gids_text(each["gids"]), each["lines"][0], subtree["path"], each["lines"][1:]
-    if not subtree["answers"]:
-        yield "-", "-", "held by root alone", subtree["path"], ()
+    for each in subtree.answers:
+        first = each.lines[0]
+        answer, below = (f"above: {first}", ()) if each.is_above else (first, each.lines[1:])
+        yield each.who, gids_text(each.gids), answer, subtree.path, below
+    if not subtree.answers:
+        yield "-", "-", "held by root alone", subtree.path, ()
 
 
-def table(report):
+def table(report: Report) -> Iterator[str]:
     """Columns of who holds a subtree, his groups, the answer and the path, which may be long; what it shows stands below."""
-    rows = [("UID", "GIDS", "ANSWER", "PATH", ())]
-    rows += [row for subtree in report["subtrees"] for row in rows_of(subtree)]
-    widths = [min(most, max(len(row[column]) for row in rows)) for column, most in enumerate(WIDEST)]
-    for row in rows:
-        yield "  ".join([word.ljust(width) for word, width in zip(row, widths)] + [row[3]])
-        yield from (f"    {line}" for line in row[4])
+    rows: List[Row] = [("UID", "GIDS", "ANSWER", "PATH", ())]
+    rows += [row for subtree in report.subtrees for row in rows_of(subtree)]
+    widths = [min(most, max(len(row[at]) for row in rows)) for at, most in enumerate(WIDEST)]
+    for *columns, path, below in rows:
+        yield "  ".join([word.ljust(width) for word, width in zip(columns, widths)] + [path])
+        yield from (f"    {line}" for line in below)
 
 
-def together(commands):
+def together(commands: Iterable[str]) -> List[str]:
     """Commands of one word and one mode or owner in one line."""
-    found = {}
+    found: Dict[Tuple[str, ...], List[str]] = {}
     for command in dict.fromkeys(commands):
         words = command.split(" ", 2)
         key = tuple(words[:2]) if words[0] in ("chown", "chmod") else (command,)
@@ -44,81 +51,93 @@ def together(commands):
     return [" ".join([*key, *places]) for key, places in found.items()]
 
 
-def what_to_change(found):
+def what_to_change(found: Sequence[Mended]) -> Iterator[str]:
     """What mends findings at one place, and what brings their values back."""
-    yield from (f"    change: {command}" for command in together(command for each in found for command in each["changes"]))
-    settings = dict.fromkeys(each["setting"] for each in found if each["setting"])
+    yield from (f"    change: {command}" for command in together(command for each in found for command in each.changes))
+    settings = dict.fromkeys(filter(None, (each.setting for each in found)))
     if settings:
         yield f"    setting, at the next start: {', '.join(settings)}"
 
 
-def entry_lines(entries):
-    """That line, with an example and what to change."""
-    entry = entries[0]
+def entry_lines(entries: Sequence[EntryFinding]) -> Iterator[str]:
+    """The line of entries at one place, with an example and what to change."""
     yield entry_line(entries)
-    example = entry["example"]
+    example = entries[0].example
     if example:
-        yield f"    by {example['who']} of {example['subtree']}: {example['lines'][0]}"
-        yield from (f"    {line}" for line in example["lines"][1:])
+        yield f"    by {example.who} of {example.subtree}: {example.lines[0]}"
+        yield from (f"    {line}" for line in example.lines[1:])
     yield from what_to_change(entries)
 
 
-def alike(found, *keys):
-    """Findings in lists of those that follow one another and don't differ in these keys."""
-    return [list(each) for _, each in itertools.groupby(found, key=lambda each: [each[key] for key in keys])]
+def alike(found: Iterable[One], in_common: Callable[[One], object]) -> List[List[One]]:
+    """Findings in lists of those that follow one another and have the same in common."""
+    return [list(each) for _, each in itertools.groupby(found, key=in_common)]
 
 
-def finding_lines(report):
+def entry_in_common(each: EntryFinding) -> object:
+    return each.path, each.answer, each.whom, each.subtrees, each.example
+
+
+def opened_in_common(each: OpenedFinding) -> object:
+    return each.path, each.whom
+
+
+def finding_lines(report: Report) -> Iterator[str]:
     """Everything that counts, and then what doesn't."""
-    for entries in alike(report["entries"], "path", "answer", "whom", "subtrees", "example"):
+    for entries in alike(report.entries, entry_in_common):
         yield from entry_lines(entries)
-    for opened in alike(report["opened"], "path", "whom"):
+    for opened in alike(report.opened, opened_in_common):
         yield from map(opened_line, opened)
         yield from what_to_change(opened)
-    for each in report["faults"]:
-        yield f"fault: {each['who']} of {some(each['subtrees'])}: {each['fault']}"
-    if report["entries"] and not report["has_advice"]:
+    for fault in report.faults:
+        yield f"fault: {fault.who} of {some(fault.subtrees)}: {fault.fault}"
+    if report.entries and not report.has_advice:
         yield "what to change of an entry isn't told: this program has no advise"
-    for each in report["differs"]:
-        yield differs_line(each)
-        yield from what_to_change([each])
+    for differs in report.differs:
+        yield differs_line(differs)
+        yield from what_to_change([differs])
 
 
-def place_text(each):
-    return ": ".join(word for word in (each["kind"], each["place"], each["text"]) if word)
+def place_text(each: Told) -> str:
+    return ": ".join(word for word in (each.kind, each.place, each.text) if word)
 
 
-def lines_of(report):
+def lines_of(report: Report) -> Iterator[str]:
     """The report as it is printed."""
-    if report["subtrees"]:
+    if report.subtrees:
         yield from table(report)
-    if not report["asked"]:
+    if not report.asked:
         yield "nothing was found to ask: no subtree and user of which containment could be asked"
     found = list(finding_lines(report))
     if found:
         yield ""
         yield "What lets somebody in, each once; opened and differs were seen by this helper and aren't proved:"
         yield from found
-    if report["above"]:
+    if report.above:
         yield ""
         yield "What lies below what was handed to somebody is open to him, and isn't counted:"
-        yield from map(above_line, report["above"])
+        yield from map(above_line, report.above)
     yield ""
     yield f"What none of these answers looks at ({MANUAL}):"
-    yield from map(place_text, report["unseen"])
-    yield from (f"snapshot: {place_text(each)}" for each in report["snapshot"])
-    if not report["unseen"] and not report["snapshot"]:
+    yield from map(place_text, report.unseen)
+    yield from (f"snapshot: {place_text(each)}" for each in report.snapshot)
+    if not report.unseen and not report.snapshot:
         yield "this host tells of nothing"
 
 
-def comparison_lines(value):
+def by_kind(compared: Comparison) -> Iterator[Tuple[str, Tuple[Difference, ...]]]:
+    """What differs from a baseline, by its kind."""
+    return zip(KINDS, (compared.new, compared.worse, compared.changed, compared.gone))
+
+
+def comparison_lines(compared: Comparison) -> Iterator[str]:
     """The lines of what differs from a baseline."""
-    for kind in KINDS:
-        for each in value[kind]:
-            yield f"{kind}: {each['line']}"
-            if each["before"] and each["before"] != each["line"]:
-                yield f"    before: {each['before']}"
+    for kind, found in by_kind(compared):
+        for each in found:
+            yield f"{kind}: {each.line}"
+            if each.before and each.before != each.line:
+                yield f"    before: {each.before}"
             if kind in ("new", "worse"):
                 yield from what_to_change([each])
-    if not any(value[kind] for kind in KINDS):
-        yield f"nothing is new, worse, changed or gone since {value['time']}"
+    if not any(found for _, found in by_kind(compared)):
+        yield f"nothing is new, worse, changed or gone since {compared.time}"

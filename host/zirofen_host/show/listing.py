@@ -1,19 +1,24 @@
 """The delegations of a tree as lines."""
+from typing import Dict
+
+from zirofen_host.ask.delegations import Delegations
+from zirofen_host.collect.model import User
 from zirofen_host.fault import warn, write
-from zirofen_host.profile import MOST_GROUPS
+from zirofen_host.profile import MOST_GROUPS, CgroupPath, text_of
+from zirofen_host.show.lines import gids_text
 
 
-def line(path, user):
-    gids = ",".join(map(str, user.gids)) or "-"
-    return f"{user.uid}\t{gids}\t{path}\n"
+def line(path: CgroupPath, user: User) -> str:
+    return f"{user.uid}\t{gids_text(user.gids)}\t{text_of(path)}\n"
 
 
-def write_lines(delegations):
+def write_lines(delegations: Delegations) -> bool:
     """A line for each, and one on standard error for a user whose groups don't all go in. Whether all that matter do."""
     found = delegations.find()
     first = {delegations.entry(each.path, each.name).gid for path in {each.path for each in found}
              for each in delegations.guarded(path)}
-    lines, cut, all_matter = [], {}, True
+    lines, all_matter = [], True
+    cut: Dict[int, int] = {}
     for path, user in found:
         user, left_out = delegations.with_few_groups(user, first)
         all_matter = all_matter and first.isdisjoint(left_out)

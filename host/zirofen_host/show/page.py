@@ -3,45 +3,41 @@ import base64
 import hashlib
 import os
 import tempfile
+from dataclasses import dataclass
 from string import Template
+from typing import Dict, List, Sequence, Tuple
 
+from zirofen_host.fault import Fault
+from zirofen_host.judge.model import Absent, Difference, Report
 from zirofen_host.show import words
 from zirofen_host.show.branches import Branches
-from zirofen_host.fault import Fault
-from zirofen_host.show.finding import Finding
+from zirofen_host.show.finding import Place, articles
+from zirofen_host.show.lines import by_kind
 from zirofen_host.show.markup import code, css, filled, paragraph, places, read, text
-from zirofen_host.show.view import COUNTED, Host
+from zirofen_host.show.view import COUNTED, Host, host_of
 from zirofen_host.show.words import CONTAINED, ESCAPES, FAULT, MEANINGS, NOT_ASKED, OPENED, SIGNS, STANDINGS, UNSETTLED
 
-# what can differ from an earlier report, with its heading
-DIFFERENCES = {"new": "New", "worse": "Worse", "changed": "Changed", "gone": "Gone"}
 
-
-def difference(each):
+def difference(each: Difference) -> str:
     """What differs from an earlier report, and what it was."""
-    before = f"<br>before: {text(each['before'])}" if each["before"] and each["before"] != each["line"] else ""
-    return text(each["line"]) + before
+    before = f"<br>before: {text(each.before)}" if each.before and each.before != each.line else ""
+    return text(each.line) + before
 
 
+@dataclass(frozen=True)
 class HostPage:
     """A host's part of the page."""
-
-    def __init__(self, host, number, is_alone):
-        self.host, self.id, self.is_alone = host, f"host-{number}", is_alone
-        self.pictured = {}
-
-    def level(self, number):
-        """Headings are one level lower below an overview."""
-        return f"h{number if self.is_alone else number + 1}"
+    host: Host
+    at: Place
 
     @property
-    def kind(self):
+    def kind(self) -> str:
         """The gravest that is found."""
         if self.host.findings and self.host.findings[0].kind in STANDINGS:
             return self.host.findings[0].kind
-        return CONTAINED if self.host.report["asked"] else NOT_ASKED
+        return CONTAINED if self.host.report.asked else NOT_ASKED
 
-    def sentence(self):
+    def sentence(self) -> str:
         """How the host stands, at once."""
         delegations, contained, _ = self.host.numbers
         number = sum(any(kind == self.kind for kind, _ in self.host.standing[path]) for path in self.host.delegations)
@@ -66,97 +62,97 @@ class HostPage:
             return "The one delegation is shown to be contained: nobody who was asked can break it, whatever he does."
         return f"All {every} are shown to be contained: nobody who was asked can break one, whatever he does."
 
-    def open_kinds(self):
+    def open_kinds(self) -> str:
         kinds = [(kind, sum(each.kind == kind for each in self.host.findings)) for kind in COUNTED]
         told = ", ".join(f"{kind} {number}" for kind, number in kinds if number)
         return f" ({told})" if told else ""
 
-    def html(self):
+    def html(self) -> str:
         report, (delegations, contained, open_findings) = self.host.report, self.host.numbers
-        findings = "\n".join(Finding(self, number).html() for number in range(len(self.host.findings)))
-        return filled("host.html", id=self.id, heading=self.level(1), second=self.level(2), kind=css(self.kind),
+        findings = "\n".join(each.html() for each in articles(self.host, self.at))
+        return filled("host.html", id=self.at.id, heading=self.at.level(1), second=self.at.level(2), kind=css(self.kind),
                       sign=SIGNS[self.kind][0],
                       sentence=text(self.sentence()), delegations=delegations, contained=contained, open=open_findings,
                       delegations_word=words.noun(delegations, "delegation"), open_word=words.noun(open_findings, "finding"),
                       open_kinds=text(self.open_kinds()), findings=findings or paragraph("There are none."),
-                      baseline=self.baseline(), tree="\n".join(Branches(self).parts()), signs=self.signs(),
+                      baseline=self.baseline(), tree="\n".join(Branches(self.host, self.at.id).parts()), signs=self.signs(),
                       expected=self.expected(), unseen=self.unseen(),
-                      **{key: text(report[key]) for key in ("host", "kernel", "time", "program")})
+                      host=text(report.host), kernel=text(report.kernel), time=text(report.time),
+                      program=text(str(report.program)))
 
-    def baseline(self):
+    def baseline(self) -> str:
         """What is new, worse, changed or gone since an earlier report, where one was compared."""
-        found = self.host.report.get("baseline")
-        if not found:
+        found = self.host.report.baseline
+        if isinstance(found, Absent):
             return ""
-        second, told = self.level(2), []
-        for kind, heading in DIFFERENCES.items():
-            parts = [f'<li id="{self.id}-{kind}-{number}">{difference(each)}</li>'
-                     for number, each in enumerate(found[kind], 1)]
-            told += [f"<{self.level(3)}>{heading}</{self.level(3)}><ul>", *parts, "</ul>"] if parts else []
-        return (f'<section id="{self.id}-baseline"><{second}>Since {text(found["time"])}</{second}>\n'
+        second, third, told = self.at.level(2), self.at.level(3), []
+        for kind, differ in by_kind(found):
+            parts = [f'<li id="{self.at.id}-{kind}-{number}">{difference(each)}</li>' for number, each in enumerate(differ, 1)]
+            told += [f"<{third}>{kind.capitalize()}</{third}><ul>", *parts, "</ul>"] if parts else []
+        return (f'<section id="{self.at.id}-baseline"><{second}>Since {text(found.time)}</{second}>\n'
                 + "\n".join(told or ["<p>Nothing is new, worse, changed or gone.</p>"]) + "\n</section>")
 
-    def signs(self):
+    def signs(self) -> str:
         seen = {kind for kinds in self.host.standing.values() for kind, _ in kinds}
         return "\n".join(f'<dt class="{css(kind)} standing">{SIGNS[kind][0]} {kind}</dt><dd>{MEANINGS[kind]}</dd>'
                          for kind in STANDINGS if kind in seen)
 
-    def expected(self):
+    def expected(self) -> str:
         """What lies below what was handed to somebody."""
-        above = self.host.report["above"]
+        above = self.host.report.above
         if not above:
             return ""
-        second = self.level(2)
-        told = "\n".join(f'<li id="{self.id}-above-{number}">{text(each["who"])}, below {code(each["handed"])}: '
-                         f'{places(each["subtrees"])}</li>' for number, each in enumerate(above, 1))
-        return (f'<section id="{self.id}-above"><{second}>Expected, and not counted</{second}>'
+        second = self.at.level(2)
+        told = "\n".join(f'<li id="{self.at.id}-above-{number}">{text(each.who)}, below {code(each.handed)}: '
+                         f'{places(each.subtrees)}</li>' for number, each in enumerate(above, 1))
+        return (f'<section id="{self.at.id}-above"><{second}>Expected, and not counted</{second}>'
                 f"<p>What lies below what was handed to somebody is open to him.</p><ul>\n{told}\n</ul></section>")
 
-    def unseen(self):
+    def unseen(self) -> str:
         """The lines by their kind, each kind with what it means."""
-        kinds = {}
-        lines = ((key, *each) for key in ("unseen", "snapshot") for each in enumerate(self.host.report[key], 1))
-        for key, number, each in lines:
-            place = f"{code(each['place'])}: " if each["place"] else ""
-            line = f'<li id="{self.id}-{key}-{number}">{place}{text(each["text"])}</li>'
-            kinds.setdefault((key, each["kind"]), []).append(line)
+        kinds: Dict[Tuple[str, str], List[str]] = {}
+        told = (("unseen", self.host.report.unseen), ("snapshot", self.host.report.snapshot))
+        for key, number, each in ((key, *each) for key, found in told for each in enumerate(found, 1)):
+            place = f"{code(each.place)}: " if each.place else ""
+            kinds.setdefault((key, each.kind), []).append(f'<li id="{self.at.id}-{key}-{number}">{place}{text(each.text)}</li>')
         if not kinds:
             return "<p>This host tells of nothing.</p>"
-        heading = self.level(3)
+        heading = self.at.level(3)
         return "\n".join(f"<{heading}>{'Left out of the tree text: ' if key == 'snapshot' else ''}{text(kind)}</{heading}>"
-                         f"{paragraph(words.WHAT_NO_ANSWER_SEES.get(kind))}<ul>\n{chr(10).join(lines)}\n</ul>"
+                         f"{paragraph(words.WHAT_NO_ANSWER_SEES.get(kind, ''))}<ul>\n{chr(10).join(lines)}\n</ul>"
                          for (key, kind), lines in kinds.items())
 
-    def overview(self):
+    def overview(self) -> str:
         """The host in the list of several."""
         delegations, contained, open_findings = self.host.numbers
-        link = f'<a href="#{self.id}">{text(self.host.report["host"])}</a>'
+        link = f'<a href="#{self.at.id}">{text(self.host.report.host)}</a>'
         return (f'<li class="{css(self.kind)}">{link} <span class="standing">{SIGNS[self.kind][0]} {self.kind}</span>'
                 f"<br>{text(self.sentence())} <br>{words.count(delegations, 'delegation')}, {contained} shown to be contained, "
                 f"{open_findings} open</li>")
 
 
-def sum_of(inline):
+def sum_of(inline: str) -> str:
     return "'sha256-" + base64.b64encode(hashlib.sha256(inline.encode("utf-8")).digest()).decode("ascii") + "'"
 
 
-def gravity(page):
+def gravity(page: HostPage) -> Tuple[int, List[int]]:
     """The worst first: by the gravest finding, then by how many of each kind there are."""
     counts = [-sum(each.kind == kind for each in page.host.findings) for kind in COUNTED]
     return STANDINGS.index(page.kind), counts
 
 
-def policy(style, script):
+def policy(style: str, script: str) -> str:
     """Nothing but what is in the page may be shown or run; the one picture is that of no icon."""
     return (f"default-src 'none'; img-src data:; style-src {sum_of(style)}; script-src {sum_of(script)}; base-uri 'none'; "
             "form-action 'none'")
 
 
-def page(reports):
+def page(reports: Sequence[Report]) -> str:
     """The page of one report or more."""
-    hosts = [Host(report) for report in reports]
-    pages = sorted((HostPage(host, number, len(hosts) == 1) for number, host in enumerate(hosts, 1)), key=gravity)
-    title = text(hosts[0].report["host"] if len(hosts) == 1 else words.count(len(hosts), "host"))
+    hosts = [host_of(report) for report in reports]
+    is_alone = len(hosts) == 1
+    pages = sorted((HostPage(host, Place(f"host-{number}", is_alone)) for number, host in enumerate(hosts, 1)), key=gravity)
+    title = text(hosts[0].report.host if is_alone else words.count(len(hosts), "host"))
     overview = filled("overview.html", title=f"Zirofen: cgroup delegations of {title}",
                       hosts="\n".join(each.overview() for each in pages))
     style, script = read("page.css"), read("page.js")
@@ -165,10 +161,10 @@ def page(reports):
     template = template.replace('<script src="page.js"></script>', "<script>$script</script>")
     return Template(template).substitute(
         policy=policy(style, script), title=f"Zirofen: {title}", style=style, script=script,
-        overview=overview if len(hosts) > 1 else "", hosts="\n".join(each.html() for each in pages))
+        overview="" if is_alone else overview, hosts="\n".join(each.html() for each in pages))
 
 
-def write(file, reports):
+def write(file: str, reports: Sequence[Report]) -> None:
     """Writes the page, whole or not at all."""
     made = page(reports).encode("utf-8")
     try:
@@ -181,7 +177,7 @@ def write(file, reports):
         raise Fault(f"can't write the page: {error.strerror}") from None
 
 
-def replace(file, made):
+def replace(file: str, made: bytes) -> None:
     """Puts a new file in the place of one, as whoever writes one leaves it."""
     number, beside = tempfile.mkstemp(dir=os.path.dirname(file) or ".", prefix=".zirofen-")
     try:

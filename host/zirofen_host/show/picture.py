@@ -3,10 +3,16 @@
 The subtree's edge is dashed, the entries that let somebody in are marked, and so is what he breaks: an arrow for a process
 that crosses the edge, or what becomes of a limit. The page's style has the colours, by the classes that are named here.
 """
+from dataclasses import dataclass, field
 from html import escape
+from typing import Dict, List, Mapping, Optional, Set, Tuple
 
+from zirofen_host.collect.model import Value
+from zirofen_host.judge.model import EntryFinding
+from zirofen_host.profile import ancestors, is_inside, is_root
 from zirofen_host.show import words
-from zirofen_host.profile import ancestors, is_inside
+from zirofen_host.show.steps import GONE, LIMITS, OVER, Breaks
+from zirofen_host.show.view import Escape, Host
 
 WIDTH = 340
 LINE, PAD, GAP = 18, 8, 6
@@ -20,29 +26,30 @@ MOST_LIMITS = 4
 MOST_ENTRIES = 5
 
 
+@dataclass(frozen=True)
 class Box:
     """A cgroup in the picture: its lines, each with a class, and the boxes in it."""
+    path: str
+    label: str
+    lines: List[Tuple[str, str]] = field(default_factory=list)
+    boxes: List["Box"] = field(default_factory=list)
 
-    def __init__(self, path, label):
-        self.path, self.label = path, label
-        self.lines, self.boxes = [], []
-
-    def height(self):
+    def height(self) -> int:
         below = sum(box.height() + GAP for box in self.boxes) + (PAD // 2 if self.boxes else 0)
         return PAD + LINE * (1 + len(self.lines)) + below
 
 
-class Picture:
-    """An escape as it was found, with the finding's entries to mark."""
+@dataclass(frozen=True)
+class Shown:
+    """What a picture is of: an escape as it was found, what it breaks, and the entries of one place to mark."""
+    host: Host
+    escape: Escape
+    breaks: Breaks
+    entries: List[EntryFinding]
 
-    def __init__(self, host, escape_, finding, steps):
-        self.host, self.escape, self.finding, self.breaks = host, escape_, finding, steps.breaks
-        self.parts, self.ends = [], {}
-        self.boxes = self.make_boxes()
-
-    def make_boxes(self):
+    def boxes(self) -> Dict[str, Box]:
         """The boxes by their paths, each in that of the nearest cgroup above it which has one."""
-        boxes = {}
+        boxes: Dict[str, Box] = {}
         for path in sorted(self.places(), key=lambda path: (path.count("/"), path)):
             above = next((boxes[each] for each in ancestors(path) if each in boxes), None)
             label = path if above is None else path[len(above.path.rstrip("/")) + 1:]
@@ -52,67 +59,67 @@ class Picture:
         self.add_lines(boxes)
         return boxes
 
-    def places(self):
+    def places(self) -> Set[str]:
         """The cgroups that are drawn: the way to the subtree, what is marked, and both ends of what crosses its edge."""
-        subtree = self.escape.subtree
+        subtree, move = self.escape.subtree, self.breaks.move
         way = [*reversed(list(ancestors(subtree))), subtree]
-        ends = self.breaks[2:] if self.breaks[0] == "crossed" else ()
-        return {*(way if len(way) <= MOST_BOXES else ["/", *way[-2:]]), self.finding.parts[0]["path"], *ends}
+        ends = (move.before, move.behind) if move else ()
+        return {*(way if len(way) <= MOST_BOXES else ["/", *way[-2:]]), self.entries[0].path, *ends}
 
-    def add_lines(self, boxes):
-        subtree = boxes[self.escape.subtree]
-        boxes[self.finding.parts[0]["path"]].lines += self.marked()
-        if self.breaks[0] == "crossed":
-            _, pid, before, behind = self.breaks
-            name = self.host.processes.get(pid, {}).get("name")
-            boxes[before].lines.append(("from", f"process {pid}" + (f" ({name})" if name else "")))
-            boxes[behind].lines.append(("to", f"process {pid}, moved {'in' if is_inside(behind, subtree.path) else 'out'}"))
-        elif self.breaks[0] == "limits":
-            changes = self.breaks[1]
-            subtree.lines += [("limit", f"{file}: {value(file, before)} → {value(file, behind)}")
-                              for file, before, behind in changes[:MOST_LIMITS]]
+    def add_lines(self, boxes: Mapping[str, Box]) -> None:
+        move, changes, lines = self.breaks.move, self.breaks.changes, boxes[self.escape.subtree].lines
+        boxes[self.entries[0].path].lines.extend(self.marked())
+        if move:
+            process = self.host.processes.get(move.pid)
+            name = f" ({process.name})" if process and process.name else ""
+            way = "in" if is_inside(move.behind, self.escape.subtree) else "out"
+            boxes[move.before].lines.append(("from", f"process {move.pid}{name}"))
+            boxes[move.behind].lines.append(("to", f"process {move.pid}, moved {way}"))
+        elif self.breaks.kind == LIMITS:
+            lines += [("limit", f"{each.file}: {value(each.file, each.before)} → {value(each.file, each.behind)}")
+                      for each in changes[:MOST_LIMITS]]
             more = len(changes) - MOST_LIMITS
-            if more > 0:
-                subtree.lines.append(("limit", f"and {more} more limit{'s' if more > 1 else ''}"))
-        elif self.breaks[0] == "gone":
-            subtree.lines.append(("limit", "✗ the whole cgroup is removed"))
-        elif self.breaks[0] == "over":
-            subtree.lines.append(("limit", "✗ over its own limits"))
+            lines += [("limit", f"and {more} more limit{'s' if more > 1 else ''}")] if more > 0 else []
+        elif self.breaks.kind == GONE:
+            lines.append(("limit", "✗ the whole cgroup is removed"))
+        elif self.breaks.kind == OVER:
+            lines.append(("limit", "✗ over its own limits"))
 
-    def marked(self):
+    def marked(self) -> List[Tuple[str, str]]:
         """The lines of the mark: whom the entries let in, and their names."""
-        whom = self.finding.parts[0]["whom"]
-        names = [words.named(part["entry"]) for part in self.finding.parts]
+        whom = self.entries[0].whom
+        names = [words.named(each.entry) for each in self.entries]
         how = words.how(whom[0], 1) if len(whom) == 1 else f"{words.who(whom)} reach"
         if names[0] in words.NO_ENTRY:
             return []
         return [("mark", f"✗ {how}")] + [("entry", f"   {name}") for name in words.some(names, MOST_ENTRIES)]
 
-    def told(self):
+    def told(self) -> str:
         """What the picture shows, for who doesn't see it."""
         start = f"Boxes from the root to {self.escape.subtree}, whose edge is dashed. Marked: " + words.listed(
-            f"{words.named(part['entry'])} of {part['path']}" for part in self.finding.parts)
-        if self.breaks[0] == "over":
+            f"{words.named(each.entry)} of {each.path}" for each in self.entries)
+        if self.breaks.kind == OVER:
             return f"{start}. The subtree is over its own limits."
-        arrow = f"; an arrow goes from {self.breaks[2]} to {self.breaks[3]}" if self.breaks[0] == "crossed" else ""
-        return f"{start}. {self.escape.who} {words.broken(self.breaks)} the subtree{arrow}."
+        move = self.breaks.move
+        arrow = f"; an arrow goes from {move.before} to {move.behind}" if move else ""
+        return f"{start}. {self.escape.who} {self.breaks.verb} the subtree{arrow}."
 
-    def svg(self, name):
-        """The picture, whose title has the id `name`."""
-        top = self.boxes["/"]
-        height = top.height() + 4
-        self.draw(top, 2, 2, WIDTH - 2)
-        arrow = self.arrow() if len(self.ends) == 2 else ""
-        return (f'<svg class="picture" viewBox="0 0 {WIDTH} {height}" role="img" aria-labelledby="{name}"><title id="{name}">'
-                f'{escape(self.told())}</title>{"".join(self.parts)}{arrow}</svg>')
 
-    def draw(self, box, left, top, right):
+class Drawn:
+    """The parts of a picture, as they are drawn, and where the ends of its arrow are."""
+
+    def __init__(self, edge: str, breaks: Breaks) -> None:
+        self.edge, self.breaks = edge, breaks
+        self.parts: List[str] = []
+        self.ends: Dict[str, Tuple[float, int]] = {}
+
+    def draw(self, box: Box, left: int, top: int, right: int) -> None:
         """A box with its lines, and then those in it; a class tells what each is."""
-        kind = "edge" if box.path == self.escape.subtree else "box"
-        gone = " gone" if kind == "edge" and self.breaks[0] == "gone" else ""
+        kind = "edge" if box.path == self.edge else "box"
+        gone = " gone" if kind == "edge" and self.breaks.kind == GONE else ""
         size = f'width="{right - left}" height="{box.height()}"'
         self.parts.append(f'<rect class="{kind}{gone}" x="{left}" y="{top}" {size} rx="5"/>')
-        inner = right - (GUTTER if box.path == "/" and self.breaks[0] == "crossed" else 0)
+        inner = right - (GUTTER if is_root(box.path) and self.breaks.move else 0)
         self.text("name", box.label, left + PAD, top + 16, inner - PAD, box.path)
         y = top + 16
         marked = sum(kind in ("mark", "entry") for kind, _ in box.lines)
@@ -127,14 +134,14 @@ class Picture:
             self.draw(each, left + STEP, y, inner - STEP)
             y += each.height() + GAP
 
-    def line(self, kind, text, left, y, right):
+    def line(self, kind: str, text: str, left: int, y: int, right: int) -> None:
         if kind in ("from", "to"):
             self.parts.append(f'<circle class="{kind}" cx="{left + 5}" cy="{y - 4}" r="4"/>')
             left += 14
             self.ends[kind] = (min(left + len(text) * LETTER, right) + 4, y - 4)
         self.text(kind, text, left, y, right)
 
-    def text(self, kind, text, left, y, right, whole=None):
+    def text(self, kind: str, text: str, left: int, y: int, right: int, whole: Optional[str] = None) -> None:
         """A text with its end kept where it is a path, and else its beginning."""
         most = int((right - left) / LETTER)
         cut = text
@@ -143,13 +150,24 @@ class Picture:
         title = f"<title>{escape(whole or text)}</title>" if cut != text else ""
         self.parts.append(f'<text class="{kind}" x="{left}" y="{y}">{escape(cut)}{title}</text>')
 
-    def arrow(self):
+    def arrow(self) -> str:
+        if len(self.ends) < 2:
+            return ""
         (x, y), (to_x, to_y) = self.ends["from"], self.ends["to"]
         bend = WIDTH - GUTTER / 2 - 2
         return (f'<path class="arrow" d="M{x:.0f} {y}H{bend:.0f}V{to_y}H{to_x + 2:.0f}"/>'
                 f'<path class="head" d="M{to_x:.0f} {to_y}l8 -4v8z"/>')
 
 
-def value(file, told):
+def svg(shown: Shown, name: str) -> str:
+    """The picture, whose title has the id `name`."""
+    top = shown.boxes()["/"]
+    drawn = Drawn(shown.escape.subtree, shown.breaks)
+    drawn.draw(top, 2, 2, WIDTH - 2)
+    return (f'<svg class="picture" viewBox="0 0 {WIDTH} {top.height() + 4}" role="img" aria-labelledby="{name}">'
+            f'<title id="{name}">{escape(shown.told())}</title>{"".join(drawn.parts)}{drawn.arrow()}</svg>')
+
+
+def value(file: str, told: Optional[Value]) -> str:
     """A limit's value, or that it has none, since its file isn't there."""
     return "no limit file" if told is None else words.size(file, told)

@@ -3,19 +3,42 @@ import os
 import shutil
 import subprocess
 import sys
-from collections import namedtuple
+from dataclasses import dataclass
+from typing import Iterable, Iterator, List, Mapping, NamedTuple, Optional, Sequence, Tuple, Union
 
 from zirofen_host import progress
-from zirofen_host.show import words
 from zirofen_host.arguments import LEAST_WIDTH
+from zirofen_host.collect import bounded
 from zirofen_host.fault import Fault, plain
-from zirofen_host.profile import is_inside
-from zirofen_host.show.view import COUNTED, Host
+from zirofen_host.judge.model import DiffersFinding, Report
+from zirofen_host.options import TreeOptions
+from zirofen_host.profile import is_inside, is_root, text_of
+from zirofen_host.show import words
+from zirofen_host.show.view import COUNTED, Host, entry_of, host_of, whom_of
 from zirofen_host.show.words import ABOVE, CONTAINED, ESCAPES, FAULT, NOT_ASKED, OPENED, SIGNS, STANDINGS, UNSETTLED
 
-# how a tree is drawn; of no width, lines aren't cut
-Drawing = namedtuple("Drawing", "width is_ascii is_coloured is_all only", defaults=(None, False, False, False, "/"))
-Glyphs = namedtuple("Glyphs", "bar branch last gap cut")
+# a cgroup, or those that are folded, with what stands before its line and before the lines below it
+Left = Tuple[Union[str, Sequence[str]], str, str]
+
+
+@dataclass(frozen=True)
+class Drawing:
+    """How a tree is drawn; of no width, lines aren't cut."""
+    width: Optional[int] = None
+    is_ascii: bool = False
+    is_coloured: bool = False
+    is_all: bool = False
+    only: str = "/"
+
+
+class Glyphs(NamedTuple):
+    bar: str
+    branch: str
+    last: str
+    gap: str
+    cut: str
+
+
 UTF8 = Glyphs("│ ", "├─", "└─", "  ", "…")
 ASCII = Glyphs("| ", "|-", "`-", "  ", "..")
 COLOURS = {ESCAPES: "1;31", OPENED: "1;35", UNSETTLED: "1;33", FAULT: "1;31", NOT_ASKED: "2", ABOVE: "2", CONTAINED: "32"}
@@ -24,44 +47,46 @@ DIM = "2"
 LEAST_NAME = 14
 
 
-class Tree:
+class Drawer:
     """Draws a host."""
 
-    def __init__(self, host, drawing):
+    def __init__(self, host: Host, drawing: Drawing) -> None:
         self.host, self.drawing = host, drawing
         self.glyphs = ASCII if drawing.is_ascii else UTF8
 
-    def lines(self):
+    def lines(self) -> Iterator[str]:
         only = self.drawing.only
         if only not in self.host.rows:
             raise Fault(f"there is no cgroup {only!a} in the report")
         report = self.host.report
-        yield self.cut_end(f"{report['host']}, {report['kernel']}, {report['time']}, {report['program']}", self.drawing.width)
-        # a cgroup, or how many are folded, with what stands before its line and before the lines below it
-        left = [(only, "", "")]
+        yield self.cut_end(f"{report.host}, {report.kernel}, {report.time}, {report.program}", self.drawing.width)
+        left: List[Left] = [(only, "", "")]
         while left:
             path, first, rest = left.pop()
-            yield from self.cgroup_lines(path, first, rest) if isinstance(path, str) else [self.folded_line(path, first)]
-            left += reversed(self.below(path, rest)) if isinstance(path, str) else []
+            if isinstance(path, str):
+                yield from self.cgroup_lines(path, first, rest)
+                left += reversed(self.below(path, rest))
+            else:
+                yield self.folded_line(path, first)
         yield from self.legend()
 
-    def below(self, path, rest):
+    def below(self, path: str, rest: str) -> List[Left]:
         """What stands below a cgroup, with the branches before it."""
         shown, folded = self.host.split(path) if not self.drawing.is_all else (self.host.children[path], [])
-        found = [*shown, *([folded] if folded else [])]
+        found: List[Union[str, Sequence[str]]] = [*shown, *([folded] if folded else [])]
         branches = [(self.glyphs.branch, self.glyphs.bar)] * (len(found) - 1) + [(self.glyphs.last, self.glyphs.gap)]
         return [(each, rest + branch, rest + bar) for each, (branch, bar) in zip(found, branches)]
 
-    def folded_line(self, paths, first):
+    def folded_line(self, paths: Sequence[str], first: str) -> str:
         whose = "nobody's but root's" if all(map(self.host.is_roots, paths)) else "no delegation among them"
         text = f".. {words.count(len(paths), 'cgroup')}, {whose}"
         first = self.short(first)
         return first + self.coloured(self.cut_end(text, self.left_of(first)), DIM)
 
-    def cgroup_lines(self, path, first, rest):
+    def cgroup_lines(self, path: str, first: str, rest: str) -> Iterator[str]:
         """A cgroup's own line with how it stands, and what is to be told of it."""
         first, rest = self.short(first), self.short(rest)
-        name = path if path in ("/", self.drawing.only) else path.rpartition("/")[2]
+        name = path if is_root(path) or path == self.drawing.only else path.rpartition("/")[2]
         kinds = [kind for kind, _ in self.host.standing.get(path, ())]
         standing = ", ".join(f"{SIGNS[kind][self.drawing.is_ascii]} {kind}" for kind in kinds)
         room = self.left_of(first)
@@ -69,16 +94,13 @@ class Tree:
         name = self.cut_front(name, room if room is None or not kinds or not is_beside else room - len(standing) - 2)
         told = self.coloured(standing, COLOURS[kinds[0]]) if kinds else ""
         yield first + name + (f"  {told}" if kinds and is_beside else "")
-        bar = rest + (self.glyphs.bar if self.has_below(path) else self.glyphs.gap)
+        bar = rest + (self.glyphs.bar if self.host.children[path] else self.glyphs.gap)
         if not is_beside:
             yield from self.wrapped(bar, standing, COLOURS[kinds[0]])
         for text in self.details(path):
             yield from self.wrapped(bar, text)
 
-    def has_below(self, path):
-        return bool(self.host.children[path])
-
-    def details(self, path):
+    def details(self, path: str) -> Iterator[str]:
         """To whom it was handed and by what, its limits, and whom its entries let in."""
         if path in self.host.subtrees:
             entries = self.host.entries(path)
@@ -87,22 +109,22 @@ class Tree:
         if limits:
             yield ", ".join(f"{file} {value}" for file, value in limits)
         for _, finding in self.host.notes.get(path, ()):
-            names = [part.get("entry") or part.get("file") for part in finding.parts]
+            names, first = list(map(entry_of, finding.parts)), finding.parts[0]
             sign = SIGNS[finding.kind][self.drawing.is_ascii] if finding.kind in SIGNS else "~"
-            if finding.key == "differs":
-                yield f"{sign} {' '.join(finding.parts[0]['entries'])} not as a service manager leaves it"
+            if isinstance(first, DiffersFinding):
+                yield f"{sign} {' '.join(first.entries)} not as a service manager leaves it"
             else:
-                yield f"{sign} {' '.join(names)} let{'s' if len(names) == 1 else ''} in {words.who(finding.parts[0]['whom'])}"
+                yield f"{sign} {' '.join(names)} let{'s' if len(names) == 1 else ''} in {words.who(whom_of(first))}"
 
-    def legend(self):
+    def legend(self) -> Iterator[str]:
         """The numbers, and what the signs that were drawn mean."""
         delegations, contained, open_findings = self.host.numbers
         yield ""
-        of = "" if self.drawing.only == "/" else "The whole host has "
+        of = "" if is_root(self.drawing.only) else "The whole host has "
         yield from self.wrapped("", f"{of}{words.count(delegations, 'delegation')}: {contained} shown to be contained; "
                                 f"{words.count(open_findings, 'finding')} open")
-        for path, finding in self.host.lost:
-            yield from self.wrapped("", f"{SIGNS[FAULT][self.drawing.is_ascii]} {path}: {finding.parts[0]['fault']}")
+        for path, fault in self.host.lost:
+            yield from self.wrapped("", f"{SIGNS[FAULT][self.drawing.is_ascii]} {path}: {fault.fault}")
         seen = {kind for path, kinds in self.host.standing.items() for kind, _ in kinds if is_inside(path, self.drawing.only)}
         for kind in STANDINGS:
             if kind in seen:
@@ -111,13 +133,13 @@ class Tree:
         if any(finding.kind in COUNTED for finding in self.host.findings):
             yield from self.wrapped("", "What to change: zirofen-host check, or zirofen-host page of its --json.")
 
-    def coloured(self, text, colour):
+    def coloured(self, text: str, colour: str) -> str:
         return f"\x1b[{colour}m{text}\x1b[0m" if self.drawing.is_coloured and text else text
 
-    def left_of(self, before):
+    def left_of(self, before: str) -> Optional[int]:
         return None if self.drawing.width is None else max(self.drawing.width - len(before), 1)
 
-    def short(self, before):
+    def short(self, before: str) -> str:
         """The branches before a line, of which a narrow terminal has room for the last."""
         most = None if self.drawing.width is None else self.drawing.width // 2
         if most is None or len(before) <= most:
@@ -125,18 +147,18 @@ class Tree:
         kept = max(most - len(self.glyphs.cut), 0) // 2 * 2
         return self.glyphs.cut + before[len(before) - kept:]
 
-    def cut_front(self, text, room):
+    def cut_front(self, text: str, room: Optional[int]) -> str:
         if room is None or len(text) <= room:
             return text
         kept = room - len(self.glyphs.cut)
         return self.glyphs.cut + text[-kept:] if kept > 0 else text[len(text) - room:]
 
-    def cut_end(self, text, room):
+    def cut_end(self, text: str, room: Optional[int]) -> str:
         if room is None or len(text) <= room:
             return text
         return text[:max(room - len(self.glyphs.cut), 0)] + self.glyphs.cut[:room]
 
-    def wrapped(self, before, text, colour=None):
+    def wrapped(self, before: str, text: str, colour: str = "") -> Iterator[str]:
         """A text in lines of what room there is, with a longer word's end kept."""
         room = self.left_of(before)
         line = ""
@@ -150,42 +172,42 @@ class Tree:
         yield before + (self.coloured(line, colour) if colour else line)
 
 
-def draw(report, drawing):
+def draw(report: Report, drawing: Drawing) -> List[str]:
     """The lines of a report's tree."""
-    return list(Tree(Host(report, plain), drawing).lines())
+    return list(Drawer(host_of(report, plain), drawing).lines())
 
 
-def is_utf8(environment):
+def is_utf8(environment: Mapping[str, str]) -> bool:
     """Whether a locale has UTF-8. Python sets LC_CTYPE where it finds none, and so the environment is that of the start."""
     name = next((environment[key] for key in ("LC_ALL", "LC_CTYPE", "LANG") if environment.get(key)), "")
     return name.lower().replace("-", "").endswith("utf8")
 
 
-def environment_of_start():
+def environment_of_start() -> Mapping[str, str]:
     """The environment as it was given."""
     try:
-        with open("/proc/self/environ", encoding="utf-8", errors="replace") as given:
-            return dict(each.split("=", 1) for each in given.read().split("\0") if "=" in each)
+        given = bounded.read_file("/proc/self/environ", bounded.PROC_FILE).text(errors="replace")
     except OSError:
         return os.environ
+    return dict(each.split("=", 1) for each in given.split("\0") if "=" in each)
 
 
-def drawing_of(options, environment, is_terminal):
+def drawing_of(options: TreeOptions, environment: Mapping[str, str], is_terminal: bool) -> Drawing:
     """How to draw, by the options and by what the output is."""
     columns = options.width or (max(shutil.get_terminal_size().columns, LEAST_WIDTH) if is_terminal else None)
     is_coloured = is_terminal and not environment.get("NO_COLOR") and environment.get("TERM") != "dumb"
     is_coloured = {"always": True, "never": False}.get(options.colour, is_coloured)
-    only = os.fsdecode(options.only or b"/").rstrip("/") or "/"
+    only = (text_of(options.only) if options.only else "").rstrip("/") or "/"
     return Drawing(columns, options.ascii or not is_utf8(environment), is_coloured, options.all, only)
 
 
-def pager_of(options, environment, is_terminal):
+def pager_of(options: TreeOptions, environment: Mapping[str, str], is_terminal: bool) -> Optional[str]:
     """The pager's command, or None."""
     pager = environment.get("PAGER", "less").strip()
     return None if options.no_pager or not is_terminal or pager in ("", "cat") else pager
 
 
-def show(lines, pager, encoding):
+def show(lines: Iterable[str], pager: Optional[str], encoding: str) -> None:
     """Writes the lines, through a pager where there is one. It may start no other programs, since root asks."""
     text = "".join(f"{line}\n" for line in lines).encode(encoding, "backslashreplace")
     progress.end()

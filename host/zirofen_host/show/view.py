@@ -1,19 +1,46 @@
 """A report by its places: how each delegation stands, to whom it was handed, and the findings from the gravest on."""
-from collections import defaultdict, namedtuple
+import dataclasses
+from collections import defaultdict
+from dataclasses import dataclass
 from functools import cached_property
+from typing import Callable, Dict, Iterator, List, Mapping, Optional, Sequence, Set, Tuple, TypeVar, Union
 
-from zirofen_host.show import words
-from zirofen_host.profile import CONTROL_FILES, HANDED_OVER, LIMIT_FILES, ancestors, parent_of
-from zirofen_host.show.lines import alike
+from zirofen_host.collect.model import Value
 from zirofen_host.collect.walk import OWNERS_MARK
+from zirofen_host.judge.model import (Absent, DiffersFinding, EntryFinding, FaultFinding, HeldBy, OpenedFinding, Owner, Report,
+                                      ReportCgroup, ReportFile, ReportProcess, ReportUser, Subtree, Whom)
+from zirofen_host.profile import CONTROL_FILES, HANDED_OVER, LIMIT_FILES, ancestors, parent_of
+from zirofen_host.show import words
+from zirofen_host.show.lines import alike, entry_in_common, opened_in_common
 from zirofen_host.show.words import ABOVE, CONTAINED, ESCAPES, FAULT, NOT_ASKED, OPENED, STANDINGS, UNSETTLED, visible
 
-# what stands together: a kind, its key in the report, and the numbers that its parts have there
-Finding = namedtuple("Finding", "kind key numbers parts")
-# somebody who breaks a subtree, and the answer's lines
-Escape = namedtuple("Escape", "who uid gids subtree lines")
+Part = Union[EntryFinding, OpenedFinding, FaultFinding, DiffersFinding]
+SomePart = TypeVar("SomePart", bound=Part)
+One = TypeVar("One")
+Made = TypeVar("Made")
+
+
+@dataclass(frozen=True)
+class Grouped:
+    """Findings of a report that stand together: a kind, their key in the report, and the numbers that they have there."""
+    kind: str
+    key: str
+    numbers: Sequence[int]
+    parts: Sequence[Part]
+
+
+@dataclass(frozen=True)
+class Escape:
+    """Somebody who breaks a subtree, and the answer's lines."""
+    who: str
+    uid: Optional[int]
+    gids: Tuple[int, ...]
+    subtree: str
+    lines: Tuple[str, ...]
+
 
 DIFFERS = "differs"
+KINDS = {"opened": OPENED, "faults": FAULT, "differs": DIFFERS}
 COUNTED = (ESCAPES, OPENED, UNSETTLED, FAULT)
 # what stands in other limits where nobody has set them
 USUAL = {"cgroup.freeze": "0", "cgroup.type": "domain", "cpu.idle": "0", "cpu.max": "max 100000", "cpu.max.burst": "0",
@@ -22,18 +49,27 @@ USUAL = {"cgroup.freeze": "0", "cgroup.type": "domain", "cpu.idle": "0", "cpu.ma
          "cpuset.cpus.partition": "member", "io.prio.class": "no-change"}
 
 
-def with_texts(value, shown):
-    """A report whose texts are written so that each can be seen as it is."""
+def seen(value: object, shown: Callable[[str], str]) -> object:
+    """What is in a report, with its texts written so that each can be seen as it is."""
     if isinstance(value, str):
         return shown(value)
-    if isinstance(value, list):
-        return [with_texts(each, shown) for each in value]
-    if isinstance(value, dict):
-        return {shown(key): with_texts(each, shown) for key, each in value.items()}
-    return value
+    if isinstance(value, tuple):
+        return tuple(seen(each, shown) for each in value)
+    if isinstance(value, Mapping):
+        return {shown(key): seen(each, shown) for key, each in value.items()}
+    return with_texts(value, shown) if dataclasses.is_dataclass(value) else value
 
 
-def is_usual(file, value):
+def with_texts(made: Made, shown: Callable[[str], str]) -> Made:
+    """A part of a report with its texts shown."""
+    return dataclasses.replace(made, **{name: seen(each, shown) for name, each in vars(made).items()})
+
+
+def present(parts: Union[Tuple[One, ...], Absent]) -> Tuple[One, ...]:
+    return () if isinstance(parts, Absent) else parts
+
+
+def is_usual(file: str, value: Optional[Value]) -> bool:
     """Whether a limit is as it is where nobody has set it."""
     if file in LIMIT_FILES:
         return value == LIMIT_FILES[file][1]
@@ -41,115 +77,147 @@ def is_usual(file, value):
     return value in (None, "", usual)
 
 
+def is_handed(entry: Union[Owner, ReportFile], held: HeldBy) -> bool:
+    """Whether an entry lets in those who hold a subtree."""
+    if held.by == "owner":
+        return entry.uid in held.ids
+    mode = int(entry.mode, 8)
+    if held.by == "group":
+        return bool(entry.gid in held.ids and mode & 0o020)
+    return bool(held.by == "others" and mode & 0o002)
+
+
+def subtrees_of(part: Part) -> Tuple[str, ...]:
+    """The subtrees that a finding is of, where it names them."""
+    return part.subtrees if isinstance(part, (EntryFinding, FaultFinding)) else ()
+
+
+def place_of(part: Part) -> str:
+    """The cgroup of a finding; that of a fault is in no tree."""
+    return "" if isinstance(part, FaultFinding) else part.path
+
+
+def entry_of(part: Part) -> str:
+    """The directory or the file that a finding is of."""
+    return part.entry if isinstance(part, EntryFinding) else part.file if isinstance(part, OpenedFinding) else ""
+
+
+def whom_of(part: Part) -> Tuple[Whom, ...]:
+    """Whom a finding lets in."""
+    return part.whom if isinstance(part, (EntryFinding, OpenedFinding)) else ()
+
+
+def grouped(key: str, found: Sequence[SomePart], in_common: Callable[[SomePart], object]) -> Iterator[Grouped]:
+    """Findings that stand together below one key of the report."""
+    at = 0
+    for parts in alike(found, in_common):
+        first = parts[0]
+        answered = ESCAPES if isinstance(first, EntryFinding) and first.answer == ESCAPES else UNSETTLED
+        yield Grouped(KINDS.get(key, answered), key, range(at, at + len(parts)), parts)
+        at += len(parts)
+
+
+@dataclass(frozen=True, eq=False)
 class Host:
     """What a report tells of a host."""
-
-    def __init__(self, report, shown=visible):
-        self.report = report = with_texts(report, shown)
-        self.rows = {each["path"]: each for each in report["cgroups"]}
-        self.subtrees = {each["path"]: each for each in report["subtrees"]}
-        self.processes = {each["pid"]: each for each in report["processes"]}
-        self.users = {each["uid"]: each for each in report["users"]}
-        self.groups = {each["gid"]: each["name"] for each in report["groups"]}
+    report: Report
+    rows: Mapping[str, ReportCgroup]
+    subtrees: Mapping[str, Subtree]
+    processes: Mapping[int, ReportProcess]
+    users: Mapping[int, ReportUser]
+    groups: Mapping[int, Optional[str]]
 
     @cached_property
-    def children(self):
-        found = defaultdict(list)
+    def children(self) -> Mapping[str, List[str]]:
+        found: Dict[str, List[str]] = defaultdict(list)
         for path in sorted(self.rows, key=lambda path: path.split("/")):
-            if path != "/":
-                found[parent_of(path)].append(path)
+            above = parent_of(path)
+            if above is not None:
+                found[above].append(path)
         return found
 
     @cached_property
-    def findings(self):
+    def findings(self) -> List[Grouped]:
         """What to mend: entries at one place that let in the same to the same are one; the gravest first."""
-        found = [*self.together("entries", "path", "answer", "whom", "subtrees", "example"),
-                 *self.together("opened", "path", "whom"), *self.together("faults", "fault", "subtrees"),
-                 *self.together("differs", "path")]
+        report = self.report
+        found = [*grouped("entries", report.entries, entry_in_common), *grouped("opened", report.opened, opened_in_common),
+                 *grouped("faults", report.faults, lambda each: (each.fault, each.subtrees)),
+                 *grouped("differs", report.differs, lambda each: each.path)]
         return sorted(found, key=lambda each: (*STANDINGS, DIFFERS).index(each.kind))
 
-    def together(self, key, *same):
-        at = 0
-        for parts in alike(self.report[key], *same):
-            answered = ESCAPES if parts[0].get("answer") == ESCAPES else UNSETTLED
-            kind = {"opened": OPENED, "faults": FAULT, "differs": DIFFERS}.get(key, answered)
-            yield Finding(kind, key, list(range(at, at + len(parts))), parts)
-            at += len(parts)
-
     @cached_property
-    def standing(self):
+    def standing(self) -> Mapping[str, List[Tuple[str, Optional[int]]]]:
         """How each delegation stands, the gravest first, each with the number of the first finding that says so."""
-        found = {path: {} for path in self.subtrees}
+        found: Dict[str, Dict[str, Optional[int]]] = {path: {} for path in self.subtrees}
         for number, finding in enumerate(self.findings):
             if finding.kind in STANDINGS:
-                for path in (path for part in finding.parts for path in part.get("subtrees") or [part["path"]]):
+                for path in (path for part in finding.parts for path in subtrees_of(part) or [place_of(part)]):
                     found.setdefault(path, {}).setdefault(finding.kind, number)
         for path, subtree in self.subtrees.items():
             if not found[path]:
                 found[path] = {self.without_finding(subtree): None}
         for path, row in self.rows.items():
-            if OWNERS_MARK in row["marks"] and path not in found:
+            if OWNERS_MARK in row.marks and path not in found:
                 found[path] = {NOT_ASKED: None}
         return {path: sorted(kinds.items(), key=lambda each: STANDINGS.index(each[0])) for path, kinds in found.items()}
 
-    def without_finding(self, subtree):
-        answers = subtree["answers"]
-        if not self.report["asked"]:
+    def without_finding(self, subtree: Subtree) -> str:
+        if not self.report.asked:
             return NOT_ASKED
-        return ABOVE if answers and all(each["is_above"] for each in answers) else CONTAINED
+        return ABOVE if subtree.answers and all(each.is_above for each in subtree.answers) else CONTAINED
 
     @cached_property
-    def numbers(self):
+    def numbers(self) -> Tuple[int, int, int]:
         """How many delegations there are, how many of them are shown to be contained, and how many findings are open."""
         contained = sum(self.standing[path][0][0] == CONTAINED for path in self.delegations)
         return len(self.delegations), contained, sum(each.kind in COUNTED for each in self.findings)
 
     @cached_property
-    def delegations(self):
+    def delegations(self) -> Set[str]:
         """The subtrees, also those of which nobody could be asked."""
-        return {*self.subtrees, *(path for each in self.report["faults"] for path in each["subtrees"])}
+        return {*self.subtrees, *(path for each in self.report.faults for path in each.subtrees)}
 
     @cached_property
-    def lost(self):
+    def lost(self) -> List[Tuple[str, FaultFinding]]:
         """Subtrees without an answer that aren't in the tree any more, each with its finding."""
-        return [(path, each) for each in self.findings if each.kind == FAULT
-                for path in each.parts[0]["subtrees"] if path not in self.rows]
+        first = [each.parts[0] for each in self.findings]
+        return [(path, each) for each in first if isinstance(each, FaultFinding) for path in each.subtrees if path not in self.rows]
 
     @cached_property
-    def notes(self):
+    def notes(self) -> Mapping[str, List[Tuple[int, Grouped]]]:
         """The findings at each cgroup where an entry stands that lets somebody in."""
-        found = defaultdict(list)
+        found: Dict[str, List[Tuple[int, Grouped]]] = defaultdict(list)
         for number, finding in enumerate(self.findings):
-            if finding.key in ("entries", "opened", "differs"):
-                found[finding.parts[0]["path"]].append((number, finding))
+            if finding.kind != FAULT:
+                found[place_of(finding.parts[0])].append((number, finding))
         return found
 
     @cached_property
-    def inside(self):
+    def inside(self) -> Set[str]:
         """The delegations and what is inside them."""
-        found = set()
+        found: Set[str] = set()
         for path in sorted(self.rows, key=len):
-            if path in self.subtrees or path != "/" and parent_of(path) in found:
+            if path in self.subtrees or parent_of(path) in found:
                 found.add(path)
         return found
 
     @cached_property
-    def told(self):
+    def told(self) -> Set[str]:
         """The cgroups that aren't folded: delegations with what is inside them, marks, findings, and what is above these."""
         return {"/", *self.standing, *self.notes, *self.ways, *self.inside}
 
     @cached_property
-    def ways(self):
+    def ways(self) -> Set[str]:
         """What is above a delegation, a mark or a finding."""
         return {above for path in {*self.standing, *self.notes} for above in ancestors(path)}
 
-    def split(self, path):
+    def split(self, path: str) -> Tuple[List[str], List[str]]:
         """What is told below a cgroup, and all that is folded there."""
         shown = [each for each in self.children[path] if each in self.told]
         folded = [each for each in self.children[path] if each not in self.told]
         return shown, [below for each in folded for below in self.below(each)]
 
-    def below(self, path):
+    def below(self, path: str) -> List[str]:
         """A cgroup and all below it."""
         found, left = [], [path]
         while left:
@@ -157,60 +225,65 @@ class Host:
             left += reversed(self.children[found[-1]])
         return found
 
-    def is_roots(self, path):
+    def is_roots(self, path: str) -> bool:
         row = self.rows[path]
-        return not row["dir"]["uid"] and not any(each["uid"] for each in row["files"].values())
+        return not row.dir.uid and not any(each.uid for each in row.files.values())
 
-    def user(self, uid):
-        name = self.users.get(uid, {}).get("name")
-        return f"{name}({uid})" if name else f"uid {uid}"
+    def user(self, uid: Optional[int]) -> str:
+        user = None if uid is None else self.users.get(uid)
+        return f"{user.name}({uid})" if user and user.name else f"uid {uid}"
 
-    def group(self, gid):
+    def group(self, gid: int) -> str:
         name = self.groups.get(gid)
         return f"group {name}({gid})" if name else f"group {gid}"
 
-    def holder(self, path):
+    def holder(self, path: str) -> str:
         """To whom a delegation was handed."""
-        held = self.subtrees[path]["held_by"]
-        if held["by"] in ("owner", "group"):
-            return words.listed(map(self.user if held["by"] == "owner" else self.group, held["ids"]))
-        return "everybody" if held["by"] else "root alone"
+        held = self.subtrees[path].held_by
+        if held.by in ("owner", "group"):
+            return words.listed(map(self.user if held.by == "owner" else self.group, held.ids))
+        return "everybody" if held.by else "root alone"
 
-    def entries(self, path):
+    def entries(self, path: str) -> List[str]:
         """By which entries it was handed over."""
-        held, row = self.subtrees[path]["held_by"], self.rows[path]
-        entries = {"dir": row["dir"], **row["files"]}
+        held, row = self.subtrees[path].held_by, self.rows[path]
+        entries: Dict[str, Union[Owner, ReportFile]] = {"dir": row.dir, **row.files}
         handed = [name for name in ("dir", *CONTROL_FILES, *LIMIT_FILES) if name in entries and is_handed(entries[name], held)]
         return sorted(handed, key=lambda name: name not in HANDED_OVER)
 
-    def limits(self, path):
-        """The limits that are set at a cgroup, with their values."""
-        files = self.rows[path]["files"]
-        return [(file, words.size(file, files[file]["value"])) for file in sorted(files)
-                if "value" in files[file] and not is_usual(file, files[file]["value"])]
+    def value(self, path: str, file: str) -> Optional[Value]:
+        """What a limit file has, where one is known."""
+        row = self.rows.get(path)
+        found = row.files.get(file) if row else None
+        return None if found is None or isinstance(found.value, Absent) else found.value
 
-    def escape(self, finding):
-        """Who breaks what by a finding, and how; an example of somebody else's, or the answer of who holds a subtree."""
-        part = finding.parts[0]
-        if part["example"]:
-            return Escape(*(part["example"][key] for key in Escape._fields))
-        let_in = {each["id"] for each in part["whom"] if each["by"] == "owner"}
-        found = [(not let_in.intersection(answer["uids"]), path, answer) for path in part["subtrees"]
-                 for answer in self.subtrees.get(path, {"answers": ()})["answers"]
-                 if not answer["is_above"] and answer["lines"][0].split(" ")[0] == part["answer"]]
+    def limits(self, path: str) -> List[Tuple[str, str]]:
+        """The limits that are set at a cgroup, with their values."""
+        files = self.rows[path].files
+        values = [(file, files[file].value) for file in sorted(files)]
+        return [(file, words.size(file, value)) for file, value in values
+                if not isinstance(value, Absent) and not is_usual(file, value)]
+
+    def escape(self, part: EntryFinding) -> Optional[Escape]:
+        """Who breaks what by an entry, and how; an example of somebody else's, or the answer of who holds a subtree."""
+        if part.example:
+            return Escape(part.example.who, part.example.uid, part.example.gids, part.example.subtree, part.example.lines)
+        let_in = {each.id for each in part.whom if each.by == "owner"}
+        found = [(not let_in.intersection(answer.uids), path, answer) for path in part.subtrees if path in self.subtrees
+                 for answer in self.subtrees[path].answers
+                 if not answer.is_above and answer.lines[0].split(" ")[0] == part.answer]
         if not found:
             return None
         _, path, answer = min(found, key=lambda each: each[:2])
-        uid = next((uid for uid in answer["uids"] if uid in let_in), answer["uids"][0] if answer["uids"] else None)
-        lists = self.users.get(uid, {"groups": ()})["groups"]
-        gids = max(lists, key=len, default=answer["gids"])
-        return Escape(self.user(uid), uid, gids, path, answer["lines"])
+        uid = next((uid for uid in answer.uids if uid in let_in), answer.uids[0] if answer.uids else None)
+        user = None if uid is None else self.users.get(uid)
+        gids = max(user.groups if user else (), key=len, default=answer.gids)
+        return Escape(self.user(uid), uid, gids, path, answer.lines)
 
 
-def is_handed(entry, held):
-    if held["by"] == "owner":
-        return entry["uid"] in held["ids"]
-    mode = int(entry["mode"], 8)
-    if held["by"] == "group":
-        return bool(entry["gid"] in held["ids"] and mode & 0o020)
-    return bool(held["by"] == "others" and mode & 0o002)
+def host_of(report: Report, shown: Callable[[str], str] = visible) -> Host:
+    """A report's parts by what they are of, with its texts as they are shown."""
+    report = with_texts(report, shown)
+    return Host(report, {each.path: each for each in present(report.cgroups)}, {each.path: each for each in report.subtrees},
+                {each.pid: each for each in present(report.processes)}, {each.uid: each for each in present(report.users)},
+                {each.gid: each.name for each in present(report.groups)})

@@ -1,0 +1,123 @@
+"""An escape told in words: its operations one by one, as far as what they say needs it carried out, and what it breaks."""
+from dataclasses import dataclass
+from typing import Callable, Dict, List, NamedTuple, Optional, Sequence, Tuple, Union
+
+from zirofen_host.collect.model import Value
+from zirofen_host.profile import LIMIT_FILES, is_inside, parent_of
+from zirofen_host.show.view import Host
+from zirofen_host.show.words import listed, size
+
+CROSSED, LIMITS, GONE, OVER, UNKNOWN = "crossed", "limits", "gone", "over", "unknown"
+# a verb in front of the subtree's path
+VERBS = {CROSSED: "moves a process over the edge of", LIMITS: "changes a limit of", GONE: "removes"}
+# plain words and, as pairs, what is set in another type
+Word = Union[str, Tuple[str, str]]
+Sentence = List[Word]
+
+
+class Move(NamedTuple):
+    pid: int
+    before: str
+    behind: str
+
+
+class Change(NamedTuple):
+    """A limit that comes has no value before, and one that goes has none behind."""
+    file: str
+    before: Optional[Value]
+    behind: Optional[Value]
+
+
+@dataclass(frozen=True)
+class Breaks:
+    """What an escape does to a subtree: over its edge goes a process, or its limits change."""
+    kind: str
+    move: Optional[Move] = None
+    changes: Tuple[Change, ...] = ()
+
+    @property
+    def verb(self) -> str:
+        return VERBS.get(self.kind, "breaks")
+
+
+@dataclass(frozen=True)
+class Steps:
+    breaks: Breaks
+    told: Tuple[Sentence, ...]
+
+
+class Teller:
+    """Where processes stand and what is broken, while operations are told."""
+
+    def __init__(self, host: Host, subtree: str) -> None:
+        self.host, self.subtree = host, subtree
+        self.at: Dict[int, str] = {}
+        self.breaks = Breaks(UNKNOWN)
+
+    def tell(self, words: List[str]) -> Sentence:
+        """One operation; what is none stands as it is."""
+        tell = TELLS.get(words[0])
+        try:
+            return tell(self, *words[1:]) if tell else [("code", " ".join(words))]
+        except (TypeError, ValueError, IndexError):
+            return [("code", " ".join(words))]
+
+    def chmod(self, path: str, entry: str, mode: str) -> Sentence:
+        name: Word = "the directory" if entry == "dir" else ("code", entry)
+        return ["give ", name, " of ", ("code", path), f" the mode {mode}, which lets its owner write it"]
+
+    def move(self, pid: str, path: str) -> Sentence:
+        process = self.host.processes.get(int(pid))
+        before = self.at.get(int(pid), process.at if process else None)
+        self.at[int(pid)] = path
+        name = f" ({process.name})" if process else ""
+        start: Sentence = [" from ", ("code", before)] if before else []
+        told: Sentence = [f"move process {pid}{name}", *start, " to ", ("code", path)]
+        if before and is_inside(before, self.subtree) != is_inside(path, self.subtree):
+            self.breaks = Breaks(CROSSED, Move(int(pid), before, path))
+            told.append(f": it goes {'into' if is_inside(path, self.subtree) else 'out of'} the subtree")
+        return told
+
+    def set(self, path: str, file: str, value: str) -> Sentence:
+        before = self.host.value(path, file)
+        if path == self.subtree:
+            self.breaks = Breaks(LIMITS, changes=(Change(file, before, value),))
+        is_now = [f" from {size(file, before)}"] if before is not None else []
+        return ["set ", ("code", file), " of ", ("code", path), *is_now, f" to {size(file, value)}"]
+
+    def control(self, path: str, *changes: str) -> Sentence:
+        names = {each[1:] for each in changes}
+        if path == parent_of(self.subtree):
+            self.breaks = Breaks(LIMITS, changes=tuple(
+                Change(file, self.host.value(self.subtree, file), None if f"-{by}" in changes else default)
+                for file, (by, default) in LIMIT_FILES.items() if by in names))
+        on = listed(each[1:] for each in changes if each[0] == "+")
+        off = listed(each[1:] for each in changes if each[0] == "-")
+        told = listed([*([f"enable {on}"] if on else []), *([f"disable {off}"] if off else [])])
+        return [told, " in ", ("code", path), ": limits of what is below come or go"]
+
+    def make(self, path: str) -> Sentence:
+        return ["make the cgroup ", ("code", path)]
+
+    def remove(self, path: str) -> Sentence:
+        if path == self.subtree:
+            self.breaks = Breaks(GONE)
+        return ["remove the cgroup ", ("code", path)]
+
+    def fork(self, parent: str, child: str) -> Sentence:
+        return [f"have process {parent} start another, {child}"]
+
+    def exit(self, pid: str) -> Sentence:
+        return [f"end process {pid}"]
+
+
+TELLS: Dict[str, Callable[..., Sentence]] = {
+    "chmod": Teller.chmod, "move": Teller.move, "set": Teller.set, "control": Teller.control, "mkdir": Teller.make,
+    "rmdir": Teller.remove, "fork": Teller.fork, "exit": Teller.exit}
+
+
+def steps_of(host: Host, subtree: str, lines: Sequence[str]) -> Steps:
+    """The operations by which a subtree is broken; without any it is over its own limits."""
+    teller = Teller(host, subtree)
+    told = tuple(teller.tell(line.split(" ")) for line in lines)
+    return Steps(teller.breaks if lines else Breaks(OVER), told)
