@@ -18,8 +18,8 @@ class Wrong(Exception):
 
 
 def parts_of(report: Report) -> Iterator[str]:
-    """The JSON of a report, a part after another."""
-    return json.JSONEncoder(indent=1, default=keys_of).iterencode(report)
+    """The JSON of a report, a part after another. What is frozen holds no circle, and looking for one costs a third."""
+    return json.JSONEncoder(indent=1, default=keys_of, check_circular=False).iterencode(report)
 
 
 def keys_of(made: object) -> Dict[str, object]:
