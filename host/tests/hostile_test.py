@@ -14,7 +14,7 @@ import made_up_program
 from check_test import BY_GROUP, HostTest, owned
 from made_up import COMMAND, TOP
 from zirofen_host import fault
-from zirofen_host.collect import processes, walk
+from zirofen_host.collect import bounded, processes
 from zirofen_host.ask import questions
 from shown import lines_of
 from zirofen_host.collect.accounts import accounts_here
@@ -91,10 +91,10 @@ class NamesTest(HostTest):
     def test_what_is_left_out_is_counted_only_so_far(self):
         for number in range(9):
             os.makedirs(f"{self.host.mount}/alice/o d/{number}")
-        with mock.patch.object(walk, "MOST_INSIDE", 5):
+        with mock.patch.object(bounded, "CGROUPS", bounded.Budget("cgroups", 5)):
             found = self.report()
         self.others(found)
-        self.assertEqual([(each["fault"], each["subtrees"]) for each in found["faults"]], [("over 5 cgroups inside", ["/alice"])])
+        self.assertEqual([(each["fault"], each["subtrees"]) for each in found["faults"]], [("uid 1000 has over 5 cgroups", ["/alice"])])
 
     def test_names_of_accounts_and_processes(self):
         self.host.accounts(passwd="al\x1b[2Jice:x:1000:1000::/:\nbob:x:1001:1001::/:\n", group="te\x07am:x:50:bob\n")

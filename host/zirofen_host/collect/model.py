@@ -184,6 +184,10 @@ class Snapshot:
     changing: Mapping[CgroupPath, str]
     spoiled: Mapping[CgroupPath, str]
     source: Source = Source()
+    # whose that is which changed or can't be read, as far as it is somebody's
+    makers: Mapping[CgroupPath, int] = field(default_factory=dict)
+    # of whom not all processes were looked at, each with why
+    over: Mapping[int, str] = field(default_factory=dict)
 
     @property
     def processes_told(self) -> Collection[Process]:

@@ -1,21 +1,16 @@
 """Processes, as /proc tells of them."""
-import os
-from typing import Dict, Iterable, Iterator, List, Mapping, Optional, Tuple
+from typing import Dict, List, Mapping, Optional, Tuple
 
 from zirofen_host.collect import bounded
-from zirofen_host.collect.model import FilePlace, Process, User
-from zirofen_host.fault import Fault
+from zirofen_host.collect.bounded import Payer, Spent
+from zirofen_host.collect.model import Process, User
 
 KERNEL_THREAD = 0x00200000
-WRITES = os.O_WRONLY | os.O_RDWR
 
 # capabilities by which a process passes over owners, or becomes who does, by their numbers in CapEff
 CAPABILITIES = {0: "CHOWN", 1: "DAC_OVERRIDE", 3: "FOWNER", 6: "SETGID", 7: "SETUID", 16: "SYS_MODULE", 17: "SYS_RAWIO",
                 19: "SYS_PTRACE", 21: "SYS_ADMIN"}
 FIRST_USER_NAMESPACE = "user:[4026531837]"
-
-# descriptors of one user that are looked at
-MOST_DESCRIPTORS = 4096
 
 Fields = Mapping[str, List[str]]
 
@@ -25,27 +20,62 @@ def status_fields(text: str) -> Fields:
     return {key: value.split() for key, _, value in (line.partition(":") for line in text.split("\n"))}
 
 
-def text_of(path: str) -> str:
-    return bounded.read_file(path, bounded.PROC_FILE).text("utf-8", "replace")
+def names_in(folder: str, most: int = bounded.NAMES) -> List[str]:
+    return [name for name, _ in bounded.list_folder(folder, most).names]
 
 
-def names_in(folder: str) -> List[str]:
-    return [name for name, _ in bounded.list_folder(folder, bounded.NAMES).names]
+class Reader:
+    """Reads processes, charged to whose they are."""
 
+    def __init__(self, proc: str, payer: Payer = int) -> None:
+        self.proc = proc
+        self.count, self.bytes = Spent(bounded.PROCESSES, payer), Spent(bounded.PROCESS_BYTES, payer)
+        self.found: Dict[int, Process] = {}
+        # of which what is told isn't known
+        self.unknown: List[int] = []
 
-def read_process(proc: str, pid: int) -> Optional[Process]:
-    """A process, or None where it has ended. Its uid is the real one; as a user it acts under the effective ones."""
-    try:
-        fields = status_fields(text_of(f"{proc}/{pid}/status"))
-        flags = int(text_of(f"{proc}/{pid}/stat").rpartition(")")[2].split()[6])
-        gid = int(fields["Gid"][1])
-        others = [int(group) for group in fields.get("Groups", ()) if int(group) != gid]
-        return Process(pid, int(fields["Uid"][0]), User(int(fields["Uid"][1]), (gid, *others)),
-                       flags & KERNEL_THREAD != 0, " ".join(fields.get("Name", ())), capabilities_of(proc, pid, fields))
-    except (FileNotFoundError, ProcessLookupError):
-        return None
-    except (ValueError, KeyError, IndexError):
-        raise Fault(f"what {proc}/{pid} tells of the process isn't known") from None
+    def over(self) -> Mapping[int, str]:
+        """Of whom not all processes were looked at, each with why."""
+        return {person: spent.budget.told(person) for spent in (self.bytes, self.count) for person in spent.over()}
+
+    def read(self) -> "Reader":
+        """Reads all processes, as far as the budgets of their users go."""
+        for name in names_in(self.proc):
+            process = self.process(int(name)) if name.isdigit() else None
+            if process:
+                self.found[process.pid] = process
+        return self
+
+    def process(self, pid: int) -> Optional[Process]:
+        """A process, or None where it has ended or isn't looked at. Its uid is the real one; as a user it acts under the effective
+        ones."""
+        try:
+            fields = self.fields(pid)
+            if fields is None:
+                return None
+            stat = bounded.read_file(f"{self.proc}/{pid}/stat", bounded.FLAGS).text("utf-8", "replace")
+            flags = int(stat.rpartition(")")[2].split()[6])
+            gid = int(fields["Gid"][1])
+            others = [int(group) for group in fields.get("Groups", ()) if int(group) != gid]
+            return Process(pid, int(fields["Uid"][0]), User(int(fields["Uid"][1]), (gid, *others)),
+                           flags & KERNEL_THREAD != 0, " ".join(fields.get("Name", ())), capabilities_of(self.proc, pid, fields))
+        except (FileNotFoundError, ProcessLookupError):
+            return None
+        except (ValueError, KeyError, IndexError, OSError):
+            self.unknown.append(pid)
+            return None
+
+    def fields(self, pid: int) -> Optional[Fields]:
+        """What a process's status has, or None where its user has more than is looked at. The head says whose it is, and a list of
+        groups may be long."""
+        file = f"{self.proc}/{pid}/status"
+        read = bounded.read_file(file, bounded.FLAGS)
+        uid = int(status_fields(read.text("utf-8", "replace"))["Uid"][0])
+        if not self.count.take(uid) or self.bytes.is_over(uid):
+            return None
+        if read.is_cut:
+            read = bounded.read_file(file, bounded.STATUS)
+        return status_fields(read.text("utf-8", "replace")) if self.bytes.take(uid, len(read.data)) else None
 
 
 def capabilities_of(proc: str, pid: int, fields: Fields) -> Tuple[str, ...]:
@@ -60,50 +90,4 @@ def capabilities_of(proc: str, pid: int, fields: Fields) -> Tuple[str, ...]:
 
 def read_processes(proc: str) -> Dict[int, Process]:
     """All processes by their PIDs."""
-    read = (read_process(proc, int(name)) for name in names_in(proc) if name.isdigit())
-    return {process.pid: process for process in read if process}
-
-
-def open_for_writing(proc: str, pids: Iterable[int]) -> Iterator[Tuple[int, Optional[FilePlace]]]:
-    """What these processes hold open for writing on a mount of cgroups, as (pid, device and inode), since a path looks otherwise
-    in a container; and at last, where there is more than is looked at, (pid, None)."""
-    left = MOST_DESCRIPTORS
-    for pid in pids:
-        folder, kinds = f"{proc}/{pid}/fd", kinds_of_mounts(f"{proc}/{pid}/mountinfo")
-        try:
-            numbers = names_in(folder)
-        except OSError:
-            continue
-        for number in numbers[:left]:
-            file = file_for_writing(f"{proc}/{pid}/fdinfo/{number}", f"{folder}/{number}", kinds)
-            if file:
-                yield pid, file
-        left -= len(numbers)
-        if left < 0:
-            yield pid, None
-            return
-
-
-def kinds_of_mounts(file: str) -> Optional[Mapping[str, str]]:
-    """The file system of each mount of a process by its number, or None where nothing tells of them."""
-    try:
-        lines = text_of(file).split("\n")
-    except OSError:
-        return None
-    parts = (line.partition(" - ") for line in lines)
-    return {before.split(" ")[0]: after.split(" ")[0] for before, _, after in parts}
-
-
-def file_for_writing(info: str, link: str, kinds: Optional[Mapping[str, str]]) -> Optional[FilePlace]:
-    """The device and the inode of a descriptor that is for writing. No other file system is asked: it may be a user's own,
-    which answers when they like."""
-    try:
-        fields = status_fields(text_of(info))
-        if int(fields["flags"][0], 8) & WRITES == 0:
-            return None
-        if kinds is not None and kinds.get(fields["mnt_id"][0]) != "cgroup2":
-            return None
-        status = os.stat(link)
-        return status.st_dev, status.st_ino
-    except (OSError, ValueError, KeyError, IndexError):
-        return None
+    return Reader(proc).read().found

@@ -9,6 +9,7 @@ from zirofen_host.collect.bounded import REPORT_FILE, read_file
 from zirofen_host.fault import FAULT, Fault
 from zirofen_host.judge import as_json
 from zirofen_host.judge.finding_lines import above_line, differs_line, entry_line, opened_line
+from zirofen_host.judge.looks import FAILED
 from zirofen_host.judge.model import (ABSENT, NOTHING_ASKED, VERSION, Comparison, Difference, DiffersFinding, EntryFinding,
                                       OpenedFinding, Report, Subtree, Whom)
 from zirofen_host.judge.saved import LACKING
@@ -25,6 +26,8 @@ class Found(NamedTuple):
     line: str
     lets_in: FrozenSet[Tuple[object, ...]] = frozenset()
     mended: Union[EntryFinding, OpenedFinding, DiffersFinding, None] = None
+    # whose own making it is
+    within: Optional[int] = None
 
 
 def read(file: str) -> Report:
@@ -66,9 +69,9 @@ def found_in(report: Report) -> Dict[Key, Found]:
     found = {("subtree", each.path, ""): subtree_found(each) for each in report.subtrees}
     for entry in report.entries:
         found["entry", entry.path, entry.entry] = Found(
-            WORDS[entry.answer], entry_line([entry]), let_in(entry.whom, entry.subtrees), entry)
+            WORDS[entry.answer], entry_line([entry]), let_in(entry.whom, entry.subtrees), entry, entry.within)
     for opened in report.opened:
-        found["opened", opened.path, opened.file] = Found(ESCAPES, opened_line(opened), let_in(opened.whom, ()), opened)
+        found["opened", opened.path, opened.file] = Found(ESCAPES, opened_line(opened), let_in(opened.whom, ()), opened, opened.within)
     for fault in report.faults:
         for path in fault.subtrees:
             found["fault", path, fault.fault] = Found(FAULT, f"fault: {fault.who} of {path}: {fault.fault}")
@@ -76,17 +79,20 @@ def found_in(report: Report) -> Dict[Key, Found]:
         found["differs", differs.path, ""] = Found(
             CONTAINED, differs_line(differs), frozenset((name,) for name in differs.entries), differs)
     for above in report.above:
-        found["above", above.handed, above.who] = Found(CONTAINED, above_line(above))
+        found["above", above.handed, above.who] = Found(CONTAINED, above_line(above), within=above.within)
+    for told in (*report.unseen, *report.snapshot):
+        if told.kind == FAILED:
+            found[FAILED, told.place, told.text] = Found(FAULT, f"{FAILED}: {told.place}: {told.text}")
     return found
 
 
 def subtree_found(subtree: Subtree) -> Found:
     """What those who hold a subtree were answered."""
     if not subtree.answers:
-        return Found(CONTAINED, f"{subtree.path}: held by root alone")
+        return Found(CONTAINED, f"{subtree.path}: held by root alone", within=subtree.within)
     statuses = {CONTAINED if each.is_above else WORDS.get(each.lines[0].split(" ")[0], FAULT) for each in subtree.answers}
     told = "; ".join(f"{each.lines[0]}, by {each.who} who holds it" for each in subtree.answers)
-    return Found(worst(statuses), f"{subtree.path}: {told}")
+    return Found(worst(statuses), f"{subtree.path}: {told}", within=subtree.within)
 
 
 def let_in(whom: Iterable[Whom], subtrees: Iterable[str]) -> FrozenSet[Tuple[object, ...]]:
@@ -119,7 +125,8 @@ def changes_of_host(report: Report, before: Report) -> Iterable[Difference]:
 
 
 def kind_of(now: Optional[Found], then: Optional[Found]) -> Optional[str]:
-    if then is None:
+    # what has no answer is told each time: it is never known to be as before
+    if then is None or now is not None and now.status == FAULT:
         return "new"
     if now is None:
         return "gone"
@@ -132,4 +139,4 @@ def difference(key: Key, now: Optional[Found], then: Optional[Found]) -> Differe
     mended = now.mended if now else None
     told = now or then
     return Difference(key[0], told.line if told else "", then.line if now and then else None, now.status if now else CONTAINED,
-                      mended.changes if mended else (), mended.setting if mended else None)
+                      mended.changes if mended else (), mended.setting if mended else None, told.within if told else None)

@@ -10,17 +10,20 @@ from zirofen_host.ask.model import Answer
 from zirofen_host.ask.program import CONTAINED, ESCAPES, UNSETTLED, WORDS
 from zirofen_host.ask.questions import unit_of
 from zirofen_host.collect.accounts import accounts_of
-from zirofen_host.collect.model import GROUP, Snapshot, User
+from zirofen_host.collect.holds import Holds
+from zirofen_host.collect.model import GROUP, Note, Snapshot, User
 from zirofen_host.fault import FAULT, Fault
 from zirofen_host.judge import unseen, whole
-from zirofen_host.judge.checked import Checked, advise
+from zirofen_host.judge.advised import Advised, advise
+from zirofen_host.judge.checked import Checked
 from zirofen_host.judge.finding_lines import SHOWN
-from zirofen_host.judge.findings import above_findings, differs_findings, entry_findings, fault_findings, opened_findings
+from zirofen_host.judge.findings import above_findings, differs_findings, entry_finding, fault_findings, opened_findings
 from zirofen_host.judge.judged import Own, judge
+from zirofen_host.judge.looks import FAILED, Looks
 from zirofen_host.judge.model import NOTHING_ASKED, VERSION, EntryFinding, HeldBy, HolderAnswer, Report, Subtree, Told
 from zirofen_host.judge.names import names_of
 from zirofen_host.options import Options
-from zirofen_host.profile import CgroupPath, text_of
+from zirofen_host.profile import CgroupPath, path_of, text_of
 
 
 def ask(snapshot: Snapshot, options: Options, folder: str) -> Checked:
@@ -37,13 +40,13 @@ def ask(snapshot: Snapshot, options: Options, folder: str) -> Checked:
     for user in sorted({user for users, _ in (*answers.plan.questions, *answers.further) for user in users}):
         asked[user.uid].append(user)
     return Checked(snapshot, options, names_of(accounts), found.questions, answers, found.programs,
-                   judge(found.questions, answers), asked, asked_of)
+                   judge(found.questions, answers), asked, asked_of, Holds(snapshot.tree.rows, accounts.payer))
 
 
 def subtree_of(checked: Checked, path: CgroupPath) -> Subtree:
     holders = checked.questions.holders[path]
     return Subtree(text_of(path), checked.questions.meant.get(path), unit_of(path), HeldBy(holders.by, holders.ids),
-                   answers_of(checked, path))
+                   answers_of(checked, path), checked.holds.within(path))
 
 
 def answers_of(checked: Checked, subtree: CgroupPath) -> Tuple[HolderAnswer, ...]:
@@ -88,21 +91,33 @@ def status_of(entries: Iterable[EntryFinding], is_opened: bool, is_faulty: bool,
 
 
 def report_of(checked: Checked, is_whole: bool) -> Report:
-    snapshot, about, answers = checked.snapshot, checked.snapshot.about, checked.answers
-    advised = advise(checked)
-    entries, opened, faults = entry_findings(checked, advised), opened_findings(checked), fault_findings(checked, advised)
+    """The report on a host that was asked. What fails of it is told, and all else stands."""
+    snapshot, about, answers, looks = checked.snapshot, checked.snapshot.about, checked.answers, Looks()
+    advised = looks.at("advice", lambda: advise(checked), Advised({}, checked.judged.faults))
+    subtrees = looks.each("answers", checked.questions.subtrees, lambda path: subtree_of(checked, path))
+    entries = looks.each("entries", [found for _, found in sorted(checked.judged.entries.items())],
+                         lambda found: entry_finding(checked, advised, found))
+    opened = dict(looks.all("opened", lambda: opened_findings(checked)))
+    faults = looks.all("faults", lambda: fault_findings(checked, advised))
+    differs = looks.all("differs", lambda: differs_findings(checked, opened))
+    above = looks.all("above", lambda: above_findings(checked))
+    told = unseen.lines(checked, advised, looks)
+    notes = tuple(noted(checked, note) for note in snapshot.notes)
     made = Report(
         VERSION, answers.version, about.host or "", about.kernel or "",
-        about.time or time.strftime("%Y-%m-%dT%H:%M:%SZ", time.gmtime()), snapshot.mount,
-        checked.is_asked, answers.has_advise,
-        subtrees=tuple(subtree_of(checked, path) for path in checked.questions.subtrees), entries=entries,
-        opened=tuple(opened.values()), faults=faults, differs=tuple(differs_findings(checked, opened)),
-        above=tuple(above_findings(checked)),
-        unseen=tuple(unseen.lines(snapshot, checked.questions, answers, checked.names, checked.options)),
-        snapshot=tuple(Told(note.kind, note.place, note.detail) for note in snapshot.notes),
-        status=status_of(entries, bool(opened), bool(faults), checked.is_asked))
-    return replace(made, users=tuple(whole.users_of(checked)), groups=tuple(whole.groups_of(checked)),
-                   cgroups=tuple(whole.cgroups_of(checked)), processes=tuple(whole.processes_of(checked))) if is_whole else made
+        about.time or time.strftime("%Y-%m-%dT%H:%M:%SZ", time.gmtime()), snapshot.mount, checked.is_asked, answers.has_advise,
+        subtrees=subtrees, entries=entries, opened=tuple(opened.values()), faults=faults, differs=differs, above=above,
+        unseen=told, snapshot=notes, status=CONTAINED)
+    if is_whole:
+        made = replace(made, users=looks.all("users", lambda: whole.users_of(checked)),
+                       groups=looks.all("groups", lambda: whole.groups_of(checked)), cgroups=whole.cgroups_of(checked, looks),
+                       processes=looks.all("processes", lambda: whole.processes_of(checked)))
+    is_faulty = bool(faults or looks.failed or any(each.kind == FAILED for each in notes))
+    return replace(made, unseen=(*looks.failed, *told), status=status_of(entries, bool(opened), is_faulty, checked.is_asked))
+
+
+def noted(checked: Checked, note: Note) -> Told:
+    return Told(note.kind, note.place, note.detail, checked.holds.within(path_of(note.place)))
 
 
 def report(snapshot: Snapshot, options: Options, is_whole: bool) -> Report:

@@ -6,7 +6,8 @@ from zirofen_host.ask.questions import unit_of
 from zirofen_host.collect.model import GROUP, Entry, User
 from zirofen_host.collect.tree import in_order
 from zirofen_host.collect.walk import MANAGERS_MARK
-from zirofen_host.judge.checked import Advised, Checked
+from zirofen_host.judge.advised import Advised
+from zirofen_host.judge.checked import Checked
 from zirofen_host.judge.finding_lines import some
 from zirofen_host.judge.judged import LetIn, LetsIn, Place
 from zirofen_host.judge.model import (AboveFinding, DiffersFinding, EntryFinding, Example, FaultFinding, OpenedFinding, Owner, Whom)
@@ -36,10 +37,6 @@ def whom_of(names: Names, let_in: Iterable[LetIn]) -> Tuple[Whom, ...]:
                       tuple(names.member(uid) for uid in sorted(each.uids)) if each.by == GROUP else ()) for each in let_in)
 
 
-def entry_findings(checked: Checked, advised: Advised) -> Tuple[EntryFinding, ...]:
-    return tuple(entry_finding(checked, advised, found) for _, found in sorted(checked.judged.entries.items()))
-
-
 def entry_finding(checked: Checked, advised: Advised, found: LetsIn) -> EntryFinding:
     (user, subtree), place, lines = found.worst, found.place, found.answer.lines
     # an entry of others is everybody's; who of them was asked is among the users
@@ -47,27 +44,47 @@ def entry_finding(checked: Checked, advised: Advised, found: LetsIn) -> EntryFin
     example = None if is_own else Example(checked.names.who(user), user.uid, user.gids, text_of(subtree), lines)
     return EntryFinding(path, place.name, owner_of(found.entry) if found.entry else None, lines[0].split(" ")[0],
                         whom_of(checked.names, found.whom()), texts_of(in_order(topmost(found.subtrees))), example,
-                        checked.commands(advised.changes.get((path, place.name), ())), setting_of(place))
+                        checked.commands(advised.changes_of(found)), setting_of(place), checked.holds.within(place.path),
+                        is_own_affair(checked, place, found.whom(), found.subtrees))
 
 
-def opened_findings(checked: Checked) -> Dict[Place, OpenedFinding]:
+def opened_findings(checked: Checked) -> Iterable[Tuple[Place, OpenedFinding]]:
     """Every limit that stands open, but for the entries that the answers show."""
-    found = {}
     for place, entry, let_in in find_openings(checked.snapshot, checked.questions):
         if place not in checked.judged.entries:
-            found[place] = OpenedFinding(
+            yield place, OpenedFinding(
                 text_of(place.path), place.name, owner_of(entry), whom_of(checked.names, let_in),
-                closing_commands(checked.snapshot.mount, text_of(place.path), {place.name: entry}), setting_of(place))
-    return found
+                closing_commands(checked.snapshot.mount, text_of(place.path), {place.name: entry}), setting_of(place),
+                checked.holds.within(place.path), is_own_affair(checked, place, let_in, ()))
 
 
-def fault_findings(checked: Checked, advised: Advised) -> Tuple[FaultFinding, ...]:
-    """Subtrees that can't be asked of anybody, and pairs without an answer."""
+def is_own_affair(checked: Checked, place: Place, let_in: Iterable[LetIn], subtrees: Iterable[CgroupPath]) -> bool:
+    """Whether an entry of somebody's own making lets in them alone, and to nothing that another holds."""
+    person = checked.holds.within(place.path)
+    if person is None:
+        return False
+    uids = {uid for each in let_in for uid in each.uids}.union(*(checked.questions.holders[path].uids for path in subtrees))
+    return checked.holds.is_all_of(person, uids)
+
+
+def fault_findings(checked: Checked, advised: Advised) -> Iterable[FaultFinding]:
+    """Subtrees that can't be asked of anybody, pairs without an answer, and users of whom not all was looked at."""
     by_why: Dict[str, List[str]] = defaultdict(list)
     for path, why in sorted((shown(path), why) for path, why in checked.answers.refused.items()):
         by_why[why].append(path)
-    return (*(FaultFinding("everybody", None, (), why, tuple(paths)) for why, paths in by_why.items()),
-            *faults_of_pairs(checked.names, advised))
+    yield from (FaultFinding("everybody", None, (), why, tuple(paths)) for why, paths in by_why.items())
+    yield from faults_of_pairs(checked.names, advised)
+    yield from faults_of_budgets(checked)
+
+
+def faults_of_budgets(checked: Checked) -> Iterable[FaultFinding]:
+    """Whoever has more processes than are looked at may have groups that aren't known: a fault of what they hold."""
+    for person, why in sorted(checked.snapshot.over.items()):
+        held = [path for path in checked.questions.subtrees
+                if any(checked.holds.payer(uid) == person for uid in checked.questions.holders[path].uids)]
+        if held:
+            yield FaultFinding(checked.names.user(person), person, (), f"{why}: not all were looked at",
+                               texts_of(in_order(topmost(held))))
 
 
 def faults_of_pairs(names: Names, advised: Advised) -> Iterable[FaultFinding]:
@@ -94,4 +111,5 @@ def differs_findings(checked: Checked, opened: Iterable[Place]) -> Iterable[Diff
 
 def above_findings(checked: Checked) -> Iterable[AboveFinding]:
     for (uid, handed), subtrees in sorted(checked.judged.above.items()):
-        yield AboveFinding(checked.names.user(uid), uid, text_of(handed), texts_of(in_order(topmost(subtrees))))
+        yield AboveFinding(checked.names.user(uid), uid, text_of(handed), texts_of(in_order(topmost(subtrees))),
+                           checked.holds.payer(uid))
