@@ -20,7 +20,7 @@ from zirofen_host.collect.snapshot import all_that_changes, take  # noqa: E402
 from zirofen_host.collect.model import AccountLists, Entry  # noqa: E402
 
 STATUS = ("Name:\t{name}\nUid:\t{uid}\t{uid}\t{uid}\t{uid}\nGid:\t{gid}\t{gid}\t{gid}\t{gid}\nGroups:\t{groups}\n"
-          "CapEff:\t{capabilities:016x}\n")
+          "CapPrm:\t{permitted:016x}\nCapEff:\t{capabilities:016x}\nThreads:\t{threads}\n")
 STAT = "{pid} (made) up) S 1 1 1 0 -1 {flags} 0 0 0\n"
 KERNEL_THREAD = 0x00200040
 # where many files are made soonest
@@ -81,12 +81,18 @@ class MadeUp:
         os.chmod(path, mode)
         self.owners[os.lstat(path).st_ino] = Entry(uid, gid, mode)
 
-    def process(self, pid, uid=0, gid=0, groups=(), flags=0x400000, capabilities=0, namespace=None,
-                name="made up"):
-        os.makedirs(f"{self.proc}/{pid}", exist_ok=True)
-        with open(f"{self.proc}/{pid}/status", "w", encoding="ascii") as out:
-            out.write(STATUS.format(uid=uid, gid=gid, groups=" ".join(map(str, groups)), capabilities=capabilities,
-                                    name=name))
+    def process(self, pid, uid=0, gid=0, groups=(), flags=0x400000, capabilities=0, permitted=None, namespace=None,
+                name="made up", threads=()):
+        """A process. Its capabilities are those that are effective, and permitted where no others are; threads are the
+        permitted ones of each beside the first."""
+        permitted = capabilities if permitted is None else permitted
+        told = {"uid": uid, "gid": gid, "groups": " ".join(map(str, groups)), "capabilities": capabilities, "name": name,
+                "threads": 1 + len(threads)}
+        folders = [f"{self.proc}/{pid}", *(f"{self.proc}/{pid}/task/{pid + number}" for number in range(1 + len(threads)))]
+        for folder, each in zip(folders, (permitted, permitted, *threads)):
+            os.makedirs(folder, exist_ok=True)
+            with open(f"{folder}/status", "w", encoding="ascii") as out:
+                out.write(STATUS.format(permitted=each, **told))
         if namespace:
             os.makedirs(f"{self.proc}/{pid}/ns")
             os.symlink(f"user:[{namespace}]", f"{self.proc}/{pid}/ns/user")

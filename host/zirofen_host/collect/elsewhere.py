@@ -16,6 +16,7 @@ from zirofen_host.collect.model import (About, Account, AccountLists, Carried, C
 from zirofen_host.collect.mount import read_kernel_list
 from zirofen_host.collect.tree import number_in, table_in, text_in, texts_in
 from zirofen_host.fault import Fault
+from zirofen_host.files import is_known
 from zirofen_host.profile import CONTROL_FILES, LIMIT_FILES, LONGEST_TEXT, CgroupPath, is_other_limit, is_root, path_of, text_of
 
 MARK = "#= "
@@ -94,6 +95,10 @@ class Gathered:
         path, why = parts_in(value)
         self.changing[CgroupPath(os.fsencode(text_in(path)))] = str(why)
 
+    def kind(self, path: CgroupPath) -> str:
+        """What a cgroup's type is, where a note tells that it isn't in domain mode."""
+        return next((note.detail.partition(":")[0] for note in self.notes if (note.kind, note.place) == ("type", text_of(path))), "domain")
+
     def carried(self) -> Optional[Carried]:
         if self.mount is None:
             return None
@@ -147,7 +152,10 @@ def gather(text: str, tree: Tree) -> Gathered:
 def cgroup_of(tree: Tree, row: Row, gathered: Gathered) -> Cgroup:
     """A cgroup as the tree has it, with what is carried of it."""
     files = {name: row.entry(name) for name in (*CONTROL_FILES, *tree.limit_files(row.path))}
-    return Cgroup(row.directory, {**files, **gathered.files[row.path]}, {}, row.enabled, (), "domain", gathered.marks[row.path], ())
+    carried = gathered.files[row.path]
+    directory = carried.get("dir", row.directory)
+    files.update({name: entry for name, entry in carried.items() if name != "dir"})
+    return Cgroup(directory, files, {}, row.enabled, (), gathered.kind(row.path), gathered.marks[row.path], ())
 
 
 def told_unseen(snapshot: Snapshot) -> str:
@@ -207,7 +215,9 @@ def carried(snapshot: Snapshot, accounts: Accounts) -> Iterator[Mapping[str, obj
 def carried_of(snapshot: Snapshot, path: CgroupPath, found: Cgroup) -> Mapping[str, object]:
     """What a text carries of a cgroup: other files than the tree's, as far as they matter, other limits, and marks."""
     others = {name: entry for name, entry in found.files.items()
-              if is_other_limit(name) or entry.uid or entry.mode & 0o022 or entry.mode > 0o777}
+              if is_other_limit(name) or not is_known(name) or entry.uid or entry.mode & 0o022 or entry.mode > 0o777}
+    if found.directory.mode > 0o777:
+        others["dir"] = found.directory
     values = {name: snapshots.value_of(snapshot, path, name) for name in others if is_other_limit(name)}
     return {"path": text_of(path), "files": {name: word_of(entry) for name, entry in others.items()},
             "values": {name: value for name, value in values.items() if value is not None},

@@ -101,7 +101,10 @@ class Process:
     user: User
     is_kernel_thread: bool
     name: str = ""
+    # those that it or one of its threads is permitted, whether they are effective or not
     capabilities: Tuple[str, ...] = ()
+    # how many of its threads weren't looked at
+    threads_left: int = 0
 
 
 @dataclass(frozen=True)

@@ -1,6 +1,7 @@
 """Processes, as /proc tells of them."""
 import os
-from typing import Dict, Iterable, Iterator, List, Mapping, Optional, Tuple
+from collections import defaultdict
+from typing import DefaultDict, Dict, Iterable, Iterator, List, Mapping, Optional, Tuple
 
 from zirofen_host.collect import bounded
 from zirofen_host.collect.model import FilePlace, Process, User
@@ -9,13 +10,14 @@ from zirofen_host.fault import Fault
 KERNEL_THREAD = 0x00200000
 WRITES = os.O_WRONLY | os.O_RDWR
 
-# capabilities by which a process passes over owners, or becomes who does, by their numbers in CapEff
+# capabilities by which a process passes over owners, or becomes who does, by their numbers in CapPrm: what is
+# permitted and not effective is raised again at will
 CAPABILITIES = {0: "CHOWN", 1: "DAC_OVERRIDE", 3: "FOWNER", 6: "SETGID", 7: "SETUID", 16: "SYS_MODULE", 17: "SYS_RAWIO",
                 19: "SYS_PTRACE", 21: "SYS_ADMIN"}
 FIRST_USER_NAMESPACE = "user:[4026531837]"
 
-# descriptors of one user that are looked at
-MOST_DESCRIPTORS = 4096
+# descriptors of one user that are looked at, and threads
+MOST_DESCRIPTORS = MOST_THREADS = 4096
 
 Fields = Mapping[str, List[str]]
 
@@ -33,24 +35,56 @@ def names_in(folder: str) -> List[str]:
     return [name for name, _ in bounded.list_folder(folder, bounded.NAMES).names]
 
 
-def read_process(proc: str, pid: int) -> Optional[Process]:
+class Threads:
+    """How many threads of each user are looked at still."""
+
+    def __init__(self) -> None:
+        self.left: DefaultDict[int, int] = defaultdict(lambda: MOST_THREADS)
+
+    def take(self, uid: int, count: int) -> int:
+        """How many of so many threads more may be looked at."""
+        taken = min(count, self.left[uid])
+        self.left[uid] -= taken
+        return taken
+
+
+def read_process(proc: str, pid: int, threads: Threads) -> Optional[Process]:
     """A process, or None where it has ended. Its uid is the real one; as a user it acts under the effective ones."""
     try:
         fields = status_fields(text_of(f"{proc}/{pid}/status"))
         flags = int(text_of(f"{proc}/{pid}/stat").rpartition(")")[2].split()[6])
         gid = int(fields["Gid"][1])
         others = [int(group) for group in fields.get("Groups", ()) if int(group) != gid]
-        return Process(pid, int(fields["Uid"][0]), User(int(fields["Uid"][1]), (gid, *others)),
-                       flags & KERNEL_THREAD != 0, " ".join(fields.get("Name", ())), capabilities_of(proc, pid, fields))
+        user = User(int(fields["Uid"][1]), (gid, *others))
+        bits, left = permitted_of(proc, pid, fields, threads)
+        return Process(pid, int(fields["Uid"][0]), user, flags & KERNEL_THREAD != 0, " ".join(fields.get("Name", ())),
+                       capabilities_of(proc, pid, bits), left)
     except (FileNotFoundError, ProcessLookupError):
         return None
     except (ValueError, KeyError, IndexError):
         raise Fault(f"what {proc}/{pid} tells of the process isn't known") from None
 
 
-def capabilities_of(proc: str, pid: int, fields: Fields) -> Tuple[str, ...]:
+def permitted_of(proc: str, pid: int, fields: Fields, threads: Threads) -> Tuple[int, int]:
+    """The capabilities that a process or one of its threads is permitted, as bits, and how many threads weren't looked at."""
+    bits, count = int(fields.get("CapPrm", ["0"])[0], 16), int(fields.get("Threads", ["1"])[0])
+    if count < 2:
+        return bits, 0
+    try:
+        names = bounded.list_folder(f"{proc}/{pid}/task", threads.take(int(fields["Uid"][0]), count)).names
+    except OSError:
+        return bits, 0
+    for name, _ in names:
+        try:
+            bits |= int(status_fields(text_of(f"{proc}/{pid}/task/{name}/status")).get("CapPrm", ["0"])[0], 16)
+        except OSError:
+            # it has ended
+            continue
+    return bits, max(count - len(names), 0)
+
+
+def capabilities_of(proc: str, pid: int, bits: int) -> Tuple[str, ...]:
     """Those that count on the host: a user namespace's own don't reach outside of it."""
-    bits = int(fields.get("CapEff", ["0"])[0], 16)
     names = tuple(name for number, name in CAPABILITIES.items() if bits >> number & 1)
     try:
         return names if not names or bounded.read_link(f"{proc}/{pid}/ns/user") == FIRST_USER_NAMESPACE else ()
@@ -60,7 +94,8 @@ def capabilities_of(proc: str, pid: int, fields: Fields) -> Tuple[str, ...]:
 
 def read_processes(proc: str) -> Dict[int, Process]:
     """All processes by their PIDs."""
-    read = (read_process(proc, int(name)) for name in names_in(proc) if name.isdigit())
+    threads = Threads()
+    read = (read_process(proc, int(name), threads) for name in names_in(proc) if name.isdigit())
     return {process.pid: process for process in read if process}
 
 

@@ -14,8 +14,9 @@ from zirofen_host import progress
 from zirofen_host.collect import bounded
 from zirofen_host.collect.model import Cgroup, Entry, FilePlace
 from zirofen_host.fault import Fault
-from zirofen_host.profile import (CONTROL_FILES, LIMIT_FILES, LONGEST_PATH, ROOT, CgroupPath, ancestors, is_inside, is_name, is_set_by,
-                                  parent_of, shown, topmost)
+from zirofen_host.files import may_set
+from zirofen_host.profile import (CONTROL_FILES, LIMIT_FILES, LONGEST_PATH, ROOT, CgroupPath, ancestors, is_inside, is_name, parent_of,
+                                  shown, topmost)
 
 MANAGERS_MARK, OWNERS_MARK = MARKS = ("trusted.delegate", "user.delegate")
 MOST_WALKS = 8
@@ -157,7 +158,7 @@ class Walk:
             if stat.S_ISREG(status.st_mode):
                 name, owned = sys.intern(name), owned_of(status)
                 pairs.append((name, owned))
-                if is_set_by(name, owned[2]):
+                if may_set(name):
                     self.places[status.st_dev, status.st_ino] = path, name
         files = self.once.files_of(tuple(pairs))
         for file in CONTROL_FILES:

@@ -1,6 +1,7 @@
 """A host that was asked, on its way to a report: who was asked of what, and what the answers come to."""
 from collections import defaultdict
 from dataclasses import dataclass
+from functools import cached_property
 from typing import Dict, FrozenSet, Iterable, List, Mapping, Tuple, Union
 
 from zirofen_host.ask.model import Advice, Answers, Pair
@@ -9,8 +10,9 @@ from zirofen_host.ask.questions import Questions
 from zirofen_host.ask.texts import Programs
 from zirofen_host.collect.model import Entry, Snapshot, User
 from zirofen_host.fault import Fault
-from zirofen_host.judge.judged import OVER, Judged, failing
+from zirofen_host.judge.judged import OVER, Judged, LetIn, Place, failing
 from zirofen_host.judge.names import Names
+from zirofen_host.judge.opened import find_openings
 from zirofen_host.judge.shell import Change, change_commands
 from zirofen_host.options import Options
 from zirofen_host.profile import CgroupPath, path_of
@@ -30,6 +32,11 @@ class Checked:
     asked: Mapping[int, List[User]]
     # for each subtree the lists of those who were asked of it
     asked_of: Mapping[CgroupPath, List[FrozenSet[User]]]
+
+    @cached_property
+    def openings(self) -> List[Tuple[Place, Entry, List[LetIn]]]:
+        """What stands open and no answer speaks of."""
+        return list(find_openings(self.snapshot, self.questions))
 
     @property
     def is_asked(self) -> bool:

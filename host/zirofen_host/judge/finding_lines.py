@@ -31,7 +31,7 @@ def entry_line(entries: Sequence[EntryFinding]) -> str:
 
 
 def opened_line(each: OpenedFinding) -> str:
-    return f"opened {each.path} {each.file} by {whom_text(each.whom)}"
+    return f"opened {each.path} {each.file} by {whom_text(each.whom)}" + (f": {each.why}" if each.why else "")
 
 
 def differs_line(each: DiffersFinding) -> str:

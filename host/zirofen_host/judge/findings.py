@@ -3,7 +3,7 @@ from collections import defaultdict
 from typing import Dict, Iterable, List, Optional, Tuple
 
 from zirofen_host.ask.questions import unit_of
-from zirofen_host.collect.model import GROUP, Entry, User
+from zirofen_host.collect.model import GROUP, OTHERS, OWNER, Entry, User
 from zirofen_host.collect.tree import in_order
 from zirofen_host.collect.walk import MANAGERS_MARK
 from zirofen_host.judge.checked import Advised, Checked
@@ -11,7 +11,7 @@ from zirofen_host.judge.finding_lines import some
 from zirofen_host.judge.judged import LetIn, LetsIn, Place
 from zirofen_host.judge.model import (AboveFinding, DiffersFinding, EntryFinding, Example, FaultFinding, OpenedFinding, Owner, Whom)
 from zirofen_host.judge.names import Names
-from zirofen_host.judge.opened import find_openings, what_differs
+from zirofen_host.judge.opened import GROUP_WRITES, OTHERS_WRITE, WHO_IS_FIRST, what_differs
 from zirofen_host.judge.shell import closing_commands
 from zirofen_host.profile import SETTINGS, CgroupPath, shown, text_of, topmost
 
@@ -37,27 +37,47 @@ def whom_of(names: Names, let_in: Iterable[LetIn]) -> Tuple[Whom, ...]:
 
 
 def entry_findings(checked: Checked, advised: Advised) -> Tuple[EntryFinding, ...]:
-    return tuple(entry_finding(checked, advised, found) for _, found in sorted(checked.judged.entries.items()))
+    closing = closing_of_directories(checked)
+    return tuple(entry_finding(checked, advised, found, closing.get(place.path, ()))
+                 for place, found in sorted(checked.judged.entries.items()))
 
 
-def entry_finding(checked: Checked, advised: Advised, found: LetsIn) -> EntryFinding:
+def entry_finding(checked: Checked, advised: Advised, found: LetsIn, closing: Tuple[str, ...]) -> EntryFinding:
+    """An entry with what to change of it, and what closes the directory beside it."""
     (user, subtree), place, lines = found.worst, found.place, found.answer.lines
     # an entry of others is everybody's; who of them was asked is among the users
     is_own, path = checked.questions.holds(user, subtree), text_of(place.path)
     example = None if is_own else Example(checked.names.who(user), user.uid, user.gids, text_of(subtree), lines)
+    changes = checked.commands(advised.changes.get((path, place.name), ()))
     return EntryFinding(path, place.name, owner_of(found.entry) if found.entry else None, lines[0].split(" ")[0],
                         whom_of(checked.names, found.whom()), texts_of(in_order(topmost(found.subtrees))), example,
-                        checked.commands(advised.changes.get((path, place.name), ())), setting_of(place))
+                        (*changes, *(() if place.name == "dir" else closing)), setting_of(place))
+
+
+def closing_of(checked: Checked, place: Place, entry: Entry, let_in: Iterable[LetIn]) -> Tuple[str, ...]:
+    """What keeps out those whom an entry shouldn't let in, and nobody else."""
+    by = {each.by for each in let_in}
+    kept = sum(bits for kind, bits in ((GROUP, GROUP_WRITES), (OTHERS, OTHERS_WRITE)) if kind not in by)
+    closed = Entry(entry.uid if OWNER in by else 0, entry.gid, entry.mode & ~kept)
+    return closing_commands(checked.snapshot.mount, text_of(place.path), {place.name: closed})
+
+
+def closing_of_directories(checked: Checked) -> Dict[CgroupPath, Tuple[str, ...]]:
+    """What closes each directory that a manager makes something in, and that stands open."""
+    return {place.path: closing_of(checked, place, entry, let_in) for place, entry, let_in in checked.openings if place.name == "dir"}
 
 
 def opened_findings(checked: Checked) -> Dict[Place, OpenedFinding]:
-    """Every limit that stands open, but for the entries that the answers show."""
-    found = {}
-    for place, entry, let_in in find_openings(checked.snapshot, checked.questions):
-        if place not in checked.judged.entries:
+    """Everything that stands open, but for the limits that the answers show."""
+    closing, found = closing_of_directories(checked), {}
+    for place, entry, let_in in checked.openings:
+        is_directory = place.name == "dir"
+        if is_directory or place not in checked.judged.entries:
+            changes = closing_of(checked, place, entry, let_in)
             found[place] = OpenedFinding(
                 text_of(place.path), place.name, owner_of(entry), whom_of(checked.names, let_in),
-                closing_commands(checked.snapshot.mount, text_of(place.path), {place.name: entry}), setting_of(place))
+                (*changes, *(() if is_directory else closing.get(place.path, ()))), setting_of(place),
+                WHO_IS_FIRST if is_directory else None)
     return found
 
 

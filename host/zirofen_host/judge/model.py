@@ -113,13 +113,15 @@ class EntryFinding:
 
 @dataclass(frozen=True)
 class OpenedFinding:
-    """A limit that stands open to somebody; seen, and not proved."""
+    """A limit, or a directory that a manager makes something in, that stands open to somebody; seen, and not proved."""
     path: str
     file: str
     owner: Owner
     whom: AllLetIn
     changes: Tuple[str, ...]
     setting: Optional[str]
+    # of a directory, why it counts
+    why: Optional[str]
 
 
 @dataclass(frozen=True)

@@ -3,7 +3,7 @@ import os
 import shutil
 import subprocess
 from bisect import bisect_left
-from collections import defaultdict
+from collections import Counter, defaultdict
 from dataclasses import dataclass
 from typing import DefaultDict, Dict, Iterable, Iterator, List, Mapping, Optional, Sequence, Set, Tuple
 
@@ -11,11 +11,12 @@ from zirofen_host.ask.model import Answers
 from zirofen_host.ask.questions import Questions, unit_of
 from zirofen_host.collect.elsewhere import told_unseen
 from zirofen_host.collect.model import GROUP, OWNER, Entry, Snapshot, User, Value
-from zirofen_host.collect.processes import MOST_DESCRIPTORS, open_for_writing
+from zirofen_host.collect.processes import MOST_DESCRIPTORS, MOST_THREADS, open_for_writing
 from zirofen_host.collect.walk import MANAGERS_MARK, OWNERS_MARK
 from zirofen_host.judge.finding_lines import some
 from zirofen_host.judge.model import Told
 from zirofen_host.judge.names import Names
+from zirofen_host.judge.opened import unknown_files
 from zirofen_host.options import Options
 from zirofen_host.profile import ANYBODY, LIMIT_FILES, SETTINGS, CgroupPath, ancestors, path_of, text_of
 
@@ -52,7 +53,7 @@ def lines(snapshot: Snapshot, questions: Questions, answers: Answers, names: Nam
     host = Host(snapshot, questions, answers, names, held, None if is_text else options.proc,
                 shutil.which("systemctl") if has_manager else None)
     for look in (descriptors, group_class, subordinates, deputies, outside, capabilities, search_bits, marks, groups, everybody,
-                 restarts, about_the_mount):
+                 unknown, restarts, about_the_mount):
         yield from look(host)
 
 
@@ -145,17 +146,24 @@ def outside(host: Host) -> Iterator[Told]:
 
 
 def capabilities(host: Host) -> Iterator[Told]:
-    """Processes that pass over owners: root's inside of what somebody else holds, and everybody else's."""
+    """Processes that pass over owners: those inside of what somebody else than root holds, and everybody's but root's elsewhere;
+    all of one user at one place in one line."""
     asked = {path for path in host.questions.subtrees if host.questions.holders[path].by}
-    found: DefaultDict[Tuple[CgroupPath, bool, int, Tuple[str, ...]], List[int]] = defaultdict(list)
+    found: DefaultDict[Tuple[CgroupPath, bool, int], Dict[Tuple[str, ...], List[int]]] = defaultdict(lambda: defaultdict(list))
     for pid, uid, at in host.snapshot.tree.processes:
         process = host.snapshot.processes[pid]
-        inside = not asked.isdisjoint((at, *ancestors(at)))
-        if process.capabilities and (inside or process.user.uid):
-            found[at, inside, process.user.uid, process.capabilities].append(pid)
-    for (at, inside, uid, names), pids in sorted(found.items()):
-        yield Told("capability", text_of(at), f"{'inside' if inside else 'beside'}: process {numbers(pids)} of {host.uid(uid)} has "
-                   f"{' '.join('CAP_' + name for name in names)}, and passes over owners")
+        held = [place for place in (at, *ancestors(at)) if place in asked]
+        if process.capabilities and (held or process.user.uid):
+            found[held[0] if held else at, bool(held), process.user.uid][process.capabilities].append(pid)
+    for (place, inside, uid), by_names in sorted(found.items()):
+        told = "; ".join(f"process {numbers(pids)} of {host.uid(uid)} has {' '.join('CAP_' + name for name in names)}"
+                         for names, pids in sorted(by_names.items()))
+        yield Told("capability", text_of(place), f"{'inside' if inside else 'beside'}: {told}, and passes over owners")
+    left: Counter[int] = Counter()
+    for process in host.snapshot.processes.values():
+        left[process.uid] += process.threads_left
+    for uid, count in sorted((uid, count) for uid, count in left.items() if count):
+        yield Told("capability", host.uid(uid), f"{count} threads weren't looked at: more than {MOST_THREADS} run")
 
 
 def search_bits(host: Host) -> Iterator[Told]:
@@ -188,9 +196,18 @@ def groups(host: Host) -> Iterator[Told]:
 
 def everybody(host: Host) -> Iterator[Told]:
     """Users who weren't asked of what everybody is let in to."""
-    for path, count in host.answers.not_asked.items():
-        yield Told("everybody", text_of(path), f"{count} more users are let in as everybody is, and weren't asked: where the answer "
-                   "is unsettled, one of them may escape")
+    counts = set(host.answers.not_asked.values())
+    if counts:
+        many = f"{max(counts)} more" if len(counts) == 1 else f"up to {max(counts)} more"
+        yield Told("everybody", some(texts(host.answers.not_asked)), f"{many} users are let in as everybody is, and weren't asked: "
+                   "where the answer is unsettled, one of them may escape")
+
+
+def unknown(host: Host) -> Iterator[Told]:
+    """Files of names that aren't in the table of them."""
+    names = [f"{name} ({'a limit' if is_limit else 'it only tells'})" for name, is_limit in unknown_files(host.snapshot).items()]
+    if names:
+        yield Told("unknown-file", "", f"{some(names)}: by the mode that most cgroups have these with, since their names aren't known")
 
 
 def restarts(host: Host) -> Iterator[Told]:
