@@ -15,9 +15,10 @@ from zirofen_host.collect.accounts import accounts_here, accounts_of
 from zirofen_host.collect.processes import read_processes
 from zirofen_host.collect.model import User
 from zirofen_host.judge import as_json, baseline, check, one, saved, shell
+from zirofen_host.judge.model import Report
 from zirofen_host.options import (PROC, AskOptions, CheckOptions, CommandsOptions, DelegationsOptions, PageOptions,
                                   SnapshotOptions, TreeOptions)
-from zirofen_host.profile import MOST_ROWS, path_of, text_of
+from zirofen_host.profile import MOST_ROWS, path_of, shown, text_of
 from zirofen_host.show import lines, listing, page, tree_view
 
 ABOUT = f"""The helpers of zirofen for a running host: from its cgroups to answers. They are no part of what is proved.
@@ -37,7 +38,8 @@ def ask(given: argparse.Namespace) -> int:
 def check_host(given: argparse.Namespace) -> int:
     options = CheckOptions(**vars(given))
     before = baseline.read(options.baseline) if options.baseline else None
-    is_whole = bool(options.json or options.html or options.baseline_update)
+    is_first = bool(options.baseline) and before is None
+    is_whole = bool(options.json or options.html or options.baseline_update or is_first)
     report = check.report(accepted.take(options, subtrees_by(options)), options, is_whole)
     comparison = baseline.compared(report, before, options.baseline) if before and options.baseline else None
     if comparison:
@@ -48,10 +50,20 @@ def check_host(given: argparse.Namespace) -> int:
         fault.write(as_json.parts_of(report))
         fault.write("\n")
     else:
-        fault.write_lines(lines.comparison_lines(comparison) if comparison else lines.lines_of(report))
-    if options.baseline_update:
-        baseline.write(options.baseline_update, report)
+        fault.write_lines(lines.comparison_lines(report, comparison) if comparison else lines.lines_of(report))
+    keep_baseline(options, report, is_first)
     return comparison.status if comparison else report.status
+
+
+def keep_baseline(options: CheckOptions, report: Report, is_first: bool) -> None:
+    """Leaves what was found as a baseline: that of a first run accepts nothing, and one that was asked for all of it."""
+    if options.baseline and is_first and options.baseline != options.baseline_update:
+        baseline.write(options.baseline, report, False)
+        fault.warn(f"{NAME} check: {shown(options.baseline)} is a baseline from now on, which accepts nothing")
+    if options.baseline_update:
+        baseline.write(options.baseline_update, report, True)
+        if not options.json:
+            fault.write_lines(baseline.accepted_lines(report))
 
 
 def write_commands(given: argparse.Namespace) -> int:

@@ -47,6 +47,8 @@ NAMES: Dict[Kind, Tuple[str, ...]] = {
     Kind.HANDED_OVER: ("cgroup.procs", "cgroup.subtree_control", "cgroup.threads", "memory.oom.group", "memory.reclaim"),
 }
 KINDS: Dict[str, Kind] = {name: kind for kind, names in NAMES.items() for name in names}
+# the controllers that have limits
+OF_LIMITS = frozenset(name.partition(".")[0] for name in NAMES[Kind.LIMIT]) - {"cgroup"}
 # of those by which something is set, the ones that can't be read, or that list what isn't a value
 WITHOUT_VALUE = ("cgroup.kill", "cgroup.procs", "cgroup.subtree_control", "cgroup.threads", "memory.reclaim")
 # files of the kind that tells which a manager hands to whoever wants to be woken

@@ -16,7 +16,7 @@ from zirofen_host.collect.model import (About, Account, AccountLists, Carried, C
 from zirofen_host.collect.mount import read_kernel_list
 from zirofen_host.collect.tree import number_in, table_in, text_in, texts_in
 from zirofen_host.fault import Fault
-from zirofen_host.files import is_known
+from zirofen_host.files import OF_LIMITS, is_known
 from zirofen_host.profile import CONTROL_FILES, LIMIT_FILES, LONGEST_TEXT, CgroupPath, is_other_limit, is_root, path_of, text_of
 
 MARK = "#= "
@@ -123,7 +123,7 @@ def read(accepted: Accepted, mount: str) -> Snapshot:
     return Snapshot(about=gathered.about, mount=gathered.mount or mount, mount_options=gathered.options,
                     cgroups={path: cgroup_of(tree, row, gathered) for path, row in tree.rows.items()}, tree=tree, processes=processes,
                     kernel_threads=0, places={}, kernel_list=frozenset(gathered.kernel_list) or read_kernel_list(None),
-                    notes=tuple(gathered.notes), changing=gathered.changing, spoiled={},
+                    notes=tuple(gathered.notes), changing=gathered.changing, spoiled={}, version_1=version_1_in(gathered.notes),
                     source=Source(accepted.file, gathered.carried()))
 
 
@@ -156,6 +156,12 @@ def cgroup_of(tree: Tree, row: Row, gathered: Gathered) -> Cgroup:
     directory = carried.get("dir", row.directory)
     files.update({name: entry for name, entry in carried.items() if name != "dir"})
     return Cgroup(directory, files, {}, row.enabled, (), gathered.kind(row.path), gathered.marks[row.path], ())
+
+
+def version_1_in(notes: Iterable[Note]) -> Tuple[str, ...]:
+    """The controllers with limits of version 1, which a note names."""
+    words = {word.strip(",") for note in notes if note.kind == "version-1" for word in note.detail.split()}
+    return tuple(sorted(words & OF_LIMITS))
 
 
 def told_unseen(snapshot: Snapshot) -> str:

@@ -219,10 +219,12 @@ class Walk:
 
 
 class Settled(NamedTuple):
-    """The last walk, without what changed all the time or can't be read; these, and the subtrees that they spoil, each with why."""
+    """The last walk, without what changed all the time or can't be read; these, and the subtrees that they spoil, each with why;
+    and the directories of what was left out, as they were found at last."""
     walk: Walk
     changing: Whys
     spoiled: Whys
+    left_out: Mapping[CgroupPath, Entry]
 
 
 def walk_over(mount: str, tops: Optional[Iterable[CgroupPath]] = None, before: Optional[Walk] = None) -> Walk:
@@ -349,8 +351,9 @@ def settled(mount: str, only: Optional[CgroupPath], subtrees_of: Callable[[Walk,
     if ROOT in changing:
         raise Fault(f"the root cgroup: {changing[ROOT]}, through {MOST_WALKS} walks")
     spoiled = spoiled_of(changing, subtrees_of(walk, changing) if changing else ())
+    left_out = {path: walk.found[path].directory for path in changing if path in walk.found}
     walk.without(changing)
-    return Settled(walk, changing, spoiled)
+    return Settled(walk, changing, spoiled, left_out)
 
 
 def spoiled_of(changing: Whys, subtrees: Iterable[CgroupPath]) -> Dict[CgroupPath, str]:

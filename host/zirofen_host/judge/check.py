@@ -3,21 +3,22 @@ import tempfile
 import time
 from collections import defaultdict
 from dataclasses import replace
-from typing import Dict, FrozenSet, Iterable, List, Optional, Tuple
+from typing import Dict, FrozenSet, List, Optional, Tuple
 
 from zirofen_host.ask.asking import ask_all
 from zirofen_host.ask.model import Answer
-from zirofen_host.ask.program import CONTAINED, ESCAPES, UNSETTLED, WORDS
+from zirofen_host.ask.program import CONTAINED
 from zirofen_host.ask.questions import unit_of
 from zirofen_host.collect.accounts import accounts_of
 from zirofen_host.collect.model import GROUP, Snapshot, User
-from zirofen_host.fault import FAULT, Fault
+from zirofen_host.fault import Fault
 from zirofen_host.judge import unseen, whole
 from zirofen_host.judge.checked import Checked, advise
 from zirofen_host.judge.finding_lines import SHOWN
 from zirofen_host.judge.findings import above_findings, differs_findings, entry_findings, fault_findings, opened_findings
+from zirofen_host.judge.gravity import gravity_of
 from zirofen_host.judge.judged import Own, judge
-from zirofen_host.judge.model import NOTHING_ASKED, VERSION, EntryFinding, HeldBy, HolderAnswer, Report, Subtree, Told
+from zirofen_host.judge.model import VERSION, HeldBy, HolderAnswer, Report, Subtree, Told
 from zirofen_host.judge.names import names_of
 from zirofen_host.options import Options
 from zirofen_host.profile import CgroupPath, text_of
@@ -75,18 +76,6 @@ def answer_of(checked: Checked, subtree: CgroupPath, lines: Tuple[str, ...], is_
     return HolderAnswer(who, uids[:SHOWN], len(uids), gids, lines, is_above)
 
 
-def status_of(entries: Iterable[EntryFinding], is_opened: bool, is_faulty: bool, is_asked: bool) -> int:
-    """The worst that a report tells of."""
-    answers = {WORDS.get(each.answer) for each in entries}
-    if is_faulty:
-        return FAULT
-    if is_opened or ESCAPES in answers:
-        return ESCAPES
-    if UNSETTLED in answers:
-        return UNSETTLED
-    return CONTAINED if is_asked else NOTHING_ASKED
-
-
 def report_of(checked: Checked, is_whole: bool) -> Report:
     snapshot, about, answers = checked.snapshot, checked.snapshot.about, checked.answers
     advised = advise(checked)
@@ -99,8 +88,9 @@ def report_of(checked: Checked, is_whole: bool) -> Report:
         opened=tuple(opened.values()), faults=faults, differs=tuple(differs_findings(checked, opened)),
         above=tuple(above_findings(checked)),
         unseen=tuple(unseen.lines(snapshot, checked.questions, answers, checked.names, checked.options)),
-        snapshot=tuple(Told(note.kind, note.place, note.detail) for note in snapshot.notes),
-        status=status_of(entries, bool(opened), bool(faults), checked.is_asked))
+        snapshot=tuple(Told(note.kind, note.place, note.detail) for note in snapshot.notes), status=CONTAINED,
+        version_1=snapshot.version_1)
+    made = replace(made, status=gravity_of(made).status)
     return replace(made, users=tuple(whole.users_of(checked)), groups=tuple(whole.groups_of(checked)),
                    cgroups=tuple(whole.cgroups_of(checked)), processes=tuple(whole.processes_of(checked))) if is_whole else made
 

@@ -5,7 +5,7 @@ from typing import Dict, Iterable, List, Optional, Tuple
 from zirofen_host.ask.questions import unit_of
 from zirofen_host.collect.model import GROUP, OTHERS, OWNER, Entry, User
 from zirofen_host.collect.tree import in_order
-from zirofen_host.collect.walk import MANAGERS_MARK
+from zirofen_host.collect.walk import CHANGED, MANAGERS_MARK
 from zirofen_host.judge.checked import Advised, Checked
 from zirofen_host.judge.finding_lines import some
 from zirofen_host.judge.judged import LetIn, LetsIn, Place
@@ -13,7 +13,7 @@ from zirofen_host.judge.model import (AboveFinding, DiffersFinding, EntryFinding
 from zirofen_host.judge.names import Names
 from zirofen_host.judge.opened import GROUP_WRITES, OTHERS_WRITE, WHO_IS_FIRST, what_differs
 from zirofen_host.judge.shell import closing_commands
-from zirofen_host.profile import SETTINGS, CgroupPath, shown, text_of, topmost
+from zirofen_host.profile import SETTINGS, CgroupPath, ancestors, is_inside, path_of, shown, text_of, topmost
 
 
 def owner_of(entry: Entry) -> Owner:
@@ -83,11 +83,45 @@ def opened_findings(checked: Checked) -> Dict[Place, OpenedFinding]:
 
 def fault_findings(checked: Checked, advised: Advised) -> Tuple[FaultFinding, ...]:
     """Subtrees that can't be asked of anybody, and pairs without an answer."""
-    by_why: Dict[str, List[str]] = defaultdict(list)
-    for path, why in sorted((shown(path), why) for path, why in checked.answers.refused.items()):
-        by_why[why].append(path)
-    return (*(FaultFinding("everybody", None, (), why, tuple(paths)) for why, paths in by_why.items()),
+    by_why: Dict[Tuple[str, Optional[str]], List[str]] = defaultdict(list)
+    for path, why in sorted(checked.answers.refused.items()):
+        by_why[why, makers_of(checked, path, why)].append(shown(path))
+    return (*(FaultFinding("everybody", None, (), why, tuple(paths), made_by) for (why, made_by), paths in by_why.items()),
             *faults_of_pairs(checked.names, advised))
+
+
+def makers_of(checked: Checked, path: CgroupPath, why: str) -> Optional[str]:
+    """Those by whose own making alone a subtree goes without an answer: it is too large, or what they hold inside of it changes
+    all the time. What is above it, or what root alone has, is of nobody's making, and so is what can't be read."""
+    changing = {path_of(place): told for place, told in checked.snapshot.changing.items()}
+    places = [place for place in changing if is_inside(place, path)] or [path]
+    if why.startswith("fault:") or any(place in changing for place in ancestors(path)) or not all(
+            is_by_somebody(changing.get(place, CHANGED)) for place in places):
+        return None
+    makers = [holder_at(checked, place) for place in sorted(places)]
+    return None if None in makers else some(list(dict.fromkeys(filter(None, makers))))
+
+
+def is_by_somebody(why: str) -> bool:
+    """Whether somebody makes a cgroup change, or too large, so that it is left out."""
+    return why == CHANGED or why.startswith("over ")
+
+
+def holder_at(checked: Checked, path: CgroupPath) -> Optional[str]:
+    """Who holds the nearest subtree that a cgroup is in, or that cgroup itself where it was left out."""
+    holders, left_out = checked.questions.holders, checked.snapshot.left_out
+    for place in (path, *ancestors(path)):
+        if place in holders and holders[place].by:
+            return holder_of(checked, place)
+        if place in left_out and left_out[place].uid:
+            return checked.names.user(left_out[place].uid)
+    return None
+
+
+def holder_of(checked: Checked, path: CgroupPath) -> str:
+    """Who holds a subtree, in few words."""
+    holders = checked.questions.holders[path]
+    return " ".join(checked.names.by_class(holders.by or "", number) for number in holders.ids) or "everybody"
 
 
 def faults_of_pairs(names: Names, advised: Advised) -> Iterable[FaultFinding]:
@@ -97,7 +131,7 @@ def faults_of_pairs(names: Names, advised: Advised) -> Iterable[FaultFinding]:
         users[line, texts_of(subtrees)].append(user)
     for (line, paths), of in users.items():
         uid, gids = (of[0].uid, of[0].gids) if len(of) == 1 else (None, ())
-        yield FaultFinding(some([names.who(user) for user in of]), uid, gids, line, paths)
+        yield FaultFinding(some([names.who(user) for user in of]), uid, gids, line, paths, None)
 
 
 def differs_findings(checked: Checked, opened: Iterable[Place]) -> Iterable[DiffersFinding]:

@@ -11,10 +11,10 @@ from zirofen_host.profile import is_root, parent_of
 
 # what an earlier report may lack, and what stands in its place
 LACKING: as_json.Lacking = {
-    (HolderAnswer, "users"): 0, (FaultFinding, "uid"): None, (FaultFinding, "gids"): (), (AboveFinding, "uid"): 0,
-    (OpenedFinding, "why"): None,
-    (ReportCgroup, "enabled"): (), (ReportProcess, "capabilities"): (), (Comparison, "file"): "", (Comparison, "status"): 0,
-    (Difference, "status"): 0, (Difference, "what"): ""}
+    (HolderAnswer, "users"): 0, (FaultFinding, "uid"): None, (FaultFinding, "gids"): (), (FaultFinding, "made_by"): None,
+    (AboveFinding, "uid"): 0, (OpenedFinding, "why"): None, (ReportCgroup, "enabled"): (), (ReportProcess, "capabilities"): (),
+    (Comparison, "file"): "", (Comparison, "status"): 0, (Comparison, "stand"): (), (Difference, "status"): 0, (Difference, "what"): "",
+    (Report, "version_1"): ()}
 
 
 def named_in(report: Report) -> Iterator[str]:

@@ -1,15 +1,19 @@
 """A report as it is printed, made of it alone."""
 import itertools
+from collections import Counter
 from typing import Callable, Dict, Iterable, Iterator, List, Sequence, Tuple, TypeVar, Union
 
+from zirofen_host.fault import FAULT
 from zirofen_host.installed import MANUAL
 from zirofen_host.judge.baseline import KINDS
-from zirofen_host.judge.finding_lines import above_line, differs_line, entry_line, opened_line, some
+from zirofen_host.judge.finding_lines import SHOWN, above_line, differs_line, entry_line, fault_line, opened_line, version_1_line
 from zirofen_host.judge.model import (Comparison, Difference, DiffersFinding, EntryFinding, OpenedFinding, Report, Subtree,
                                       Told)
 
 # how far the table's columns are filled up; a longer word stands out
 WIDEST = (12, 24, 48)
+# behind an answer where limits are those of version 1
+VERSION_1 = " [v1]"
 # what brings changes and a setting
 Mended = Union[EntryFinding, OpenedFinding, DiffersFinding, Difference]
 One = TypeVar("One")
@@ -21,20 +25,21 @@ def gids_text(gids: Iterable[int]) -> str:
     return ",".join(map(str, gids)) or "-"
 
 
-def rows_of(subtree: Subtree) -> Iterator[Row]:
-    """The table's rows of a subtree: one for each answer of whoever holds it."""
+def rows_of(subtree: Subtree, mark: str = "") -> Iterator[Row]:
+    """The table's rows of a subtree: one for each answer of whoever holds it, each with a mark where limits aren't looked at."""
     for each in subtree.answers:
         first = each.lines[0]
         answer, below = (f"above: {first}", ()) if each.is_above else (first, each.lines[1:])
-        yield each.who, gids_text(each.gids), answer, subtree.path, below
+        yield each.who, gids_text(each.gids), answer + mark, subtree.path, below
     if not subtree.answers:
-        yield "-", "-", "held by root alone", subtree.path, ()
+        yield "-", "-", "held by root alone" + mark, subtree.path, ()
 
 
 def table(report: Report) -> Iterator[str]:
     """Columns of who holds a subtree, his groups, the answer and the path, which may be long; what it shows stands below."""
     rows: List[Row] = [("UID", "GIDS", "ANSWER", "PATH", ())]
-    rows += [row for subtree in report.subtrees for row in rows_of(subtree)]
+    mark = VERSION_1 if report.version_1 else ""
+    rows += [row for subtree in report.subtrees for row in rows_of(subtree, mark)]
     widths = [min(most, max(len(row[at]) for row in rows)) for at, most in enumerate(WIDEST)]
     for *columns, path, below in rows:
         yield "  ".join([word.ljust(width) for word, width in zip(columns, widths)] + [path])
@@ -90,7 +95,7 @@ def finding_lines(report: Report) -> Iterator[str]:
         yield from map(opened_line, opened)
         yield from what_to_change(opened)
     for fault in report.faults:
-        yield f"fault: {fault.who} of {some(fault.subtrees)}: {fault.fault}"
+        yield fault_line(fault, fault.subtrees)
     if report.entries and not report.has_advice:
         yield "what to change of an entry isn't told: this program has no advise"
     for differs in report.differs:
@@ -100,6 +105,21 @@ def finding_lines(report: Report) -> Iterator[str]:
 
 def place_text(each: Told) -> str:
     return ": ".join(word for word in (each.kind, each.place, each.text) if word)
+
+
+def said_first(report: Report, status: int) -> str:
+    """What a sum says before its numbers: that nothing but faults of somebody's own making is behind the status, and what of the
+    limits isn't looked at at all."""
+    own = {each.made_by for each in report.faults}
+    told = ["only faults of their holders' own making"] if status == FAULT and own and None not in own else []
+    return "; ".join(told + ([version_1_line(report.version_1)] if report.version_1 else []))
+
+
+def sum_line(report: Report) -> str:
+    """All of it in one line: what was asked, and how many answers of each kind there are."""
+    words = Counter(each.lines[0].split(" ")[0].rstrip(":") for subtree in report.subtrees for each in subtree.answers)
+    told = f"{len(report.subtrees)} asked: {', '.join(f'{count} {word}' for word, count in sorted(words.items()))}"
+    return "; ".join(filter(None, (said_first(report, report.status), told)))
 
 
 def lines_of(report: Report) -> Iterator[str]:
@@ -120,24 +140,40 @@ def lines_of(report: Report) -> Iterator[str]:
     yield ""
     yield f"What none of these answers looks at ({MANUAL}):"
     yield from map(place_text, report.unseen)
-    yield from (f"snapshot: {place_text(each)}" for each in report.snapshot)
+    # what is version 1's is said in the sum
+    yield from (f"snapshot: {place_text(each)}" for each in report.snapshot if each.kind != "version-1")
     if not report.unseen and not report.snapshot:
         yield "this host tells of nothing"
+    yield sum_line(report)
 
 
 def by_kind(compared: Comparison) -> Iterator[Tuple[str, Tuple[Difference, ...]]]:
-    """What differs from a baseline, by its kind."""
-    return zip(KINDS, (compared.new, compared.worse, compared.changed, compared.gone))
+    """What differs from a baseline or stands since then, by its kind."""
+    return zip(KINDS, (compared.new, compared.worse, compared.stand, compared.changed, compared.gone))
 
 
-def comparison_lines(compared: Comparison) -> Iterator[str]:
+def standing_line(compared: Comparison) -> str:
+    """What stands since a baseline, and was accepted by nobody."""
+    told = "; ".join(each.line for each in compared.stand[:SHOWN])
+    more = f"; and {len(compared.stand) - SHOWN} more" if len(compared.stand) > SHOWN else ""
+    verb = "finding stands" if len(compared.stand) == 1 else "findings stand"
+    return f"{len(compared.stand)} {verb} since {compared.time}: {told}{more}"
+
+
+def comparison_lines(report: Report, compared: Comparison) -> Iterator[str]:
     """The lines of what differs from a baseline."""
     for kind, found in by_kind(compared):
-        for each in found:
+        for each in found if kind != "stand" else ():
             yield f"{kind}: {each.line}"
             if each.before and each.before != each.line:
                 yield f"    before: {each.before}"
             if kind in ("new", "worse"):
                 yield from what_to_change([each])
+    if compared.stand:
+        yield standing_line(compared)
+        yield from what_to_change(compared.stand)
     if not any(found for _, found in by_kind(compared)):
         yield f"nothing is new, worse, changed or gone since {compared.time}"
+    first = said_first(report, compared.status)
+    if first:
+        yield first
