@@ -151,8 +151,9 @@ class GarbageTest(HostTest):
             self.host.process(8)
             with open(f"{self.host.proc}/8/{file}", "w", encoding="ascii") as out:
                 out.write(text)
-            with self.assertRaisesRegex(fault.Fault, "what .*/8 tells of the process isn't known"):
-                processes.read_processes(self.host.proc)
+            found = self.report()
+            self.assertEqual([row[2:] for row in self.rows(found)][-1:], [("contained", "/bob")])
+            self.assertIn("8 left out: what is told of the process isn't known", [each["text"] for each in found["snapshot"]])
 
     def test_a_descriptor_of_a_file_system_of_his_own_isnt_asked(self):
         self.host.cgroup("/svc", owners=owned(1000))
@@ -170,10 +171,10 @@ class GarbageTest(HostTest):
         self.host.process(7, uid=1000)
         for number in range(5):
             self.host.opens(7, number, "/cgroup.subtree_control", os.O_WRONLY)
-        with mock.patch.object(processes, "MOST_DESCRIPTORS", 3):
+        with mock.patch.object(bounded, "DESCRIPTORS", bounded.Budget("open files with a path", 3)):
             told = self.told(self.report(), "descriptor")
         self.assertEqual(len(told), 2)
-        self.assertIn("not all were looked at", told[0])
+        self.assertIn("not all were looked at", told[1])
 
     def test_a_text_that_is_refused_is_a_fault_of_its_subtrees(self):
         self.host.cgroup("/a", owners=owned(1000))

@@ -21,7 +21,7 @@ from zirofen_host.judge.looks import why_of
 from zirofen_host.judge.model import Comparison, Report
 from zirofen_host.options import (PROC, AskOptions, CheckOptions, CommandsOptions, DelegationsOptions, PageOptions,
                                   SnapshotOptions, TreeOptions)
-from zirofen_host.profile import path_of
+from zirofen_host.profile import path_of, shown
 from zirofen_host.show import lines, listing, page, tree_view
 
 ABOUT = f"""The helpers of zirofen for a running host: from its cgroups to answers. They are no part of what is proved.
@@ -43,16 +43,17 @@ def check_host(given: argparse.Namespace) -> int:
     options = CheckOptions(**vars(given))
     options = dataclasses.replace(options, program=program_at(options.program))
     before = baseline.read(options.baseline) if options.baseline else None
-    is_whole = bool(options.json or options.html or options.baseline_update)
+    is_first = bool(options.baseline) and before is None
+    is_whole = bool(options.json or options.html or options.baseline_update or is_first)
     report = check.report(accepted.take(options, subtrees_by(options)), options, is_whole)
     comparison = baseline.compared(report, before, options.baseline) if before and options.baseline else None
     if comparison:
         report = dataclasses.replace(report, baseline=comparison)
     status = comparison.status if comparison else report.status
-    return status if write_all(options, report, comparison) else fault.FAULT
+    return status if write_all(options, report, comparison, is_first) else fault.FAULT
 
 
-def write_all(options: CheckOptions, report: Report, comparison: Optional[Comparison]) -> bool:
+def write_all(options: CheckOptions, report: Report, comparison: Optional[Comparison], is_first: bool) -> bool:
     """Writes a report in each way that was asked for. Where one fails a line says which, and the others are written; whether all
     were."""
     def written() -> None:
@@ -60,12 +61,13 @@ def write_all(options: CheckOptions, report: Report, comparison: Optional[Compar
             fault.write(as_json.parts_of(report))
             fault.write("\n")
         else:
-            fault.write_lines(lines.comparison_lines(comparison, options.each) if comparison else lines.lines_of(report, options.each))
+            fault.write_lines(lines.comparison_lines(report, comparison, options.each) if comparison else
+                              lines.lines_of(report, options.each))
     ways: List[Tuple[str, Callable[[], None]]] = [("the JSON" if options.json else "the lines", written)]
     if options.html:
         ways.append(("the page", lambda: page.write(str(options.html), [report])))
-    if options.baseline_update:
-        ways.append(("the baseline", lambda: baseline.write(str(options.baseline_update), report)))
+    if options.baseline or options.baseline_update:
+        ways.append(("the baseline", lambda: keep_baseline(options, report, is_first)))
     failed = 0
     for what, write in ways:
         try:
@@ -74,6 +76,17 @@ def write_all(options: CheckOptions, report: Report, comparison: Optional[Compar
             failed += 1
             fault.warn(f"{NAME} check: {'' if isinstance(error, fault.Fault) else what + ': '}{why_of(error)}")
     return not failed
+
+
+def keep_baseline(options: CheckOptions, report: Report, is_first: bool) -> None:
+    """Leaves what was found as a baseline: that of a first run accepts nothing, and one that was asked for all of it."""
+    if options.baseline and is_first and options.baseline != options.baseline_update:
+        baseline.write(options.baseline, report, False)
+        fault.warn(f"{NAME} check: {shown(options.baseline)} is a baseline from now on, which accepts nothing")
+    if options.baseline_update:
+        baseline.write(options.baseline_update, report, True)
+        if not options.json:
+            fault.write_lines(baseline.accepted_lines(report))
 
 
 def write_commands(given: argparse.Namespace) -> int:

@@ -23,6 +23,7 @@ from zirofen_host.profile import ANYBODY, HANDED_OVER, MOST_GROUPS, CgroupPath, 
 
 # a unit of the system's manager stands in slices alone; those of a user's manager stand in a unit
 _UNIT = re.compile(r"(/[^/]+\.slice)*/([^/]+\.(service|scope))\Z")
+_SLICE = re.compile(r"(/[^/]+\.slice)+\Z")
 _USERS_MANAGER = re.compile(r"user@([1-9][0-9]*)\.service\Z")
 
 # of those whom nothing but everybody's bits lets in, so many are asked of each subtree
@@ -37,6 +38,11 @@ def unit_of(path: CgroupPath) -> Optional[str]:
     """The name of a unit of the system's manager, or None."""
     unit = _UNIT.match(text_of(path))
     return unit[2] if unit else None
+
+
+def is_slice(path: CgroupPath) -> bool:
+    """Whether a cgroup is a slice of the system's manager below the root, which is handed to nobody."""
+    return _SLICE.match(text_of(path)) is not None
 
 
 def with_groups(user: User, matter: Container[int], gids_of_tree: Container[int]) -> Tuple[Optional[User], int]:
@@ -102,7 +108,7 @@ class Questions:
         """By which class a cgroup's directory was handed to a user; what everybody writes was handed to nobody."""
         entry = self.tree.rows[path].directory
         by = user.class_of(entry)
-        if by == OTHERS or is_root(path) or not user.reaches(entry) or by == GROUP and not entry.gid:
+        if by == OTHERS or not self.is_handed_over(path) or not user.reaches(entry) or by == GROUP and not entry.gid:
             return None
         return by
 
@@ -122,7 +128,7 @@ class Questions:
     def is_of(self, path: CgroupPath, uid: int) -> bool:
         """Whether a cgroup's directory is that of a person, by their own uid or by subordinate ones."""
         owner = self.tree.rows[path].directory.uid
-        return owner != 0 and not is_root(path) and not self.accounts.roots(owner).isdisjoint(self.accounts.roots(uid))
+        return owner != 0 and self.is_handed_over(path) and not self.accounts.roots(owner).isdisjoint(self.accounts.roots(uid))
 
     def expected_above(self, plan: Plan) -> Dict[Tuple[int, CgroupPath], Set[CgroupPath]]:
         """Who has something above subtrees of which their pairs weren't asked: by uid and the topmost place that is theirs."""
@@ -138,8 +144,12 @@ class Questions:
     def is_inside_his(self, user: User, path: CgroupPath) -> bool:
         """Whether a cgroup lies properly inside one that was handed to that person."""
         persons = self.accounts.persons(user.uid)
-        return any(not is_root(place) and (self.tree.rows[place].directory.uid in persons or self.has_directory(user, place))
+        return any(self.is_handed_over(place) and (self.tree.rows[place].directory.uid in persons or self.has_directory(user, place))
                    for place in ancestors(path))
+
+    def is_handed_over(self, path: CgroupPath) -> bool:
+        """Whether a cgroup may be somebody's delegation: the root isn't, nor a slice but for one that is meant as one."""
+        return not is_root(path) and (path in self.meant or not is_slice(path))
 
     def already_over(self, subtree: CgroupPath) -> bool:
         row = self.tree.rows[subtree]
@@ -180,8 +190,8 @@ def subtrees_by(options: Options) -> SubtreesOf:
 
 
 def subtrees_in(delegations: Delegations, meant: Iterable[CgroupPath]) -> List[CgroupPath]:
-    """What was handed over and what is meant to be."""
-    return in_order({each.path for each in delegations.find()}.union(meant))
+    """What was handed over and what is meant to be. A slice is no delegation, whoever reaches it."""
+    return in_order({each.path for each in delegations.find() if not is_slice(each.path)}.union(meant))
 
 
 def meant_in(snapshot: Snapshot) -> Dict[CgroupPath, str]:
@@ -315,7 +325,7 @@ def by_owners_above(questions: Questions) -> Dict[FrozenSet[int], List[CgroupPat
     found = defaultdict(list)
     for path in questions.subtrees:
         above = () if path in questions.meant else ancestors(path)
-        uids = {questions.tree.rows[place].directory.uid for place in above if not is_root(place)} - {0}
+        uids = {questions.tree.rows[place].directory.uid for place in above if questions.is_handed_over(place)} - {0}
         found[frozenset(root for uid in uids for root in questions.accounts.roots(uid))].append(path)
     return found
 

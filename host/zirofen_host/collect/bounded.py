@@ -52,6 +52,7 @@ CGROUPS = Budget("cgroups", 32768)
 CGROUP_BYTES = Budget("bytes in the files and marks of cgroups", 1 << 26)
 # of /proc: what is over them is no part of any answer but that person's own
 PROCESSES = Budget("processes", 16384)
+THREADS = Budget("threads", 4096)
 PROCESS_BYTES = Budget("bytes in what /proc tells of processes", 1 << 26)
 MOUNT_BYTES = Budget("bytes in lists of mounts", 1 << 22)
 LINKS = Budget("open files", 65536)

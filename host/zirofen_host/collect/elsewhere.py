@@ -18,6 +18,7 @@ from zirofen_host.collect.model import (About, Account, AccountLists, Carried, C
 from zirofen_host.collect.mount import read_kernel_list
 from zirofen_host.collect.tree import number_in, table_in, text_in, texts_in
 from zirofen_host.fault import Fault
+from zirofen_host.files import OF_LIMITS, is_known
 from zirofen_host.profile import CONTROL_FILES, LIMIT_FILES, LONGEST_TEXT, CgroupPath, is_other_limit, is_root, path_of, text_of
 
 MARK = "#= "
@@ -96,6 +97,10 @@ class Gathered:
         path, why = parts_in(value)
         self.changing[CgroupPath(os.fsencode(text_in(path)))] = str(why)
 
+    def kind(self, path: CgroupPath) -> str:
+        """What a cgroup's type is, where a note tells that it isn't in domain mode."""
+        return next((note.detail.partition(":")[0] for note in self.notes if (note.kind, note.place) == ("type", text_of(path))), "domain")
+
     def carried(self) -> Optional[Carried]:
         if self.mount is None:
             return None
@@ -120,7 +125,7 @@ def read(accepted: Accepted, mount: str) -> Snapshot:
     return Snapshot(about=gathered.about, mount=gathered.mount or mount, mount_options=gathered.options,
                     cgroups={path: cgroup_of(tree, row, gathered) for path, row in tree.rows.items()}, tree=tree, processes=processes,
                     kernel_threads=0, places={}, kernel_list=frozenset(gathered.kernel_list) or read_kernel_list(None),
-                    notes=tuple(gathered.notes), changing=gathered.changing, spoiled={},
+                    notes=tuple(gathered.notes), changing=gathered.changing, spoiled={}, version_1=version_1_in(gathered.notes),
                     source=Source(accepted.file, gathered.carried()))
 
 
@@ -149,7 +154,16 @@ def gather(text: str, tree: Tree) -> Gathered:
 def cgroup_of(tree: Tree, row: Row, gathered: Gathered) -> Cgroup:
     """A cgroup as the tree has it, with what is carried of it."""
     files = {name: row.entry(name) for name in (*CONTROL_FILES, *tree.limit_files(row.path))}
-    return Cgroup(row.directory, {**files, **gathered.files[row.path]}, {}, row.enabled, (), "domain", gathered.marks[row.path], ())
+    carried = gathered.files[row.path]
+    directory = carried.get("dir", row.directory)
+    files.update({name: entry for name, entry in carried.items() if name != "dir"})
+    return Cgroup(directory, files, {}, row.enabled, (), gathered.kind(row.path), gathered.marks[row.path], ())
+
+
+def version_1_in(notes: Iterable[Note]) -> Tuple[str, ...]:
+    """The controllers with limits of version 1, which a note names."""
+    words = {word.strip(",") for note in notes if note.kind == "version-1" for word in note.detail.split()}
+    return tuple(sorted(words & OF_LIMITS))
 
 
 def told_unseen(snapshot: Snapshot) -> str:
@@ -209,7 +223,9 @@ def carried(snapshot: Snapshot, accounts: Accounts) -> Iterator[Mapping[str, obj
 def carried_of(snapshot: Snapshot, path: CgroupPath, found: Cgroup) -> Mapping[str, object]:
     """What a text carries of a cgroup: other files than the tree's, as far as they matter, other limits, and marks."""
     others = {name: entry for name, entry in found.files.items()
-              if is_other_limit(name) or entry.uid or entry.mode & 0o022 or entry.mode > 0o777}
+              if is_other_limit(name) or not is_known(name) or entry.uid or entry.mode & 0o022 or entry.mode > 0o777}
+    if found.directory.mode > 0o777:
+        others["dir"] = found.directory
     values = {name: snapshots.value_of(snapshot, path, name) for name in others if is_other_limit(name)}
     return {"path": text_of(path), "files": {name: word_of(entry) for name, entry in others.items()},
             "values": {name: value for name, value in values.items() if value is not None},

@@ -7,7 +7,8 @@ from zirofen_host.collect.model import Process, User
 
 KERNEL_THREAD = 0x00200000
 
-# capabilities by which a process passes over owners, or becomes who does, by their numbers in CapEff
+# capabilities by which a process passes over owners, or becomes who does, by their numbers in CapPrm: what is
+# permitted and not effective is raised again at will
 CAPABILITIES = {0: "CHOWN", 1: "DAC_OVERRIDE", 3: "FOWNER", 6: "SETGID", 7: "SETUID", 16: "SYS_MODULE", 17: "SYS_RAWIO",
                 19: "SYS_PTRACE", 21: "SYS_ADMIN"}
 FIRST_USER_NAMESPACE = "user:[4026531837]"
@@ -29,7 +30,8 @@ class Reader:
 
     def __init__(self, proc: str, payer: Payer = int) -> None:
         self.proc = proc
-        self.count, self.bytes = Spent(bounded.PROCESSES, payer), Spent(bounded.PROCESS_BYTES, payer)
+        self.count, self.bytes, self.threads = (
+            Spent(budget, payer) for budget in (bounded.PROCESSES, bounded.PROCESS_BYTES, bounded.THREADS))
         self.found: Dict[int, Process] = {}
         # of which what is told isn't known
         self.unknown: List[int] = []
@@ -57,8 +59,9 @@ class Reader:
             flags = int(stat.rpartition(")")[2].split()[6])
             gid = int(fields["Gid"][1])
             others = [int(group) for group in fields.get("Groups", ()) if int(group) != gid]
-            return Process(pid, int(fields["Uid"][0]), User(int(fields["Uid"][1]), (gid, *others)),
-                           flags & KERNEL_THREAD != 0, " ".join(fields.get("Name", ())), capabilities_of(self.proc, pid, fields))
+            bits, left = self.permitted(pid, fields)
+            return Process(pid, int(fields["Uid"][0]), User(int(fields["Uid"][1]), (gid, *others)), flags & KERNEL_THREAD != 0,
+                           " ".join(fields.get("Name", ())), capabilities_of(self.proc, pid, bits), left)
         except (FileNotFoundError, ProcessLookupError):
             return None
         except (ValueError, KeyError, IndexError, OSError):
@@ -77,10 +80,29 @@ class Reader:
             read = bounded.read_file(file, bounded.STATUS)
         return status_fields(read.text("utf-8", "replace")) if self.bytes.take(uid, len(read.data)) else None
 
+    def permitted(self, pid: int, fields: Fields) -> Tuple[int, int]:
+        """The capabilities that a process or one of its threads is permitted, as bits, and how many threads weren't looked at."""
+        bits, count, uid = int(fields.get("CapPrm", ["0"])[0], 16), int(fields.get("Threads", ["1"])[0]), int(fields["Uid"][0])
+        if count < 2:
+            return bits, 0
+        try:
+            names = bounded.list_folder(f"{self.proc}/{pid}/task", min(count, max(self.threads.left(uid), 0)) if uid else count).names
+        except OSError:
+            return bits, 0
+        for name, _ in names:
+            self.threads.take(uid)
+            try:
+                read = bounded.read_file(f"{self.proc}/{pid}/task/{name}/status", bounded.STATUS)
+                self.bytes.take(uid, len(read.data))
+                bits |= int(status_fields(read.text("utf-8", "replace")).get("CapPrm", ["0"])[0], 16)
+            except OSError:
+                # it has ended
+                continue
+        return bits, max(count - len(names), 0)
 
-def capabilities_of(proc: str, pid: int, fields: Fields) -> Tuple[str, ...]:
+
+def capabilities_of(proc: str, pid: int, bits: int) -> Tuple[str, ...]:
     """Those that count on the host: a user namespace's own don't reach outside of it."""
-    bits = int(fields.get("CapEff", ["0"])[0], 16)
     names = tuple(name for number, name in CAPABILITIES.items() if bits >> number & 1)
     try:
         return names if not names or bounded.read_link(f"{proc}/{pid}/ns/user") == FIRST_USER_NAMESPACE else ()

@@ -40,11 +40,12 @@ def name_notes(walked: walk.Walk) -> Iterator[Note]:
             yield Note("file-name", shown(path), "named as a file: a controller with that file can't be enabled above")
 
 
-def controller_notes(cgroups: Cgroups, root: Cgroup) -> Iterator[Note]:
+def controller_notes(cgroups: Cgroups) -> Iterator[Note]:
+    """Controllers that a tree text leaves out, as far as a cgroup enables them."""
     others = Counter(name for found in cgroups.values() for name in found.enabled if name not in CONTROLLERS)
-    others.update({name: 0 for name in root.available if name not in CONTROLLERS})
-    for name, count in sorted(others.items()):
-        yield Note("controller", "/", f"{name} left out, which {count} cgroups enable")
+    if others:
+        told = ", ".join(f"{name} ({count})" for name, count in sorted(others.items()))
+        yield Note("controller", "/", f"left out, with how many cgroups enable each: {told}")
 
 
 def process_notes(reader: Reader) -> Iterator[Note]:
@@ -52,11 +53,11 @@ def process_notes(reader: Reader) -> Iterator[Note]:
         yield Note("pid", "/", f"{pid} left out: what is told of the process isn't known")
 
 
-def first_version_notes(mounts: Mounts) -> Iterator[Note]:
-    """Controllers that a version 1 hierarchy has are no part of what is looked at."""
-    names = {name for options in mounts.first for name in options.split(",")} & set(CONTROLLERS)
-    for name in sorted(names):
-        yield Note("version-1", "/", f"the controller {name} is in a hierarchy of cgroup v1, which isn't looked at")
+def version_1_notes(mounts: Mounts) -> Iterator[Note]:
+    """Controllers of limits that a version 1 hierarchy has are no part of what is looked at."""
+    names = mounts.limits_of_version_1()
+    if names:
+        yield Note("version-1", "/", f"limits of {', '.join(names)} are v1's and weren't looked at")
 
 
 class Bending:
@@ -147,16 +148,16 @@ def snapshot_of(settled: walk.Settled, reader: Reader, options: Options, mounts:
     cgroups = {path_of(path): found for path, found in walked.found.items()}
     root = cgroups[path_of("/")]
     bending = Bending(cgroups)
-    bending.notes += [*changing_notes(settled.changing), *name_notes(walked), *controller_notes(cgroups, root),
-                      *process_notes(reader)]
+    bending.notes += [*changing_notes(settled.changing), *name_notes(walked), *controller_notes(cgroups), *process_notes(reader)]
     rows = {path: bending.row(path, found) for path, found in cgroups.items()}
     placed, threads = bending.placed(rows, processes)
     tree = Tree(tuple(name for name in CONTROLLERS if name in root.available), rows, placed)
     return Snapshot(about=about_this_host(), mount=options.mount, mount_options=tuple(mounts.options(options.mount)), cgroups=cgroups,
                     tree=tree, processes=processes, kernel_threads=threads, places=walked.places,
                     kernel_list=read_kernel_list(None if options.plain_folder else KERNEL_LIST),
-                    notes=(*bending.notes, *first_version_notes(mounts)), changing=settled.changing,
+                    notes=(*bending.notes, *version_1_notes(mounts)), changing=settled.changing,
                     spoiled={path_of(path): why for path, why in settled.spoiled.items()},
+                    left_out={path_of(path): entry for path, entry in settled.left_out.items()}, version_1=mounts.limits_of_version_1(),
                     makers={path_of(path): walked.holds[path].uid for path in settled.changing if path in walked.holds},
                     over=reader.over())
 
@@ -170,7 +171,7 @@ def take(options: Options, subtrees_of: SubtreesOf) -> Snapshot:
     def subtrees_in(walked: walk.Walk, changing: Changing) -> Iterable[CgroupPath]:
         if not running:
             running.append(Reader(options.proc, payer).read())
-        found = snapshot_of(walk.Settled(walked, {}, {}), running[0], options, mounts)
+        found = snapshot_of(walk.Settled(walked, {}, {}, {}), running[0], options, mounts)
         return [CgroupPath(os.fsencode(path)) for path in subtrees_of(found, changing)]
 
     settled = walk.settled(options.mount, options.only, subtrees_in, payer)

@@ -14,8 +14,9 @@ from zirofen_host.collect import bounded
 from zirofen_host.collect.bounded import Payer, Spent
 from zirofen_host.collect.model import Cgroup, Entry, FilePlace
 from zirofen_host.fault import Fault
-from zirofen_host.profile import (CONTROL_FILES, LIMIT_FILES, LONGEST_PATH, ROOT, CgroupPath, ancestors, is_name, is_set_by,
-                                  parent_of, shown, topmost)
+from zirofen_host.files import may_set
+from zirofen_host.profile import (CONTROL_FILES, LIMIT_FILES, LONGEST_PATH, ROOT, CgroupPath, ancestors, is_name, parent_of, shown,
+                                  topmost)
 
 MANAGERS_MARK, OWNERS_MARK = MARKS = ("trusted.delegate", "user.delegate")
 MOST_WALKS = 8
@@ -180,7 +181,7 @@ class Walk:
             if stat.S_ISREG(status.st_mode):
                 name, owned = sys.intern(name), owned_of(status)
                 pairs.append((name, owned))
-                if is_set_by(name, owned[2]):
+                if may_set(name):
                     self.places[status.st_dev, status.st_ino] = path, name
         files = self.once.files_of(tuple(pairs))
         for file in CONTROL_FILES:
@@ -273,10 +274,12 @@ class Walk:
 
 
 class Settled(NamedTuple):
-    """The last walk, without what changed all the time or can't be read; these, and the subtrees that they spoil, each with why."""
+    """The last walk, without what changed all the time or can't be read; these, and the subtrees that they spoil, each with why;
+    and the directories of what was left out, as they were found at last."""
     walk: Walk
     changing: Whys
     spoiled: Whys
+    left_out: Mapping[CgroupPath, Entry]
 
 
 def walk_over(mount: str, tops: Optional[Iterable[CgroupPath]] = None, before: Optional[Walk] = None, payer: Payer = int) -> Walk:
@@ -386,8 +389,9 @@ def settled(mount: str, only: Optional[CgroupPath], subtrees_of: Callable[[Walk,
     if ROOT in changing:
         raise Fault(f"the root cgroup: {changing[ROOT]}, through {MOST_WALKS} walks")
     spoiled = spoiled_of(changing, subtrees_of(walk, changing) if changing else ())
+    left_out = {path: walk.found[path].directory for path in changing if path in walk.found}
     walk.without(changing)
-    return Settled(walk, changing, spoiled)
+    return Settled(walk, changing, spoiled, left_out)
 
 
 def spoiled_of(changing: Whys, subtrees: Iterable[CgroupPath]) -> Dict[CgroupPath, str]:

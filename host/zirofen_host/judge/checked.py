@@ -1,5 +1,6 @@
 """A host that was asked, on its way to a report: who was asked of what, and what the answers come to."""
 from dataclasses import dataclass
+from functools import cached_property
 from typing import FrozenSet, Iterable, List, Mapping, Tuple
 
 from zirofen_host.ask.model import Answers
@@ -7,8 +8,9 @@ from zirofen_host.ask.questions import Questions
 from zirofen_host.ask.texts import Programs
 from zirofen_host.collect.holds import Holds
 from zirofen_host.collect.model import Entry, Snapshot, User
-from zirofen_host.judge.judged import Judged
+from zirofen_host.judge.judged import Judged, LetIn, Place
 from zirofen_host.judge.names import Names
+from zirofen_host.judge.opened import find_openings
 from zirofen_host.judge.shell import Change, change_commands
 from zirofen_host.options import Options
 from zirofen_host.profile import CgroupPath, path_of
@@ -30,6 +32,11 @@ class Checked:
     asked_of: Mapping[CgroupPath, List[FrozenSet[User]]]
     # whose making each cgroup is
     holds: Holds
+
+    @cached_property
+    def openings(self) -> List[Tuple[Place, Entry, List[LetIn]]]:
+        """What stands open and no answer speaks of."""
+        return list(find_openings(self.snapshot, self.questions))
 
     @property
     def is_asked(self) -> bool:

@@ -3,13 +3,13 @@ import os
 import shutil
 import subprocess
 from bisect import bisect_left
-from collections import defaultdict
+from collections import Counter, defaultdict
 from dataclasses import dataclass
 from typing import DefaultDict, Dict, Iterable, Iterator, List, Mapping, Optional, Sequence, Set, Tuple
 
 from zirofen_host.ask.model import Answers
 from zirofen_host.ask.questions import Questions, unit_of
-from zirofen_host.collect.bounded import ADVICE
+from zirofen_host.collect.bounded import ADVICE, THREADS
 from zirofen_host.collect.descriptors import Descriptors, inodes_of
 from zirofen_host.collect.elsewhere import told_unseen
 from zirofen_host.collect.holds import Holds
@@ -21,6 +21,7 @@ from zirofen_host.judge.finding_lines import some
 from zirofen_host.judge.looks import Looks
 from zirofen_host.judge.model import Told
 from zirofen_host.judge.names import Names
+from zirofen_host.judge.opened import unknown_files
 from zirofen_host.profile import ANYBODY, LIMIT_FILES, SETTINGS, CgroupPath, ancestors, path_of, text_of
 
 # what a unit's settings are called where they are asked for, and the file that each sets
@@ -59,7 +60,7 @@ def lines(checked: Checked, advised: Advised, looks: Looks) -> Tuple[Told, ...]:
     host = host_of(checked)
     found: List[Told] = []
     for look in (descriptors, group_class, subordinates, deputies, outside, capabilities, search_bits, marks, groups, everybody,
-                 restarts, about_the_mount, processes):
+                 unknown, restarts, about_the_mount, processes):
         found += looks.all(look.__name__, lambda: look(host))
     return (*found, *not_advised(advised))
 
@@ -156,17 +157,24 @@ def outside(host: Host) -> Iterator[Told]:
 
 
 def capabilities(host: Host) -> Iterator[Told]:
-    """Processes that pass over owners: root's inside of what somebody else holds, and everybody else's."""
+    """Processes that pass over owners: those inside of what somebody else than root holds, and everybody's but root's elsewhere;
+    all of one user at one place in one line."""
     asked = {path for path in host.questions.subtrees if host.questions.holders[path].by}
-    found: DefaultDict[Tuple[CgroupPath, bool, int, Tuple[str, ...]], List[int]] = defaultdict(list)
+    found: DefaultDict[Tuple[CgroupPath, bool, int], Dict[Tuple[str, ...], List[int]]] = defaultdict(lambda: defaultdict(list))
     for pid, uid, at in host.snapshot.tree.processes:
         process = host.snapshot.processes[pid]
-        inside = not asked.isdisjoint((at, *ancestors(at)))
-        if process.capabilities and (inside or process.user.uid):
-            found[at, inside, process.user.uid, process.capabilities].append(pid)
-    for (at, inside, uid, names), pids in sorted(found.items()):
-        yield host.of_cgroup("capability", at, f"{'inside' if inside else 'beside'}: process {numbers(pids)} of {host.uid(uid)} has "
-                             f"{' '.join('CAP_' + name for name in names)}, and passes over owners")
+        held = [place for place in (at, *ancestors(at)) if place in asked]
+        if process.capabilities and (held or process.user.uid):
+            found[held[0] if held else at, bool(held), process.user.uid][process.capabilities].append(pid)
+    for (place, inside, uid), by_names in sorted(found.items()):
+        told = "; ".join(f"process {numbers(pids)} of {host.uid(uid)} has {' '.join('CAP_' + name for name in names)}"
+                         for names, pids in sorted(by_names.items()))
+        yield host.of_cgroup("capability", place, f"{'inside' if inside else 'beside'}: {told}, and passes over owners")
+    left: Counter[int] = Counter()
+    for process in host.snapshot.processes.values():
+        left[process.uid] += process.threads_left
+    for uid, count in sorted((uid, count) for uid, count in left.items() if count):
+        yield host.of_user("capability", uid, f"{count} threads weren't looked at: more than {THREADS.most} run")
 
 
 def search_bits(host: Host) -> Iterator[Told]:
@@ -199,9 +207,18 @@ def groups(host: Host) -> Iterator[Told]:
 
 def everybody(host: Host) -> Iterator[Told]:
     """Users who weren't asked of what everybody is let in to."""
-    for path, count in host.answers.not_asked.items():
-        yield host.of_cgroup("everybody", path, f"{count} more users are let in as everybody is, and weren't asked: where the answer "
-                             "is unsettled, one of them may escape")
+    counts = set(host.answers.not_asked.values())
+    if counts:
+        many = f"{max(counts)} more" if len(counts) == 1 else f"up to {max(counts)} more"
+        yield Told("everybody", some(texts(host.answers.not_asked)), f"{many} users are let in as everybody is, and weren't asked: "
+                   "where the answer is unsettled, one of them may escape")
+
+
+def unknown(host: Host) -> Iterator[Told]:
+    """Files of names that aren't in the table of them."""
+    names = [f"{name} ({'a limit' if is_limit else 'it only tells'})" for name, is_limit in unknown_files(host.snapshot).items()]
+    if names:
+        yield Told("unknown-file", "", f"{some(names)}: by the mode that most cgroups have these with, since their names aren't known")
 
 
 def restarts(host: Host) -> Iterator[Told]:

@@ -3,15 +3,19 @@ import itertools
 from collections import Counter
 from typing import Callable, Dict, Iterable, Iterator, List, Optional, Sequence, Tuple, TypeVar, Union
 
+from zirofen_host.fault import FAULT
 from zirofen_host.installed import MANUAL
 from zirofen_host.judge.baseline import KINDS
-from zirofen_host.judge.finding_lines import above_line, differs_line, entry_line, opened_line, some, whom_text
+from zirofen_host.judge.finding_lines import (SHOWN, above_line, differs_line, entry_line, fault_line, opened_line,
+                                              version_1_line, whom_text)
 from zirofen_host.judge.model import (AboveFinding, Comparison, Difference, DiffersFinding, EntryFinding, OpenedFinding, Report,
                                       Subtree, Told)
 from zirofen_host.show.folded import GRAVITY, Part, counted, folded
 
 # how far the table's columns are filled up; a longer word stands out
 WIDEST = (12, 24, 48)
+# behind an answer where limits are those of version 1
+VERSION_1 = " [v1]"
 # lines of each kind of what no answer looks at, for what one person made
 TOLD = 4
 # what brings changes and a setting
@@ -25,20 +29,21 @@ def gids_text(gids: Iterable[int]) -> str:
     return ",".join(map(str, gids)) or "-"
 
 
-def rows_of(subtree: Subtree) -> Iterator[Row]:
-    """The table's rows of a subtree: one for each answer of whoever holds it."""
+def rows_of(subtree: Subtree, mark: str = "") -> Iterator[Row]:
+    """The table's rows of a subtree: one for each answer of whoever holds it, each with a mark where limits aren't looked at."""
     for each in subtree.answers:
         first = each.lines[0]
         answer, below = (f"above: {first}", ()) if each.is_above else (first, each.lines[1:])
-        yield each.who, gids_text(each.gids), answer, subtree.path, below
+        yield each.who, gids_text(each.gids), answer + mark, subtree.path, below
     if not subtree.answers:
-        yield "-", "-", "held by root alone", subtree.path, ()
+        yield "-", "-", "held by root alone" + mark, subtree.path, ()
 
 
 def table(report: Report, is_each: bool = False) -> Iterator[str]:
     """Columns of who holds a subtree, his groups, the answer and the path, which may be long; what it shows stands below. What
     somebody made below their own delegation stands last."""
-    rows = [(subtree.within, row) for subtree in report.subtrees for row in rows_of(subtree)]
+    mark = VERSION_1 if report.version_1 else ""
+    rows = [(subtree.within, row) for subtree in report.subtrees for row in rows_of(subtree, mark)]
     head: Row = ("UID", "GIDS", "ANSWER", "PATH", ())
     shown = [head, *(row for _, row in rows)]
     widths = [min(most, max(len(row[at]) for row in shown)) for at, most in enumerate(WIDEST)]
@@ -107,7 +112,7 @@ def finding_lines(report: Report, is_each: bool = False) -> Iterator[str]:
     yield from (line for within, found in entries if within is None for line in entry_lines(found))
     yield from (line for within, each in opened if within is None for line in opened_lines(each))
     for fault in report.faults:
-        yield f"fault: {fault.who} of {some(fault.subtrees)}: {fault.fault}"
+        yield fault_line(fault, fault.subtrees)
     if report.entries and not report.has_advice:
         yield "what to change of an entry isn't told: this program has no advise"
     for differs in report.differs:
@@ -146,35 +151,19 @@ def above_lines(found: Iterable[AboveFinding], is_each: bool) -> Iterator[str]:
                        if each.within is not None), is_each)
 
 
-def lines_of(report: Report, is_each: bool = False) -> Iterator[str]:
-    """The report as it is printed."""
-    if report.subtrees:
-        yield from table(report, is_each)
-    if not report.asked:
-        yield "nothing was found to ask: no subtree and user of which containment could be asked"
-    found = list(finding_lines(report, is_each))
-    if found:
-        yield ""
-        yield "What lets somebody in, each once; opened and differs were seen by this helper and aren't proved:"
-        yield from found
-    if report.above:
-        yield ""
-        yield "What lies below what was handed to somebody is open to him, and isn't counted:"
-        yield from above_lines(report.above, is_each)
-    yield ""
-    yield f"What none of these answers looks at ({MANUAL}):"
-    yield from told_lines(report.unseen, is_each)
-    yield from (f"snapshot: {line}" for line in told_lines(report.snapshot, is_each))
-    if not report.unseen and not report.snapshot:
-        yield "this host tells of nothing"
-    yield ""
-    yield sum_line(report)
+def said_first(report: Report, status: int) -> str:
+    """What a sum says before its numbers: that nothing but faults of somebody's own making is behind the status, and what of the
+    limits isn't looked at at all."""
+    own = {each.made_by for each in report.faults}
+    told = ["only faults of their holders' own making"] if status == FAULT and own and None not in own else []
+    return "; ".join(told + ([version_1_line(report.version_1)] if report.version_1 else []))
 
 
 def sum_line(report: Report) -> str:
-    """How many subtrees were asked of, and how many stand how."""
+    """All of it in one line: how many subtrees were asked of, and how many of them stand how."""
     counts = Counter(standings(report).values())
-    return f"{sum(counts.values())} asked: {counted(counts) or 'nothing'}"
+    told = f"{sum(counts.values())} asked: {counted(counts) or 'nothing'}"
+    return "; ".join(filter(None, (said_first(report, report.status), told)))
 
 
 def standings(report: Report) -> Dict[str, str]:
@@ -194,20 +183,62 @@ def standing(subtree: Subtree) -> str:
     return min(words, key=GRAVITY.index, default="contained")
 
 
+def lines_of(report: Report, is_each: bool = False) -> Iterator[str]:
+    """The report as it is printed."""
+    if report.subtrees:
+        yield from table(report, is_each)
+    if not report.asked:
+        yield "nothing was found to ask: no subtree and user of which containment could be asked"
+    found = list(finding_lines(report, is_each))
+    if found:
+        yield ""
+        yield "What lets somebody in, each once; opened and differs were seen by this helper and aren't proved:"
+        yield from found
+    if report.above:
+        yield ""
+        yield "What lies below what was handed to somebody is open to him, and isn't counted:"
+        yield from above_lines(report.above, is_each)
+    yield ""
+    yield f"What none of these answers looks at ({MANUAL}):"
+    yield from told_lines(report.unseen, is_each)
+    # what is version 1's is said in the sum
+    yield from (f"snapshot: {line}" for line in told_lines((each for each in report.snapshot if each.kind != "version-1"), is_each))
+    if not report.unseen and not report.snapshot:
+        yield "this host tells of nothing"
+    yield sum_line(report)
+
+
 def by_kind(compared: Comparison) -> Iterator[Tuple[str, Tuple[Difference, ...]]]:
-    """What differs from a baseline, by its kind."""
-    return zip(KINDS, (compared.new, compared.worse, compared.changed, compared.gone))
+    """What differs from a baseline or stands since then, by its kind."""
+    return zip(KINDS, (compared.new, compared.worse, compared.stand, compared.changed, compared.gone))
 
 
-def comparison_lines(compared: Comparison, is_each: bool = False) -> Iterator[str]:
+def standing_line(compared: Comparison) -> str:
+    """What stands since a baseline, and was accepted by nobody."""
+    told = "; ".join(each.line for each in compared.stand[:SHOWN])
+    more = f"; and {len(compared.stand) - SHOWN} more" if len(compared.stand) > SHOWN else ""
+    verb = "finding stands" if len(compared.stand) == 1 else "findings stand"
+    return f"{len(compared.stand)} {verb} since {compared.time}: {told}{more}"
+
+
+def comparison_lines(report: Report, compared: Comparison, is_each: bool = False) -> Iterator[str]:
     """The lines of what differs from a baseline; what somebody made below their own delegation stands last."""
-    for kind, found in by_kind(compared):
+    differing = [(kind, found) for kind, found in by_kind(compared) if kind != "stand"]
+    for kind, found in differing:
         yield from (line for each in found if each.within is None for line in difference_lines(kind, each))
-    for kind, found in by_kind(compared):
+    for kind, found in differing:
         yield from folded((Part(each.within, (each.what, each.status, each.changes == ()), kind, None, list(difference_lines(kind, each)))
                            for each in found if each.within is not None), is_each)
+    if compared.stand:
+        yield standing_line(compared)
+        yield from what_to_change([each for each in compared.stand if each.within is None])
+        yield from folded((Part(each.within, (each.what, each.status), each.what, None, list(what_to_change([each])))
+                           for each in compared.stand if each.within is not None and each.changes), is_each)
     if not any(found for _, found in by_kind(compared)):
         yield f"nothing is new, worse, changed or gone since {compared.time}"
+    first = said_first(report, compared.status)
+    if first:
+        yield first
 
 
 def difference_lines(kind: str, each: Difference) -> Iterator[str]:
