@@ -85,6 +85,8 @@ class Walk:
         self.places: Dict[FilePlace, Tuple[CgroupPath, str]] = {}
         self.inside: Counter[CgroupPath] = Counter()
         self.counted = 0
+        # the directories below which too much is
+        self.too_large: Dict[CgroupPath, Entry] = {}
         self.once = Once()
 
     def walk(self) -> None:
@@ -114,6 +116,7 @@ class Walk:
         self.inside[hold] += more
         if self.inside[hold] > MOST_INSIDE:
             self.unread[hold] = f"over {MOST_INSIDE} cgroups inside"
+            self.too_large[hold] = self.found[hold].directory
             self.found = {path: found for path, found in self.found.items() if not is_inside(path, hold)}
 
     def full(self, path: CgroupPath) -> bytes:
@@ -207,6 +210,7 @@ class Walk:
         put_in_place(self.unread, later.unread, later)
         self.gone = {path for path in self.gone if not later.covers(path)} | later.gone
         self.places.update(later.places)
+        self.too_large.update(later.too_large)
         self.without(())
 
     def without(self, paths: Collection[CgroupPath]) -> None:
@@ -351,7 +355,7 @@ def settled(mount: str, only: Optional[CgroupPath], subtrees_of: Callable[[Walk,
     if ROOT in changing:
         raise Fault(f"the root cgroup: {changing[ROOT]}, through {MOST_WALKS} walks")
     spoiled = spoiled_of(changing, subtrees_of(walk, changing) if changing else ())
-    left_out = {path: walk.found[path].directory for path in changing if path in walk.found}
+    left_out = {**walk.too_large, **{path: walk.found[path].directory for path in changing if path in walk.found}}
     walk.without(changing)
     return Settled(walk, changing, spoiled, left_out)
 

@@ -2,6 +2,7 @@
 from collections import defaultdict
 from typing import Dict, Iterable, List, Optional, Tuple
 
+from zirofen_host.ask.program import ESCAPES
 from zirofen_host.ask.questions import unit_of
 from zirofen_host.collect.model import GROUP, OTHERS, OWNER, Entry, User
 from zirofen_host.collect.tree import in_order
@@ -68,17 +69,25 @@ def closing_of_directories(checked: Checked) -> Dict[CgroupPath, Tuple[str, ...]
 
 
 def opened_findings(checked: Checked) -> Dict[Place, OpenedFinding]:
-    """Everything that stands open, but for the limits that the answers show."""
+    """Everything that stands open, but for what the answers show."""
     closing, found = closing_of_directories(checked), {}
     for place, entry, let_in in checked.openings:
-        is_directory = place.name == "dir"
-        if is_directory or place not in checked.judged.entries:
+        if not is_shown(checked, place, let_in):
+            is_directory = place.name == "dir"
             changes = closing_of(checked, place, entry, let_in)
             found[place] = OpenedFinding(
                 text_of(place.path), place.name, owner_of(entry), whom_of(checked.names, let_in),
                 (*changes, *(() if is_directory else closing.get(place.path, ()))), setting_of(place),
                 WHO_IS_FIRST if is_directory else None)
     return found
+
+
+def is_shown(checked: Checked, place: Place, let_in: Iterable[LetIn]) -> bool:
+    """Whether the answers show an entry: of a directory that a manager makes something in, an escape of all whom it lets in."""
+    shown_by = checked.judged.entries.get(place)
+    if shown_by is None or place.name != "dir":
+        return shown_by is not None
+    return shown_by.answer.status == ESCAPES and {(each.by, each.id) for each in let_in} <= set(shown_by.uids)
 
 
 def fault_findings(checked: Checked, advised: Advised) -> Tuple[FaultFinding, ...]:
