@@ -309,7 +309,7 @@ class MadeUpTest(HostTest, PageTest):
         with open(out, encoding="utf-8") as opened:
             self.assertIn("alice(1000) changes a limit of", PageReader(opened.read()).text())
         self.assertEqual([name for name in os.listdir(self.host.folder) if name.startswith(".")], [])
-        with self.assertRaisesRegex(Fault, "^can't write the page: Is a directory$"), \
+        with self.assertRaisesRegex(Fault, "^can't write the page .*/etc: Is a directory$"), \
                 mock.patch.object(os.path, "exists", lambda _: False):
             page.write(self.host.etc, [made(example.kept())])
         self.assertEqual([name for name in os.listdir(self.host.folder) if name.startswith(".")], [])

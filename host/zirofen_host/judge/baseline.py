@@ -1,9 +1,10 @@
 """What is new, worse, gone or changed since an earlier report."""
 import dataclasses
 import json
-import os
+from itertools import chain
 from typing import Dict, FrozenSet, Iterable, List, NamedTuple, Optional, Tuple, Union
 
+from zirofen_host import output
 from zirofen_host.ask.program import CONTAINED, ESCAPES, WORDS, WORST_FIRST, worst
 from zirofen_host.collect.bounded import REPORT_FILE, read_file
 from zirofen_host.fault import FAULT, Fault
@@ -49,16 +50,7 @@ def read(file: str) -> Report:
 
 def write(file: str, report: Report) -> None:
     """Leaves a report as a baseline: the whole of it, or what stood there before."""
-    new = f"{file}.new"
-    try:
-        with open(os.open(new, os.O_WRONLY | os.O_CREAT | os.O_TRUNC | os.O_NOFOLLOW, 0o644), "w", encoding="ascii") as out:
-            out.writelines(as_json.parts_of(dataclasses.replace(report, baseline=ABSENT)))
-            out.write("\n")
-            out.flush()
-            os.fsync(out.fileno())
-        os.replace(new, file)
-    except OSError as error:
-        raise Fault(f"can't write the baseline {shown(file)}: {error.strerror}") from None
+    output.write(file, chain(as_json.parts_of(dataclasses.replace(report, baseline=ABSENT)), ["\n"]), "the baseline")
 
 
 def found_in(report: Report) -> Dict[Key, Found]:

@@ -1,10 +1,10 @@
 """A snapshot, everybody asked of everything in it, and the report that the answers come to."""
-import tempfile
 import time
 from collections import defaultdict
 from dataclasses import replace
 from typing import Dict, FrozenSet, Iterable, List, Optional, Tuple
 
+from zirofen_host import output
 from zirofen_host.ask.asking import ask_all
 from zirofen_host.ask.model import Answer
 from zirofen_host.ask.program import CONTAINED, ESCAPES, UNSETTLED, WORDS
@@ -107,5 +107,5 @@ def report_of(checked: Checked, is_whole: bool) -> Report:
 
 def report(snapshot: Snapshot, options: Options, is_whole: bool) -> Report:
     """The report on a host, with the host itself where it is to be whole."""
-    with tempfile.TemporaryDirectory() as folder:
+    with output.temporary_folder() as folder:
         return report_of(ask(snapshot, options, folder), is_whole)

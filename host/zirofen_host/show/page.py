@@ -1,13 +1,11 @@
 """Reports of hosts as one page in one file, which loads nothing and works without its script."""
 import base64
 import hashlib
-import os
-import tempfile
 from dataclasses import dataclass
 from string import Template
 from typing import Dict, List, Sequence, Tuple
 
-from zirofen_host.fault import Fault
+from zirofen_host import output
 from zirofen_host.judge.model import Absent, Difference, Report
 from zirofen_host.show import words
 from zirofen_host.show.branches import Branches
@@ -166,27 +164,4 @@ def page(reports: Sequence[Report]) -> str:
 
 def write(file: str, reports: Sequence[Report]) -> None:
     """Writes the page, whole or not at all."""
-    made = page(reports).encode("utf-8")
-    try:
-        if file == "-" or os.path.exists(file) and not os.path.isfile(file):
-            with open(1 if file == "-" else file, "wb", closefd=file != "-") as out:
-                out.write(made)
-        else:
-            replace(file, made)
-    except OSError as error:
-        raise Fault(f"can't write the page: {error.strerror}") from None
-
-
-def replace(file: str, made: bytes) -> None:
-    """Puts a new file in the place of one, as whoever writes one leaves it."""
-    number, beside = tempfile.mkstemp(dir=os.path.dirname(file) or ".", prefix=".zirofen-")
-    try:
-        with open(number, "wb") as out:
-            out.write(made)
-        mask = os.umask(0)
-        os.umask(mask)
-        os.chmod(beside, 0o666 & ~mask)
-        os.replace(beside, file)
-    except OSError:
-        os.unlink(beside)
-        raise
+    output.write(output.STANDARD_OUTPUT if file == "-" else file, [page(reports)], "the page")

@@ -6,7 +6,7 @@ import sys
 from dataclasses import dataclass
 from typing import Iterable, Iterator, List, Mapping, NamedTuple, Optional, Sequence, Tuple, Union
 
-from zirofen_host import progress
+from zirofen_host import ending, progress
 from zirofen_host.arguments import LEAST_WIDTH
 from zirofen_host.collect import bounded
 from zirofen_host.fault import Fault, plain
@@ -213,7 +213,7 @@ def show(lines: Iterable[str], pager: Optional[str], encoding: str) -> None:
     progress.end()
     if pager and shutil.which(pager.split()[0]):
         environment = {"LESS": "FRSX", **os.environ, "LESSSECURE": "1"}
-        with subprocess.Popen(["sh", "-c", pager], stdin=subprocess.PIPE, env=environment) as shown:
+        with subprocess.Popen(["sh", "-c", pager], stdin=subprocess.PIPE, env=environment) as shown, ending.uninterrupted():
             try:
                 shown.communicate(text)
             except BrokenPipeError:
