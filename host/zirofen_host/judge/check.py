@@ -1,5 +1,4 @@
 """A snapshot, everybody asked of everything in it, and the report that the answers come to."""
-import time
 from collections import defaultdict
 from dataclasses import replace
 from typing import Dict, FrozenSet, Iterable, List, Optional, Tuple
@@ -93,8 +92,7 @@ def report_of(checked: Checked, is_whole: bool) -> Report:
     entries, opened, faults = entry_findings(checked, advised), opened_findings(checked), fault_findings(checked, advised)
     made = Report(
         VERSION, answers.version, about.host or "", about.kernel or "",
-        about.time or time.strftime("%Y-%m-%dT%H:%M:%SZ", time.gmtime()), snapshot.mount,
-        checked.is_asked, answers.has_advise,
+        about.time or "", snapshot.mount, checked.is_asked, answers.has_advise,
         subtrees=tuple(subtree_of(checked, path) for path in checked.questions.subtrees), entries=entries,
         opened=tuple(opened.values()), faults=faults, differs=tuple(differs_findings(checked, opened)),
         above=tuple(above_findings(checked)),

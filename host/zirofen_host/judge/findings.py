@@ -13,17 +13,18 @@ from zirofen_host.judge.model import (AboveFinding, DiffersFinding, EntryFinding
 from zirofen_host.judge.names import Names
 from zirofen_host.judge.opened import find_openings, what_differs
 from zirofen_host.judge.shell import closing_commands
-from zirofen_host.profile import SETTINGS, CgroupPath, shown, text_of, topmost
+from zirofen_host.profile import CgroupPath, shown, text_of, topmost
 
 
 def owner_of(entry: Entry) -> Owner:
     return Owner(entry.uid, entry.gid, f"{entry.mode:03o}")
 
 
-def setting_of(place: Place) -> Optional[str]:
-    """The setting of a unit that brings back what a file has."""
-    unit, setting = unit_of(place.path), SETTINGS.get(place.name)
-    return f"{setting} of {unit}" if unit and setting else None
+def setting_of(path: CgroupPath) -> Optional[str]:
+    """The settings of a unit that bring back the owners of what it hands over. A scope isn't started again, and a slice hands
+    nothing over."""
+    unit = unit_of(path)
+    return f"Delegate= and User= of {unit}" if unit and unit.endswith(".service") else None
 
 
 def texts_of(paths: Iterable[CgroupPath]) -> Tuple[str, ...]:
@@ -47,7 +48,7 @@ def entry_finding(checked: Checked, advised: Advised, found: LetsIn) -> EntryFin
     example = None if is_own else Example(checked.names.who(user), user.uid, user.gids, text_of(subtree), lines)
     return EntryFinding(path, place.name, owner_of(found.entry) if found.entry else None, lines[0].split(" ")[0],
                         whom_of(checked.names, found.whom()), texts_of(in_order(topmost(found.subtrees))), example,
-                        checked.commands(advised.changes.get((path, place.name), ())), setting_of(place))
+                        checked.commands(advised.changes.get((path, place.name), ())), None)
 
 
 def opened_findings(checked: Checked) -> Dict[Place, OpenedFinding]:
@@ -57,7 +58,7 @@ def opened_findings(checked: Checked) -> Dict[Place, OpenedFinding]:
         if place not in checked.judged.entries:
             found[place] = OpenedFinding(
                 text_of(place.path), place.name, owner_of(entry), whom_of(checked.names, let_in),
-                closing_commands(checked.snapshot.mount, text_of(place.path), {place.name: entry}), setting_of(place))
+                closing_commands(checked.snapshot.mount, text_of(place.path), {place.name: entry}), None)
     return found
 
 
@@ -87,8 +88,7 @@ def differs_findings(checked: Checked, opened: Iterable[Place]) -> Iterable[Diff
         differs = what_differs(checked.snapshot, path) if why == MANAGERS_MARK else {}
         differs = {name: entry for name, entry in differs.items() if Place(path, name) not in told}
         if differs:
-            unit = unit_of(path)
-            yield DiffersFinding(text_of(path), tuple(sorted(differs)), f"Delegate= and User= of {unit}" if unit else None,
+            yield DiffersFinding(text_of(path), tuple(sorted(differs)), setting_of(path),
                                  closing_commands(checked.snapshot.mount, text_of(path), differs))
 
 

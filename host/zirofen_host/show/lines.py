@@ -140,4 +140,4 @@ def comparison_lines(compared: Comparison) -> Iterator[str]:
             if kind in ("new", "worse"):
                 yield from what_to_change([each])
     if not any(found for _, found in by_kind(compared)):
-        yield f"nothing is new, worse, changed or gone since {compared.time}"
+        yield f"nothing is new, worse, changed or gone since {compared.time or compared.file}"

@@ -59,7 +59,8 @@ class Drawer:
         if only not in self.host.rows:
             raise Fault(f"there is no cgroup {only!a} in the report")
         report = self.host.report
-        yield self.cut_end(f"{report.host}, {report.kernel}, {report.time}, {report.program}", self.drawing.width)
+        told = words.name_of(report), report.kernel, report.time, report.program
+        yield self.cut_end(", ".join(filter(None, told)), self.drawing.width)
         left: List[Left] = [(only, "", "")]
         while left:
             path, first, rest = left.pop()

@@ -2,7 +2,7 @@
 from typing import Iterable, List, Optional, Sequence
 
 from zirofen_host.collect.model import Value
-from zirofen_host.judge.model import Whom
+from zirofen_host.judge.model import Report, Whom
 from zirofen_host.profile import parent_of
 
 ESCAPES, OPENED, UNSETTLED, FAULT, NOT_ASKED, ABOVE, CONTAINED = (
@@ -33,10 +33,16 @@ WHAT_NO_ANSWER_SEES = {
     "groups": "The program takes 32 groups of a user.",
     "everybody": "Where everybody is let in, some users stand for all.",
     "restart": "A unit's cgroup is made anew when it is started again, with its own settings alone.",
+    "lacking": "The helper ran without a capability by which it would have seen more.",
     "nsdelegate": "A mount option that keeps containers in.",
 }
 SHOWN_USERS = 8
 SIZES = (("T", 2**40), ("G", 2**30), ("M", 2**20), ("K", 2**10))
+
+
+def name_of(report: Report) -> str:
+    """What a report is of: a host, or a text that doesn't name its own."""
+    return report.host or "a tree text"
 
 
 def visible(text: str) -> str:
