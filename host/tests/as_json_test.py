@@ -28,6 +28,15 @@ class AsJsonTest(unittest.TestCase):
                 made = as_json.made_of(Report, report, "report", {})
                 self.assertEqual("".join(as_json.parts_of(made)), json.dumps(report, indent=1))
 
+    def test_bytes_that_are_in_no_utf_8_are_read_by_strict_readers(self):
+        texts = {"al\udcffice": "al\\udcffice", "\ud83d\udcff": "\ud83d\udcff".encode("utf-16", "surrogatepass").decode("utf-16"),
+                 "\\udcff": "\\udcff", "\\\udcff\n": "\\\\udcff\n", "\U0001f600\ud83d": "\U0001f600\\ud83d", "j\xfcrgen": "j\xfcrgen"}
+        report = {**example.kept(), "unseen": [{"kind": "x", "place": "", "text": text} for text in texts]}
+        found = json.loads("".join(as_json.parts_of(as_json.made_of(Report, report, "report", {}))))
+        self.assertEqual([each["text"] for each in found["unseen"]], list(texts.values()))
+        for each in texts.values():
+            each.encode()
+
     def test_what_is_absent_has_no_key(self):
         report = example.kept()
         without = {key: value for key, value in report.items() if key not in ("users", "groups", "cgroups", "processes")}

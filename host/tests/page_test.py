@@ -8,7 +8,6 @@ import sys
 import tempfile
 import time
 import unittest
-from unittest import mock
 
 import browser
 import example
@@ -157,6 +156,13 @@ class WholeTest(PageTest):
         self.assertLess(time.process_time() - start, 5)
         self.assertLess(len(made.encode()), 2_000_000)
         self.assertEqual(made.count("<svg"), 401)
+
+    def test_no_limit_is_told_where_a_kernel_writes_its_own_bound(self):
+        for file, value, usual in (("hugetlb.2MB.max", "9223372036852678656", True), ("hugetlb.1GB.max", "9223372036854771712", True),
+                                   ("memory.swap.max", "max", True), ("memory.swap.max", "4611686018427387903", False),
+                                   ("hugetlb.2MB.max", "0", False), ("memory.low", "9223372036854771712", False),
+                                   ("memory.max", 9223372036854771712, False), ("cpu.max", "max 100000", True)):
+            self.assertEqual(view.is_usual(file, value), usual, (file, value))
 
     def test_what_differs_from_an_earlier_report(self):
         report = example.kept()
@@ -311,8 +317,7 @@ class MadeUpTest(HostTest, PageTest):
         with open(out, encoding="utf-8") as opened:
             self.assertIn("alice(1000) changes a limit of", PageReader(opened.read()).text())
         self.assertEqual([name for name in os.listdir(self.host.folder) if name.startswith(".")], [])
-        with self.assertRaisesRegex(Fault, "^can't write the page: Is a directory$"), \
-                mock.patch.object(os.path, "exists", lambda _: False):
+        with self.assertRaisesRegex(Fault, "^can't write the page .*/etc: Is a directory$"):
             page.write(self.host.etc, [made(example.kept())])
         self.assertEqual([name for name in os.listdir(self.host.folder) if name.startswith(".")], [])
         with open(f"{self.host.folder}/before.json", "w", encoding="ascii") as before:

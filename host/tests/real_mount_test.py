@@ -81,6 +81,46 @@ class RealMountTest(unittest.TestCase):
         found, status, answers = self.report()
         self.assertEqual((status, answers, found["faults"]), (GOOD, {"/alice": "contained", "/bob": "contained"}, []))
 
+    def without(self, name):
+        """The report of a helper that lacks a capability, with its lines of that."""
+        words = ["setpriv", f"--bounding-set=-{name}", sys.executable, COMMAND, "check", "--mount", MOUNT, "--only", self.top, "--json",
+                 "--zirofen", REAL_PROGRAM or PROGRAM]
+        found = json.loads(subprocess.run(words, capture_output=True, text=True,
+                                          env={**os.environ, "MADE_UP": "all,advise", "CALLS": os.devnull}).stdout)
+        return found, [each["text"] for each in found["snapshot"] if each["kind"] == "lacking"]
+
+    def test_a_helper_that_lacks_a_capability_says_so(self):
+        """What it finds less is a mark, and a descriptor of another's process."""
+        self.make("/marked")
+        os.setxattr(f"{MOUNT}{self.top}/marked", "trusted.delegate", b"1")
+        file = f"{MOUNT}{self.top}/beside/cgroup.max.depth"
+        os.chown(file, 1000, 1000)
+        held = subprocess.Popen(["setpriv", "--reuid", "1000", "--clear-groups", "sh", "-c", 'exec 3>>"$0"; echo; exec sleep 60', file],
+                                stdout=subprocess.PIPE)
+        self.addCleanup(self.end_process, held)
+        held.stdout.readline()
+        os.chown(file, 0, 0)
+        with open(f"{MOUNT}{self.top}/alice/cgroup.procs", "w", encoding="ascii") as out:
+            out.write(f"{held.pid}\n")
+
+        def seen(found):
+            return ([each["path"] for each in found["subtrees"] if each["meant"]],
+                    [each["text"] for each in found["unseen"] if each["kind"] == "descriptor" and "cgroup.max.depth" in each["text"]])
+        marked, descriptor = seen(self.report()[0])
+        self.assertEqual((marked, len(descriptor)), ([f"{self.top}/marked"], 1))
+        found, lacking = self.without("sys_admin")
+        self.assertEqual((seen(found), lacking), (([], descriptor), [
+            "this helper hasn't CAP_SYS_ADMIN: the mark trusted.delegate can't be seen, so that what was handed over by it alone isn't "
+            "asked"]))
+        found, lacking = self.without("sys_ptrace")
+        self.assertEqual((seen(found), lacking), ((marked, []), [
+            "this helper hasn't CAP_SYS_PTRACE: what others' processes hold open, and their namespaces, can't be seen"]))
+        self.assertEqual([each for each in self.report()[0]["snapshot"] if each["kind"] == "lacking"], [])
+
+    def end_process(self, started):
+        started.kill()
+        started.communicate()
+
     def test_what_comes_and_goes_beside(self):
         self.loop("/beside")
         for _ in range(3):

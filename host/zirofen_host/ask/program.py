@@ -10,7 +10,7 @@ from concurrent.futures import ThreadPoolExecutor
 from dataclasses import dataclass
 from typing import Callable, Collection, Dict, Iterable, Iterator, List, NamedTuple, Optional, Sequence, Tuple, TypeVar
 
-from zirofen_host import progress
+from zirofen_host import ending, progress
 from zirofen_host.ask.model import Abilities, Advice, Answer, Pair, Question
 from zirofen_host.collect.model import User
 from zirofen_host.fault import FAULT, Fault
@@ -77,7 +77,7 @@ class Program:
     tree: str
 
     def start(self, words: Sequence[str]) -> "subprocess.CompletedProcess[str]":
-        return subprocess.run([self.path, *words], stdin=subprocess.DEVNULL, capture_output=True, text=True, errors="replace")
+        return ending.run([self.path, *words])
 
     def try_start(self, words: Sequence[str]) -> "subprocess.CompletedProcess[str]":
         try:

@@ -7,10 +7,10 @@ from typing import Callable, Dict, Iterable, Iterator, List, Mapping, Optional, 
 from zirofen_host.collect import walk
 from zirofen_host.collect.model import About, Cgroup, Entry, Note, Placed, Process, Row, Snapshot, Tree, Value
 from zirofen_host.collect.mount import Mounts, read_kernel_list, refuse_what_is_no_host
-from zirofen_host.collect.processes import read_processes
+from zirofen_host.collect.processes import lacking_notes, read_processes
 from zirofen_host.collect.tree import tree_text as text_of_tree
 from zirofen_host.fault import Fault
-from zirofen_host.options import Options
+from zirofen_host.options import PROC, Options
 from zirofen_host.profile import (CONTROL_FILES, CONTROLLERS, KERNEL_LIST, LIMIT_FILES, MOST_PROCESSES, MOST_ROWS, CgroupPath, accepts,
                                   is_root, parent_of, path_of, shown, text_of, topmost)
 
@@ -146,10 +146,11 @@ def snapshot_of(settled: walk.Settled, processes: Mapping[int, Process], options
     rows = {path: bending.row(path, found) for path, found in cgroups.items()}
     placed, threads = bending.placed(rows, processes)
     tree = Tree(tuple(name for name in CONTROLLERS if name in root.available), rows, placed)
+    lacking = () if options.plain_folder else lacking_notes(PROC)
     return Snapshot(about=about_this_host(), mount=options.mount, mount_options=tuple(mounts.options(options.mount)), cgroups=cgroups,
                     tree=tree, processes=processes, kernel_threads=threads, places=walked.places,
                     kernel_list=read_kernel_list(None if options.plain_folder else KERNEL_LIST),
-                    notes=(*bending.notes, *version_1_notes(mounts)), changing=settled.changing,
+                    notes=(*bending.notes, *version_1_notes(mounts), *lacking), changing=settled.changing,
                     spoiled={path_of(path): why for path, why in settled.spoiled.items()},
                     left_out={path_of(path): entry for path, entry in settled.left_out.items()}, version_1=mounts.limits_of_version_1())
 

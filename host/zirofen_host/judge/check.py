@@ -1,10 +1,9 @@
 """A snapshot, everybody asked of everything in it, and the report that the answers come to."""
-import tempfile
-import time
 from collections import defaultdict
 from dataclasses import replace
 from typing import Dict, FrozenSet, List, Optional, Tuple
 
+from zirofen_host import output
 from zirofen_host.ask.asking import ask_all
 from zirofen_host.ask.model import Answer
 from zirofen_host.ask.program import CONTAINED
@@ -82,8 +81,7 @@ def report_of(checked: Checked, is_whole: bool) -> Report:
     entries, opened, faults = entry_findings(checked, advised), opened_findings(checked), fault_findings(checked, advised)
     made = Report(
         VERSION, answers.version, about.host or "", about.kernel or "",
-        about.time or time.strftime("%Y-%m-%dT%H:%M:%SZ", time.gmtime()), snapshot.mount,
-        checked.is_asked, answers.has_advise,
+        about.time or "", snapshot.mount, checked.is_asked, answers.has_advise,
         subtrees=tuple(subtree_of(checked, path) for path in checked.questions.subtrees), entries=entries,
         opened=tuple(opened.values()), faults=faults, differs=tuple(differs_findings(checked, opened)),
         above=tuple(above_findings(checked)),
@@ -97,5 +95,5 @@ def report_of(checked: Checked, is_whole: bool) -> Report:
 
 def report(snapshot: Snapshot, options: Options, is_whole: bool) -> Report:
     """The report on a host, with the host itself where it is to be whole."""
-    with tempfile.TemporaryDirectory() as folder:
+    with output.temporary_folder() as folder:
         return report_of(ask(snapshot, options, folder), is_whole)

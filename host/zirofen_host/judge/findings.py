@@ -14,17 +14,18 @@ from zirofen_host.judge.model import (AboveFinding, DiffersFinding, EntryFinding
 from zirofen_host.judge.names import Names
 from zirofen_host.judge.opened import GROUP_WRITES, OTHERS_WRITE, WHO_IS_FIRST, what_differs
 from zirofen_host.judge.shell import closing_commands
-from zirofen_host.profile import SETTINGS, CgroupPath, ancestors, is_inside, path_of, shown, text_of, topmost
+from zirofen_host.profile import CgroupPath, ancestors, is_inside, path_of, shown, text_of, topmost
 
 
 def owner_of(entry: Entry) -> Owner:
     return Owner(entry.uid, entry.gid, f"{entry.mode:03o}")
 
 
-def setting_of(place: Place) -> Optional[str]:
-    """The setting of a unit that brings back what a file has."""
-    unit, setting = unit_of(place.path), SETTINGS.get(place.name)
-    return f"{setting} of {unit}" if unit and setting else None
+def setting_of(path: CgroupPath) -> Optional[str]:
+    """The settings of a unit that bring back the owners of what it hands over. A scope isn't started again, and a slice hands
+    nothing over."""
+    unit = unit_of(path)
+    return f"Delegate= and User= of {unit}" if unit and unit.endswith(".service") else None
 
 
 def texts_of(paths: Iterable[CgroupPath]) -> Tuple[str, ...]:
@@ -52,7 +53,7 @@ def entry_finding(checked: Checked, advised: Advised, found: LetsIn, closing: Tu
     changes = checked.commands(advised.changes.get((path, place.name), ()))
     return EntryFinding(path, place.name, owner_of(found.entry) if found.entry else None, lines[0].split(" ")[0],
                         whom_of(checked.names, found.whom()), texts_of(in_order(topmost(found.subtrees))), example,
-                        (*changes, *(() if place.name == "dir" else closing)), setting_of(place))
+                        (*changes, *(() if place.name == "dir" else closing)), None)
 
 
 def closing_of(checked: Checked, place: Place, entry: Entry, let_in: Iterable[LetIn]) -> Tuple[str, ...]:
@@ -77,8 +78,7 @@ def opened_findings(checked: Checked) -> Dict[Place, OpenedFinding]:
             changes = closing_of(checked, place, entry, let_in)
             found[place] = OpenedFinding(
                 text_of(place.path), place.name, owner_of(entry), whom_of(checked.names, let_in),
-                (*changes, *(() if is_directory else closing.get(place.path, ()))), setting_of(place),
-                WHO_IS_FIRST if is_directory else None)
+                (*changes, *(() if is_directory else closing.get(place.path, ()))), None, WHO_IS_FIRST if is_directory else None)
     return found
 
 
@@ -150,8 +150,7 @@ def differs_findings(checked: Checked, opened: Iterable[Place]) -> Iterable[Diff
         differs = what_differs(checked.snapshot, path) if why == MANAGERS_MARK else {}
         differs = {name: entry for name, entry in differs.items() if Place(path, name) not in told}
         if differs:
-            unit = unit_of(path)
-            yield DiffersFinding(text_of(path), tuple(sorted(differs)), f"Delegate= and User= of {unit}" if unit else None,
+            yield DiffersFinding(text_of(path), tuple(sorted(differs)), setting_of(path),
                                  closing_commands(checked.snapshot.mount, text_of(path), differs))
 
 

@@ -157,7 +157,7 @@ def standing_line(compared: Comparison) -> str:
     told = "; ".join(each.line for each in compared.stand[:SHOWN])
     more = f"; and {len(compared.stand) - SHOWN} more" if len(compared.stand) > SHOWN else ""
     verb = "finding stands" if len(compared.stand) == 1 else "findings stand"
-    return f"{len(compared.stand)} {verb} since {compared.time}: {told}{more}"
+    return f"{len(compared.stand)} {verb} since {compared.time or compared.file}: {told}{more}"
 
 
 def comparison_lines(report: Report, compared: Comparison) -> Iterator[str]:
@@ -173,7 +173,7 @@ def comparison_lines(report: Report, compared: Comparison) -> Iterator[str]:
         yield standing_line(compared)
         yield from what_to_change(compared.stand)
     if not any(found for _, found in by_kind(compared)):
-        yield f"nothing is new, worse, changed or gone since {compared.time}"
+        yield f"nothing is new, worse, changed or gone since {compared.time or compared.file}"
     first = said_first(report, compared.status)
     if first:
         yield first
