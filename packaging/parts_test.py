@@ -1,6 +1,7 @@
 """Tests of the parts of ./package that take no program: archives, pages, completions, and what is installed beside it."""
 import io
 import os
+import re
 import shutil
 import subprocess
 import sys
@@ -97,13 +98,18 @@ class InstalledTest(unittest.TestCase):
 
     def check_again(self, helps):
         """What zirofen-host is asked for by two runs, of which the first leaves a baseline."""
-        with open(f"{self.room}/zirofen-host", "w", encoding="ascii") as out:
-            out.write(PLAYED)
-        os.chmod(f"{self.room}/zirofen-host", 0o755)
+        with open(f"{HERE}/check-again", encoding="ascii") as text:
+            script = text.read()
+        # by its whole path, wherever PATH leads
+        self.assertEqual(re.findall(r"\S*zirofen-host\b", re.sub("(?m)^#.*", "", script)), ["helper=/usr/bin/zirofen-host"])
+        for name, text in (("zirofen-host", PLAYED), ("check-again", script.replace("/usr/bin/", f"{self.room}/"))):
+            with open(f"{self.room}/{name}", "w", encoding="ascii") as out:
+                out.write(text)
+            os.chmod(f"{self.room}/{name}", 0o755)
         said = f"{self.room}/said"
-        environment = {"PATH": f"{self.room}:/usr/bin:/bin", "STATE_DIRECTORY": self.room, "SAID": said, "HELPS": helps}
+        environment = {"PATH": "/usr/bin:/bin", "STATE_DIRECTORY": self.room, "SAID": said, "HELPS": helps}
         for _ in range(2):
-            ended = subprocess.run([f"{HERE}/check-again"], env=environment, capture_output=True)
+            ended = subprocess.run([f"{self.room}/check-again"], env=environment, capture_output=True)
             self.assertEqual((ended.returncode, ended.stderr), (2, b""))
             open(f"{self.room}/baseline.json", "w", encoding="ascii").close()
         with open(said, encoding="ascii") as text:
@@ -138,6 +144,13 @@ class InstalledTest(unittest.TestCase):
     def host(self, *words):
         environment = {**os.environ, "ZIROFEN": f"{self.room}/none"}
         return subprocess.run([sys.executable, f"{TOP}/host/zirofen-host", *words], env=environment, capture_output=True, text=True)
+
+    def test_how_package_is_called(self):
+        before = os.listdir(self.room)
+        for words, status in ((["--help"], 0), (["-h"], 0), (["-x"], 2), (["--bilt"], 2), (["one", "two"], 2)):
+            ended = subprocess.run([f"{TOP}/package", *words], cwd=self.room, capture_output=True, text=True)
+            self.assertEqual((ended.returncode, os.listdir(self.room)), (status, before), words)
+            self.assertIn("usage: ./package [--built] [FOLDER]", ended.stderr if status else ended.stdout)
 
     def test_one_command_for_the_helpers(self):
         helpers = completions.commands_of(self.host("--help").stdout)

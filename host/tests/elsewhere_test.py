@@ -8,13 +8,15 @@ from dataclasses import replace
 
 from check_test import BY_GROUP, MARK, HostTest, owned
 from made_up import COMMAND
+from page_reader import PageReader
 from zirofen_host.collect import elsewhere
 from zirofen_host.ask import accepted
 from zirofen_host.ask.questions import subtrees_by
 from zirofen_host.collect.accounts import accounts_of
-from zirofen_host.judge import check, one
+from zirofen_host.judge import baseline, check, one
 from zirofen_host.options import AskOptions
-from shown import lines_of
+from shown import comparison_lines, lines_of, made
+from zirofen_host.show import page, tree_view
 from zirofen_host.fault import Fault
 from zirofen_host.collect.mount import Mounts
 from zirofen_host.collect.walk import CHANGED
@@ -103,6 +105,22 @@ class ElsewhereTest(HostTest):
         taken = accepted.take(options, lambda *_: [b"/up/svc"])
         told, status = one.ask(taken, options, self.fail)
         self.assertEqual((told[0], status), ("escapes", 1))
+
+    def test_a_text_that_carries_nothing_of_its_host(self):
+        """It is dated by itself alone, and a page of it has a title."""
+        self.write(with_host=False)
+        found = self.elsewhere(accounts=self.host.etc)
+        self.assertEqual((found["host"], found["kernel"], found["time"]), ("", "", ""))
+        reader = PageReader(page.page([made(found)]))
+        self.assertIn("Made of a report of a tree text, at a time that isn't told, with made-up 1.0.", reader.text())
+        self.assertIn("a tree text\n", reader.text())
+        self.assertIn("<title>Zirofen: a tree text</title>", page.page([made(found)]))
+        drawn = tree_view.draw(made(found), tree_view.Drawing())
+        self.assertEqual(drawn[0], "a tree text, made-up 1.0")
+        compared = baseline.compared(made(found), replace(made(found), accepted=True), "/before.json")
+        self.assertEqual(list(comparison_lines(replace(made(found), baseline=compared))), ["nothing is new, worse, changed or gone since /before.json"])
+        self.write()
+        self.assertRegex(page.page([made(self.elsewhere())]), r'at <time datetime="20[^"]*Z">20[^<]*Z</time>, with made-up 1.0\.')
 
     def test_a_text_that_the_program_refuses(self):
         for text in ("no text", "format = 2\n", "\xff"):

@@ -1,8 +1,10 @@
 """Tests of what one user does to keep others from their answers, or to have the helpers lie, hang or end badly."""
 import ast
 import glob
+import grp
 import json
 import os
+import pwd
 import re
 import shutil
 import subprocess
@@ -16,7 +18,8 @@ from made_up import COMMAND, TOP
 from zirofen_host import fault
 from zirofen_host.collect import bounded, processes
 from zirofen_host.ask import questions
-from shown import lines_of
+from shown import lines_of, made
+from zirofen_host.judge import as_json
 from zirofen_host.collect.accounts import accounts_here
 from zirofen_host.collect.model import Entry
 from zirofen_host.collect.mount import Mounts
@@ -24,8 +27,9 @@ from zirofen_host.ask.texts import Programs
 
 OLDEST = (3, 9)
 # modules that it has
-MODULES = set("argparse atexit base64 bisect collections concurrent dataclasses datetime enum errno functools grp hashlib html itertools "
-              "json os pwd re shlex shutil signal stat string subprocess sys tempfile textwrap time typing unicodedata".split())
+MODULES = set("argparse atexit base64 bisect collections concurrent contextlib dataclasses datetime enum errno functools grp hashlib html "
+              "itertools json os pwd re shlex shutil signal stat string subprocess sys tempfile textwrap time types typing "
+              "unicodedata".split())
 # what reads a text takes one of these
 READERS = {"tomllib", "tomli"}
 # what came later, by its name
@@ -104,6 +108,20 @@ class NamesTest(HostTest):
         self.harmless(found)
         self.assertIn("'al\\x1b[2Jice'(1000)", "\n".join(lines_of(found)))
         self.assertEqual(found["processes"][0]["name"], "'x\\x1b[31m'")
+
+    def test_a_name_of_no_utf_8_in_the_hosts_own_look_up(self):
+        """The look-up keeps such a byte, and JSON with it is read nowhere else."""
+        self.host.cgroup("/alice", owners={**owned(1000), "memory.max": (0, 50)}, modes={"memory.max": 0o664}, pids=(7,))
+        self.host.process(7, uid=1000, gid=1000)
+        accounts = [pwd.struct_passwd(("al\udcffice", "x", 1000, 1000, "", "/", ""))]
+        groups = [grp.struct_group(("te\udcfeam", "x", 50, ["al\udcffice"]))]
+        with mock.patch.object(pwd, "getpwall", lambda: accounts), mock.patch.object(grp, "getgrall", lambda: groups):
+            found = self.report(json=True, accounts=None)
+        written = "".join(as_json.parts_of(made(found)))
+        json.dumps(json.loads(written), ensure_ascii=False).encode("utf-8")
+        self.harmless(found)
+        self.assertEqual({each["uid"]: each["name"] for each in found["users"]}, {1000: "'al\\udcffice'", 1001: None})
+        self.assertIn({"gid": 50, "name": "'te\\udcfeam'"}, found["groups"])
 
     def test_a_process_cant_name_itself_another_user(self):
         self.host.process(7, uid=1000, gid=1000, name="x\x0bUid:\t0\t0\x0cGid:")

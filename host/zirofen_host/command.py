@@ -1,11 +1,10 @@
 """The command `zirofen-host`: what each subcommand does with what it was asked for."""
 import argparse
 import dataclasses
-import subprocess
 import sys
 from typing import Callable, Dict, Iterator, List, Mapping, NoReturn, Optional, Tuple
 
-from zirofen_host import fault, installed
+from zirofen_host import ending, fault, installed
 from zirofen_host.arguments import ARGUMENTS, DESCRIPTIONS, NAME, parser_of
 from zirofen_host.ask import accepted
 from zirofen_host.ask.delegations import Delegations
@@ -165,7 +164,7 @@ def help_text() -> str:
 def tell_version() -> int:
     """The version is the program's."""
     program = installed.default_program()
-    said = subprocess.run([program, "--version"], capture_output=True, text=True, check=False)
+    said = ending.run([program, "--version"])
     if said.returncode:
         raise fault.Fault(f"{program} doesn't run here, and ended with status {said.returncode}")
     fault.write(said.stdout.replace("zirofen ", f"{NAME} "))

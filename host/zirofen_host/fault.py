@@ -6,10 +6,9 @@ import sys
 import time
 from typing import Callable, Iterable, NoReturn, Optional
 
-from zirofen_host import progress
+from zirofen_host import ending, progress
 
 FAULT = 3
-INTERRUPTED = 130
 
 
 class Fault(Exception):
@@ -88,6 +87,7 @@ def write_lines(lines: Iterable[str]) -> None:
 
 def run(name: str, main: Callable[[], int]) -> NoReturn:
     """Runs a command's main; a fault is one line on standard error, with status 3."""
+    ending.take_signals(name)
     try:
         status = main()
     except Fault as fault:
@@ -101,9 +101,6 @@ def run(name: str, main: Callable[[], int]) -> NoReturn:
     except SystemExit as ended:
         # argparse ends with 2 where the options are wrong, and this is another answer's status
         status = FAULT if ended.code else 0
-    except KeyboardInterrupt:
-        progress.end()
-        status = INTERRUPTED
     except OSError as error:
         warn(f"{name}: {error}")
         status = FAULT

@@ -10,7 +10,7 @@ from concurrent.futures import ThreadPoolExecutor
 from dataclasses import dataclass
 from typing import Callable, Collection, Dict, Iterable, Iterator, List, NamedTuple, Optional, Sequence, Tuple, TypeVar
 
-from zirofen_host import progress
+from zirofen_host import ending, progress
 from zirofen_host.ask.model import Abilities, Advice, Answer, Pair, Question
 from zirofen_host.collect.model import User
 from zirofen_host.fault import FAULT, Fault, OutOfTime, seconds_left
@@ -76,7 +76,7 @@ def program_at(path: str) -> str:
     if not os.path.isfile(path) or os.path.realpath(path) != os.path.realpath(WRAPPER):
         return path
     try:
-        told = subprocess.run([path, "--which"], stdin=subprocess.DEVNULL, capture_output=True, text=True, errors="replace")
+        told = ending.run([path, "--which"])
     except OSError:
         return path
     found = told.stdout.rstrip("\n")
@@ -90,8 +90,7 @@ class Program:
     tree: str
 
     def start(self, words: Sequence[str]) -> "subprocess.CompletedProcess[str]":
-        return subprocess.run([self.path, *words], stdin=subprocess.DEVNULL, capture_output=True, text=True, errors="replace",
-                              timeout=seconds_left())
+        return ending.run([self.path, *words], seconds_left())
 
     def try_start(self, words: Sequence[str]) -> "subprocess.CompletedProcess[str]":
         try:

@@ -8,7 +8,7 @@ from dataclasses import dataclass
 from itertools import accumulate
 from typing import AbstractSet, Callable, Dict, Iterable, List, Mapping, Sequence, Set, Tuple
 
-from zirofen_host import progress
+from zirofen_host import output, progress
 from zirofen_host.ask.model import Advice, Question
 from zirofen_host.ask.program import Answered, Program
 from zirofen_host.collect import snapshot as snapshots
@@ -222,13 +222,14 @@ class Programs:
 
 
 def write(texts: Texts, options: Options, folder: str, snapshot: Snapshot) -> Programs:
-    """Writes the texts into a folder, or to where they are to be kept, for the program to be asked in them."""
+    """Writes the texts into a folder for the program to be asked in them, and to where they are to be kept."""
     of: Dict[CgroupPath, Program] = {}
     for number, text in enumerate(texts.texts, 1):
         file = snapshot.source.file
         if not (file and text.is_whole()):
-            file = f"{options.keep}.{number}" if options.keep and number > 1 else options.keep or f"{folder}/{number}.toml"
-            with open(file, "w", encoding="ascii") as out:
-                out.write(text.written(snapshots.head(snapshot)))
+            file, written = f"{folder}/{number}.toml", text.written(snapshots.head(snapshot))
+            output.make(file, written.encode("ascii"))
+            if options.keep:
+                output.write(f"{options.keep}.{number}" if number > 1 else options.keep, [written], "the tree text")
         of.update(dict.fromkeys(text.subtrees, Program(options.program, file)))
     return Programs(texts.texts, of)

@@ -1,9 +1,9 @@
 """Processes, as /proc tells of them."""
-from typing import Dict, List, Mapping, Optional, Tuple
+from typing import Dict, Iterator, List, Mapping, Optional, Tuple
 
 from zirofen_host.collect import bounded
 from zirofen_host.collect.bounded import Payer, Spent
-from zirofen_host.collect.model import Process, User
+from zirofen_host.collect.model import Note, Process, User
 
 KERNEL_THREAD = 0x00200000
 
@@ -11,6 +11,10 @@ KERNEL_THREAD = 0x00200000
 # permitted and not effective is raised again at will
 CAPABILITIES = {0: "CHOWN", 1: "DAC_OVERRIDE", 3: "FOWNER", 6: "SETGID", 7: "SETUID", 16: "SYS_MODULE", 17: "SYS_RAWIO",
                 19: "SYS_PTRACE", 21: "SYS_ADMIN"}
+# what a helper sees by a capability alone: the numbers of which one is enough, its name, and what isn't seen without
+NEEDED = (({21}, "SYS_ADMIN", "the mark trusted.delegate can't be seen, so that what was handed over by it alone isn't asked"),
+          ({19}, "SYS_PTRACE", "what others' processes hold open, and their namespaces, can't be seen"),
+          ({1, 2}, "DAC_READ_SEARCH", "what its owner closed to others can't be read"))
 FIRST_USER_NAMESPACE = "user:[4026531837]"
 
 Fields = Mapping[str, List[str]]
@@ -108,6 +112,14 @@ def capabilities_of(proc: str, pid: int, bits: int) -> Tuple[str, ...]:
         return names if not names or bounded.read_link(f"{proc}/{pid}/ns/user") == FIRST_USER_NAMESPACE else ()
     except OSError:
         return names
+
+
+def lacking_notes(proc: str) -> Iterator[Note]:
+    """What this process can't see for want of a capability."""
+    bits = int(status_fields(bounded.read_file(f"{proc}/self/status", bounded.STATUS).text("utf-8", "replace"))["CapEff"][0], 16)
+    for numbers, name, unseen in NEEDED:
+        if not any(bits >> number & 1 for number in numbers):
+            yield Note("lacking", "/", f"this helper hasn't CAP_{name}: {unseen}")
 
 
 def read_processes(proc: str) -> Dict[int, Process]:

@@ -8,10 +8,10 @@ from zirofen_host.collect import walk
 from zirofen_host.collect.accounts import payer_of
 from zirofen_host.collect.model import About, Cgroup, Entry, Note, Placed, Process, Row, Snapshot, Tree, Value
 from zirofen_host.collect.mount import Mounts, read_kernel_list, refuse_what_is_no_host
-from zirofen_host.collect.processes import Reader
+from zirofen_host.collect.processes import Reader, lacking_notes
 from zirofen_host.collect.tree import tree_text as text_of_tree
 from zirofen_host.fault import Fault
-from zirofen_host.options import Options
+from zirofen_host.options import PROC, Options
 from zirofen_host.profile import (CONTROL_FILES, CONTROLLERS, KERNEL_LIST, LIMIT_FILES, MOST_ROWS, CgroupPath, accepts,
                                   is_root, parent_of, path_of, shown, text_of, topmost)
 
@@ -152,10 +152,11 @@ def snapshot_of(settled: walk.Settled, reader: Reader, options: Options, mounts:
     rows = {path: bending.row(path, found) for path, found in cgroups.items()}
     placed, threads = bending.placed(rows, processes)
     tree = Tree(tuple(name for name in CONTROLLERS if name in root.available), rows, placed)
+    lacking = () if options.plain_folder else lacking_notes(PROC)
     return Snapshot(about=about_this_host(), mount=options.mount, mount_options=tuple(mounts.options(options.mount)), cgroups=cgroups,
                     tree=tree, processes=processes, kernel_threads=threads, places=walked.places,
                     kernel_list=read_kernel_list(None if options.plain_folder else KERNEL_LIST),
-                    notes=(*bending.notes, *version_1_notes(mounts)), changing=settled.changing,
+                    notes=(*bending.notes, *version_1_notes(mounts), *lacking), changing=settled.changing,
                     spoiled={path_of(path): why for path, why in settled.spoiled.items()},
                     left_out={path_of(path): entry for path, entry in settled.left_out.items()}, version_1=mounts.limits_of_version_1(),
                     makers={path_of(path): walked.holds[path].uid for path in settled.changing if path in walked.holds},

@@ -1,9 +1,10 @@
 """What is new, worse, gone or changed since an earlier report."""
 import dataclasses
 import json
-import os
+from itertools import chain
 from typing import Dict, FrozenSet, Iterable, Iterator, List, NamedTuple, Optional, Tuple, Union
 
+from zirofen_host import output
 from zirofen_host.ask.program import CONTAINED
 from zirofen_host.collect.bounded import REPORT_FILE, read_file
 from zirofen_host.fault import Fault
@@ -67,16 +68,7 @@ def accepted_lines(report: Report) -> Iterator[str]:
 
 def write(file: str, report: Report, is_accepted: bool) -> None:
     """Leaves a report as a baseline: the whole of it, or what stood there before."""
-    new = f"{file}.new"
-    try:
-        with open(os.open(new, os.O_WRONLY | os.O_CREAT | os.O_TRUNC | os.O_NOFOLLOW, 0o644), "w", encoding="ascii") as out:
-            out.writelines(as_json.parts_of(dataclasses.replace(report, baseline=ABSENT, accepted=is_accepted)))
-            out.write("\n")
-            out.flush()
-            os.fsync(out.fileno())
-        os.replace(new, file)
-    except OSError as error:
-        raise Fault(f"can't write the baseline {shown(file)}: {error.strerror}") from None
+    output.write(file, chain(as_json.parts_of(dataclasses.replace(report, baseline=ABSENT, accepted=is_accepted)), ["\n"]), "the baseline")
 
 
 def found_in(report: Report) -> Dict[Key, Found]:

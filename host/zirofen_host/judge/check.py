@@ -1,10 +1,9 @@
 """A snapshot, everybody asked of everything in it, and the report that the answers come to."""
-import tempfile
-import time
 from collections import defaultdict
 from dataclasses import replace
 from typing import Dict, FrozenSet, List, Optional, Tuple
 
+from zirofen_host import output
 from zirofen_host.ask.asking import ask_all
 from zirofen_host.ask.model import Answer
 from zirofen_host.ask.program import CONTAINED
@@ -93,7 +92,7 @@ def report_of(checked: Checked, is_whole: bool) -> Report:
     notes = tuple(noted(checked, note) for note in snapshot.notes)
     made = Report(
         VERSION, answers.version, about.host or "", about.kernel or "",
-        about.time or time.strftime("%Y-%m-%dT%H:%M:%SZ", time.gmtime()), snapshot.mount, checked.is_asked, answers.has_advise,
+        about.time or "", snapshot.mount, checked.is_asked, answers.has_advise,
         subtrees=subtrees, entries=entries, opened=tuple(opened.values()), faults=faults, differs=differs, above=above,
         unseen=told, snapshot=notes, status=CONTAINED, version_1=snapshot.version_1)
     if is_whole:
@@ -110,5 +109,5 @@ def noted(checked: Checked, note: Note) -> Told:
 
 def report(snapshot: Snapshot, options: Options, is_whole: bool) -> Report:
     """The report on a host, with the host itself where it is to be whole."""
-    with tempfile.TemporaryDirectory() as folder:
+    with output.temporary_folder() as folder:
         return report_of(ask(snapshot, options, folder), is_whole)

@@ -2,6 +2,7 @@
 from collections import defaultdict
 from typing import Dict, Iterable, List, Mapping, Optional, Tuple
 
+from zirofen_host.ask.program import ESCAPES
 from zirofen_host.ask.questions import unit_of
 from zirofen_host.collect.model import GROUP, OTHERS, OWNER, Entry, User
 from zirofen_host.collect.tree import in_order
@@ -15,7 +16,7 @@ from zirofen_host.judge.model import (AboveFinding, DiffersFinding, EntryFinding
 from zirofen_host.judge.names import Names
 from zirofen_host.judge.opened import GROUP_WRITES, OTHERS_WRITE, WHO_IS_FIRST, what_differs
 from zirofen_host.judge.shell import closing_commands
-from zirofen_host.profile import SETTINGS, CgroupPath, ancestors, is_inside, path_of, shown, text_of, topmost
+from zirofen_host.profile import CgroupPath, ancestors, is_inside, path_of, shown, text_of, topmost
 
 NO_CLOSING: Mapping[CgroupPath, Tuple[str, ...]] = {}
 
@@ -24,10 +25,11 @@ def owner_of(entry: Entry) -> Owner:
     return Owner(entry.uid, entry.gid, f"{entry.mode:03o}")
 
 
-def setting_of(place: Place) -> Optional[str]:
-    """The setting of a unit that brings back what a file has."""
-    unit, setting = unit_of(place.path), SETTINGS.get(place.name)
-    return f"{setting} of {unit}" if unit and setting else None
+def setting_of(path: CgroupPath) -> Optional[str]:
+    """The settings of a unit that bring back the owners of what it hands over. A scope isn't started again, and a slice hands
+    nothing over."""
+    unit = unit_of(path)
+    return f"Delegate= and User= of {unit}" if unit and unit.endswith(".service") else None
 
 
 def texts_of(paths: Iterable[CgroupPath]) -> Tuple[str, ...]:
@@ -55,7 +57,7 @@ def entry_finding(checked: Checked, advised: Advised, found: LetsIn, closing: Tu
     changes = checked.commands(advised.changes_of(found))
     return EntryFinding(path, place.name, owner_of(found.entry) if found.entry else None, lines[0].split(" ")[0],
                         whom_of(checked.names, found.whom()), texts_of(in_order(topmost(found.subtrees))), example,
-                        (*changes, *(() if place.name == "dir" else closing)), setting_of(place), checked.holds.within(place.path),
+                        (*changes, *(() if place.name == "dir" else closing)), None, checked.holds.within(place.path),
                         is_own_affair(checked, place, found.whom(), found.subtrees))
 
 
@@ -82,16 +84,24 @@ def closing_of_directories(checked: Checked) -> Mapping[CgroupPath, Tuple[str, .
 
 
 def opened_findings(checked: Checked) -> Iterable[Tuple[Place, OpenedFinding]]:
-    """Everything that stands open, but for the limits that the answers show."""
+    """Everything that stands open, but for what the answers show."""
     closing = closing_of_directories(checked)
     for place, entry, let_in in checked.openings:
-        is_directory = place.name == "dir"
-        if is_directory or place not in checked.judged.entries:
+        if not is_shown(checked, place, let_in):
+            is_directory = place.name == "dir"
             changes = closing_of(checked, place, entry, let_in)
             yield place, OpenedFinding(
                 text_of(place.path), place.name, owner_of(entry), whom_of(checked.names, let_in),
-                (*changes, *(() if is_directory else closing.get(place.path, ()))), setting_of(place),
-                WHO_IS_FIRST if is_directory else None, checked.holds.within(place.path), is_own_affair(checked, place, let_in, ()))
+                (*changes, *(() if is_directory else closing.get(place.path, ()))), None, WHO_IS_FIRST if is_directory else None,
+                checked.holds.within(place.path), is_own_affair(checked, place, let_in, ()))
+
+
+def is_shown(checked: Checked, place: Place, let_in: Iterable[LetIn]) -> bool:
+    """Whether the answers show an entry: of a directory that a manager makes something in, an escape of all whom it lets in."""
+    shown_by = checked.judged.entries.get(place)
+    if shown_by is None or place.name != "dir":
+        return shown_by is not None
+    return shown_by.answer.status == ESCAPES and {(each.by, each.id) for each in let_in} <= set(shown_by.uids)
 
 
 def fault_findings(checked: Checked, advised: Advised) -> Iterable[FaultFinding]:
@@ -167,8 +177,7 @@ def differs_findings(checked: Checked, opened: Iterable[Place]) -> Iterable[Diff
         differs = what_differs(checked.snapshot, path) if why == MANAGERS_MARK else {}
         differs = {name: entry for name, entry in differs.items() if Place(path, name) not in told}
         if differs:
-            unit = unit_of(path)
-            yield DiffersFinding(text_of(path), tuple(sorted(differs)), f"Delegate= and User= of {unit}" if unit else None,
+            yield DiffersFinding(text_of(path), tuple(sorted(differs)), setting_of(path),
                                  closing_commands(checked.snapshot.mount, text_of(path), differs))
 
 

@@ -1,10 +1,10 @@
 """One user and one subtree, by name."""
 import os
 import pwd
-import tempfile
 from dataclasses import dataclass
 from typing import AbstractSet, Callable, Dict, Iterable, Iterator, List, Optional, Tuple
 
+from zirofen_host import output
 from zirofen_host.ask.delegations import Delegations
 from zirofen_host.ask.model import Answer, Holders
 from zirofen_host.ask.program import Program, Refused, abilities_of, answer_of, user_words, worst
@@ -142,7 +142,7 @@ def ask(snapshot: Snapshot, options: AskOptions, warn: Warn) -> Tuple[List[str],
     users = users_of(options.user, accounts, not options.accounts and snapshot.source.file is None)
     if not any(is_known(user, snapshot.tree, accounts) for user in users):
         warn(f"uid {users[0].uid} owns nothing, writes nothing of his own, has no process and no account here")
-    with tempfile.TemporaryDirectory() as folder:
+    with output.temporary_folder() as folder:
         delegations = Delegations(snapshot.tree, accounts)
         program = program_for(snapshot, options, folder, delegations, {user.uid for user in users})
         one = One(path_of(options.path), snapshot.mount, delegations, program)

@@ -15,11 +15,11 @@ from zirofen_host.profile import CONTROL_FILES, CgroupPath, is_other_limit, show
 
 def users_of(checked: Checked) -> Iterable[ReportUser]:
     for uid in sorted({*checked.asked, *(uid for _, uid, _ in checked.snapshot.tree.processes)}):
-        yield ReportUser(uid, checked.names.users.get(uid), tuple(user.gids for user in checked.asked.get(uid, ())))
+        yield ReportUser(uid, checked.names.user_name(uid), tuple(user.gids for user in checked.asked.get(uid, ())))
 
 
 def groups_of(checked: Checked) -> Iterable[ReportGroup]:
-    return (ReportGroup(gid, name) for gid, name in sorted(checked.names.groups.items()))
+    return (ReportGroup(gid, shown(name)) for gid, name in sorted(checked.names.groups.items()))
 
 
 def cgroups_of(checked: Checked, looks: Looks) -> Tuple[ReportCgroup, ...]:

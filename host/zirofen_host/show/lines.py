@@ -218,7 +218,7 @@ def standing_line(compared: Comparison) -> str:
     told = "; ".join(each.line for each in compared.stand[:SHOWN])
     more = f"; and {len(compared.stand) - SHOWN} more" if len(compared.stand) > SHOWN else ""
     verb = "finding stands" if len(compared.stand) == 1 else "findings stand"
-    return f"{len(compared.stand)} {verb} since {compared.time}: {told}{more}"
+    return f"{len(compared.stand)} {verb} since {compared.time or compared.file}: {told}{more}"
 
 
 def comparison_lines(report: Report, compared: Comparison, is_each: bool = False) -> Iterator[str]:
@@ -235,7 +235,7 @@ def comparison_lines(report: Report, compared: Comparison, is_each: bool = False
         yield from folded((Part(each.within, (each.what, each.status), each.what, None, list(what_to_change([each])))
                            for each in compared.stand if each.within is not None and each.changes), is_each)
     if not any(found for _, found in by_kind(compared)):
-        yield f"nothing is new, worse, changed or gone since {compared.time}"
+        yield f"nothing is new, worse, changed or gone since {compared.time or compared.file}"
     first = said_first(report, compared.status)
     if first:
         yield first

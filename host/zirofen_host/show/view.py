@@ -69,12 +69,17 @@ def present(parts: Union[Tuple[One, ...], Absent]) -> Tuple[One, ...]:
     return () if isinstance(parts, Absent) else parts
 
 
+# as many bytes as no machine has: where a kernel doesn't write max, its own bound rounded down to whole pages, below 2^63
+NO_LIMIT = 2**62
+
+
 def is_usual(file: str, value: Optional[Value]) -> bool:
     """Whether a limit is as it is where nobody has set it."""
     if file in LIMIT_FILES:
         return value == LIMIT_FILES[file][1]
     usual = USUAL.get(file, "max" if file.rpartition(".")[2] in ("max", "high") else "0" if file.endswith(".min") else "")
-    return value in (None, "", usual)
+    is_none = usual == "max" and str(value).isdigit() and int(value or 0) >= NO_LIMIT
+    return is_none or value in (None, "", usual)
 
 
 def is_handed(entry: Union[Owner, ReportFile], held: HeldBy) -> bool:
