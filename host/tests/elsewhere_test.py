@@ -93,8 +93,8 @@ class ElsewhereTest(HostTest):
         taken = replace(taken, changing={b"/up/svc/new": CHANGED, b"/elsewhere": CHANGED})
         self.write(False, taken)
         found = self.elsewhere(accounts=self.host.etc)
-        self.assertEqual([(each["who"], each["subtrees"]) for each in found["faults"]], [("everybody", ["/up", "/up/svc"])])
-        self.assertEqual([row[3] for row in self.rows(found)], ["/team", "/up/m.service"])
+        self.assertEqual([(each["who"], each["subtrees"]) for each in found["faults"]], [("everybody", ["/up/svc"])])
+        self.assertEqual([row[3] for row in self.rows(found)], ["/team", "/up", "/up/m.service"])
         taken = replace(taken, changing={b"/elsewhere": "can't read it: no"})
         self.write(False, taken)
         self.assertEqual([each["fault"] for each in self.elsewhere(accounts=self.host.etc)["faults"]], ["can't read it: no"])
@@ -118,7 +118,8 @@ class ElsewhereTest(HostTest):
         drawn = tree_view.draw(made(found), tree_view.Drawing())
         self.assertEqual(drawn[0], "a tree text, made-up 1.0")
         compared = baseline.compared(made(found), replace(made(found), accepted=True), "/before.json")
-        self.assertEqual(list(comparison_lines(replace(made(found), baseline=compared))), ["nothing is new, worse, changed or gone since /before.json"])
+        self.assertEqual(list(comparison_lines(replace(made(found), baseline=compared))),
+                         ["nothing is new, worse, changed or gone since /before.json"])
         self.write()
         self.assertRegex(page.page([made(self.elsewhere())]), r'at <time datetime="20[^"]*Z">20[^<]*Z</time>, with made-up 1.0\.')
 

@@ -4,6 +4,7 @@ import unittest
 import unittest.mock
 
 from check_test import HostTest, owned
+from zirofen_host.collect.bounded import Budget
 from zirofen_host import files
 from zirofen_host.files import Kind, kind_of
 from zirofen_host.profile import CONTROL_FILES, LIMIT_FILES, SETTINGS, USUAL_LIST
@@ -107,11 +108,11 @@ class CapabilitiesTest(HostTest):
         for pid, uid in ((7, 1000), (2000, 1000)):
             self.host.process(pid, uid=uid, gid=uid, threads=(0,) * 1500)
         self.host.process(9000, uid=1001, gid=1001, threads=(1 << 21,))
-        with unittest.mock.patch("zirofen_host.collect.processes.MOST_THREADS", 2000):
+        with unittest.mock.patch("zirofen_host.collect.bounded.THREADS", Budget("threads", 2000)):
             found = self.report()
         self.assertEqual(self.told(found, "capability"), [
             "/b.service: inside: process 9000 of bob(1001) has CAP_SYS_ADMIN, and passes over owners",
-            "alice(1000): 1002 threads weren't looked at: more than 4096 run"])
+            "alice(1000): 1002 threads weren't looked at: more than 2000 run"])
 
 
 if __name__ == "__main__":

@@ -8,7 +8,7 @@ import unittest
 from unittest import mock
 
 from made_up import DELEGATED, KERNEL_THREAD, TOP, MadeUpTest, path
-from zirofen_host.collect import mount, snapshot, walk
+from zirofen_host.collect import mount, walk
 from zirofen_host.fault import Fault
 from zirofen_host.profile import text_of
 from zirofen_host.collect.mount import Mounts
