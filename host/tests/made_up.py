@@ -12,6 +12,7 @@ COMMAND = os.path.join(TOP, "host", "zirofen-host")
 sys.path.insert(0, os.path.join(TOP, "host"))
 
 from zirofen_host.collect import walk  # noqa: E402
+from zirofen_host.collect.bounded import Attributes  # noqa: E402
 from zirofen_host.collect.accounts import Accounts, accounts_here  # noqa: E402
 from zirofen_host.collect.processes import read_processes  # noqa: E402
 from zirofen_host.options import Options  # noqa: E402
@@ -94,17 +95,29 @@ class MadeUp:
             with open(f"{folder}/status", "w", encoding="ascii") as out:
                 out.write(STATUS.format(permitted=each, **told))
         if namespace:
-            os.makedirs(f"{self.proc}/{pid}/ns")
+            os.makedirs(f"{self.proc}/{pid}/ns", exist_ok=True)
             os.symlink(f"user:[{namespace}]", f"{self.proc}/{pid}/ns/user")
         with open(f"{self.proc}/{pid}/stat", "w", encoding="ascii") as out:
             out.write(STAT.format(pid=pid, flags=flags))
 
-    def opens(self, pid, number, path, flags):
+    def opens(self, pid, number, path, flags, mount=3, has_inode=True, more=""):
         for folder in ("fd", "fdinfo"):
             os.makedirs(f"{self.proc}/{pid}/{folder}", exist_ok=True)
         os.symlink(self.mount + path, f"{self.proc}/{pid}/fd/{number}")
         with open(f"{self.proc}/{pid}/fdinfo/{number}", "w", encoding="ascii") as out:
-            out.write(f"pos:\t0\nflags:\t0{flags:o}\nmnt_id:\t3\n")
+            is_there = has_inode and os.path.exists(self.mount + path)
+            inode = f"ino:\t{os.stat(self.mount + path).st_ino if is_there else 1}\n" if has_inode else ""
+            out.write(f"pos:\t0\nflags:\t0{flags:o}\nmnt_id:\t{mount}\n{inode}{more}")
+        if not os.path.exists(f"{self.proc}/{pid}/mountinfo"):
+            self.mounts(pid, "3 1 0:29 / /sys/fs/cgroup rw - cgroup2 cgroup2 rw\n")
+
+    def mounts(self, pid, text, namespace=None):
+        """The mounts that a process sees, and maybe in which namespace."""
+        os.makedirs(f"{self.proc}/{pid}/ns", exist_ok=True)
+        if namespace:
+            os.symlink(f"mnt:[{namespace}]", f"{self.proc}/{pid}/ns/mnt")
+        with open(f"{self.proc}/{pid}/mountinfo", "w", encoding="ascii") as out:
+            out.write(text)
 
     def accounts(self, **files):
         for name, text in files.items():
@@ -139,7 +152,8 @@ class MadeUp:
         return entry.uid, entry.gid, entry.mode
 
     def marks_of(self, folder):
-        return self.marks.get(os.stat(folder).st_ino, {})
+        marks = self.marks.get(os.stat(folder).st_ino, {})
+        return Attributes(marks, sum(map(len, marks.values())))
 
     @contextlib.contextmanager
     def owned(self):

@@ -10,7 +10,10 @@ from typing import (AbstractSet, Callable, Collection, Container, DefaultDict, D
 from zirofen_host.ask.delegations import Delegations
 from zirofen_host.ask.model import Answer, Cut, Guarded, Holders, Pair, Plan, Question
 from zirofen_host.ask.program import ESCAPES
+from zirofen_host.collect import bounded
 from zirofen_host.collect.accounts import Accounts, accounts_of
+from zirofen_host.collect.bounded import Spent
+from zirofen_host.collect.holds import Holds
 from zirofen_host.collect.model import CLASSES, GROUP, OTHERS, OWNER, Snapshot, Tree, User
 from zirofen_host.collect.snapshot import SubtreesOf
 from zirofen_host.collect.tree import in_order
@@ -290,6 +293,27 @@ def with_questions(plan: Plan, questions: Questions, asked: Mapping[CgroupPath, 
                 by_users[holders] += some
     asks = tuple(Question(tuple(sorted(users)), tuple(paths)) for users, paths in by_users.items() if users)
     return replace(plan, questions=asks, expected_of=expected_of)
+
+
+def bounded_plan(questions: Questions, plan: Plan) -> Tuple[Plan, Dict[CgroupPath, str]]:
+    """A plan with no more uids of one person's than are asked of, and no more questions for what one person made: of what is over
+    these budgets nothing is asked, and it is told of which subtrees, each with why."""
+    payer = questions.accounts.payer
+    holds, runs, users = Holds(questions.tree.rows, payer), Spent(bounded.RUNS, payer), Spent(bounded.USERS, payer)
+    uids = {user.uid for each in plan.questions for user in each.users}
+    left_out = {uid for uid in sorted(uids, key=lambda uid: (payer(uid) != uid, uid)) if not users.take(uid)}
+    over, kept = {}, []
+    for each in plan.questions:
+        makers = {path: holds.within(path) or 0 for path in each.subtrees}
+        dropped = {maker for maker in set(makers.values()) if not runs.take(maker)}
+        over.update({path: bounded.RUNS.told(maker) for path, maker in makers.items() if maker in dropped})
+        some = Question(tuple(user for user in each.users if user.uid not in left_out),
+                        tuple(path for path in each.subtrees if makers[path] not in dropped))
+        kept += [some] if some.users and some.subtrees else []
+    lost = {payer(uid) for uid in left_out}
+    over.update({path: bounded.USERS.told(person) for path in questions.subtrees for person in lost
+                 if any(payer(uid) == person for uid in questions.holders[path].uids)} if lost else {})
+    return replace(plan, questions=tuple(kept)), over
 
 
 def named_as_asked(plan: Plan, path: CgroupPath) -> Set[User]:

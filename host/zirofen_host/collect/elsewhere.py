@@ -9,8 +9,10 @@ import re
 from dataclasses import dataclass, replace
 from typing import Callable, Dict, Iterable, Iterator, List, Mapping, Optional, Tuple
 
+from zirofen_host.collect import fitting
 from zirofen_host.collect import snapshot as snapshots
 from zirofen_host.collect.accounts import Accounts, is_id
+from zirofen_host.collect.holds import Holds
 from zirofen_host.collect.model import (About, Account, AccountLists, Carried, Cgroup, Entry, Group, Note, Process, Range, Row, Snapshot,
                                         Source, Tree, User)
 from zirofen_host.collect.mount import read_kernel_list
@@ -238,7 +240,21 @@ def text_with(snapshot: Snapshot, values: Iterable[Mapping[str, object]], with_p
     """The tree text of a snapshot with what it carries."""
     lines = "".join(f"{MARK}{json.dumps(value, separators=(',', ':'))}\n" for value in values)
     text = snapshots.tree_text(snapshot, with_processes) + ("\n" + lines if lines else "")
-    if len(text) > LONGEST_TEXT:
-        raise Fault(f"{len(text)} bytes, and a tree text has {LONGEST_TEXT} at most: --only PATH writes less, and so does a text "
-                    "without --with-host, whose accounts are named by --accounts")
     return text
+
+
+def fitting_text(snapshot: Snapshot, holds: Holds, values: Callable[[Snapshot], Iterable[Mapping[str, object]]],
+                 with_processes: bool) -> Tuple[Snapshot, str]:
+    """One text with what it carries, and what it is of: what is inside of whoever has most is left out until it fits."""
+    if not with_processes:
+        snapshot = replace(snapshot, tree=replace(snapshot.tree, processes=()))
+    snapshot = fitting.fitted(snapshot, holds)
+    while True:
+        text = text_with(snapshot, values(snapshot), with_processes)
+        if len(text) <= LONGEST_TEXT:
+            return snapshot, text
+        person = fitting.heaviest(snapshot, holds, fitting.length(snapshot))
+        if person is None:
+            raise Fault(f"{len(text)} bytes, and a tree text has {LONGEST_TEXT} at most: --only PATH writes less, and so does a text "
+                        "without --with-host, whose accounts are named by --accounts")
+        snapshot = fitting.without_inside(snapshot, holds, person, f"a text has {LONGEST_TEXT} bytes at most")

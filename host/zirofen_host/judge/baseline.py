@@ -11,6 +11,7 @@ from zirofen_host.fault import Fault
 from zirofen_host.judge import as_json
 from zirofen_host.judge.finding_lines import above_line, differs_line, entry_line, fault_line, opened_line, version_1_line
 from zirofen_host.judge.gravity import Gravity, of_answer, of_fault, worst
+from zirofen_host.judge.looks import FAILED
 from zirofen_host.judge.model import (ABSENT, VERSION, Comparison, Difference, DiffersFinding, EntryFinding,
                                       OpenedFinding, Report, Subtree, Whom)
 from zirofen_host.judge.saved import LACKING
@@ -29,6 +30,8 @@ class Found(NamedTuple):
     line: str
     lets_in: FrozenSet[Tuple[object, ...]] = frozenset()
     mended: Union[EntryFinding, OpenedFinding, DiffersFinding, None] = None
+    # whose own making it is
+    within: Optional[int] = None
 
 
 def read(file: str) -> Optional[Report]:
@@ -73,9 +76,10 @@ def found_in(report: Report) -> Dict[Key, Found]:
     found = {("subtree", each.path, ""): subtree_found(each) for each in report.subtrees}
     for entry in report.entries:
         found["entry", entry.path, entry.entry] = Found(
-            of_answer(entry.answer), entry_line([entry]), let_in(entry.whom, entry.subtrees), entry)
+            of_answer(entry.answer), entry_line([entry]), let_in(entry.whom, entry.subtrees), entry, entry.within)
     for opened in report.opened:
-        found["opened", opened.path, opened.file] = Found(Gravity.ESCAPES, opened_line(opened), let_in(opened.whom, ()), opened)
+        found["opened", opened.path, opened.file] = Found(Gravity.ESCAPES, opened_line(opened), let_in(opened.whom, ()), opened,
+                                                          opened.within)
     for fault in report.faults:
         for path in fault.subtrees:
             found["fault", path, fault.fault] = Found(of_fault(fault), fault_line(fault, [path]))
@@ -83,7 +87,10 @@ def found_in(report: Report) -> Dict[Key, Found]:
         found["differs", differs.path, ""] = Found(
             Gravity.CONTAINED, differs_line(differs), frozenset((name,) for name in differs.entries), differs)
     for above in report.above:
-        found["above", above.handed, above.who] = Found(Gravity.CONTAINED, above_line(above))
+        found["above", above.handed, above.who] = Found(Gravity.CONTAINED, above_line(above), within=above.within)
+    for told in (*report.unseen, *report.snapshot):
+        if told.kind == FAILED:
+            found[FAILED, told.place, told.text] = Found(Gravity.FAULT, f"{FAILED}: {told.place}: {told.text}")
     if report.version_1:
         found["version-1", "", ""] = Found(Gravity.NOT_LOOKED_AT, version_1_line(report.version_1))
     return found
@@ -92,10 +99,10 @@ def found_in(report: Report) -> Dict[Key, Found]:
 def subtree_found(subtree: Subtree) -> Found:
     """What those who hold a subtree were answered."""
     if not subtree.answers:
-        return Found(Gravity.CONTAINED, f"{subtree.path}: held by root alone")
+        return Found(Gravity.CONTAINED, f"{subtree.path}: held by root alone", within=subtree.within)
     gravities = [Gravity.CONTAINED if each.is_above else of_answer(each.lines[0].split(" ")[0]) for each in subtree.answers]
     told = "; ".join(f"{each.lines[0]}, by {each.who} who holds it" for each in subtree.answers)
-    return Found(worst(gravities), f"{subtree.path}: {told}")
+    return Found(worst(gravities), f"{subtree.path}: {told}", within=subtree.within)
 
 
 def let_in(whom: Iterable[Whom], subtrees: Iterable[str]) -> FrozenSet[Tuple[object, ...]]:
@@ -130,7 +137,7 @@ def is_standing(key: Key, now: Found, is_accepted: bool) -> bool:
     row is told by the entries that it rests on."""
     if now.gravity is Gravity.CONTAINED or key[0] == "subtree":
         return False
-    return not is_accepted or key[0] == "fault"
+    return not is_accepted or key[0] in ("fault", FAILED)
 
 
 def changes_of_host(report: Report, before: Report) -> Iterable[Difference]:
@@ -154,4 +161,4 @@ def difference(key: Key, now: Optional[Found], then: Optional[Found]) -> Differe
     mended = now.mended if now else None
     told = now or then
     return Difference(key[0], told.line if told else "", then.line if now and then else None, now.gravity.status if now else CONTAINED,
-                      mended.changes if mended else (), mended.setting if mended else None)
+                      mended.changes if mended else (), mended.setting if mended else None, told.within if told else None)

@@ -4,6 +4,7 @@ from typing import Iterable, Iterator
 
 from zirofen_host.ask.program import CONTAINED, ESCAPES, UNSETTLED, WORDS
 from zirofen_host.fault import FAULT
+from zirofen_host.judge.looks import FAILED
 from zirofen_host.judge.model import NOTHING_ASKED, FaultFinding, Report
 
 
@@ -51,6 +52,7 @@ def gravities_in(report: Report) -> Iterator[Gravity]:
     yield from (of_answer(each.answer) for each in report.entries)
     yield from (Gravity.ESCAPES for _ in report.opened)
     yield from map(of_fault, report.faults)
+    yield from (Gravity.FAULT for each in (*report.unseen, *report.snapshot) if each.kind == FAILED)
     if not report.asked:
         yield Gravity.NOTHING_ASKED
     if report.version_1:

@@ -74,6 +74,8 @@ class Subtree:
     unit: Optional[str]
     held_by: HeldBy
     answers: Tuple[HolderAnswer, ...]
+    # whose own making it is: the uid of somebody who can have made it, and not what root handed over
+    within: Optional[int] = None
 
 
 @dataclass(frozen=True)
@@ -109,6 +111,9 @@ class EntryFinding:
     example: Optional[Example]
     changes: Tuple[str, ...]
     setting: Optional[str]
+    within: Optional[int] = None
+    # nobody but that person is let in, and to nothing that isn't theirs
+    is_own: bool = False
 
 
 @dataclass(frozen=True)
@@ -122,6 +127,8 @@ class OpenedFinding:
     setting: Optional[str]
     # of a directory, why it counts
     why: Optional[str]
+    within: Optional[int] = None
+    is_own: bool = False
 
 
 @dataclass(frozen=True)
@@ -152,6 +159,7 @@ class AboveFinding:
     uid: int
     handed: str
     subtrees: Tuple[str, ...]
+    within: Optional[int] = None
 
 
 @dataclass(frozen=True)
@@ -160,6 +168,7 @@ class Told:
     kind: str
     place: str
     text: str
+    within: Optional[int] = None
 
 
 @dataclass(frozen=True)
@@ -210,6 +219,7 @@ class Difference:
     status: int
     changes: Tuple[str, ...]
     setting: Optional[str]
+    within: Optional[int] = None
 
 
 @dataclass(frozen=True)

@@ -1,5 +1,5 @@
 """The host itself in a report: users, groups, cgroups and processes, from which a page or a tree can be drawn."""
-from typing import Iterable
+from typing import Iterable, Tuple
 
 from zirofen_host.ask.questions import unit_of
 from zirofen_host.collect.model import Entry
@@ -8,6 +8,7 @@ from zirofen_host.collect.tree import in_order
 from zirofen_host.files import WITHOUT_VALUE
 from zirofen_host.judge.checked import Checked
 from zirofen_host.judge.findings import owner_of
+from zirofen_host.judge.looks import Looks
 from zirofen_host.judge.model import ABSENT, FileValue, ReportCgroup, ReportFile, ReportGroup, ReportProcess, ReportUser
 from zirofen_host.profile import CONTROL_FILES, CgroupPath, is_other_limit, shown, text_of
 
@@ -21,8 +22,8 @@ def groups_of(checked: Checked) -> Iterable[ReportGroup]:
     return (ReportGroup(gid, shown(name)) for gid, name in sorted(checked.names.groups.items()))
 
 
-def cgroups_of(checked: Checked) -> Iterable[ReportCgroup]:
-    return (cgroup_of(checked, path) for path in in_order(checked.snapshot.cgroups))
+def cgroups_of(checked: Checked, looks: Looks) -> Tuple[ReportCgroup, ...]:
+    return looks.each("cgroups", in_order(checked.snapshot.cgroups), lambda path: cgroup_of(checked, path))
 
 
 def cgroup_of(checked: Checked, path: CgroupPath) -> ReportCgroup:
