@@ -16,7 +16,7 @@ import made_up_program
 from check_test import BY_GROUP, HostTest, owned
 from made_up import COMMAND, TOP
 from zirofen_host import fault
-from zirofen_host.collect import processes, walk
+from zirofen_host.collect import bounded, processes
 from zirofen_host.ask import questions
 from shown import lines_of, made
 from zirofen_host.judge import as_json
@@ -95,10 +95,10 @@ class NamesTest(HostTest):
     def test_what_is_left_out_is_counted_only_so_far(self):
         for number in range(9):
             os.makedirs(f"{self.host.mount}/alice/o d/{number}")
-        with mock.patch.object(walk, "MOST_INSIDE", 5):
+        with mock.patch.object(bounded, "CGROUPS", bounded.Budget("cgroups", 5)):
             found = self.report()
         self.others(found)
-        self.assertEqual([(each["fault"], each["subtrees"]) for each in found["faults"]], [("over 5 cgroups inside", ["/alice"])])
+        self.assertEqual([(each["fault"], each["subtrees"]) for each in found["faults"]], [("uid 1000 has over 5 cgroups", ["/alice"])])
 
     def test_names_of_accounts_and_processes(self):
         self.host.accounts(passwd="al\x1b[2Jice:x:1000:1000::/:\nbob:x:1001:1001::/:\n", group="te\x07am:x:50:bob\n")
@@ -169,8 +169,9 @@ class GarbageTest(HostTest):
             self.host.process(8)
             with open(f"{self.host.proc}/8/{file}", "w", encoding="ascii") as out:
                 out.write(text)
-            with self.assertRaisesRegex(fault.Fault, "what .*/8 tells of the process isn't known"):
-                processes.read_processes(self.host.proc)
+            found = self.report()
+            self.assertEqual([row[2:] for row in self.rows(found)][-1:], [("contained", "/bob")])
+            self.assertIn("8 left out: what is told of the process isn't known", [each["text"] for each in found["snapshot"]])
 
     def test_a_descriptor_of_a_file_system_of_his_own_isnt_asked(self):
         self.host.cgroup("/svc", owners=owned(1000))
@@ -188,10 +189,10 @@ class GarbageTest(HostTest):
         self.host.process(7, uid=1000)
         for number in range(5):
             self.host.opens(7, number, "/cgroup.subtree_control", os.O_WRONLY)
-        with mock.patch.object(processes, "MOST_DESCRIPTORS", 3):
+        with mock.patch.object(bounded, "DESCRIPTORS", bounded.Budget("open files with a path", 3)):
             told = self.told(self.report(), "descriptor")
         self.assertEqual(len(told), 2)
-        self.assertIn("not all were looked at", told[0])
+        self.assertIn("not all were looked at", told[1])
 
     def test_a_text_that_is_refused_is_a_fault_of_its_subtrees(self):
         self.host.cgroup("/a", owners=owned(1000))

@@ -86,6 +86,7 @@ def add_host(parser: argparse.ArgumentParser) -> None:
     parser.add_argument("--only", metavar="PATH", type=os.fsencode,
                         help="that cgroup, its ancestors and what is inside it, and no more")
     parser.add_argument("--proc", metavar="FOLDER", default=PROC, help=f"where processes are told of ({PROC})")
+    parser.add_argument("--seconds", metavar="N", type=number, help="ends with a fault where the run takes longer (no bound)")
     parser.add_argument("--no-processes", action="store_true",
                         help="no processes in the tree text: no `contained` rests on them, but an `escapes` may be an `unsettled`")
     parser.add_argument("--plain-folder", action="store_true",
@@ -121,6 +122,7 @@ def add_ask(parser: argparse.ArgumentParser) -> None:
 def add_check(parser: argparse.ArgumentParser) -> None:
     for add in (add_host, add_text, add_accounts, add_keep, add_program):
         add(parser)
+    parser.add_argument("--each", action="store_true", help="each finding by itself, also those that are alike in one holder's own part")
     parser.add_argument("--json", action="store_true", help="all of it as JSON, with the host's cgroups and processes")
     parser.add_argument("--html", metavar="FILE", help="one page of it to look at, into a file; what is printed stays as it is")
     parser.add_argument("--baseline", metavar="FILE",

@@ -26,11 +26,12 @@ def undone(undo: Callable[[], None]) -> Iterator[None]:
         del _left[key]
 
 
-def run(words: Sequence[str]) -> "subprocess.CompletedProcess[str]":
-    """Runs a program to its end. Python ignores SIGXFSZ, and so does the program: a file that gets too large is its fault line."""
+def run(words: Sequence[str], seconds: Optional[float] = None) -> "subprocess.CompletedProcess[str]":
+    """Runs a program to its end, or for so many seconds. Python ignores SIGXFSZ, and so does the program: a file that gets too
+    large is its fault line."""
     with subprocess.Popen(words, stdin=subprocess.DEVNULL, stdout=subprocess.PIPE, stderr=subprocess.PIPE, text=True,
                           errors="replace", restore_signals=False) as child, undone(child.terminate):
-        stdout, stderr = child.communicate()
+        stdout, stderr = child.communicate(timeout=seconds)
     return subprocess.CompletedProcess(words, child.returncode, stdout, stderr)
 
 

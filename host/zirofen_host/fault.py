@@ -1,8 +1,10 @@
 """Why a helper can't give what was asked of it, and lines that harm no terminal."""
 import argparse
 import os
+import signal
 import sys
-from typing import Callable, Iterable, NoReturn
+import time
+from typing import Callable, Iterable, NoReturn, Optional
 
 from zirofen_host import ending, progress
 
@@ -15,6 +17,30 @@ class Fault(Exception):
     def __init__(self, line: str, help_lines: Iterable[str] = ()) -> None:
         super().__init__(line)
         self.help_lines = tuple(help_lines)
+
+
+class OutOfTime(BaseException):
+    """The run as a whole took longer than it may; no look at a part of the host keeps this to itself."""
+
+
+class _Clock:
+    """When the run has to have ended, where there is a bound."""
+    end: Optional[float] = None
+
+
+def bound(seconds: Optional[int]) -> None:
+    """Ends the run with a fault where it takes longer than so many seconds."""
+    if seconds:
+        def end_run(*_: object) -> NoReturn:
+            raise OutOfTime(f"it took longer than {seconds} seconds")
+        _Clock.end = time.monotonic() + seconds
+        signal.signal(signal.SIGALRM, end_run)
+        signal.alarm(seconds)
+
+
+def seconds_left() -> Optional[float]:
+    """The seconds that what is started now may take, where there is a bound."""
+    return None if _Clock.end is None else max(_Clock.end - time.monotonic(), 0.0)
 
 
 def plain(text: str) -> str:
@@ -68,6 +94,9 @@ def run(name: str, main: Callable[[], int]) -> NoReturn:
         warn(f"{name}: {fault}")
         for line in fault.help_lines:
             warn(line)
+        status = FAULT
+    except OutOfTime as over:
+        warn(f"{name}: {over}")
         status = FAULT
     except SystemExit as ended:
         # argparse ends with 2 where the options are wrong, and this is another answer's status

@@ -13,7 +13,8 @@ from typing import Callable, Collection, Dict, Iterable, Iterator, List, NamedTu
 from zirofen_host import ending, progress
 from zirofen_host.ask.model import Abilities, Advice, Answer, Pair, Question
 from zirofen_host.collect.model import User
-from zirofen_host.fault import FAULT, Fault
+from zirofen_host.fault import FAULT, Fault, OutOfTime, seconds_left
+from zirofen_host.installed import WRAPPER
 from zirofen_host.profile import CgroupPath, text_of
 
 CONTAINED, ESCAPES, UNSETTLED = 0, 1, 2
@@ -70,6 +71,18 @@ def answer_of(ended: Optional[int], lines: Sequence[str]) -> Answer:
     return Answer(status, tuple(lines))
 
 
+def program_at(path: str) -> str:
+    """The program itself: a clone's wrapper sums all sources at each call, and is asked once which program it would run."""
+    if not os.path.isfile(path) or os.path.realpath(path) != os.path.realpath(WRAPPER):
+        return path
+    try:
+        told = ending.run([path, "--which"])
+    except OSError:
+        return path
+    found = told.stdout.rstrip("\n")
+    return found if not told.returncode and os.path.isabs(found) and os.access(found, os.X_OK) else path
+
+
 @dataclass(frozen=True)
 class Program:
     """The program, and the tree text that it is asked of."""
@@ -77,13 +90,15 @@ class Program:
     tree: str
 
     def start(self, words: Sequence[str]) -> "subprocess.CompletedProcess[str]":
-        return ending.run([self.path, *words])
+        return ending.run([self.path, *words], seconds_left())
 
     def try_start(self, words: Sequence[str]) -> "subprocess.CompletedProcess[str]":
         try:
             return self.start(words)
         except OSError as error:
             raise Fault(f"can't run {self.path}: {error.strerror}") from None
+        except subprocess.TimeoutExpired:
+            raise OutOfTime("the program was cut off") from None
 
     def run(self, *words: str) -> Ended:
         ended = self.try_start(words)

@@ -1,25 +1,29 @@
 """A snapshot, everybody asked of everything in it, and the report that the answers come to."""
 from collections import defaultdict
 from dataclasses import replace
-from typing import Dict, FrozenSet, Iterable, List, Optional, Tuple
+from typing import Dict, FrozenSet, List, Optional, Tuple
 
 from zirofen_host import output
 from zirofen_host.ask.asking import ask_all
 from zirofen_host.ask.model import Answer
-from zirofen_host.ask.program import CONTAINED, ESCAPES, UNSETTLED, WORDS
+from zirofen_host.ask.program import CONTAINED
 from zirofen_host.ask.questions import unit_of
 from zirofen_host.collect.accounts import accounts_of
-from zirofen_host.collect.model import GROUP, Snapshot, User
-from zirofen_host.fault import FAULT, Fault
+from zirofen_host.collect.holds import Holds
+from zirofen_host.collect.model import GROUP, Note, Snapshot, User
+from zirofen_host.fault import Fault
 from zirofen_host.judge import unseen, whole
-from zirofen_host.judge.checked import Checked, advise
+from zirofen_host.judge.advised import Advised, advise
+from zirofen_host.judge.checked import Checked
 from zirofen_host.judge.finding_lines import SHOWN
 from zirofen_host.judge.findings import above_findings, differs_findings, entry_findings, fault_findings, opened_findings
+from zirofen_host.judge.gravity import gravity_of
 from zirofen_host.judge.judged import Own, judge
-from zirofen_host.judge.model import NOTHING_ASKED, VERSION, EntryFinding, HeldBy, HolderAnswer, Report, Subtree, Told
+from zirofen_host.judge.looks import Looks
+from zirofen_host.judge.model import VERSION, HeldBy, HolderAnswer, Report, Subtree, Told
 from zirofen_host.judge.names import names_of
 from zirofen_host.options import Options
-from zirofen_host.profile import CgroupPath, text_of
+from zirofen_host.profile import CgroupPath, path_of, text_of
 
 
 def ask(snapshot: Snapshot, options: Options, folder: str) -> Checked:
@@ -36,13 +40,13 @@ def ask(snapshot: Snapshot, options: Options, folder: str) -> Checked:
     for user in sorted({user for users, _ in (*answers.plan.questions, *answers.further) for user in users}):
         asked[user.uid].append(user)
     return Checked(snapshot, options, names_of(accounts), found.questions, answers, found.programs,
-                   judge(found.questions, answers), asked, asked_of)
+                   judge(found.questions, answers), asked, asked_of, Holds(snapshot.tree.rows, accounts.payer))
 
 
 def subtree_of(checked: Checked, path: CgroupPath) -> Subtree:
     holders = checked.questions.holders[path]
     return Subtree(text_of(path), checked.questions.meant.get(path), unit_of(path), HeldBy(holders.by, holders.ids),
-                   answers_of(checked, path))
+                   answers_of(checked, path), checked.holds.within(path))
 
 
 def answers_of(checked: Checked, subtree: CgroupPath) -> Tuple[HolderAnswer, ...]:
@@ -74,33 +78,33 @@ def answer_of(checked: Checked, subtree: CgroupPath, lines: Tuple[str, ...], is_
     return HolderAnswer(who, uids[:SHOWN], len(uids), gids, lines, is_above)
 
 
-def status_of(entries: Iterable[EntryFinding], is_opened: bool, is_faulty: bool, is_asked: bool) -> int:
-    """The worst that a report tells of."""
-    answers = {WORDS.get(each.answer) for each in entries}
-    if is_faulty:
-        return FAULT
-    if is_opened or ESCAPES in answers:
-        return ESCAPES
-    if UNSETTLED in answers:
-        return UNSETTLED
-    return CONTAINED if is_asked else NOTHING_ASKED
-
-
 def report_of(checked: Checked, is_whole: bool) -> Report:
-    snapshot, about, answers = checked.snapshot, checked.snapshot.about, checked.answers
-    advised = advise(checked)
-    entries, opened, faults = entry_findings(checked, advised), opened_findings(checked), fault_findings(checked, advised)
+    """The report on a host that was asked. What fails of it is told, and all else stands."""
+    snapshot, about, answers, looks = checked.snapshot, checked.snapshot.about, checked.answers, Looks()
+    advised = looks.at("advice", lambda: advise(checked), Advised({}, checked.judged.faults))
+    subtrees = looks.each("answers", checked.questions.subtrees, lambda path: subtree_of(checked, path))
+    entries = entry_findings(checked, advised, looks)
+    opened = dict(looks.all("opened", lambda: opened_findings(checked)))
+    faults = looks.all("faults", lambda: fault_findings(checked, advised))
+    differs = looks.all("differs", lambda: differs_findings(checked, opened))
+    above = looks.all("above", lambda: above_findings(checked))
+    told = unseen.lines(checked, advised, looks)
+    notes = tuple(noted(checked, note) for note in snapshot.notes)
     made = Report(
         VERSION, answers.version, about.host or "", about.kernel or "",
         about.time or "", snapshot.mount, checked.is_asked, answers.has_advise,
-        subtrees=tuple(subtree_of(checked, path) for path in checked.questions.subtrees), entries=entries,
-        opened=tuple(opened.values()), faults=faults, differs=tuple(differs_findings(checked, opened)),
-        above=tuple(above_findings(checked)),
-        unseen=tuple(unseen.lines(snapshot, checked.questions, answers, checked.names, checked.options)),
-        snapshot=tuple(Told(note.kind, note.place, note.detail) for note in snapshot.notes),
-        status=status_of(entries, bool(opened), bool(faults), checked.is_asked))
-    return replace(made, users=tuple(whole.users_of(checked)), groups=tuple(whole.groups_of(checked)),
-                   cgroups=tuple(whole.cgroups_of(checked)), processes=tuple(whole.processes_of(checked))) if is_whole else made
+        subtrees=subtrees, entries=entries, opened=tuple(opened.values()), faults=faults, differs=differs, above=above,
+        unseen=told, snapshot=notes, status=CONTAINED, version_1=snapshot.version_1)
+    if is_whole:
+        made = replace(made, users=looks.all("users", lambda: whole.users_of(checked)),
+                       groups=looks.all("groups", lambda: whole.groups_of(checked)), cgroups=whole.cgroups_of(checked, looks),
+                       processes=looks.all("processes", lambda: whole.processes_of(checked)))
+    made = replace(made, unseen=(*looks.failed, *told))
+    return replace(made, status=gravity_of(made).status)
+
+
+def noted(checked: Checked, note: Note) -> Told:
+    return Told(note.kind, note.place, note.detail, checked.holds.within(path_of(note.place)))
 
 
 def report(snapshot: Snapshot, options: Options, is_whole: bool) -> Report:

@@ -74,6 +74,8 @@ class Subtree:
     unit: Optional[str]
     held_by: HeldBy
     answers: Tuple[HolderAnswer, ...]
+    # whose own making it is: the uid of somebody who can have made it, and not what root handed over
+    within: Optional[int] = None
 
 
 @dataclass(frozen=True)
@@ -109,17 +111,24 @@ class EntryFinding:
     example: Optional[Example]
     changes: Tuple[str, ...]
     setting: Optional[str]
+    within: Optional[int] = None
+    # nobody but that person is let in, and to nothing that isn't theirs
+    is_own: bool = False
 
 
 @dataclass(frozen=True)
 class OpenedFinding:
-    """A limit that stands open to somebody; seen, and not proved."""
+    """A limit, or a directory that a manager makes something in, that stands open to somebody; seen, and not proved."""
     path: str
     file: str
     owner: Owner
     whom: AllLetIn
     changes: Tuple[str, ...]
     setting: Optional[str]
+    # of a directory, why it counts
+    why: Optional[str]
+    within: Optional[int] = None
+    is_own: bool = False
 
 
 @dataclass(frozen=True)
@@ -130,6 +139,8 @@ class FaultFinding:
     gids: Tuple[int, ...]
     fault: str
     subtrees: Tuple[str, ...]
+    # those who hold the subtrees, where it is of their own making
+    made_by: Optional[str]
 
 
 @dataclass(frozen=True)
@@ -148,6 +159,7 @@ class AboveFinding:
     uid: int
     handed: str
     subtrees: Tuple[str, ...]
+    within: Optional[int] = None
 
 
 @dataclass(frozen=True)
@@ -156,6 +168,7 @@ class Told:
     kind: str
     place: str
     text: str
+    within: Optional[int] = None
 
 
 @dataclass(frozen=True)
@@ -206,6 +219,7 @@ class Difference:
     status: int
     changes: Tuple[str, ...]
     setting: Optional[str]
+    within: Optional[int] = None
 
 
 @dataclass(frozen=True)
@@ -215,6 +229,8 @@ class Comparison:
     time: str
     new: Tuple[Difference, ...]
     worse: Tuple[Difference, ...]
+    # what stands since then and was accepted by nobody, and faults, which nobody accepts
+    stand: Tuple[Difference, ...]
     changed: Tuple[Difference, ...]
     gone: Tuple[Difference, ...]
     status: int
@@ -239,9 +255,13 @@ class Report:
     unseen: Tuple[Told, ...]
     snapshot: Tuple[Told, ...]
     status: int
+    # the controllers whose limits are those of version 1, which aren't looked at
+    version_1: Tuple[str, ...]
     # the host itself, where the report is to be whole
     users: Union[Tuple[ReportUser, ...], Absent] = ABSENT
     groups: Union[Tuple[ReportGroup, ...], Absent] = ABSENT
     cgroups: Union[Tuple[ReportCgroup, ...], Absent] = ABSENT
     processes: Union[Tuple[ReportProcess, ...], Absent] = ABSENT
     baseline: Union[Comparison, Absent] = ABSENT
+    # of a baseline, whether what it tells of is accepted
+    accepted: Union[bool, Absent] = ABSENT

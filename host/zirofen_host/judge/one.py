@@ -6,9 +6,10 @@ from typing import AbstractSet, Callable, Dict, Iterable, Iterator, List, Option
 
 from zirofen_host import output
 from zirofen_host.ask.delegations import Delegations
-from zirofen_host.ask.model import Answer
+from zirofen_host.ask.model import Answer, Holders
 from zirofen_host.ask.program import Program, Refused, abilities_of, answer_of, user_words, worst
-from zirofen_host.ask.questions import with_groups
+from zirofen_host.ask.questions import holders_of, with_groups
+from zirofen_host.ask.spoiled import is_spared
 from zirofen_host.ask.texts import texts_of, write
 from zirofen_host.collect.accounts import Accounts, accounts_of, is_id
 from zirofen_host.collect.model import OTHERS, Snapshot, Tree, User
@@ -65,11 +66,15 @@ def is_known(user: User, tree: Tree, accounts: Accounts) -> bool:
                    for entry in (row.directory, *row.files.values())))
 
 
-def program_for(snapshot: Snapshot, options: AskOptions, folder: str, uids: AbstractSet[int]) -> Program:
+def holders_at(delegations: Delegations, path: CgroupPath) -> Optional[Holders]:
+    return holders_of(delegations, path, False) if path in delegations.tree.rows else None
+
+
+def program_for(snapshot: Snapshot, options: AskOptions, folder: str, delegations: Delegations, uids: AbstractSet[int]) -> Program:
     """The program, with a text that has the subtree; where there is none, the program says so of the root alone."""
     path, tree = path_of(options.path), snapshot.tree
     for place in (path, *ancestors(path)) if options.path.startswith("/") else ():
-        if place in snapshot.spoiled:
+        if place in snapshot.spoiled and not is_spared(snapshot, delegations.accounts, holders_at(delegations, place), place):
             raise Fault(f"nothing is asked of {shown(options.path)}: {snapshot.spoiled[place]}")
     if path not in tree.rows or is_root(path):
         root = path_of("/")
@@ -138,8 +143,9 @@ def ask(snapshot: Snapshot, options: AskOptions, warn: Warn) -> Tuple[List[str],
     if not any(is_known(user, snapshot.tree, accounts) for user in users):
         warn(f"uid {users[0].uid} owns nothing, writes nothing of his own, has no process and no account here")
     with output.temporary_folder() as folder:
-        program = program_for(snapshot, options, folder, {user.uid for user in users})
-        one = One(path_of(options.path), snapshot.mount, Delegations(snapshot.tree, accounts), program)
+        delegations = Delegations(snapshot.tree, accounts)
+        program = program_for(snapshot, options, folder, delegations, {user.uid for user in users})
+        one = One(path_of(options.path), snapshot.mount, delegations, program)
         answers = {user: answer(one, user, count) for user, count in sorted(as_asked(one, users, warn).items())}
         if all(each.status == FAULT for each in answers.values()):
             line, *help_lines = next(iter(answers.values())).lines
