@@ -218,7 +218,7 @@ def standing_line(compared: Comparison) -> str:
     told = "; ".join(each.line for each in compared.stand[:SHOWN])
     more = f"; and {len(compared.stand) - SHOWN} more" if len(compared.stand) > SHOWN else ""
     verb = "finding stands" if len(compared.stand) == 1 else "findings stand"
-    return f"{len(compared.stand)} {verb} since {compared.time}: {told}{more}"
+    return f"{len(compared.stand)} {verb} since {compared.time or compared.file}: {told}{more}"
 
 
 def comparison_lines(report: Report, compared: Comparison, is_each: bool = False) -> Iterator[str]:
