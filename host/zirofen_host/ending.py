@@ -27,7 +27,8 @@ def undone(undo: Callable[[], None]) -> Iterator[None]:
 
 
 def run(words: Sequence[str], seconds: Optional[float] = None) -> "subprocess.CompletedProcess[str]":
-    """Runs a program to its end. Python ignores SIGXFSZ, and so does the program: a file that gets too large is its fault line."""
+    """Runs a program to its end, or for so many seconds. Python ignores SIGXFSZ, and so does the program: a file that gets too
+    large is its fault line."""
     with subprocess.Popen(words, stdin=subprocess.DEVNULL, stdout=subprocess.PIPE, stderr=subprocess.PIPE, text=True,
                           errors="replace", restore_signals=False) as child, undone(child.terminate):
         stdout, stderr = child.communicate(timeout=seconds)

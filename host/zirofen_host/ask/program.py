@@ -76,7 +76,7 @@ def program_at(path: str) -> str:
     if not os.path.isfile(path) or os.path.realpath(path) != os.path.realpath(WRAPPER):
         return path
     try:
-        told = subprocess.run([path, "--which"], stdin=subprocess.DEVNULL, capture_output=True, text=True, errors="replace")
+        told = ending.run([path, "--which"])
     except OSError:
         return path
     found = told.stdout.rstrip("\n")

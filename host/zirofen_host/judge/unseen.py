@@ -7,6 +7,7 @@ from collections import Counter, defaultdict
 from dataclasses import dataclass
 from typing import DefaultDict, Dict, Iterable, Iterator, List, Mapping, Optional, Sequence, Set, Tuple
 
+from zirofen_host import ending
 from zirofen_host.ask.model import Answers
 from zirofen_host.ask.questions import Questions, unit_of
 from zirofen_host.collect.bounded import ADVICE, THREADS
@@ -142,7 +143,8 @@ def deputies(host: Host) -> Iterator[Told]:
     for uid, paths in sorted(host.held.items()):
         found = [path for path in paths if path in host.questions.meant and host.questions.holders[path].by == OWNER]
         if found:
-            yield host.of_user("deputy", uid, f"the service manager moves his processes, from anywhere, on request: into {some(texts(found))}")
+            yield host.of_user("deputy", uid, "the service manager moves his processes, from anywhere, on request: into "
+                               + some(texts(found)))
 
 
 def outside(host: Host) -> Iterator[Told]:
@@ -238,7 +240,7 @@ def settings_of(systemctl: Optional[str], units: Sequence[str]) -> Iterator[Tupl
         return
     words = [systemctl, "show", f"--property=Id,{','.join(PROPERTIES)}", "--", *units]
     try:
-        ended = subprocess.run(words, stdin=subprocess.DEVNULL, capture_output=True, text=True, errors="replace", timeout=SECONDS)
+        ended = ending.run(words, SECONDS)
     except (OSError, subprocess.TimeoutExpired):
         return
     for block in ended.stdout.split("\n\n"):
