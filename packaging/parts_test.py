@@ -123,6 +123,19 @@ class InstalledTest(unittest.TestCase):
     def test_a_helper_without_baselines_is_a_plain_check(self):
         self.assertEqual(self.check_again("  --json"), ["check", "check"])
 
+    def test_the_unit_is_exposed_by_two_at_most(self):
+        """And nothing in it hides what a check by hand sees."""
+        unit = f"{HERE}/systemd/zirofen-check.service"
+        said = subprocess.run(["systemd-analyze", "security", "--offline=true", "--no-pager", "--threshold=20", unit],
+                              capture_output=True, text=True)
+        self.assertEqual(said.returncode, 0, said.stdout + said.stderr)
+        with open(unit, encoding="ascii") as text:
+            settings = dict(line.split("=", 1) for line in text.read().splitlines() if "=" in line and line[:1] != "#")
+        self.assertEqual(settings["CapabilityBoundingSet"], "CAP_DAC_READ_SEARCH CAP_SYS_PTRACE CAP_SYS_ADMIN")
+        self.assertLessEqual({"TimeoutStartSec", "MemoryMax", "ReadOnlyPaths"}, settings.keys())
+        self.assertFalse({"ProtectProc", "ProcSubset", "PrivateUsers", "PrivatePIDs", "DynamicUser", "User"} & settings.keys())
+        self.assertTrue(settings["ExecStart"].startswith("/usr/share/zirofen/"))
+
     def test_nothing_is_switched_on(self):
         for name in os.listdir(f"{HERE}/debian"):
             with open(f"{HERE}/debian/{name}", encoding="ascii") as text:

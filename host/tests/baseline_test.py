@@ -31,8 +31,7 @@ class BaselineTest(HostTest):
         found = replace(found, baseline=compared)
         self.assertEqual(made(self.value_of(found)).baseline, compared)
         lines = list(comparison_lines(found))
-        told = [line for line in lines if not line.startswith("    ")
-                and not re.match("[0-9]+ findings? stands? since|only |limits of ", line)]
+        told = [line for line in lines if not re.match("    |[0-9]+ findings? stands? since|only |limits of ", line)]
         self.assertEqual(all(line.split(":")[0] in baseline.KINDS for line in told), any(
             getattr(compared, kind) for kind in baseline.KINDS))
         return compared.status, lines

@@ -68,7 +68,8 @@ def accepted_lines(report: Report) -> Iterator[str]:
 
 def write(file: str, report: Report, is_accepted: bool) -> None:
     """Leaves a report as a baseline: the whole of it, or what stood there before."""
-    output.write(file, chain(as_json.parts_of(dataclasses.replace(report, baseline=ABSENT, accepted=is_accepted)), ["\n"]), "the baseline")
+    kept = dataclasses.replace(report, baseline=ABSENT, accepted=is_accepted)
+    output.write(file, chain(as_json.parts_of(kept), ["\n"]), "the baseline")
 
 
 def found_in(report: Report) -> Dict[Key, Found]:

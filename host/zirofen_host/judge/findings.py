@@ -144,14 +144,12 @@ def is_by_somebody(why: str) -> bool:
 
 def holder_at(checked: Checked, path: CgroupPath) -> Optional[str]:
     """Who holds the nearest subtree that a cgroup is in, or that cgroup itself where it was left out."""
-    holders, left_out, makers = checked.questions.holders, checked.snapshot.left_out, checked.snapshot.makers
+    holders, makers = checked.questions.holders, checked.snapshot.makers
     if makers.get(path):
         return checked.names.user(makers[path])
     for place in (path, *ancestors(path)):
         if place in holders and holders[place].by:
             return holder_of(checked, place)
-        if place in left_out and left_out[place].uid:
-            return checked.names.user(left_out[place].uid)
     return None
 
 
