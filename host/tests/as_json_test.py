@@ -56,8 +56,8 @@ class AsJsonTest(unittest.TestCase):
 
     def test_what_may_lack(self):
         value = {"time": "", "new": [], "worse": [], "changed": [], "gone": []}
-        lacking = {(Comparison, "file"): "", (Comparison, "status"): 0}
-        self.assertEqual(as_json.made_of(Comparison, value, "it", lacking), Comparison("", "", (), (), (), (), 0))
+        lacking = {(Comparison, "file"): "", (Comparison, "status"): 0, (Comparison, "stand"): ()}
+        self.assertEqual(as_json.made_of(Comparison, value, "it", lacking), Comparison("", "", (), (), (), (), (), 0))
 
 
 class SchemaTest(unittest.TestCase):
@@ -72,7 +72,7 @@ class SchemaTest(unittest.TestCase):
     def test_what_isnt_as_it_says(self):
         report = example.kept()
         owner = {"uid": 0, "gid": 0, "mode": "9"}
-        compared = [f"report.baseline.{key}" for key in ("file", "time", "new", "worse", "changed", "gone", "status")]
+        compared = [f"report.baseline.{key}" for key in ("file", "time", "new", "worse", "stand", "changed", "gone", "status")]
         for spoil, places in (({"host": 1}, ["report.host"]), ({"version": 2}, ["report.version"]), ({"new": 1}, ["report.new"]),
                               ({"status": True}, ["report.status"]), ({"baseline": {}}, compared),
                               ({"entries": [{**report["entries"][0], "whom": []}]}, ["report.entries[0].whom"]),

@@ -117,8 +117,9 @@ class ElsewhereTest(HostTest):
         self.assertIn("<title>Zirofen: a tree text</title>", page.page([made(found)]))
         drawn = tree_view.draw(made(found), tree_view.Drawing())
         self.assertEqual(drawn[0], "a tree text, made-up 1.0")
-        compared = baseline.compared(made(found), made(found), "/before.json")
-        self.assertIn(" since /before.json", "\n".join(comparison_lines(replace(made(found), baseline=compared))))
+        compared = baseline.compared(made(found), replace(made(found), accepted=True), "/before.json")
+        self.assertEqual(list(comparison_lines(replace(made(found), baseline=compared))),
+                         ["nothing is new, worse, changed or gone since /before.json"])
         self.write()
         self.assertRegex(page.page([made(self.elsewhere())]), r'at <time datetime="20[^"]*Z">20[^<]*Z</time>, with made-up 1.0\.')
 

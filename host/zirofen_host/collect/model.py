@@ -186,8 +186,6 @@ class Snapshot:
     # what changed all the time or can't be read, and the subtrees that this spoils, each with why
     changing: Mapping[CgroupPath, str]
     spoiled: Mapping[CgroupPath, str]
-    # the directories of what was left out since it changed or can't be read
-    left_out: Mapping[CgroupPath, Entry] = field(default_factory=dict)
     # the controllers whose limits are those of version 1
     version_1: Tuple[str, ...] = ()
     source: Source = Source()

@@ -158,7 +158,7 @@ def snapshot_of(settled: walk.Settled, reader: Reader, options: Options, mounts:
                     kernel_list=read_kernel_list(None if options.plain_folder else KERNEL_LIST),
                     notes=(*bending.notes, *version_1_notes(mounts), *lacking), changing=settled.changing,
                     spoiled={path_of(path): why for path, why in settled.spoiled.items()},
-                    left_out={path_of(path): entry for path, entry in settled.left_out.items()}, version_1=mounts.limits_of_version_1(),
+                    version_1=mounts.limits_of_version_1(),
                     makers={path_of(path): walked.holds[path].uid for path in settled.changing if path in walked.holds},
                     over=reader.over())
 
@@ -172,7 +172,7 @@ def take(options: Options, subtrees_of: SubtreesOf) -> Snapshot:
     def subtrees_in(walked: walk.Walk, changing: Changing) -> Iterable[CgroupPath]:
         if not running:
             running.append(Reader(options.proc, payer).read())
-        found = snapshot_of(walk.Settled(walked, {}, {}, {}), running[0], options, mounts)
+        found = snapshot_of(walk.Settled(walked, {}, {}), running[0], options, mounts)
         return [CgroupPath(os.fsencode(path)) for path in subtrees_of(found, changing)]
 
     settled = walk.settled(options.mount, options.only, subtrees_in, payer)

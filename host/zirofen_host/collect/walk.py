@@ -274,12 +274,10 @@ class Walk:
 
 
 class Settled(NamedTuple):
-    """The last walk, without what changed all the time or can't be read; these, and the subtrees that they spoil, each with why;
-    and the directories of what was left out, as they were found at last."""
+    """The last walk, without what changed all the time or can't be read; these, and the subtrees that they spoil, each with why."""
     walk: Walk
     changing: Whys
     spoiled: Whys
-    left_out: Mapping[CgroupPath, Entry]
 
 
 def walk_over(mount: str, tops: Optional[Iterable[CgroupPath]] = None, before: Optional[Walk] = None, payer: Payer = int) -> Walk:
@@ -389,9 +387,8 @@ def settled(mount: str, only: Optional[CgroupPath], subtrees_of: Callable[[Walk,
     if ROOT in changing:
         raise Fault(f"the root cgroup: {changing[ROOT]}, through {MOST_WALKS} walks")
     spoiled = spoiled_of(changing, subtrees_of(walk, changing) if changing else ())
-    left_out = {path: walk.found[path].directory for path in changing if path in walk.found}
     walk.without(changing)
-    return Settled(walk, changing, spoiled, left_out)
+    return Settled(walk, changing, spoiled)
 
 
 def spoiled_of(changing: Whys, subtrees: Iterable[CgroupPath]) -> Dict[CgroupPath, str]:

@@ -2,6 +2,7 @@
 from collections import defaultdict
 from typing import Dict, Iterable, List, Mapping, Optional, Tuple
 
+from zirofen_host.ask.program import ESCAPES
 from zirofen_host.ask.questions import unit_of
 from zirofen_host.collect.model import GROUP, OTHERS, OWNER, Entry, User
 from zirofen_host.collect.tree import in_order
@@ -86,13 +87,21 @@ def opened_findings(checked: Checked) -> Iterable[Tuple[Place, OpenedFinding]]:
     """Everything that stands open, but for the limits that the answers show."""
     closing = closing_of_directories(checked)
     for place, entry, let_in in checked.openings:
-        is_directory = place.name == "dir"
-        if is_directory or place not in checked.judged.entries:
+        if not is_shown(checked, place, let_in):
+            is_directory = place.name == "dir"
             changes = closing_of(checked, place, entry, let_in)
             yield place, OpenedFinding(
                 text_of(place.path), place.name, owner_of(entry), whom_of(checked.names, let_in),
-                (*changes, *(() if is_directory else closing.get(place.path, ()))), None,
-                WHO_IS_FIRST if is_directory else None, checked.holds.within(place.path), is_own_affair(checked, place, let_in, ()))
+                (*changes, *(() if is_directory else closing.get(place.path, ()))), None, WHO_IS_FIRST if is_directory else None,
+                checked.holds.within(place.path), is_own_affair(checked, place, let_in, ()))
+
+
+def is_shown(checked: Checked, place: Place, let_in: Iterable[LetIn]) -> bool:
+    """Whether the answers show an entry: of a directory that a manager makes something in, an escape of all whom it lets in."""
+    shown_by = checked.judged.entries.get(place)
+    if shown_by is None or place.name != "dir":
+        return shown_by is not None
+    return shown_by.answer.status == ESCAPES and {(each.by, each.id) for each in let_in} <= set(shown_by.uids)
 
 
 def fault_findings(checked: Checked, advised: Advised) -> Iterable[FaultFinding]:
@@ -134,14 +143,12 @@ def is_by_somebody(why: str) -> bool:
 
 def holder_at(checked: Checked, path: CgroupPath) -> Optional[str]:
     """Who holds the nearest subtree that a cgroup is in, or that cgroup itself where it was left out."""
-    holders, left_out, makers = checked.questions.holders, checked.snapshot.left_out, checked.snapshot.makers
+    holders, makers = checked.questions.holders, checked.snapshot.makers
     if makers.get(path):
         return checked.names.user(makers[path])
     for place in (path, *ancestors(path)):
         if place in holders and holders[place].by:
             return holder_of(checked, place)
-        if place in left_out and left_out[place].uid:
-            return checked.names.user(left_out[place].uid)
     return None
 
 

@@ -73,6 +73,9 @@ class Article:
             return f"{code(part.path)} isn't as a service manager leaves it"
         if isinstance(part, FaultFinding):
             return f"No answer of {self.titled(part.subtrees[0])}"
+        if isinstance(part, OpenedFinding) and part.why:
+            verb = "makes" if words.is_one(part.whom) else "make"
+            return f"{text(capital(words.who(part.whom)))} {verb} cgroups in {code(part.path)}: {text(part.why)}"
         if isinstance(part, OpenedFinding):
             verb = "sets" if words.is_one(part.whom) else "set"
             return f"{text(capital(words.who(part.whom)))} {verb} limits of {code(part.path)}"
