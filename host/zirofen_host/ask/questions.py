@@ -345,12 +345,13 @@ def further_of(questions: Questions, plan: Plan, found: Mapping[Pair, Answer]) -
                and not questions.holds(user, path) and not questions.handed_above(user, path)}
     uids = {uid for path in questions.subtrees for uid in questions.holders[path].uids}
     holders = [few for user, few in plan.asked_as.items() if user.uid in uids]
-    everybody, further, not_asked = set(plan.asked_as.values()), [], {}
+    everybody, not_asked = set(plan.asked_as.values()), {}
+    further: DefaultDict[Tuple[User, ...], List[CgroupPath]] = defaultdict(list)
     for path in questions.subtrees:
         if path not in escaped and questions.is_open(path):
             of = named_as_asked(plan, path)
             some = tuple(sorted(itertools.islice((user for user in holders if user not in of), FURTHER)))
-            further += [Question(some, (path,))] if some else []
+            further[some].append(path)
             left = len(everybody - of) - len(some)
             not_asked.update({path: left} if left else {})
-    return tuple(further), not_asked
+    return tuple(Question(users, tuple(paths)) for users, paths in further.items() if users), not_asked
