@@ -257,7 +257,7 @@ class DescriptorsTest(ThreeTest):
         self.assertEqual(self.told(found, "descriptor"), [
             self.text.format(""), "alice(1000): more than 16 open files that /proc tells much of are in his processes: not all were looked "
             "at"])
-        self.assertLess(self.bytes, 30000)
+        self.assertLess(self.bytes, 150000)
 
 
 class LinesTest(ThreeTest):
