@@ -96,7 +96,7 @@ class InstalledTest(unittest.TestCase):
         self.addCleanup(room.cleanup)
         self.room = room.name
 
-    def check_again(self, helps):
+    def check_again(self, helps, **more):
         """What zirofen-host is asked for by two runs, of which the first leaves a baseline."""
         with open(f"{HERE}/check-again", encoding="ascii") as text:
             script = text.read()
@@ -107,7 +107,7 @@ class InstalledTest(unittest.TestCase):
                 out.write(text)
             os.chmod(f"{self.room}/{name}", 0o755)
         said = f"{self.room}/said"
-        environment = {"PATH": "/usr/bin:/bin", "STATE_DIRECTORY": self.room, "SAID": said, "HELPS": helps}
+        environment = {"PATH": "/usr/bin:/bin", "STATE_DIRECTORY": self.room, "SAID": said, "HELPS": helps, **more}
         for _ in range(2):
             ended = subprocess.run([f"{self.room}/check-again"], env=environment, capture_output=True)
             self.assertEqual((ended.returncode, ended.stderr), (2, b""))
@@ -115,13 +115,25 @@ class InstalledTest(unittest.TestCase):
         with open(said, encoding="ascii") as text:
             return text.read().splitlines()
 
-    def test_the_first_run_writes_a_baseline_and_later_ones_compare(self):
-        baseline = f"{self.room}/baseline.json"
-        self.assertEqual(self.check_again("  --baseline FILE\n  --baseline-update FILE"),
-                         [f"check --baseline-update {baseline}", f"check --baseline {baseline}"])
+    def test_each_run_is_against_a_baseline_and_accepts_nothing(self):
+        self.assertEqual(self.check_again("  --baseline FILE\n  --baseline-update FILE"), [f"check --baseline {self.room}/baseline.json"] * 2)
+
+    def test_further_options(self):
+        self.assertEqual(self.check_again("  --baseline FILE\n  --baseline-update FILE", OPTIONS="--mount /sys/fs/cgroup/u* --only /a"),
+                         [f"check --mount /sys/fs/cgroup/u* --only /a --baseline {self.room}/baseline.json"] * 2)
+
+    def test_they_are_named_in_a_file_that_stays(self):
+        with open(f"{HERE}/systemd/zirofen-check.service", encoding="ascii") as text:
+            self.assertIn("EnvironmentFile=-/etc/default/zirofen-check\n", text.read())
+        with open(f"{HERE}/default/zirofen-check", encoding="ascii") as text:
+            self.assertEqual([line for line in text.read().splitlines() if line[:1] != "#"], ['OPTIONS=""'])
 
     def test_a_helper_without_baselines_is_a_plain_check(self):
         self.assertEqual(self.check_again("  --json"), ["check", "check"])
+
+    def test_a_failed_run_is_taken_back_too(self):
+        with open(f"{HERE}/debian/postrm", encoding="ascii") as text:
+            self.assertIn("reset-failed zirofen-check.timer zirofen-check.service", text.read())
 
     def test_the_unit_is_exposed_by_two_at_most(self):
         """And nothing in it hides what a check by hand sees."""
