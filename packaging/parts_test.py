@@ -1,7 +1,6 @@
 """Tests of the parts of ./package that take no program: archives, pages, completions, and what is installed beside it."""
 import io
 import os
-import re
 import shutil
 import subprocess
 import sys
@@ -36,11 +35,6 @@ Options:
       --tree <FILE>  The tree's text
       --at <PATH>    Where
   -h, --help         Print help
-"""
-PLAYED = """#!/bin/sh
-[ "$2" != --help ] || { echo "$HELPS"; exit; }
-echo "$*" >>"$SAID"
-exit 2
 """
 
 
@@ -96,44 +90,23 @@ class InstalledTest(unittest.TestCase):
         self.addCleanup(room.cleanup)
         self.room = room.name
 
-    def check_again(self, helps, **more):
-        """What zirofen-host is asked for by two runs, of which the first leaves a baseline."""
-        with open(f"{HERE}/check-again", encoding="ascii") as text:
-            script = text.read()
-        # by its whole path, wherever PATH leads
-        self.assertEqual(re.findall(r"\S*zirofen-host\b", re.sub("(?m)^#.*", "", script)), ["helper=/usr/bin/zirofen-host"])
-        for name, text in (("zirofen-host", PLAYED), ("check-again", script.replace("/usr/bin/", f"{self.room}/"))):
-            with open(f"{self.room}/{name}", "w", encoding="ascii") as out:
-                out.write(text)
-            os.chmod(f"{self.room}/{name}", 0o755)
-        said = f"{self.room}/said"
-        environment = {"PATH": "/usr/bin:/bin", "STATE_DIRECTORY": self.room, "SAID": said, "HELPS": helps, **more}
-        for _ in range(2):
-            ended = subprocess.run([f"{self.room}/check-again"], env=environment, capture_output=True)
-            self.assertEqual((ended.returncode, ended.stderr), (2, b""))
-            open(f"{self.room}/baseline.json", "w", encoding="ascii").close()
-        with open(said, encoding="ascii") as text:
-            return text.read().splitlines()
-
-    def test_each_run_is_against_a_baseline_and_accepts_nothing(self):
-        self.assertEqual(self.check_again("  --baseline FILE\n  --baseline-update FILE"), [f"check --baseline {self.room}/baseline.json"] * 2)
-
-    def test_further_options(self):
-        self.assertEqual(self.check_again("  --baseline FILE\n  --baseline-update FILE", OPTIONS="--mount /sys/fs/cgroup/u* --only /a"),
-                         [f"check --mount /sys/fs/cgroup/u* --only /a --baseline {self.room}/baseline.json"] * 2)
-
-    def test_they_are_named_in_a_file_that_stays(self):
+    def unit(self):
+        """The settings of the service, of those that stand twice the last."""
         with open(f"{HERE}/systemd/zirofen-check.service", encoding="ascii") as text:
-            self.assertIn("EnvironmentFile=-/etc/default/zirofen-check\n", text.read())
-        with open(f"{HERE}/default/zirofen-check", encoding="ascii") as text:
-            self.assertEqual([line for line in text.read().splitlines() if line[:1] != "#"], ['OPTIONS=""'])
+            return dict(line.split("=", 1) for line in text.read().splitlines() if "=" in line and line[:1] != "#")
 
-    def test_a_helper_without_baselines_is_a_plain_check(self):
-        self.assertEqual(self.check_again("  --json"), ["check", "check"])
-
-    def test_a_failed_run_is_taken_back_too(self):
-        with open(f"{HERE}/debian/postrm", encoding="ascii") as text:
-            self.assertIn("reset-failed zirofen-check.timer zirofen-check.service", text.read())
+    def test_the_unit_calls_the_helper_by_its_path_with_options_that_it_has(self):
+        words = self.unit()["ExecStart"].split()
+        self.assertEqual((words[:2], words[-1]), (["/usr/bin/zirofen-host", "check"], "$OPTIONS"))
+        helps = self.host("check", "--help").stdout
+        for option in words[2:-1]:
+            self.assertTrue(option[:2] != "--" or f"  {option} " in helps, option)
+        # it ends itself before it is ended
+        self.assertEqual((words[words.index("--seconds") + 1], self.unit()["TimeoutStartSec"]), ("1500", "30min"))
+        with open(f"{HERE}/debian/zirofen-check.default", encoding="ascii") as text:
+            self.assertEqual([line for line in text.read().splitlines() if line[:1] != "#"], ["OPTIONS="])
+        with open(f"{HERE}/debian/conffiles", encoding="ascii") as text:
+            self.assertEqual(text.read(), f"/{self.unit()['EnvironmentFile'][2:]}\n")
 
     def test_the_unit_is_exposed_by_two_at_most(self):
         """And nothing in it hides what a check by hand sees."""
@@ -141,12 +114,10 @@ class InstalledTest(unittest.TestCase):
         said = subprocess.run(["systemd-analyze", "security", "--offline=true", "--no-pager", "--threshold=20", unit],
                               capture_output=True, text=True)
         self.assertEqual(said.returncode, 0, said.stdout + said.stderr)
-        with open(unit, encoding="ascii") as text:
-            settings = dict(line.split("=", 1) for line in text.read().splitlines() if "=" in line and line[:1] != "#")
+        settings = self.unit()
         self.assertEqual(settings["CapabilityBoundingSet"], "CAP_DAC_READ_SEARCH CAP_SYS_PTRACE CAP_SYS_ADMIN")
         self.assertLessEqual({"TimeoutStartSec", "MemoryMax", "ReadOnlyPaths"}, settings.keys())
         self.assertFalse({"ProtectProc", "ProcSubset", "PrivateUsers", "PrivatePIDs", "DynamicUser", "User"} & settings.keys())
-        self.assertTrue(settings["ExecStart"].startswith("/usr/share/zirofen/"))
 
     def test_nothing_is_switched_on(self):
         for name in os.listdir(f"{HERE}/debian"):

@@ -247,7 +247,7 @@ class OthersTest(OutputTest):
 
     def test_a_temporary_folder_in_somebody_elses(self):
         his = self.folder("his", ALICE)
-        with mock.patch.object(tempfile, "tempdir", his), self.assertRaisesRegex(Fault, "^can't make a temporary folder in .*/his: "):
+        with mock.patch.dict(os.environ, TMPDIR=his), self.assertRaisesRegex(Fault, "^can't make a temporary folder in .*/his: "):
             with output.temporary_folder():
                 pass
         self.assertEqual(os.listdir(his), [])
@@ -311,6 +311,13 @@ class HelperTest(HostTest):
         ended = self.check("--keep", "/dev/stderr")
         self.assertEqual((ended.returncode, ended.stderr[:12]), (0, "# A snapshot"))
         self.assertEqual(self.check("--keep", "/dev/null").returncode, 0)
+
+    def test_a_bound_on_the_size_of_files(self):
+        ended = subprocess.run(["bash", "-c", 'ulimit -f 0; exec "$@"', "bash", *self.words()], capture_output=True, text=True,
+                               env={**os.environ, "TMPDIR": self.temporary})
+        self.assertEqual((ended.returncode, ended.stdout, ended.stderr.count("\n")), (3, "", 1))
+        self.assertIn("File too large", ended.stderr)
+        self.assertEqual(os.listdir(self.temporary), [])
 
     def test_nothing_is_left_when_a_signal_ends_it(self):
         program, told = f"{self.host.folder}/waiting", f"{self.host.folder}/told"

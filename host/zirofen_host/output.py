@@ -9,7 +9,6 @@ import os
 import re
 import shutil
 import stat
-import tempfile
 from typing import Iterable, Iterator, Optional
 
 from zirofen_host import ending
@@ -157,7 +156,7 @@ def open_as_it_is(folder: int, name: str, there: os.stat_result) -> int:
 @contextlib.contextmanager
 def temporary_folder() -> Iterator[str]:
     """A folder of one's own that nobody else looks into, and that is gone behind it."""
-    above = tempfile.gettempdir()
+    above = os.environ.get("TMPDIR") or "/tmp"
     name = f"zirofen-{os.urandom(8).hex()}"
     made = os.path.join(above, name)
     with ending.undone(lambda: shutil.rmtree(made, ignore_errors=True)):
@@ -171,5 +170,8 @@ def temporary_folder() -> Iterator[str]:
 
 def make(file: str, data: bytes) -> None:
     """Writes a new file into a temporary folder."""
-    with open(os.open(file, NEW, 0o600), "wb") as out:
-        out.write(data)
+    try:
+        with open(os.open(file, NEW, 0o600), "wb") as out:
+            out.write(data)
+    except OSError as error:
+        raise Fault(f"can't write the temporary file {shown(file)}: {error.strerror}") from None
