@@ -367,7 +367,7 @@ class LargeTest(ThreeTest):
                 mock.patch("zirofen_host.fault.write", lambda parts: out.append("".join(parts))), \
                 mock.patch("zirofen_host.fault.warn", warned.append), self.host.owned():
             self.assertEqual(command.main(words), 0)
-        why = "30 cgroups of uid 1000 in /alice were left out: a text has 20 cgroups at most"
+        why = "uid 1000 has 30 cgroups in /alice, left out: a text has 20 cgroups at most"
         self.assertIn(f"large: /alice: {why}", warned)
         with open(file, "w", encoding="ascii") as kept:
             kept.write("".join(out))
@@ -375,7 +375,9 @@ class LargeTest(ThreeTest):
         options = self.options(tree=file, accounts=None)
         found = self.value_of(check.report(accepted.take(options, subtrees_by(options)), options, False))
         self.others(found)
-        self.assertEqual([(each["subtrees"], each["fault"]) for each in found["faults"]], [(["/alice"], why)])
+        self.assertEqual([(each["subtrees"], each["fault"], each["made_by"]) for each in found["faults"]],
+                         [(["/alice"], why, "alice(1000)")])
+        self.assertEqual(found["status"], 1)
 
 
 class ScalingTest(HostTest):
