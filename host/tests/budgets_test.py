@@ -14,12 +14,12 @@ from zirofen_host import command
 from zirofen_host.ask import accepted
 from zirofen_host.ask import program as asking
 from zirofen_host.ask.questions import subtrees_by
-from zirofen_host.collect import bounded, descriptors, walk
+from zirofen_host.collect import bounded, descriptors, looks, processes, snapshot, walk
 from zirofen_host.collect.accounts import Accounts
 from zirofen_host.collect.bounded import Budget, Spent
 from zirofen_host.collect.holds import Holds
 from zirofen_host.collect.model import AccountLists, Range
-from zirofen_host.judge import check, findings, looks, unseen, whole
+from zirofen_host.judge import check, findings, unseen, whole
 from zirofen_host.profile import path_of
 from zirofen_host.show import lines
 
@@ -337,6 +337,27 @@ class LooksTest(ThreeTest):
                 if what:
                     self.assertIn(f"{what}: KeyError('memory.max')", self.told(found, looks.FAILED))
                     self.assertEqual(found["status"], 3)
+
+    def test_what_is_collected_stands_alone(self):
+        row, process = snapshot.Bending.row, processes.Reader.process
+
+        def odd_row(of, path, found):
+            return {}["memory.max"] if path == path_of("/alice/in") else row(of, path, found)
+
+        def odd_process(of, pid):
+            return {}["Uid"] if pid == 8 else process(of, pid)
+        self.host.process(8, uid=1000)
+        for place in ("/alice/in", "/alice/in/deep"):
+            self.host.cgroup(place, owners=owned(1000))
+        for module, name, what, odd in ((snapshot.Bending, "row", "cgroups: KeyError('memory.max')", odd_row),
+                                        (processes.Reader, "process", "processes: KeyError('Uid')", odd_process),
+                                        (snapshot, "lacking_notes", "", None), (check, "accounts_of", "accounts: OSError('no')", None)):
+            with self.subTest(name), mock.patch.object(module, name, odd or mock.Mock(side_effect=OSError("no"))):
+                found = self.report(json=True)
+                self.assertEqual([row_[2:] for row_ in self.rows(found) if row_[3] in ("/bob", "/carol")], OTHERS)
+                self.assertEqual([f"{each['place']}: {each['text']}" for each in found["snapshot"] if each["kind"] == looks.FAILED],
+                                 [what] if what else [])
+                self.assertEqual(found["status"], 3 if what else 1)
 
     def test_the_ways_to_write_stand_alone(self):
         out = []
