@@ -2,13 +2,15 @@
 than the budgets say. All of it is counted, and nothing timed."""
 import json
 import os
+import subprocess
+import sys
 import unittest
 from unittest import mock
 
 import made_up_program
 import scaling
 from check_test import HostTest, owned
-from made_up import MEMORY, accounts_with
+from made_up import COMMAND, MEMORY, accounts_with
 from shown import made
 from zirofen_host import command
 from zirofen_host.ask import accepted
@@ -372,6 +374,18 @@ class LooksTest(ThreeTest):
         self.assertEqual(len([line for line in warned if "the page" in line]), 1)
         with open(f"{self.host.folder}/base.json", encoding="ascii") as kept:
             self.assertEqual(json.load(kept)["status"], 1)
+
+
+class SecondsTest(ThreeTest):
+    def test_a_run_is_cut_off(self):
+        program = f"{self.host.folder}/slow"
+        with open(program, "w", encoding="ascii") as out:
+            out.write("#!/bin/sh\nexec sleep 20\n")
+        os.chmod(program, 0o755)
+        ended = subprocess.run([sys.executable, COMMAND, "check", "--plain-folder", "--mount", self.host.mount, "--proc", self.host.proc,
+                                "--accounts", self.host.etc, "--zirofen", program, "--seconds", "1"], capture_output=True, text=True)
+        self.assertEqual((ended.stdout, ended.stderr, ended.returncode),
+                         ("", "zirofen-host check: it took longer than 1 seconds, and this is no answer\n", 3))
 
 
 class LargeTest(ThreeTest):
