@@ -78,9 +78,10 @@ class SpentTest(unittest.TestCase):
         for path, uid, mode in (("/", 0, 0o755), ("/a", 1000, 0o755), ("/a/in", 100001, 0o755), ("/a/in/roots", 0, 0o755),
                                 ("/a/bobs", 1001, 0o755), ("/tmp", 0, 0o777), ("/tmp/x", 1001, 0o755)):
             rows[path_of(path)] = mock.Mock(directory=mock.Mock(uid=uid, mode=mode))
-        holds = Holds(rows, payer)
+        rows[path_of("/a/m.service")] = rows[path_of("/a/in")]
+        holds = Holds(rows, payer, {path_of("/a/m.service")})
         self.assertEqual([holds.within(path_of(path)) for path in (*rows, "/a/in/gone", "/gone")],
-                         [None, None, 1000, 1000, None, None, 1001, 1000, None])
+                         [None, None, 1000, 1000, None, None, 1001, None, 1000, None])
 
 
 class CgroupsTest(ThreeTest):
