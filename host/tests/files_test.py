@@ -1,10 +1,11 @@
 """Tests of the table of what a cgroup's files are, and of what follows from it."""
 import os
 import unittest
-import unittest.mock
+from unittest import mock
 
 from check_test import HostTest, owned
 from zirofen_host import files
+from zirofen_host.collect import bounded
 from zirofen_host.files import Kind, kind_of
 from zirofen_host.profile import CONTROL_FILES, LIMIT_FILES, SETTINGS, USUAL_LIST
 
@@ -107,7 +108,7 @@ class CapabilitiesTest(HostTest):
         for pid, uid in ((7, 1000), (2000, 1000)):
             self.host.process(pid, uid=uid, gid=uid, threads=(0,) * 1500)
         self.host.process(9000, uid=1001, gid=1001, threads=(1 << 21,))
-        with unittest.mock.patch("zirofen_host.collect.processes.MOST_THREADS", 2000):
+        with mock.patch.object(bounded, "THREADS", bounded.Budget("threads", 2000)):
             found = self.report()
         self.assertEqual(self.told(found, "capability"), [
             "/b.service: inside: process 9000 of bob(1001) has CAP_SYS_ADMIN, and passes over owners",

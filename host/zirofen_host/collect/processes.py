@@ -116,7 +116,8 @@ def capabilities_of(proc: str, pid: int, bits: int) -> Tuple[str, ...]:
 
 def lacking_notes(proc: str) -> Iterator[Note]:
     """What this process can't see for want of a capability."""
-    bits = int(status_fields(bounded.read_file(f"{proc}/self/status", bounded.STATUS).text("utf-8", "replace"))["CapEff"][0], 16)
+    status = bounded.read_file(f"{proc}/self/status", bounded.STATUS).text("utf-8", "replace")
+    bits = int(status_fields(status)["CapEff"][0], 16)
     for numbers, name, unseen in NEEDED:
         if not any(bits >> number & 1 for number in numbers):
             yield Note("lacking", "/", f"this helper hasn't CAP_{name}: {unseen}")

@@ -133,8 +133,9 @@ def subordinates(host: Host) -> Iterator[Told]:
         for each in host.questions.accounts.subordinate_to(uid):
             last = each.first + each.count - 1
             found = asked[bisect_left(asked, each.first):bisect_left(asked, last + 1)]
-            told = f"asked above: {numbers(found)}" if found else "none of them has anything here"
-            yield host.of_user("subordinate", uid, f"uids {each.first} to {last} are his too; {told}")
+            told = "his too, and asked above" if found else "his too, and none of them has anything here"
+            asked_of = f", asked {numbers(found)}" if found else ""
+            yield host.of_user("subordinate", uid, f"{told}: uids {each.first} to {last}{asked_of}")
 
 
 def deputies(host: Host) -> Iterator[Told]:
@@ -142,7 +143,7 @@ def deputies(host: Host) -> Iterator[Told]:
     for uid, paths in sorted(host.held.items()):
         found = [path for path in paths if path in host.questions.meant and host.questions.holders[path].by == OWNER]
         if found:
-            yield host.of_user("deputy", uid, "the service manager moves his processes, from anywhere, on request into "
+            yield host.of_user("deputy", uid, "the service manager moves his processes, from anywhere, on request: into "
                                + some(texts(found)))
 
 
@@ -154,7 +155,7 @@ def outside(host: Host) -> Iterator[Told]:
         if uid in held and held[uid].isdisjoint((at, *ancestors(at))):
             places[uid].add(at)
     for uid, found in sorted(places.items()):
-        yield host.of_user("outside", uid, f"processes of his are in {some(texts(sorted(found)))}")
+        yield host.of_user("outside", uid, f"processes of his are outside of what he holds: in {some(texts(sorted(found)))}")
 
 
 def capabilities(host: Host) -> Iterator[Told]:
@@ -196,7 +197,7 @@ def marks(host: Host) -> Iterator[Told]:
     for path, found in sorted(host.questions.marks.items()):
         if OWNERS_MARK in found and MANAGERS_MARK not in found:
             owner = host.uid(host.snapshot.cgroups[path].directory.uid)
-            yield host.of_cgroup("mark", path, f"{OWNERS_MARK} alone, which its owner {owner} can set: nothing is asked for it")
+            yield host.of_cgroup("mark", path, f"{OWNERS_MARK} alone, which its owner can set, so that nothing is asked for it: of {owner}")
 
 
 def groups(host: Host) -> Iterator[Told]:

@@ -14,6 +14,8 @@ from zirofen_host.show.folded import GRAVITY, Part, counted, folded
 
 # how far the table's columns are filled up; a longer word stands out
 WIDEST = (12, 24, 48)
+# kinds of which a line has all, each behind its colon
+JOINED = ("deputy", "mark", "outside", "subordinate")
 # behind an answer where limits are those of version 1
 VERSION_1 = " [v1]"
 # lines of each kind of what no answer looks at, for what one person made
@@ -137,11 +139,29 @@ def place_text(each: Told) -> str:
 
 def told_lines(found: Iterable[Told], is_each: bool) -> Iterator[str]:
     """What no answer looks at; of what somebody made, so many lines of each kind."""
-    listed = list(found)
+    told = list(found)
+    listed = [each for each in told if is_each or each.kind not in JOINED]
     yield from (place_text(each) for each in listed if each.within is None)
+    yield from joined_lines(each for each in told if not is_each and each.kind in JOINED)
     for kind in sorted({each.kind for each in listed}):
         yield from folded((Part(each.within, (number,), each.kind, None, [place_text(each)]) for number, each in enumerate(listed)
                            if each.kind == kind and each.within is not None), is_each, TOLD)
+
+
+def joined_lines(found: Iterable[Told]) -> Iterator[str]:
+    """What is one fact of several, in one line: of each person one, and then further ones."""
+    facts: Dict[Tuple[str, str], List[Told]] = {}
+    for each in found:
+        facts.setdefault((each.kind, each.text.partition(": ")[0]), []).append(each)
+    for (kind, fact), of in facts.items():
+        first = {each.within: each for each in reversed(of)}
+        told = [*reversed(first.values()), *(each for each in of if first[each.within] is not each)]
+        if len(told) == 1:
+            yield place_text(told[0])
+            continue
+        parts = [" ".join(filter(None, (each.place, each.text.partition(": ")[2]))) for each in told[:SHOWN]]
+        more = [f"{len(told) - SHOWN} more"] if len(told) > SHOWN else []
+        yield f"{kind}: {fact}: {'; '.join(parts + more)}"
 
 
 def above_lines(found: Iterable[AboveFinding], is_each: bool) -> Iterator[str]:
