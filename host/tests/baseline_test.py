@@ -155,8 +155,8 @@ class BaselineTest(HostTest):
         self.assertEqual(status, 2)
         self.assertIn("changed: /up: contained, by 7 who holds it", lines)
         self.assertEqual([line for line in lines if line.startswith("gone")], [
-            "gone: above: alice(1000), below /a: /a/in", "gone: differs /m.service: dir: not as a service manager leaves it",
-            "gone: /a/in: contained, by 1001 who holds it"])
+            "gone: differs /m.service: dir: not as a service manager leaves it", "gone: /a/in: contained, by 1001 who holds it",
+            "gone: above: alice(1000), below /a: /a/in"])
         self.host.cgroup("/up")
         status, lines = self.compared()
         self.assertEqual((status, "gone: /up cgroup.procs (0:50 664): unsettled, by group team(50): carol(1002), of /up/b"

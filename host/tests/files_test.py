@@ -112,7 +112,7 @@ class CapabilitiesTest(HostTest):
             found = self.report()
         self.assertEqual(self.told(found, "capability"), [
             "/b.service: inside: process 9000 of bob(1001) has CAP_SYS_ADMIN, and passes over owners",
-            "alice(1000): 1002 threads weren't looked at: more than 4096 run"])
+            "alice(1000): 1002 threads weren't looked at: more than 2000 run"])
 
 
 if __name__ == "__main__":

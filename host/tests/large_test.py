@@ -138,18 +138,6 @@ class LargeTest(HostTest):
         self.assertEqual((packed.texts, packed.refused[some[0]]),
                          ([], "what it needs goes into no tree text: its paths are too long"))
 
-    def later_test_one_text_is_refused_after_one_walk(self):
-        for name in "abc":
-            self.host.cgroup(f"/{name}")
-        walks, start = [], walk.Walk.__init__
-
-        def started(of, *words):
-            walks.append(words)
-            start(of, *words)
-        with mock.patch.object(walk.Walk, "__init__", started), self.assertRaisesRegex(check.Fault, "4 cgroups, and a tree text has 3"):
-            walk.settled(self.host.mount, None, None, 3)
-        self.assertEqual(len(walks), 1)
-
     def test_progress_is_told_at_a_terminal(self):
         class Terminal(io.StringIO):
             def isatty(self):
@@ -253,6 +241,13 @@ class BusyTest(HostTest):
         self.host.cgroup("/alice/in/bobs", owners=owned(1001))
         found = self.busy(lambda turn: self.come_and_go("/alice/in/bobs/new", turn, 1001), b"/alice")
         self.assertEqual([(each["subtrees"], each["made_by"]) for each in found["faults"]], [(["/alice/in/bobs"], "bob(1001)")])
+        self.assertIn(("contained", "/alice"), [row[2:] for row in self.rows(found)])
+
+    def test_an_answer_that_hangs_on_how_much_there_is(self):
+        self.host.cgroup("/alice", owners=owned(1000, 1000), enabled="memory", values={"cgroup.max.descendants": 100})
+        self.host.cgroup("/alice/in/bobs", owners=owned(1001))
+        found = self.busy(lambda turn: self.come_and_go("/alice/in/bobs/new", turn, 1001), b"/alice")
+        self.assertEqual([(each["subtrees"], each["made_by"]) for each in found["faults"]], [(["/alice", "/alice/in/bobs"], "bob(1001)")])
 
     def test_a_delegation_that_changes_itself(self):
         def act(turn):

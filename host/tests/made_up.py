@@ -163,7 +163,8 @@ class MadeUp:
 
     def take(self, subtrees_of=all_that_changes, only=None, **more):
         """A snapshot as the helpers take it."""
-        options = Options(**{"mount": self.mount, "only": only, "proc": self.proc, "plain_folder": True, **more})
+        etc = self.etc if os.path.exists(f"{self.etc}/passwd") else None
+        options = Options(**{"mount": self.mount, "only": only, "proc": self.proc, "plain_folder": True, "accounts": etc, **more})
         with self.owned():
             return take(options, subtrees_of)
 

@@ -27,11 +27,15 @@ def undone(undo: Callable[[], None]) -> Iterator[None]:
 
 
 def run(words: Sequence[str], seconds: Optional[float] = None) -> "subprocess.CompletedProcess[str]":
-    """Runs a program to its end, or for so many seconds. Python ignores SIGXFSZ, and so does the program: a file that gets too
-    large is its fault line."""
+    """Runs a program to its end, or cuts it off where it takes longer. Python ignores SIGXFSZ, and so does the program: a file that
+    gets too large is its fault line."""
     with subprocess.Popen(words, stdin=subprocess.DEVNULL, stdout=subprocess.PIPE, stderr=subprocess.PIPE, text=True,
                           errors="replace", restore_signals=False) as child, undone(child.terminate):
-        stdout, stderr = child.communicate(timeout=seconds)
+        try:
+            stdout, stderr = child.communicate(timeout=seconds)
+        except subprocess.TimeoutExpired:
+            child.kill()
+            raise
     return subprocess.CompletedProcess(words, child.returncode, stdout, stderr)
 
 

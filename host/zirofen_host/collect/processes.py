@@ -44,7 +44,7 @@ class Reader:
         """Of whom not all processes were looked at, each with why."""
         return {person: spent.budget.told(person) for spent in (self.bytes, self.count) for person in spent.over()}
 
-    def read(self) -> "Reader":
+    def look(self) -> "Reader":
         """Reads all processes, as far as the budgets of their users go."""
         for name in names_in(self.proc):
             process = self.process(int(name)) if name.isdigit() else None
@@ -125,4 +125,4 @@ def lacking_notes(proc: str) -> Iterator[Note]:
 
 def read_processes(proc: str) -> Dict[int, Process]:
     """All processes by their PIDs."""
-    return Reader(proc).read().found
+    return Reader(proc).look().found

@@ -171,12 +171,12 @@ def take(options: Options, subtrees_of: SubtreesOf) -> Snapshot:
 
     def subtrees_in(walked: walk.Walk, changing: Changing) -> Iterable[CgroupPath]:
         if not running:
-            running.append(Reader(options.proc, payer).read())
+            running.append(Reader(options.proc, payer).look())
         found = snapshot_of(walk.Settled(walked, {}, {}), running[0], options, mounts)
         return [CgroupPath(os.fsencode(path)) for path in subtrees_of(found, changing)]
 
     settled = walk.settled(options.mount, options.only, subtrees_in, payer)
-    return snapshot_of(settled, Reader(options.proc, payer).read(), options, mounts)
+    return snapshot_of(settled, Reader(options.proc, payer).look(), options, mounts)
 
 
 def all_that_changes(_: Snapshot, changing: Changing) -> Iterable[CgroupPath]:

@@ -13,7 +13,7 @@ from zirofen_host.judge.finding_lines import above_line, differs_line, entry_lin
 from zirofen_host.judge.gravity import Gravity, of_answer, of_fault, worst
 from zirofen_host.judge.looks import FAILED
 from zirofen_host.judge.model import (ABSENT, VERSION, Comparison, Difference, DiffersFinding, EntryFinding,
-                                      OpenedFinding, Report, Subtree, Whom)
+                                      OpenedFinding, Report, Subtree, Whom, Within)
 from zirofen_host.judge.saved import LACKING
 from zirofen_host.profile import shown
 
@@ -31,7 +31,7 @@ class Found(NamedTuple):
     lets_in: FrozenSet[Tuple[object, ...]] = frozenset()
     mended: Union[EntryFinding, OpenedFinding, DiffersFinding, None] = None
     # whose own making it is
-    within: Optional[int] = None
+    within: Within = ABSENT
 
 
 def read(file: str) -> Optional[Report]:
@@ -162,4 +162,4 @@ def difference(key: Key, now: Optional[Found], then: Optional[Found]) -> Differe
     mended = now.mended if now else None
     told = now or then
     return Difference(key[0], told.line if told else "", then.line if now and then else None, now.gravity.status if now else CONTAINED,
-                      mended.changes if mended else (), mended.setting if mended else None, told.within if told else None)
+                      mended.changes if mended else (), mended.setting if mended else None, told.within if told else ABSENT)

@@ -20,7 +20,7 @@ from zirofen_host.judge.findings import above_findings, differs_findings, entry_
 from zirofen_host.judge.gravity import gravity_of
 from zirofen_host.judge.judged import Own, judge
 from zirofen_host.judge.looks import Looks
-from zirofen_host.judge.model import VERSION, HeldBy, HolderAnswer, Report, Subtree, Told
+from zirofen_host.judge.model import VERSION, HeldBy, HolderAnswer, Report, Subtree, Told, within_of
 from zirofen_host.judge.names import names_of
 from zirofen_host.options import Options
 from zirofen_host.profile import CgroupPath, path_of, text_of
@@ -46,7 +46,7 @@ def ask(snapshot: Snapshot, options: Options, folder: str) -> Checked:
 def subtree_of(checked: Checked, path: CgroupPath) -> Subtree:
     holders = checked.questions.holders[path]
     return Subtree(text_of(path), checked.questions.meant.get(path), unit_of(path), HeldBy(holders.by, holders.ids),
-                   answers_of(checked, path), checked.holds.within(path))
+                   answers_of(checked, path), within_of(checked.holds.within(path)))
 
 
 def answers_of(checked: Checked, subtree: CgroupPath) -> Tuple[HolderAnswer, ...]:
@@ -104,7 +104,7 @@ def report_of(checked: Checked, is_whole: bool) -> Report:
 
 
 def noted(checked: Checked, note: Note) -> Told:
-    return Told(note.kind, note.place, note.detail, checked.holds.within(path_of(note.place)))
+    return Told(note.kind, note.place, note.detail, within_of(checked.holds.within(path_of(note.place))))
 
 
 def report(snapshot: Snapshot, options: Options, is_whole: bool) -> Report:

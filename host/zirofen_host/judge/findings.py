@@ -1,6 +1,6 @@
 """The findings of a report, made of what the answers come to."""
 from collections import defaultdict
-from typing import Dict, Iterable, List, Mapping, Optional, Tuple
+from typing import Dict, Iterable, List, Mapping, Optional, Tuple, Union
 
 from zirofen_host.ask.program import ESCAPES
 from zirofen_host.ask.questions import unit_of
@@ -12,7 +12,8 @@ from zirofen_host.judge.checked import Checked
 from zirofen_host.judge.finding_lines import some
 from zirofen_host.judge.looks import Looks
 from zirofen_host.judge.judged import LetIn, LetsIn, Place
-from zirofen_host.judge.model import (AboveFinding, DiffersFinding, EntryFinding, Example, FaultFinding, OpenedFinding, Owner, Whom)
+from zirofen_host.judge.model import (ABSENT, AboveFinding, Absent, DiffersFinding, EntryFinding, Example, FaultFinding, OpenedFinding,
+                                      Owner, Whom, within_of)
 from zirofen_host.judge.names import Names
 from zirofen_host.judge.opened import GROUP_WRITES, OTHERS_WRITE, WHO_IS_FIRST, what_differs
 from zirofen_host.judge.shell import closing_commands
@@ -57,15 +58,15 @@ def entry_finding(checked: Checked, advised: Advised, found: LetsIn, closing: Tu
     changes = checked.commands(advised.changes_of(found))
     return EntryFinding(path, place.name, owner_of(found.entry) if found.entry else None, lines[0].split(" ")[0],
                         whom_of(checked.names, found.whom()), texts_of(in_order(topmost(found.subtrees))), example,
-                        (*changes, *(() if place.name == "dir" else closing)), None, checked.holds.within(place.path),
+                        (*changes, *(() if place.name == "dir" else closing)), None, within_of(checked.holds.within(place.path)),
                         is_own_affair(checked, place, found.whom(), found.subtrees))
 
 
-def is_own_affair(checked: Checked, place: Place, let_in: Iterable[LetIn], subtrees: Iterable[CgroupPath]) -> bool:
+def is_own_affair(checked: Checked, place: Place, let_in: Iterable[LetIn], subtrees: Iterable[CgroupPath]) -> Union[bool, Absent]:
     """Whether an entry of somebody's own making lets in them alone, and to nothing that another holds."""
     person = checked.holds.within(place.path)
     if person is None:
-        return False
+        return ABSENT
     uids = {uid for each in let_in for uid in each.uids}.union(*(checked.questions.holders[path].uids for path in subtrees))
     return checked.holds.is_all_of(person, uids)
 
@@ -84,7 +85,7 @@ def closing_of_directories(checked: Checked) -> Mapping[CgroupPath, Tuple[str, .
 
 
 def opened_findings(checked: Checked) -> Iterable[Tuple[Place, OpenedFinding]]:
-    """Everything that stands open, but for the limits that the answers show."""
+    """Everything that stands open, but for what the answers show."""
     closing = closing_of_directories(checked)
     for place, entry, let_in in checked.openings:
         if not is_shown(checked, place, let_in):
@@ -93,7 +94,7 @@ def opened_findings(checked: Checked) -> Iterable[Tuple[Place, OpenedFinding]]:
             yield place, OpenedFinding(
                 text_of(place.path), place.name, owner_of(entry), whom_of(checked.names, let_in),
                 (*changes, *(() if is_directory else closing.get(place.path, ()))), None, WHO_IS_FIRST if is_directory else None,
-                checked.holds.within(place.path), is_own_affair(checked, place, let_in, ()))
+                within_of(checked.holds.within(place.path)), is_own_affair(checked, place, let_in, ()))
 
 
 def is_shown(checked: Checked, place: Place, let_in: Iterable[LetIn]) -> bool:

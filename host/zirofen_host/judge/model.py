@@ -18,6 +18,12 @@ class Absent(Enum):
 ABSENT = Absent.ABSENT
 # what a limit file has; one that can't be read has none
 FileValue = Union[int, str, None, Absent]
+# whose own making something is: the uid of somebody who can have made it; what root made or handed over has none
+Within = Union[int, Absent]
+
+
+def within_of(person: Optional[int]) -> Within:
+    return ABSENT if person is None else person
 
 
 @dataclass(frozen=True)
@@ -74,8 +80,7 @@ class Subtree:
     unit: Optional[str]
     held_by: HeldBy
     answers: Tuple[HolderAnswer, ...]
-    # whose own making it is: the uid of somebody who can have made it, and not what root handed over
-    within: Optional[int] = None
+    within: Within = ABSENT
 
 
 @dataclass(frozen=True)
@@ -111,9 +116,9 @@ class EntryFinding:
     example: Optional[Example]
     changes: Tuple[str, ...]
     setting: Optional[str]
-    within: Optional[int] = None
+    within: Within = ABSENT
     # nobody but that person is let in, and to nothing that isn't theirs
-    is_own: bool = False
+    is_own: Union[bool, Absent] = ABSENT
 
 
 @dataclass(frozen=True)
@@ -127,8 +132,8 @@ class OpenedFinding:
     setting: Optional[str]
     # of a directory, why it counts
     why: Optional[str]
-    within: Optional[int] = None
-    is_own: bool = False
+    within: Within = ABSENT
+    is_own: Union[bool, Absent] = ABSENT
 
 
 @dataclass(frozen=True)
@@ -159,7 +164,7 @@ class AboveFinding:
     uid: int
     handed: str
     subtrees: Tuple[str, ...]
-    within: Optional[int] = None
+    within: Within = ABSENT
 
 
 @dataclass(frozen=True)
@@ -168,7 +173,7 @@ class Told:
     kind: str
     place: str
     text: str
-    within: Optional[int] = None
+    within: Within = ABSENT
 
 
 @dataclass(frozen=True)
@@ -219,7 +224,7 @@ class Difference:
     status: int
     changes: Tuple[str, ...]
     setting: Optional[str]
-    within: Optional[int] = None
+    within: Within = ABSENT
 
 
 @dataclass(frozen=True)

@@ -10,7 +10,7 @@ from typing import DefaultDict, Dict, Iterable, Iterator, List, Mapping, Optiona
 from zirofen_host import ending
 from zirofen_host.ask.model import Answers
 from zirofen_host.ask.questions import Questions, unit_of
-from zirofen_host.collect.bounded import ADVICE, THREADS
+from zirofen_host.collect import bounded
 from zirofen_host.collect.descriptors import Descriptors, inodes_of
 from zirofen_host.collect.elsewhere import told_unseen
 from zirofen_host.collect.holds import Holds
@@ -20,7 +20,7 @@ from zirofen_host.judge.advised import Advised
 from zirofen_host.judge.checked import Checked
 from zirofen_host.judge.finding_lines import some
 from zirofen_host.judge.looks import Looks
-from zirofen_host.judge.model import Told
+from zirofen_host.judge.model import Told, within_of
 from zirofen_host.judge.names import Names
 from zirofen_host.judge.opened import unknown_files
 from zirofen_host.profile import ANYBODY, LIMIT_FILES, SETTINGS, CgroupPath, ancestors, path_of, text_of
@@ -53,7 +53,7 @@ class Host:
 
     def of_cgroup(self, kind: str, path: CgroupPath, text: str) -> Told:
         """What is told of a cgroup, charged to whose making it is."""
-        return Told(kind, text_of(path), text, self.holds.within(path))
+        return Told(kind, text_of(path), text, within_of(self.holds.within(path)))
 
 
 def lines(checked: Checked, advised: Advised, looks: Looks) -> Tuple[Told, ...]:
@@ -176,7 +176,7 @@ def capabilities(host: Host) -> Iterator[Told]:
     for process in host.snapshot.processes.values():
         left[process.uid] += process.threads_left
     for uid, count in sorted((uid, count) for uid, count in left.items() if count):
-        yield host.of_user("capability", uid, f"{count} threads weren't looked at: more than {THREADS.most} run")
+        yield host.of_user("capability", uid, f"{count} threads weren't looked at: more than {bounded.THREADS.most} run")
 
 
 def search_bits(host: Host) -> Iterator[Told]:
@@ -277,5 +277,5 @@ def processes(host: Host) -> Iterator[Told]:
 
 def not_advised(advised: Advised) -> Iterator[Told]:
     if advised.unasked:
-        yield Told("advice", "", f"what to change isn't told of {advised.unasked} entries: the program is asked {ADVICE} times, once "
-                   "for all that are alike. Ask again after these changes")
+        yield Told("advice", "", f"what to change isn't told of {advised.unasked} entries: the program is asked {bounded.ADVICE} times, "
+                   "once for all that are alike. Ask again after these changes")

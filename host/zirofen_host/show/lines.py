@@ -8,8 +8,8 @@ from zirofen_host.installed import MANUAL
 from zirofen_host.judge.baseline import KINDS
 from zirofen_host.judge.finding_lines import (SHOWN, above_line, differs_line, entry_line, fault_line, opened_line,
                                               version_1_line, whom_text)
-from zirofen_host.judge.model import (AboveFinding, Comparison, Difference, DiffersFinding, EntryFinding, OpenedFinding, Report,
-                                      Subtree, Told)
+from zirofen_host.judge.model import (ABSENT, AboveFinding, Absent, Comparison, Difference, DiffersFinding, EntryFinding,
+                                      OpenedFinding, Report, Subtree, Told)
 from zirofen_host.show.folded import GRAVITY, Part, counted, folded
 
 # how far the table's columns are filled up; a longer word stands out
@@ -49,9 +49,9 @@ def table(report: Report, is_each: bool = False) -> Iterator[str]:
     head: Row = ("UID", "GIDS", "ANSWER", "PATH", ())
     shown = [head, *(row for _, row in rows)]
     widths = [min(most, max(len(row[at]) for row in shown)) for at, most in enumerate(WIDEST)]
-    yield from (line for row in (head, *(row for within, row in rows if within is None)) for line in row_lines(row, widths))
+    yield from (line for row in (head, *(row for within, row in rows if within is ABSENT)) for line in row_lines(row, widths))
     made = [Part(within, (within, row[:2], row[2].split(" ")[0]), row[2].split(" ")[0].rstrip(":"), None, list(row_lines(row, widths)))
-            for within, row in rows if within is not None]
+            for within, row in rows if not isinstance(within, Absent)]
     yield from folded(made, is_each)
 
 
@@ -111,8 +111,8 @@ def finding_lines(report: Report, is_each: bool = False) -> Iterator[str]:
     """Everything that counts, and then what doesn't; at last what somebody made below their own delegation."""
     entries = [(found[0].within, found) for found in alike(report.entries, entry_in_common)]
     opened = [(each[0].within, each) for each in alike(report.opened, opened_in_common)]
-    yield from (line for within, found in entries if within is None for line in entry_lines(found))
-    yield from (line for within, each in opened if within is None for line in opened_lines(each))
+    yield from (line for within, found in entries if within is ABSENT for line in entry_lines(found))
+    yield from (line for within, each in opened if within is ABSENT for line in opened_lines(each))
     for fault in report.faults:
         yield fault_line(fault, fault.subtrees)
     if report.entries and not report.has_advice:
@@ -121,16 +121,16 @@ def finding_lines(report: Report, is_each: bool = False) -> Iterator[str]:
         yield differs_line(differs)
         yield from what_to_change([differs])
     made = [Part(within, (found[0].answer, owners, found[0].whom), found[0].answer, others_in(found), list(entry_lines(found)))
-            for within, found in entries if within is not None
+            for within, found in entries if not isinstance(within, Absent)
             for owners in [tuple((each.entry, each.owner) for each in found)]]
     made += [Part(within, ("opened", owners, each[0].whom), "opened", others_in(each), list(opened_lines(each)))
-             for within, each in opened if within is not None for owners in [tuple((one.file, one.owner) for one in each)]]
+             for within, each in opened if not isinstance(within, Absent) for owners in [tuple((one.file, one.owner) for one in each)]]
     yield from folded(made, is_each)
 
 
 def others_in(found: Sequence[Union[EntryFinding, OpenedFinding]]) -> Optional[str]:
     """Whom entries let in, but where they are nobody's matter but theirs who made them."""
-    return None if all(each.is_own for each in found) else whom_text(found[0].whom)
+    return None if all(each.is_own is True for each in found) else whom_text(found[0].whom)
 
 
 def place_text(each: Told) -> str:
@@ -141,11 +141,11 @@ def told_lines(found: Iterable[Told], is_each: bool) -> Iterator[str]:
     """What no answer looks at; of what somebody made, so many lines of each kind."""
     told = list(found)
     listed = [each for each in told if is_each or each.kind not in JOINED]
-    yield from (place_text(each) for each in listed if each.within is None)
+    yield from (place_text(each) for each in listed if each.within is ABSENT)
     yield from joined_lines(each for each in told if not is_each and each.kind in JOINED)
     for kind in sorted({each.kind for each in listed}):
         yield from folded((Part(each.within, (number,), each.kind, None, [place_text(each)]) for number, each in enumerate(listed)
-                           if each.kind == kind and each.within is not None), is_each, TOLD)
+                           if each.kind == kind and not isinstance(each.within, Absent)), is_each, TOLD)
 
 
 def joined_lines(found: Iterable[Told]) -> Iterator[str]:
@@ -166,9 +166,9 @@ def joined_lines(found: Iterable[Told]) -> Iterator[str]:
 
 def above_lines(found: Iterable[AboveFinding], is_each: bool) -> Iterator[str]:
     listed = list(found)
-    yield from (above_line(each) for each in listed if each.within is None)
+    yield from (above_line(each) for each in listed if each.within is ABSENT)
     yield from folded((Part(each.within, each.handed, "above", None, [above_line(each)]) for each in listed
-                       if each.within is not None), is_each)
+                       if not isinstance(each.within, Absent)), is_each)
 
 
 def said_first(report: Report, status: int) -> str:
@@ -245,15 +245,15 @@ def comparison_lines(report: Report, compared: Comparison, is_each: bool = False
     """The lines of what differs from a baseline; what somebody made below their own delegation stands last."""
     differing = [(kind, found) for kind, found in by_kind(compared) if kind != "stand"]
     for kind, found in differing:
-        yield from (line for each in found if each.within is None for line in difference_lines(kind, each))
+        yield from (line for each in found if each.within is ABSENT for line in difference_lines(kind, each))
     for kind, found in differing:
         yield from folded((Part(each.within, (each.what, each.status, each.changes == ()), kind, None, list(difference_lines(kind, each)))
-                           for each in found if each.within is not None), is_each)
+                           for each in found if not isinstance(each.within, Absent)), is_each)
     if compared.stand:
         yield standing_line(compared)
-        yield from what_to_change([each for each in compared.stand if each.within is None])
+        yield from what_to_change([each for each in compared.stand if each.within is ABSENT])
         yield from folded((Part(each.within, (each.what, each.status), each.what, None, list(what_to_change([each])))
-                           for each in compared.stand if each.within is not None and each.changes), is_each)
+                           for each in compared.stand if not isinstance(each.within, Absent) and each.changes), is_each)
     if not any(found for _, found in by_kind(compared)):
         yield f"nothing is new, worse, changed or gone since {compared.time or compared.file}"
     first = said_first(report, compared.status)
