@@ -103,13 +103,10 @@ class InstalledTest(unittest.TestCase):
             self.assertTrue(option[:2] != "--" or f"  {option} " in helps, option)
         # it ends itself before it is ended
         self.assertEqual((words[words.index("--seconds") + 1], self.unit()["TimeoutStartSec"]), ("1500", "30min"))
-        self.assertEqual(self.unit()["EnvironmentFile"], "-/etc/default/zirofen-check")
-        with open(f"{HERE}/default/zirofen-check", encoding="ascii") as text:
-            self.assertEqual([line for line in text.read().splitlines() if line[:1] != "#"], ['OPTIONS=""'])
-
-    def test_a_failed_run_is_taken_back_too(self):
-        with open(f"{HERE}/debian/postrm", encoding="ascii") as text:
-            self.assertIn("reset-failed zirofen-check.timer zirofen-check.service", text.read())
+        with open(f"{HERE}/debian/zirofen-check.default", encoding="ascii") as text:
+            self.assertEqual([line for line in text.read().splitlines() if line[:1] != "#"], ["OPTIONS="])
+        with open(f"{HERE}/debian/conffiles", encoding="ascii") as text:
+            self.assertEqual(text.read(), f"/{self.unit()['EnvironmentFile'][2:]}\n")
 
     def test_the_unit_is_exposed_by_two_at_most(self):
         """And nothing in it hides what a check by hand sees."""
