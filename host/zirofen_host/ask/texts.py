@@ -151,6 +151,10 @@ class Texts:
     texts: Sequence[Text]
     refused: Mapping[CgroupPath, str]
 
+    def without_processes(self) -> Tuple[CgroupPath, ...]:
+        """The subtrees that go without any."""
+        return tuple(path for text in self.texts if not text.with_processes for path in text.subtrees)
+
     def fill(self, uids_of: Callable[[CgroupPath], AbstractSet[int]]) -> None:
         """Fills the texts with further processes, first those of the users that `uids_of` gives for a subtree."""
         for text in self.texts:

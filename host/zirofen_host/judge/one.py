@@ -134,6 +134,9 @@ def lines_of(one: One, answers: Dict[User, Answer]) -> Iterator[str]:
         yield from each.lines
         if each.status not in (0, FAULT) and is_advised:
             yield from (f"# {line}" for line in changes(one, user))
+    if any(each.lines[0] == "escapes" for each in answers.values()):
+        # for whoever makes commands of it
+        yield f"# subtree {text_of(one.path)}"
 
 
 def ask(snapshot: Snapshot, options: AskOptions, warn: Warn) -> Tuple[List[str], int]:
