@@ -12,11 +12,11 @@ from zirofen_host.ask.program import program_at
 from zirofen_host.ask.questions import subtrees_by
 from zirofen_host.collect import bounded, elsewhere, fitting, snapshot
 from zirofen_host.collect.accounts import accounts_here, accounts_of, payer_of
-from zirofen_host.collect.holds import Holds
+from zirofen_host.collect.holds import holds_of
 from zirofen_host.collect.model import Snapshot, User
 from zirofen_host.collect.processes import read_processes
+from zirofen_host.collect.looks import why_of
 from zirofen_host.judge import as_json, baseline, check, one, replayed, saved, settings, shell
-from zirofen_host.judge.looks import why_of
 from zirofen_host.judge.model import Comparison, Report
 from zirofen_host.options import (PROC, AskOptions, CheckOptions, CommandsOptions, DelegationsOptions, PageOptions,
                                   SnapshotOptions, TreeOptions)
@@ -132,7 +132,7 @@ def write_snapshot(given: argparse.Namespace) -> int:
         yield from fitting.told_changing(of)
         if accounts:
             yield from elsewhere.carried(of, accounts)
-    holds = Holds(taken.tree.rows, accounts.payer if accounts else payer_of(options.accounts))
+    holds = holds_of(taken, accounts.payer if accounts else payer_of(options.accounts))
     taken, text = elsewhere.fitting_text(taken, holds, carried, not options.no_processes)
     for line in snapshot.note_lines(taken):
         fault.warn(line)

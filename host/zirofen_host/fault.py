@@ -26,14 +26,16 @@ class OutOfTime(BaseException):
 class _Clock:
     """When the run has to have ended, where there is a bound."""
     end: Optional[float] = None
+    told = ""
 
 
 def bound(seconds: Optional[int]) -> None:
     """Ends the run with a fault where it takes longer than so many seconds."""
     if seconds:
         def end_run(*_: object) -> NoReturn:
-            raise OutOfTime(f"it took longer than {seconds} seconds")
+            raise out_of_time()
         _Clock.end = time.monotonic() + seconds
+        _Clock.told = f"it took longer than {seconds} seconds, and this is no answer"
         signal.signal(signal.SIGALRM, end_run)
         signal.alarm(seconds)
 
@@ -41,6 +43,11 @@ def bound(seconds: Optional[int]) -> None:
 def seconds_left() -> Optional[float]:
     """The seconds that what is started now may take, where there is a bound."""
     return None if _Clock.end is None else max(_Clock.end - time.monotonic(), 0.0)
+
+
+def out_of_time() -> OutOfTime:
+    """What ends a run of which a part took too long."""
+    return OutOfTime(_Clock.told)
 
 
 def plain(text: str) -> str:

@@ -13,7 +13,7 @@ from typing import Callable, Collection, Dict, Iterable, Iterator, List, NamedTu
 from zirofen_host import ending, output, progress
 from zirofen_host.ask.model import Abilities, Advice, Answer, Pair, Question
 from zirofen_host.collect.model import User
-from zirofen_host.fault import FAULT, Fault, OutOfTime, seconds_left
+from zirofen_host.fault import FAULT, Fault, out_of_time, seconds_left
 from zirofen_host.installed import WRAPPER
 from zirofen_host.profile import CgroupPath, text_of
 
@@ -98,7 +98,7 @@ class Program:
         except OSError as error:
             raise Fault(f"can't run {self.path}: {error.strerror}") from None
         except subprocess.TimeoutExpired:
-            raise OutOfTime("the program was cut off") from None
+            raise out_of_time() from None
 
     def run(self, *words: str) -> Ended:
         ended = self.try_start(words)

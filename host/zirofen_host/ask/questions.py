@@ -13,7 +13,7 @@ from zirofen_host.ask.program import ESCAPES
 from zirofen_host.collect import bounded
 from zirofen_host.collect.accounts import Accounts, accounts_of
 from zirofen_host.collect.bounded import Spent
-from zirofen_host.collect.holds import Holds
+from zirofen_host.collect.holds import Holds, handed_in
 from zirofen_host.collect.model import CLASSES, GROUP, OTHERS, OWNER, Snapshot, Tree, User
 from zirofen_host.collect.snapshot import SubtreesOf
 from zirofen_host.collect.tree import in_order
@@ -306,7 +306,8 @@ def bounded_plan(questions: Questions, plan: Plan) -> Tuple[Plan, Dict[CgroupPat
     """A plan with no more uids of one person's than are asked of, and no more questions for what one person made: of what is over
     these budgets nothing is asked, and it is told of which subtrees, each with why."""
     payer = questions.accounts.payer
-    holds, runs, users = Holds(questions.tree.rows, payer), Spent(bounded.RUNS, payer), Spent(bounded.USERS, payer)
+    holds = Holds(questions.tree.rows, payer, handed_in(questions.marks))
+    runs, users = Spent(bounded.RUNS, payer), Spent(bounded.USERS, payer)
     uids = {user.uid for each in plan.questions for user in each.users}
     left_out = {uid for uid in sorted(uids, key=lambda uid: (payer(uid) != uid, uid)) if not users.take(uid)}
     over, kept = {}, []
