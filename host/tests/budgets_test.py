@@ -14,12 +14,12 @@ from zirofen_host import command
 from zirofen_host.ask import accepted
 from zirofen_host.ask import program as asking
 from zirofen_host.ask.questions import subtrees_by
-from zirofen_host.collect import bounded, descriptors, walk
+from zirofen_host.collect import bounded, descriptors, looks, processes, snapshot, walk
 from zirofen_host.collect.accounts import Accounts
 from zirofen_host.collect.bounded import Budget, Spent
 from zirofen_host.collect.holds import Holds
 from zirofen_host.collect.model import AccountLists, Range
-from zirofen_host.judge import check, findings, looks, unseen, whole
+from zirofen_host.judge import check, findings, unseen, whole
 from zirofen_host.profile import path_of
 from zirofen_host.show import lines
 
@@ -257,7 +257,7 @@ class DescriptorsTest(ThreeTest):
         self.assertEqual(self.told(found, "descriptor"), [
             self.text.format(""), "alice(1000): more than 16 open files that /proc tells much of are in his processes: not all were looked "
             "at"])
-        self.assertLess(self.bytes, 30000)
+        self.assertLess(self.bytes, 150000)
 
 
 class LinesTest(ThreeTest):
@@ -338,6 +338,27 @@ class LooksTest(ThreeTest):
                     self.assertIn(f"{what}: KeyError('memory.max')", self.told(found, looks.FAILED))
                     self.assertEqual(found["status"], 3)
 
+    def test_what_is_collected_stands_alone(self):
+        row, process = snapshot.Bending.row, processes.Reader.process
+
+        def odd_row(of, path, found):
+            return {}["memory.max"] if path == path_of("/alice/in") else row(of, path, found)
+
+        def odd_process(of, pid):
+            return {}["Uid"] if pid == 8 else process(of, pid)
+        self.host.process(8, uid=1000)
+        for place in ("/alice/in", "/alice/in/deep"):
+            self.host.cgroup(place, owners=owned(1000))
+        for module, name, what, odd in ((snapshot.Bending, "row", "cgroups: KeyError('memory.max')", odd_row),
+                                        (processes.Reader, "process", "processes: KeyError('Uid')", odd_process),
+                                        (snapshot, "lacking_notes", "", None), (check, "accounts_of", "accounts: OSError('no')", None)):
+            with self.subTest(name), mock.patch.object(module, name, odd or mock.Mock(side_effect=OSError("no"))):
+                found = self.report(json=True)
+                self.assertEqual([row_[2:] for row_ in self.rows(found) if row_[3] in ("/bob", "/carol")], OTHERS)
+                self.assertEqual([f"{each['place']}: {each['text']}" for each in found["snapshot"] if each["kind"] == looks.FAILED],
+                                 [what] if what else [])
+                self.assertEqual(found["status"], 3 if what else 1)
+
     def test_the_ways_to_write_stand_alone(self):
         out = []
         words = ["check", "--plain-folder", "--mount", self.host.mount, "--proc", self.host.proc, "--accounts", self.host.etc,
@@ -367,7 +388,7 @@ class LargeTest(ThreeTest):
                 mock.patch("zirofen_host.fault.write", lambda parts: out.append("".join(parts))), \
                 mock.patch("zirofen_host.fault.warn", warned.append), self.host.owned():
             self.assertEqual(command.main(words), 0)
-        why = "30 cgroups of uid 1000 in /alice were left out: a text has 20 cgroups at most"
+        why = "uid 1000 has 30 cgroups in /alice, left out: a text has 20 cgroups at most"
         self.assertIn(f"large: /alice: {why}", warned)
         with open(file, "w", encoding="ascii") as kept:
             kept.write("".join(out))
@@ -375,7 +396,9 @@ class LargeTest(ThreeTest):
         options = self.options(tree=file, accounts=None)
         found = self.value_of(check.report(accepted.take(options, subtrees_by(options)), options, False))
         self.others(found)
-        self.assertEqual([(each["subtrees"], each["fault"]) for each in found["faults"]], [(["/alice"], why)])
+        self.assertEqual([(each["subtrees"], each["fault"], each["made_by"]) for each in found["faults"]],
+                         [(["/alice"], why, "alice(1000)")])
+        self.assertEqual(found["status"], 1)
 
 
 class ScalingTest(HostTest):

@@ -16,7 +16,7 @@ from zirofen_host.collect.holds import Holds
 from zirofen_host.collect.model import Snapshot, User
 from zirofen_host.collect.processes import read_processes
 from zirofen_host.judge import as_json, baseline, check, one, saved, shell
-from zirofen_host.judge.looks import why_of
+from zirofen_host.collect.looks import why_of
 from zirofen_host.judge.model import Comparison, Report
 from zirofen_host.options import (PROC, AskOptions, CheckOptions, CommandsOptions, DelegationsOptions, PageOptions,
                                   SnapshotOptions, TreeOptions)

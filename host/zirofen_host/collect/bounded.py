@@ -25,7 +25,7 @@ ATTRIBUTE = 16
 # names in one folder
 NAMES = 1 << 30
 # bytes of what /proc tells of one process, of its flags, and of one descriptor: its first lines, which are all that is used
-STATUS, FLAGS, DESCRIPTOR = 1 << 20, 1 << 12, 1 << 8
+STATUS, FLAGS, DESCRIPTOR = 1 << 20, 1 << 12, 1 << 12
 # bytes of the host's own list of mounts
 HOST_MOUNTS = 1 << 26
 

@@ -56,7 +56,7 @@ def without_inside(snapshot: Snapshot, holds: Holds, person: int, why: str) -> S
         if parent is not None:
             by_parent[parent].append(path)
     counts = Counter(top for path in lost for top in (path, *ancestors(path)) if top in by_parent)
-    changing = {**snapshot.changing, **{paths[0]: f"{counts[parent]} cgroups of uid {person} in {text_of(parent)} were left out: {why}"
+    changing = {**snapshot.changing, **{paths[0]: f"uid {person} has {counts[parent]} cgroups in {text_of(parent)}, left out: {why}"
                                         for parent, paths in by_parent.items()}}
     tree = snapshot.tree
     return replace(

@@ -39,6 +39,7 @@ class Reader:
         self.found: Dict[int, Process] = {}
         # of which what is told isn't known
         self.unknown: List[int] = []
+        self.failed: List[Note] = []
 
     def over(self) -> Mapping[int, str]:
         """Of whom not all processes were looked at, each with why."""

@@ -6,6 +6,8 @@ from typing import Callable, Dict, Iterable, Iterator, List, Mapping, Optional, 
 
 from zirofen_host.collect import walk
 from zirofen_host.collect.accounts import payer_of
+from zirofen_host.collect.bounded import Payer
+from zirofen_host.collect.looks import Looks
 from zirofen_host.collect.model import About, Cgroup, Entry, Note, Placed, Process, Row, Snapshot, Tree, Value
 from zirofen_host.collect.mount import Mounts, read_kernel_list, refuse_what_is_no_host
 from zirofen_host.collect.processes import Reader, lacking_notes
@@ -149,18 +151,31 @@ def snapshot_of(settled: walk.Settled, reader: Reader, options: Options, mounts:
     root = cgroups[path_of("/")]
     bending = Bending(cgroups)
     bending.notes += [*changing_notes(settled.changing), *name_notes(walked), *controller_notes(cgroups), *process_notes(reader)]
-    rows = {path: bending.row(path, found) for path, found in cgroups.items()}
+    looks = Looks()
+    rows = whole_rows({row.path: row for row in looks.each("cgroups", cgroups, lambda path: bending.row(path, cgroups[path]))})
+    cgroups = {path: cgroups[path] for path in rows}
     placed, threads = bending.placed(rows, processes)
     tree = Tree(tuple(name for name in CONTROLLERS if name in root.available), rows, placed)
-    lacking = () if options.plain_folder else lacking_notes(PROC)
+    lacking = () if options.plain_folder else looks.all("capabilities", lambda: lacking_notes(PROC))
+    kernel_list = looks.at("delegate", lambda: read_kernel_list(None if options.plain_folder else KERNEL_LIST), read_kernel_list(None))
     return Snapshot(about=about_this_host(), mount=options.mount, mount_options=tuple(mounts.options(options.mount)), cgroups=cgroups,
                     tree=tree, processes=processes, kernel_threads=threads, places=walked.places,
-                    kernel_list=read_kernel_list(None if options.plain_folder else KERNEL_LIST),
-                    notes=(*bending.notes, *version_1_notes(mounts), *lacking), changing=settled.changing,
+                    kernel_list=kernel_list,
+                    notes=(*bending.notes, *version_1_notes(mounts), *lacking, *reader.failed, *looks.failed), changing=settled.changing,
                     spoiled={path_of(path): why for path, why in settled.spoiled.items()},
                     version_1=mounts.limits_of_version_1(),
                     makers={path_of(path): walked.holds[path].uid for path in settled.changing if path in walked.holds},
                     over=reader.over())
+
+
+def whole_rows(rows: Mapping[CgroupPath, Row]) -> Mapping[CgroupPath, Row]:
+    """The rows that have all of theirs above."""
+    kept: Dict[CgroupPath, Row] = {}
+    for path in sorted(rows, key=len):
+        parent = parent_of(path)
+        if parent is None or parent in kept:
+            kept[path] = rows[path]
+    return rows if len(kept) == len(rows) else kept
 
 
 def take(options: Options, subtrees_of: SubtreesOf) -> Snapshot:
@@ -171,12 +186,20 @@ def take(options: Options, subtrees_of: SubtreesOf) -> Snapshot:
 
     def subtrees_in(walked: walk.Walk, changing: Changing) -> Iterable[CgroupPath]:
         if not running:
-            running.append(Reader(options.proc, payer).look())
+            running.append(look_at_processes(options, payer))
         found = snapshot_of(walk.Settled(walked, {}, {}), running[0], options, mounts)
         return [CgroupPath(os.fsencode(path)) for path in subtrees_of(found, changing)]
 
     settled = walk.settled(options.mount, options.only, subtrees_in, payer)
-    return snapshot_of(settled, Reader(options.proc, payer).look(), options, mounts)
+    return snapshot_of(settled, look_at_processes(options, payer), options, mounts)
+
+
+def look_at_processes(options: Options, payer: Payer) -> Reader:
+    """Processes, as far as they can be read."""
+    looks, reader = Looks(), Reader(options.proc, payer)
+    looks.at("processes", reader.look, reader)
+    reader.failed += looks.failed
+    return reader
 
 
 def all_that_changes(_: Snapshot, changing: Changing) -> Iterable[CgroupPath]:

@@ -11,7 +11,7 @@ from zirofen_host.fault import Fault
 from zirofen_host.judge import as_json
 from zirofen_host.judge.finding_lines import above_line, differs_line, entry_line, fault_line, opened_line, version_1_line
 from zirofen_host.judge.gravity import Gravity, of_answer, of_fault, worst
-from zirofen_host.judge.looks import FAILED
+from zirofen_host.collect.looks import FAILED
 from zirofen_host.judge.model import (ABSENT, VERSION, Comparison, Difference, DiffersFinding, EntryFinding,
                                       OpenedFinding, Report, Subtree, Whom, Within)
 from zirofen_host.judge.saved import LACKING

@@ -8,7 +8,7 @@ from zirofen_host.ask.asking import ask_all
 from zirofen_host.ask.model import Answer
 from zirofen_host.ask.program import CONTAINED
 from zirofen_host.ask.questions import unit_of
-from zirofen_host.collect.accounts import accounts_of
+from zirofen_host.collect.accounts import Accounts, accounts_of
 from zirofen_host.collect.holds import Holds
 from zirofen_host.collect.model import GROUP, Note, Snapshot, User
 from zirofen_host.fault import Fault
@@ -19,7 +19,7 @@ from zirofen_host.judge.finding_lines import SHOWN
 from zirofen_host.judge.findings import above_findings, differs_findings, entry_findings, fault_findings, opened_findings
 from zirofen_host.judge.gravity import gravity_of
 from zirofen_host.judge.judged import Own, judge
-from zirofen_host.judge.looks import Looks
+from zirofen_host.collect.looks import Looks
 from zirofen_host.judge.model import VERSION, HeldBy, HolderAnswer, Report, Subtree, Told, within_of
 from zirofen_host.judge.names import names_of
 from zirofen_host.options import Options
@@ -28,7 +28,9 @@ from zirofen_host.profile import CgroupPath, path_of, text_of
 
 def ask(snapshot: Snapshot, options: Options, folder: str) -> Checked:
     """Everybody asked of everything, with texts that stand in a folder."""
-    accounts = accounts_of(options.accounts, snapshot)
+    looks = Looks()
+    accounts = looks.at("accounts", lambda: accounts_of(options.accounts, snapshot), Accounts(), True)
+    snapshot = replace(snapshot, notes=(*snapshot.notes, *looks.failed))
     found = ask_all(snapshot, accounts, options, folder)
     answers = found.answers
     asked_of: Dict[CgroupPath, List[FrozenSet[User]]] = defaultdict(list)
@@ -99,7 +101,7 @@ def report_of(checked: Checked, is_whole: bool) -> Report:
         made = replace(made, users=looks.all("users", lambda: whole.users_of(checked)),
                        groups=looks.all("groups", lambda: whole.groups_of(checked)), cgroups=whole.cgroups_of(checked, looks),
                        processes=looks.all("processes", lambda: whole.processes_of(checked)))
-    made = replace(made, unseen=(*looks.failed, *told))
+    made = replace(made, unseen=(*(noted(checked, note) for note in looks.failed), *told))
     return replace(made, status=gravity_of(made).status)
 
 

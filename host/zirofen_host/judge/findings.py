@@ -10,7 +10,7 @@ from zirofen_host.collect.walk import CHANGED, MANAGERS_MARK
 from zirofen_host.judge.advised import Advised
 from zirofen_host.judge.checked import Checked
 from zirofen_host.judge.finding_lines import some
-from zirofen_host.judge.looks import Looks
+from zirofen_host.collect.looks import Looks
 from zirofen_host.judge.judged import LetIn, LetsIn, Place
 from zirofen_host.judge.model import (ABSENT, AboveFinding, Absent, DiffersFinding, EntryFinding, Example, FaultFinding, OpenedFinding,
                                       Owner, Whom, within_of)

@@ -19,7 +19,7 @@ from zirofen_host.collect.walk import MANAGERS_MARK, OWNERS_MARK
 from zirofen_host.judge.advised import Advised
 from zirofen_host.judge.checked import Checked
 from zirofen_host.judge.finding_lines import some
-from zirofen_host.judge.looks import Looks
+from zirofen_host.collect.looks import Looks
 from zirofen_host.judge.model import Told, within_of
 from zirofen_host.judge.names import Names
 from zirofen_host.judge.opened import unknown_files
@@ -58,11 +58,11 @@ class Host:
 
 def lines(checked: Checked, advised: Advised, looks: Looks) -> Tuple[Told, ...]:
     """Looks at a host once, each look by itself."""
-    host = host_of(checked)
     found: List[Told] = []
-    for look in (descriptors, group_class, subordinates, deputies, outside, capabilities, search_bits, marks, groups, everybody,
-                 unknown, restarts, about_the_mount, processes):
-        found += looks.all(look.__name__, lambda: look(host))
+    for host in looks.all("unseen", lambda: [host_of(checked)]):
+        for look in (descriptors, group_class, subordinates, deputies, outside, capabilities, search_bits, marks, groups, everybody,
+                     unknown, restarts, about_the_mount, processes):
+            found += looks.all(look.__name__, lambda: look(host))
     return (*found, *not_advised(advised))
 
 

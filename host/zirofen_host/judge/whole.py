@@ -8,7 +8,7 @@ from zirofen_host.collect.tree import in_order
 from zirofen_host.files import WITHOUT_VALUE
 from zirofen_host.judge.checked import Checked
 from zirofen_host.judge.findings import owner_of
-from zirofen_host.judge.looks import Looks
+from zirofen_host.collect.looks import Looks
 from zirofen_host.judge.model import ABSENT, FileValue, ReportCgroup, ReportFile, ReportGroup, ReportProcess, ReportUser
 from zirofen_host.profile import CONTROL_FILES, CgroupPath, is_other_limit, shown, text_of
 

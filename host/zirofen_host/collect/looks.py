@@ -1,8 +1,8 @@
 """Looks that stand alone: where one fails, a line says which and why, and all others are told."""
 from typing import Callable, Iterable, List, Tuple, TypeVar
 
+from zirofen_host.collect.model import Note
 from zirofen_host.fault import Fault
-from zirofen_host.judge.model import Told
 
 FAILED = "failed"
 
@@ -23,14 +23,16 @@ class Looks:
     """What failed so far."""
 
     def __init__(self) -> None:
-        self.failed: List[Told] = []
+        self.failed: List[Note] = []
 
-    def at(self, what: str, look: Callable[[], Made], instead: Made) -> Made:
-        """What a look gives, or something instead where it fails."""
+    def at(self, what: str, look: Callable[[], Made], instead: Made, is_asked_for: bool = False) -> Made:
+        """What a look gives, or something instead where it fails. A fault of what was asked for isn't kept back."""
         try:
             return look()
         except Exception as error:
-            self.failed.append(Told(FAILED, what, why_of(error)))
+            if is_asked_for and isinstance(error, Fault):
+                raise
+            self.failed.append(Note(FAILED, what, why_of(error)))
             return instead
 
     def all(self, what: str, look: Callable[[], Iterable[Made]]) -> Tuple[Made, ...]:
@@ -53,5 +55,5 @@ class Looks:
                 wrong.append(why_of(error))
         if wrong:
             more = f", and {len(wrong) - 1} more" if len(wrong) > 1 else ""
-            self.failed.append(Told(FAILED, what, f"{wrong[0]}{more}"))
+            self.failed.append(Note(FAILED, what, f"{wrong[0]}{more}"))
         return tuple(made)
