@@ -91,6 +91,32 @@ class MadeLaterTest(HostTest):
         self.assertEqual((found["status"], found["above"]), (1, []))
         self.assertEqual(self.opened(found), ["/machine.slice dir by alice(1000)", "/machine.slice/vm cpu.max by everybody"])
 
+    def test_a_unit_without_the_mark_is_nobodys_where_others_have_it(self):
+        """What its manager starts in it later is root's."""
+        names = ("cgroup.threads", "cgroup.kill", "memory.oom.group")
+        self.host.cgroup("/system.slice", enabled="memory")
+        self.host.cgroup("/system.slice/cron.service", owners={**owned(1000), **dict.fromkeys(names, 1000), "memory.max": 1000},
+                         more=names, pids=(7,))
+        self.host.process(7)
+        found = self.report()
+        self.assertEqual([row[0] for row in self.rows(found)], ["1000"])
+        self.host.cgroup("/system.slice/udevd.service", marks=(MARK,))
+        found = self.report()
+        place = f"{self.host.mount}/system.slice/cron.service"
+        self.assertEqual((found["status"], [row[0] for row in self.rows(found)]), (1, ["-"]))
+        self.assertEqual(self.opened(found), [f"/system.slice/cron.service {name} by alice(1000)" for name in (
+            "cgroup.kill", "cgroup.procs", "cgroup.subtree_control", "dir", "memory.max", "memory.oom.group")])
+        self.assertEqual(self.directories(found)[0][2:], ([f"chown root {place}"], WHY))
+        self.host.cgroup("/system.slice/cron.service", more=names, pids=(7,))
+        found = self.report()
+        self.assertEqual((found["status"], found["asked"], found["opened"]), (4, False, []))
+
+    def test_a_users_manager_needs_no_mark(self):
+        self.manager(())
+        self.host.cgroup("/udevd.service", marks=(MARK,))
+        found = self.report()
+        self.assertEqual((found["status"], [row[0] for row in self.rows(found)]), (0, ["-", "1000"]))
+
     def test_a_slice_with_a_mark_is_asked_of(self):
         self.host.cgroup("/batch.slice", owners=owned(1000), marks=(MARK,))
         found = self.report()

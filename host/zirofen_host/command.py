@@ -15,8 +15,8 @@ from zirofen_host.collect.accounts import accounts_here, accounts_of, payer_of
 from zirofen_host.collect.holds import Holds
 from zirofen_host.collect.model import Snapshot, User
 from zirofen_host.collect.processes import read_processes
-from zirofen_host.judge import as_json, baseline, check, one, saved, shell
 from zirofen_host.collect.looks import why_of
+from zirofen_host.judge import as_json, baseline, check, one, saved, settings, shell
 from zirofen_host.judge.model import Comparison, Report
 from zirofen_host.options import (PROC, AskOptions, CheckOptions, CommandsOptions, DelegationsOptions, PageOptions,
                                   SnapshotOptions, TreeOptions)
@@ -44,7 +44,8 @@ def check_host(given: argparse.Namespace) -> int:
     before = baseline.read(options.baseline) if options.baseline else None
     is_first = bool(options.baseline) and before is None
     is_whole = bool(options.json or options.html or options.baseline_update or is_first)
-    report = check.report(accepted.take(options, subtrees_by(options)), options, is_whole)
+    before_the_walk = settings.read(settings.systemctl_of(options))
+    report = check.report(accepted.take(options, subtrees_by(options)), options, is_whole, before_the_walk)
     comparison = baseline.compared(report, before, options.baseline) if before and options.baseline else None
     if comparison:
         report = dataclasses.replace(report, baseline=comparison)

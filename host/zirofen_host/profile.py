@@ -49,6 +49,16 @@ SETTINGS: Dict[str, Optional[str]] = {
     "io.weight": "IOWeight=", "io.latency": "IODeviceLatencyTargetSec=", "io.max": "IOReadBandwidthMax= and its like",
     "cpuset.cpus": "AllowedCPUs=", "cpuset.mems": "AllowedMemoryNodes="}
 
+# what stands in other limits where nobody has set them
+USUAL = {"cgroup.freeze": "0", "cgroup.pressure": "1", "cgroup.type": "domain", "cpu.idle": "0", "cpu.max": "max 100000",
+         "cpu.max.burst": "0", "cpu.uclamp.max": "max", "cpu.uclamp.min": "0.00", "cpu.weight.nice": "0", "io.bfq.weight": "default 100",
+         "io.weight": "default 100", "memory.oom.group": "0", "memory.zswap.writeback": "1",
+         "cpuset.cpus.partition": "member", "io.prio.class": "no-change"}
+# as many bytes as no machine has: where a kernel doesn't write max, its own bound rounded down to whole pages, below 2^63
+NO_LIMIT = 2**62
+# limits with a line for each device or resource, of which each may have one
+KEYED = ("dmem.low", "dmem.max", "dmem.min", "misc.max", "rdma.max")
+
 # stands for a user of whom nothing is known but what everybody may do
 ANYBODY = 65534
 
@@ -63,6 +73,17 @@ def is_name(name: bytes) -> bool:
 def is_other_limit(file: str) -> bool:
     """Whether something is set by a file that a tree text doesn't carry."""
     return files.is_known(file) and files.may_set(file) and file not in CONTROL_FILES and file not in LIMIT_FILES
+
+
+def is_usual(file: str, value: Union[int, str, None]) -> bool:
+    """Whether a limit is as it is where nobody has set it."""
+    if file in LIMIT_FILES:
+        return value == LIMIT_FILES[file][1]
+    usual = USUAL.get(file, "max" if file.rpartition(".")[2] in ("max", "high") else "0" if file.endswith((".min", ".low")) else "")
+    if file in KEYED:
+        return all(word.rpartition("=")[2] == usual for line in str(value or "").splitlines() for word in line.split()[1:])
+    is_none = usual == "max" and str(value).isdigit() and int(value or 0) >= NO_LIMIT
+    return is_none or value in (None, "", usual)
 
 
 def accepts(file: str, value: Union[int, str]) -> bool:

@@ -66,6 +66,8 @@ class Questions:
     delegations: Delegations
     # what is meant to be handed over, each with why
     meant: Mapping[CgroupPath, str]
+    # what the system's manager keeps for itself, whoever owns it
+    kept: FrozenSet[CgroupPath]
     # those of which something can be asked
     subtrees: Tuple[CgroupPath, ...]
     # who holds each subtree, also of those of which nothing can be asked
@@ -148,8 +150,8 @@ class Questions:
                    for place in ancestors(path))
 
     def is_handed_over(self, path: CgroupPath) -> bool:
-        """Whether a cgroup may be somebody's delegation: the root isn't, nor a slice but for one that is meant as one."""
-        return not is_root(path) and (path in self.meant or not is_slice(path))
+        """Whether a cgroup may be somebody's delegation: the root isn't, nor what the system's manager keeps."""
+        return not is_root(path) and path not in self.kept
 
     def already_over(self, subtree: CgroupPath) -> bool:
         row = self.tree.rows[subtree]
@@ -173,8 +175,9 @@ def questions_of(snapshot: Snapshot, accounts: Accounts) -> Questions:
     """What can be asked of a snapshot."""
     marks = {path: found.marks for path, found in snapshot.cgroups.items() if found.marks}
     delegations, meant = Delegations(snapshot.tree, accounts), meant_in(snapshot)
-    subtrees = subtrees_in(delegations, meant)
-    return Questions(snapshot.tree, accounts, marks, delegations, meant, tuple(subtrees),
+    kept = kept_in(snapshot, meant)
+    subtrees = subtrees_in(delegations, meant, kept)
+    return Questions(snapshot.tree, accounts, marks, delegations, meant, kept, tuple(subtrees),
                      {path: holders_of(delegations, path, path in meant) for path in subtrees})
 
 
@@ -185,27 +188,31 @@ def subtrees_by(options: Options) -> SubtreesOf:
     def subtrees_of(snapshot: Snapshot, _: Mapping[CgroupPath, str]) -> List[CgroupPath]:
         if not accounts:
             accounts.append(accounts_of(options.accounts, snapshot))
-        return subtrees_in(Delegations(snapshot.tree, accounts[0]), meant_in(snapshot))
+        meant = meant_in(snapshot)
+        return subtrees_in(Delegations(snapshot.tree, accounts[0]), meant, kept_in(snapshot, meant))
     return subtrees_of
 
 
-def subtrees_in(delegations: Delegations, meant: Iterable[CgroupPath]) -> List[CgroupPath]:
-    """What was handed over and what is meant to be. A slice is no delegation, whoever reaches it."""
-    return in_order({each.path for each in delegations.find() if not is_slice(each.path)}.union(meant))
+def subtrees_in(delegations: Delegations, meant: Iterable[CgroupPath], kept: Container[CgroupPath]) -> List[CgroupPath]:
+    """What was handed over and what is meant to be. What the manager keeps is no delegation, whoever reaches it."""
+    return in_order({each.path for each in delegations.find() if each.path not in kept}.union(meant))
 
 
 def meant_in(snapshot: Snapshot) -> Dict[CgroupPath, str]:
-    return {path: why for path in snapshot.tree.rows if (why := why_meant(snapshot, path))}
+    """What is meant to be handed over, each with why: by the system manager's mark, as a user's manager, or, where the manager
+    sets no marks, as a unit with a user of its own."""
+    rows = snapshot.tree.rows
+    marked = {path for path in rows if not is_root(path) and snapshot.cgroups[path].marks.get(MANAGERS_MARK, b"0") != b"0"}
+    units = {path for path in rows if (name := unit_of(path))
+             and (_USERS_MANAGER.match(name) or not marked and rows[path].directory.uid)}
+    return {path: MANAGERS_MARK if path in marked else "unit" for path in rows if path in marked or path in units}
 
 
-def why_meant(snapshot: Snapshot, path: CgroupPath) -> Optional[str]:
-    """Why a cgroup is meant to be handed over: by the system manager's mark, or as a unit with a user of its own."""
-    if is_root(path):
-        return None
-    if snapshot.cgroups[path].marks.get(MANAGERS_MARK, b"0") != b"0":
-        return MANAGERS_MARK
-    name = unit_of(path)
-    return "unit" if name and (_USERS_MANAGER.match(name) or snapshot.tree.rows[path].directory.uid) else None
+def kept_in(snapshot: Snapshot, meant: Mapping[CgroupPath, str]) -> FrozenSet[CgroupPath]:
+    """What the system's manager keeps for itself: slices, and units without its mark where others have it. It starts there what
+    it likes, as root."""
+    has_marks = MANAGERS_MARK in meant.values()
+    return frozenset(path for path in snapshot.tree.rows if path not in meant and (is_slice(path) or has_marks and unit_of(path)))
 
 
 def holders_of(delegations: Delegations, path: CgroupPath, is_meant: bool) -> Holders:

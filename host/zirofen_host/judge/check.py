@@ -22,11 +22,14 @@ from zirofen_host.judge.judged import Own, judge
 from zirofen_host.collect.looks import Looks
 from zirofen_host.judge.model import VERSION, HeldBy, HolderAnswer, Report, Subtree, Told, within_of
 from zirofen_host.judge.names import names_of
+from zirofen_host.judge.settings import Settings
 from zirofen_host.options import Options
 from zirofen_host.profile import CgroupPath, path_of, text_of
 
+NO_SETTINGS: Settings = {}
 
-def ask(snapshot: Snapshot, options: Options, folder: str) -> Checked:
+
+def ask(snapshot: Snapshot, options: Options, folder: str, settings: Settings) -> Checked:
     """Everybody asked of everything, with texts that stand in a folder."""
     looks = Looks()
     accounts = looks.at("accounts", lambda: accounts_of(options.accounts, snapshot), Accounts(), True)
@@ -42,7 +45,8 @@ def ask(snapshot: Snapshot, options: Options, folder: str) -> Checked:
     for user in sorted({user for users, _ in (*answers.plan.questions, *answers.further) for user in users}):
         asked[user.uid].append(user)
     return Checked(snapshot, options, names_of(accounts), found.questions, answers, found.programs,
-                   judge(found.questions, answers), asked, asked_of, Holds(snapshot.tree.rows, accounts.payer))
+                   judge(found.questions, answers), asked, asked_of, Holds(snapshot.tree.rows, accounts.payer),
+                   settings)
 
 
 def subtree_of(checked: Checked, path: CgroupPath) -> Subtree:
@@ -109,7 +113,8 @@ def noted(checked: Checked, note: Note) -> Told:
     return Told(note.kind, note.place, note.detail, within_of(checked.holds.within(path_of(note.place))))
 
 
-def report(snapshot: Snapshot, options: Options, is_whole: bool) -> Report:
-    """The report on a host, with the host itself where it is to be whole."""
+def report(snapshot: Snapshot, options: Options, is_whole: bool, settings: Settings = NO_SETTINGS) -> Report:
+    """The report on a host, with the host itself where it is to be whole, and with the settings of units from before it was
+    looked at, where they are to be compared."""
     with output.temporary_folder() as folder:
-        return report_of(ask(snapshot, options, folder), is_whole)
+        return report_of(ask(snapshot, options, folder, settings), is_whole)

@@ -11,6 +11,7 @@ from zirofen_host.collect.model import Entry, Snapshot, User
 from zirofen_host.judge.judged import Judged, LetIn, Place
 from zirofen_host.judge.names import Names
 from zirofen_host.judge.opened import find_openings
+from zirofen_host.judge.settings import Settings
 from zirofen_host.judge.shell import Change, change_commands
 from zirofen_host.options import Options
 from zirofen_host.profile import CgroupPath, path_of
@@ -32,6 +33,8 @@ class Checked:
     asked_of: Mapping[CgroupPath, List[FrozenSet[User]]]
     # whose making each cgroup is
     holds: Holds
+    # of units, before the host was looked at
+    settings: Settings
 
     @cached_property
     def openings(self) -> List[Tuple[Place, Entry, List[LetIn]]]:

@@ -8,7 +8,7 @@ from collections import Counter, defaultdict
 from dataclasses import dataclass, replace
 from typing import AbstractSet, DefaultDict, Dict, Iterable, Iterator, List, Mapping, Set, Tuple
 
-from zirofen_host.ask.questions import Questions, is_slice
+from zirofen_host.ask.questions import Questions
 from zirofen_host.collect.model import GROUP, OTHERS, OWNER, Entry, Snapshot, User
 from zirofen_host.collect.walk import MANAGERS_MARK
 from zirofen_host.files import PRESSURE, is_known, may_set
@@ -34,7 +34,7 @@ class Looked:
         if name == "dir":
             return is_made_in(self.questions, path)
         if name in CONTROL_FILES:
-            return is_root(path) or is_slice(path) and path not in self.asked
+            return is_root(path) or path in self.questions.kept
         if name in LIMIT_FILES:
             return path not in self.asked
         if name == "cgroup.threads":
@@ -47,8 +47,8 @@ class Looked:
 
 
 def is_made_in(questions: Questions, path: CgroupPath) -> bool:
-    """Whether a manager makes what it starts in a cgroup: the root, a slice of the system's manager, or what has its mark."""
-    return is_root(path) or is_slice(path) or questions.meant.get(path) == MANAGERS_MARK
+    """Whether a manager makes what it starts in a cgroup: the root, what the system's manager keeps, or what has its mark."""
+    return is_root(path) or path in questions.kept or questions.meant.get(path) == MANAGERS_MARK
 
 
 def unknown_files(snapshot: Snapshot) -> Mapping[str, bool]:

@@ -1,21 +1,19 @@
 """What no answer looks at, as far as a host tells of it: a line each, of a user, a cgroup or the host."""
 import os
-import shutil
-import subprocess
 from bisect import bisect_left
 from collections import Counter, defaultdict
 from dataclasses import dataclass
 from typing import DefaultDict, Dict, Iterable, Iterator, List, Mapping, Optional, Sequence, Set, Tuple
 
-from zirofen_host import ending
 from zirofen_host.ask.model import Answers
 from zirofen_host.ask.questions import Questions, unit_of
 from zirofen_host.collect import bounded
 from zirofen_host.collect.descriptors import Descriptors, inodes_of
 from zirofen_host.collect.elsewhere import told_unseen
 from zirofen_host.collect.holds import Holds
-from zirofen_host.collect.model import GROUP, OWNER, Entry, Snapshot, User, Value
+from zirofen_host.collect.model import GROUP, OWNER, Entry, Snapshot, User
 from zirofen_host.collect.walk import MANAGERS_MARK, OWNERS_MARK
+from zirofen_host.judge import settings
 from zirofen_host.judge.advised import Advised
 from zirofen_host.judge.checked import Checked
 from zirofen_host.judge.finding_lines import some
@@ -23,12 +21,8 @@ from zirofen_host.collect.looks import Looks
 from zirofen_host.judge.model import Told, within_of
 from zirofen_host.judge.names import Names
 from zirofen_host.judge.opened import unknown_files
-from zirofen_host.profile import ANYBODY, LIMIT_FILES, SETTINGS, CgroupPath, ancestors, path_of, text_of
-
-# what a unit's settings are called where they are asked for, and the file that each sets
-PROPERTIES = {setting.rstrip("="): file for file in LIMIT_FILES if (setting := SETTINGS[file])}
-PAGE = 4096
-SECONDS = 30
+from zirofen_host.judge.settings import Settings
+from zirofen_host.profile import ANYBODY, CgroupPath, ancestors, path_of, text_of
 
 
 @dataclass(frozen=True)
@@ -43,6 +37,8 @@ class Host:
     holds: Holds
     proc: Optional[str]
     systemctl: Optional[str]
+    # of units, before the host was looked at
+    settings: Settings
 
     def uid(self, uid: int) -> str:
         return self.names.user(uid)
@@ -69,13 +65,12 @@ def lines(checked: Checked, advised: Advised, looks: Looks) -> Tuple[Told, ...]:
 def host_of(checked: Checked) -> Host:
     snapshot, questions, options = checked.snapshot, checked.questions, checked.options
     is_text = snapshot.source.file is not None
-    has_manager = not options.plain_folder and not is_text and os.path.isdir("/run/systemd/system")
     held: DefaultDict[int, List[CgroupPath]] = defaultdict(list)
     for path in questions.subtrees:
         for uid in questions.holders[path].uids - {ANYBODY}:
             held[uid].append(path)
     return Host(snapshot, questions, checked.answers, checked.names, held, checked.holds, None if is_text else options.proc,
-                shutil.which("systemctl") if has_manager else None)
+                settings.systemctl_of(options), checked.settings)
 
 
 def descriptors(host: Host) -> Iterator[Told]:
@@ -224,39 +219,10 @@ def unknown(host: Host) -> Iterator[Told]:
 
 
 def restarts(host: Host) -> Iterator[Told]:
-    """Limits that a unit doesn't set, and that are gone when it is started anew."""
-    units = {unit: path for path in host.questions.subtrees if (unit := unit_of(path))}
-    for unit, settings in settings_of(host.systemctl, sorted(units)):
-        values = host.snapshot.tree.rows[units[unit]].values if unit in units else {}
-        differing = [f"{file} is {values[file]}, and {name}={settings[name]}" for name, file in PROPERTIES.items()
-                     if name in settings and file in values and not is_same(settings[name], file, values[file])]
-        if differing:
-            yield host.of_cgroup("restart", units[unit],
-                                 f"{unit} is started anew with its own settings alone: {'; '.join(differing)}")
-
-
-def settings_of(systemctl: Optional[str], units: Sequence[str]) -> Iterator[Tuple[str, Dict[str, str]]]:
-    if not systemctl or not units:
-        return
-    words = [systemctl, "show", f"--property=Id,{','.join(PROPERTIES)}", "--", *units]
-    try:
-        ended = ending.run(words, SECONDS)
-    except (OSError, subprocess.TimeoutExpired):
-        return
-    for block in ended.stdout.split("\n\n"):
-        settings = dict(line.split("=", 1) for line in block.splitlines() if "=" in line)
-        if settings.get("Id"):
-            yield settings["Id"], settings
-
-
-def is_same(setting: str, file: str, value: Value) -> bool:
-    """Whether a setting, as systemctl tells it, is what a limit file has; memory is kept in whole pages."""
-    if setting in ("infinity", "18446744073709551615"):
-        return value == "max"
-    if not setting.isascii() or not setting.isdigit() or len(setting) > 20:
-        return value == LIMIT_FILES[file][1]
-    pages = PAGE if file.startswith("memory.") else 1
-    return isinstance(value, int) and int(setting) // pages == value // pages
+    """Limits that a service's settings don't bring, and that are gone when it is started anew."""
+    units = {unit: path for path in host.questions.subtrees if (unit := unit_of(path)) and unit.endswith(".service")}
+    for path, text in settings.told(host.snapshot, units, host.systemctl, host.settings):
+        yield host.of_cgroup("restart", path, text)
 
 
 def about_the_mount(host: Host) -> Iterator[Told]:

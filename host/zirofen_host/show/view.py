@@ -9,7 +9,7 @@ from zirofen_host.collect.model import Value
 from zirofen_host.collect.walk import OWNERS_MARK
 from zirofen_host.judge.model import (Absent, DiffersFinding, EntryFinding, FaultFinding, HeldBy, OpenedFinding, Owner, Report,
                                       ReportCgroup, ReportFile, ReportProcess, ReportUser, Subtree, Whom)
-from zirofen_host.profile import CONTROL_FILES, HANDED_OVER, LIMIT_FILES, ancestors, parent_of
+from zirofen_host.profile import CONTROL_FILES, HANDED_OVER, LIMIT_FILES, ancestors, is_usual, parent_of
 from zirofen_host.show import words
 from zirofen_host.show.lines import alike, entry_in_common, opened_in_common
 from zirofen_host.show.words import ABOVE, CONTAINED, ESCAPES, FAULT, NOT_ASKED, OPENED, STANDINGS, UNSETTLED, visible
@@ -42,11 +42,6 @@ class Escape:
 DIFFERS = "differs"
 KINDS = {"opened": OPENED, "faults": FAULT, "differs": DIFFERS}
 COUNTED = (ESCAPES, OPENED, UNSETTLED, FAULT)
-# what stands in other limits where nobody has set them
-USUAL = {"cgroup.freeze": "0", "cgroup.type": "domain", "cpu.idle": "0", "cpu.max": "max 100000", "cpu.max.burst": "0",
-         "cpu.uclamp.max": "max", "cpu.uclamp.min": "0.00", "cpu.weight.nice": "0", "io.bfq.weight": "default 100",
-         "io.weight": "default 100", "memory.oom.group": "0", "memory.zswap.writeback": "1",
-         "cpuset.cpus.partition": "member", "io.prio.class": "no-change"}
 
 
 def seen(value: object, shown: Callable[[str], str]) -> object:
@@ -67,19 +62,6 @@ def with_texts(made: Made, shown: Callable[[str], str]) -> Made:
 
 def present(parts: Union[Tuple[One, ...], Absent]) -> Tuple[One, ...]:
     return () if isinstance(parts, Absent) else parts
-
-
-# as many bytes as no machine has: where a kernel doesn't write max, its own bound rounded down to whole pages, below 2^63
-NO_LIMIT = 2**62
-
-
-def is_usual(file: str, value: Optional[Value]) -> bool:
-    """Whether a limit is as it is where nobody has set it."""
-    if file in LIMIT_FILES:
-        return value == LIMIT_FILES[file][1]
-    usual = USUAL.get(file, "max" if file.rpartition(".")[2] in ("max", "high") else "0" if file.endswith(".min") else "")
-    is_none = usual == "max" and str(value).isdigit() and int(value or 0) >= NO_LIMIT
-    return is_none or value in (None, "", usual)
 
 
 def is_handed(entry: Union[Owner, ReportFile], held: HeldBy) -> bool:
