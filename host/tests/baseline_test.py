@@ -192,7 +192,7 @@ class BaselineTest(HostTest):
         found = made(self.report(json=True))
         with self.assertRaisesRegex(Fault, "can't write the baseline"):
             baseline.write(f"{self.host.folder}/none/file", found, True)
-        self.keep()
+        baseline.write(self.file, found, True)
         self.assertEqual(baseline.read(self.file), replace(found, accepted=True))
         self.assertEqual([name for name in os.listdir(self.host.folder) if "baseline" in name or name[:1] == "."], ["baseline.json"])
 

@@ -22,6 +22,8 @@ CONTAINED, ESCAPES, UNSETTLED = 0, 1, 2
 WORST_FIRST = (FAULT, ESCAPES, UNSETTLED, CONTAINED)
 WORDS = {"contained": CONTAINED, "escapes": ESCAPES, "unsettled": UNSETTLED}
 NOT_BUILT = 70
+# runs at once; one of the largest text of a host takes some 50 MB, and the timer's unit has 2 GB
+MOST_AT_ONCE = 16
 # bytes of one run's arguments, each with its pointer; a kernel takes two millions at least, with the environment
 ROOM = 900_000
 
@@ -211,7 +213,7 @@ def version_of(program: Program) -> Optional[str]:
 def at_once(call: Callable[[Item], Result], items: Sequence[Item]) -> List[Result]:
     """Calls with each of the items, several at once; the results in their order."""
     results = []
-    with ThreadPoolExecutor(os.cpu_count()) as workers:
+    with ThreadPoolExecutor(min(os.cpu_count() or 1, MOST_AT_ONCE)) as workers:
         for result in workers.map(call, items):
             results.append(result)
             progress.tell(f"{len(results)} of {len(items)} runs of the program are done")

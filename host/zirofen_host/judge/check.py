@@ -90,6 +90,7 @@ def answer_of(checked: Checked, subtree: CgroupPath, lines: Tuple[str, ...], is_
 def report_of(checked: Checked, is_whole: bool) -> Report:
     """The report on a host that was asked. What fails of it is told, and all else stands."""
     snapshot, about, answers, looks = checked.snapshot, checked.snapshot.about, checked.answers, Looks()
+    looks.failed += checked.programs.failed
     advised = looks.at("advice", lambda: advise(checked), Advised({}, checked.judged.faults))
     subtrees = looks.each("answers", checked.questions.subtrees, lambda path: subtree_of(checked, path))
     entries = entry_findings(checked, advised, looks)
