@@ -319,9 +319,15 @@ class OutputTest(HostTest):
             self.assertEqual((ended.returncode, ended.stderr), (3, ""))
 
     def test_what_cant_be_kept(self):
+        """The answers are there all the same."""
         for keep in ("/dev/full", f"{self.host.folder}/none/file"):
-            ended = self.script("check", "--keep", keep)
-            self.assertEqual((ended.returncode, ended.stdout, ended.stderr.count("\n")), (3, "", 1), ended.stderr)
+            plain, ended = self.script("check"), self.script("check", "--keep", keep)
+            line = f"failed: keep: can't write the tree text {keep}: "
+            self.assertEqual((ended.returncode, ended.stderr), (3, ""))
+            self.assertEqual([each for each in ended.stdout.splitlines() if not each.startswith(line)][:-1], plain.stdout.splitlines()[:-1])
+            self.assertIn(f"\n{line}", ended.stdout)
+            plain, ended = self.script("ask"), self.script("ask", "--keep", keep)
+            self.assertEqual((ended.returncode, ended.stdout, ended.stderr.count("can't write the tree text")), (3, plain.stdout, 1))
 
     def test_words_from_elsewhere(self):
         for words in (("--only", "/a\x1b[31m"), ("--\x1b[31m",), ("--accounts", "/\x1b[31m")):

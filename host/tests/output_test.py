@@ -281,8 +281,8 @@ class HelperTest(HostTest):
         for words in (("--html", f"{his}/page.html"), ("--keep", f"{his}/tree.toml"), ("--baseline-update", f"{his}/baseline.json")):
             ended = self.check(*words)
             self.assertEqual((ended.returncode, os.listdir(his)), (3, []))
-            self.assertIn("root writes into none of theirs", ended.stderr)
-            self.assertEqual(ended.stderr.count("\n"), 1)
+            self.assertEqual((ended.stdout + ended.stderr).count("root writes into none of theirs"), 1)
+            self.assertEqual([line.split()[2:] for line in ended.stdout.splitlines()[1:3]], [["contained", "/a"], ["contained", "/b"]])
 
     def test_what_somebody_puts_where_something_is_kept(self):
         """The answers of the others are the same, whatever stands at FILE and at FILE.new."""
@@ -301,7 +301,7 @@ class HelperTest(HostTest):
             self.assertEqual([line.split()[2:] for line in ended.stdout.splitlines()[1:3]], [["contained", "/a"], ["contained", "/b"]])
             self.assertEqual((os.lstat(baseline).st_uid, read(secret)), (0, SECRET))
             if is_pipe:
-                self.assertIn("it is a pipe of somebody else's", self.check("--keep", kept).stderr)
+                self.assertIn("it is a pipe of somebody else's", self.check("--keep", kept).stdout)
             else:
                 self.assertEqual((os.lstat(kept).st_uid, read(kept)[:12]), (0, "# A snapshot"))
             for file in (kept, baseline, f"{baseline}.new"):

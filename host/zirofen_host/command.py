@@ -16,7 +16,7 @@ from zirofen_host.collect.holds import holds_of
 from zirofen_host.collect.model import Snapshot, User
 from zirofen_host.collect.processes import read_processes
 from zirofen_host.collect.looks import why_of
-from zirofen_host.judge import as_json, baseline, check, one, saved, settings, shell
+from zirofen_host.judge import as_json, baseline, check, one, replayed, saved, settings, shell
 from zirofen_host.judge.model import Comparison, Report
 from zirofen_host.options import (PROC, AskOptions, CheckOptions, CommandsOptions, DelegationsOptions, PageOptions,
                                   SnapshotOptions, TreeOptions)
@@ -90,7 +90,8 @@ def keep_baseline(options: CheckOptions, report: Report, is_first: bool) -> None
 
 
 def write_commands(given: argparse.Namespace) -> int:
-    options = CommandsOptions(given.mount, given.uid, tuple(given.gid))
+    given.gid = tuple(given.gid)
+    options = CommandsOptions(**vars(given))
     if options.uid is None and options.gid:
         parser_of("commands").error("--gid goes with --uid")
     user = None if options.uid is None else User(options.uid, options.gid)
@@ -101,7 +102,9 @@ def write_commands(given: argparse.Namespace) -> int:
         text = given_in.text("ascii")
     except UnicodeDecodeError:
         raise fault.Fault("the operations aren't ASCII") from None
-    fault.write_lines(shell.commands(options.mount, text, user))
+    # what is no operation is a fault, before the host is looked at
+    made = shell.commands(options.mount, text, user)
+    fault.write_lines(replayed.commands(options, text, user) if user else made)
     return 0
 
 

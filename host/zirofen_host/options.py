@@ -74,7 +74,8 @@ class PageOptions:
 
 
 @dataclass(frozen=True)
-class CommandsOptions:
-    mount: str = MOUNT
+class CommandsOptions(Options):
     uid: Optional[int] = None
     gid: Tuple[int, ...] = ()
+    # the subtree that the operations break; else what stands in them
+    subtree: Optional[str] = None

@@ -39,4 +39,5 @@ def ask_all(snapshot: Snapshot, accounts: Accounts, options: Options, folder: st
     found.update(more)
     refused = {**lost, **refused, **refused_then}
     return Asked(questions.without(refused),
-                 Answers(plan, further, found, not_asked, refused, abilities.version, abilities.has_advise), programs)
+                 Answers(plan, further, found, not_asked, refused, () if options.no_processes else texts.without_processes(),
+                         abilities.version, abilities.has_advise), programs)

@@ -10,7 +10,7 @@ from concurrent.futures import ThreadPoolExecutor
 from dataclasses import dataclass
 from typing import Callable, Collection, Dict, Iterable, Iterator, List, NamedTuple, Optional, Sequence, Tuple, TypeVar
 
-from zirofen_host import ending, progress
+from zirofen_host import ending, output, progress
 from zirofen_host.ask.model import Abilities, Advice, Answer, Pair, Question
 from zirofen_host.collect.model import User
 from zirofen_host.fault import FAULT, Fault, out_of_time, seconds_left
@@ -115,6 +115,12 @@ class Program:
         if ended.returncode != CONTAINED:
             told = told_by(ended)
             raise Fault(told[0], help_below(told))
+
+    def breaks(self, user: User, subtree: CgroupPath, operations: Sequence[str]) -> bool:
+        """Whether a user's operations come to their end and break a subtree; Refused is for the caller."""
+        file = f"{self.tree}.{os.urandom(8).hex()}.ops"
+        output.make(file, "".join(f"{line}\n" for line in operations).encode("ascii", "replace"))
+        return self.run("replay", "--tree", self.tree, *user_words(user), "--ops", file, "--subtree", text_of(subtree)).status == ESCAPES
 
     def ask(self, questions: Iterable[Question], has_audit_all: bool) -> Answered:
         """The answers that aren't contained."""

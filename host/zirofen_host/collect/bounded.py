@@ -65,6 +65,8 @@ RUNS = Budget("questions that differ in whom they ask of", 256)
 LINES = Budget("lines", 16)
 # runs of the program for advice, of a whole host
 ADVICE = 64
+# lists of operations in which other processes are tried, each by one run
+REPLAYS = 16
 
 # by whom a uid's budgets are spent
 Payer = Callable[[int], int]

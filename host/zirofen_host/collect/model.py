@@ -103,6 +103,8 @@ class Process:
     name: str = ""
     # those that it or one of its threads is permitted, whether they are effective or not
     capabilities: Tuple[str, ...] = ()
+    # whether it has any capability, by which a kernel may refuse that it is moved
+    is_privileged: bool = False
     # how many of its threads weren't looked at
     threads_left: int = 0
 

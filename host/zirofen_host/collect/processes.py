@@ -66,7 +66,7 @@ class Reader:
             others = [int(group) for group in fields.get("Groups", ()) if int(group) != gid]
             bits, left = self.permitted(pid, fields)
             return Process(pid, int(fields["Uid"][0]), User(int(fields["Uid"][1]), (gid, *others)), flags & KERNEL_THREAD != 0,
-                           " ".join(fields.get("Name", ())), capabilities_of(self.proc, pid, bits), left)
+                           " ".join(fields.get("Name", ())), capabilities_of(self.proc, pid, bits), bits != 0, left)
         except (FileNotFoundError, ProcessLookupError):
             return None
         except (ValueError, KeyError, IndexError, OSError):

@@ -10,7 +10,8 @@ from zirofen_host.ask.program import CONTAINED
 from zirofen_host.ask.questions import unit_of
 from zirofen_host.collect.accounts import Accounts, accounts_of
 from zirofen_host.collect.holds import holds_of
-from zirofen_host.collect.model import GROUP, Note, Snapshot, User
+from zirofen_host.collect.looks import Looks
+from zirofen_host.collect.model import GROUP, OWNER, Note, Snapshot, User
 from zirofen_host.fault import Fault
 from zirofen_host.judge import unseen, whole
 from zirofen_host.judge.advised import Advised, advise
@@ -19,12 +20,12 @@ from zirofen_host.judge.finding_lines import SHOWN
 from zirofen_host.judge.findings import above_findings, differs_findings, entry_findings, fault_findings, opened_findings
 from zirofen_host.judge.gravity import gravity_of
 from zirofen_host.judge.judged import Own, judge
-from zirofen_host.collect.looks import Looks
+from zirofen_host.judge.lists import shown_lists
 from zirofen_host.judge.model import VERSION, HeldBy, HolderAnswer, Report, Subtree, Told, within_of
 from zirofen_host.judge.names import names_of
 from zirofen_host.judge.settings import Settings
 from zirofen_host.options import Options
-from zirofen_host.profile import CgroupPath, path_of, text_of
+from zirofen_host.profile import ANYBODY, CgroupPath, path_of, text_of
 
 NO_SETTINGS: Settings = {}
 
@@ -80,13 +81,16 @@ def contained(checked: Checked, uid: int, subtree: CgroupPath) -> Optional[Own]:
 def answer_of(checked: Checked, subtree: CgroupPath, lines: Tuple[str, ...], is_above: bool, found: Dict[int, Own]) -> HolderAnswer:
     holders, uids = checked.questions.holders[subtree], tuple(found)
     gids = found[uids[0]].user.gids if len(uids) == 1 else holders.ids if holders.by == GROUP else ()
-    who = ",".join(map(str, uids)) if len(uids) <= 3 else f"{len(uids)} users"
+    # whoever has nothing but everybody's bits has no number of their own
+    names = ["anybody" if uid == ANYBODY and holders.by != OWNER else str(uid) for uid in uids]
+    who = ",".join(names) if len(uids) <= 3 else f"{len(uids)} users"
     return HolderAnswer(who, uids[:SHOWN], len(uids), gids, lines, is_above)
 
 
 def report_of(checked: Checked, is_whole: bool) -> Report:
     """The report on a host that was asked. What fails of it is told, and all else stands."""
     snapshot, about, answers, looks = checked.snapshot, checked.snapshot.about, checked.answers, Looks()
+    looks.failed += checked.programs.failed
     advised = looks.at("advice", lambda: advise(checked), Advised({}, checked.judged.faults))
     subtrees = looks.each("answers", checked.questions.subtrees, lambda path: subtree_of(checked, path))
     entries = entry_findings(checked, advised, looks)
@@ -100,7 +104,8 @@ def report_of(checked: Checked, is_whole: bool) -> Report:
         VERSION, answers.version, about.host or "", about.kernel or "",
         about.time or "", snapshot.mount, checked.is_asked, answers.has_advise,
         subtrees=subtrees, entries=entries, opened=tuple(opened.values()), faults=faults, differs=differs, above=above,
-        unseen=told, snapshot=notes, status=CONTAINED, version_1=snapshot.version_1)
+        unseen=told, snapshot=notes, status=CONTAINED, version_1=snapshot.version_1,
+        lists=looks.all("lists", lambda: shown_lists(checked, subtrees, entries)))
     if is_whole:
         made = replace(made, users=looks.all("users", lambda: whole.users_of(checked)),
                        groups=looks.all("groups", lambda: whole.groups_of(checked)), cgroups=whole.cgroups_of(checked, looks),

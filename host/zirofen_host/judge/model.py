@@ -168,6 +168,15 @@ class AboveFinding:
 
 
 @dataclass(frozen=True)
+class ShownList:
+    """An escape's lines as a page shows them, where they aren't those of the program or may not run, and why."""
+    subtree: str
+    lines: Lines
+    shown: Lines
+    told: str
+
+
+@dataclass(frozen=True)
 class Told:
     """What no answer looks at, or what a tree text leaves out."""
     kind: str
@@ -262,6 +271,7 @@ class Report:
     status: int
     # the controllers whose limits are those of version 1, which aren't looked at
     version_1: Tuple[str, ...]
+    lists: Tuple[ShownList, ...]
     # the host itself, where the report is to be whole
     users: Union[Tuple[ReportUser, ...], Absent] = ABSENT
     groups: Union[Tuple[ReportGroup, ...], Absent] = ABSENT

@@ -14,7 +14,7 @@ LACKING: as_json.Lacking = {
     (HolderAnswer, "users"): 0, (FaultFinding, "uid"): None, (FaultFinding, "gids"): (), (FaultFinding, "made_by"): None,
     (AboveFinding, "uid"): 0, (OpenedFinding, "why"): None, (ReportCgroup, "enabled"): (), (ReportProcess, "capabilities"): (),
     (Comparison, "file"): "", (Comparison, "status"): 0, (Comparison, "stand"): (), (Difference, "status"): 0, (Difference, "what"): "",
-    (Report, "version_1"): ()}
+    (Report, "version_1"): (), (Report, "lists"): ()}
 
 
 def named_in(report: Report) -> Iterator[str]:

@@ -22,7 +22,7 @@ from zirofen_host.judge.model import Told, within_of
 from zirofen_host.judge.names import Names
 from zirofen_host.judge.opened import unknown_files
 from zirofen_host.judge.settings import Settings
-from zirofen_host.profile import ANYBODY, CgroupPath, ancestors, path_of, text_of
+from zirofen_host.profile import ANYBODY, CgroupPath, ancestors, is_inside, path_of, text_of
 
 
 @dataclass(frozen=True)
@@ -128,7 +128,7 @@ def subordinates(host: Host) -> Iterator[Told]:
         for each in host.questions.accounts.subordinate_to(uid):
             last = each.first + each.count - 1
             found = asked[bisect_left(asked, each.first):bisect_left(asked, last + 1)]
-            told = "his too, and asked above" if found else "his too, and none of them has anything here"
+            told = "theirs too, and asked above" if found else "theirs too, and none of them has anything here"
             asked_of = f", asked {numbers(found)}" if found else ""
             yield host.of_user("subordinate", uid, f"{told}: uids {each.first} to {last}{asked_of}")
 
@@ -138,7 +138,7 @@ def deputies(host: Host) -> Iterator[Told]:
     for uid, paths in sorted(host.held.items()):
         found = [path for path in paths if path in host.questions.meant and host.questions.holders[path].by == OWNER]
         if found:
-            yield host.of_user("deputy", uid, "the service manager moves his processes, from anywhere, on request: into "
+            yield host.of_user("deputy", uid, "the service manager moves their processes, from anywhere, on request: into "
                                + some(texts(found)))
 
 
@@ -150,7 +150,7 @@ def outside(host: Host) -> Iterator[Told]:
         if uid in held and held[uid].isdisjoint((at, *ancestors(at))):
             places[uid].add(at)
     for uid, found in sorted(places.items()):
-        yield host.of_user("outside", uid, f"processes of his are outside of what he holds: in {some(texts(sorted(found)))}")
+        yield host.of_user("outside", uid, f"processes of theirs are outside of what they hold: in {some(texts(sorted(found)))}")
 
 
 def capabilities(host: Host) -> Iterator[Told]:
@@ -239,6 +239,10 @@ def processes(host: Host) -> Iterator[Told]:
     for person, why in sorted(host.snapshot.over.items()):
         if person not in holders:
             yield host.of_user("processes", person, f"{why}: not all were looked at")
+    for path in host.answers.without_processes:
+        count = sum(is_inside(at, path) for _, _, at in host.snapshot.tree.processes)
+        yield host.of_cgroup("processes", path, f"{count} inside, more than a text takes: it was asked of without any, so that an "
+                             "unsettled answer might have been an escape")
 
 
 def not_advised(advised: Advised) -> Iterator[Told]:

@@ -150,7 +150,7 @@ class Article:
             return ""
         heading = self.at.level(4)
         return (f"<{heading}>What {text(self.broken.escape.who)} can do</{heading}>"
-                f"<ol>\n{items(map(sentence, steps.told))}\n</ol>")
+                f"<ol>\n{items(map(sentence, steps.told))}\n</ol>{paragraph(text(capital(self.broken.escape.told)))}")
 
     def change(self) -> str:
         mended = [each for each in self.finding.parts if not isinstance(each, FaultFinding)]

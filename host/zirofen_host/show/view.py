@@ -36,7 +36,9 @@ class Escape:
     uid: Optional[int]
     gids: Tuple[int, ...]
     subtree: str
+    # as they are shown, and what is said of it where they aren't the program's or may not run
     lines: Tuple[str, ...]
+    told: str = ""
 
 
 DIFFERS = "differs"
@@ -254,7 +256,7 @@ class Host:
     def escape(self, part: EntryFinding) -> Optional[Escape]:
         """Who breaks what by an entry, and how; an example of somebody else's, or the answer of who holds a subtree."""
         if part.example:
-            return Escape(part.example.who, part.example.uid, part.example.gids, part.example.subtree, part.example.lines)
+            return self.as_shown(Escape(part.example.who, part.example.uid, part.example.gids, part.example.subtree, part.example.lines))
         let_in = {each.id for each in part.whom if each.by == "owner"}
         found = [(not let_in.intersection(answer.uids), path, answer) for path in part.subtrees if path in self.subtrees
                  for answer in self.subtrees[path].answers
@@ -265,7 +267,12 @@ class Host:
         uid = next((uid for uid in answer.uids if uid in let_in), answer.uids[0] if answer.uids else None)
         user = None if uid is None else self.users.get(uid)
         gids = max(user.groups if user else (), key=len, default=answer.gids)
-        return Escape(self.user(uid), uid, gids, path, answer.lines)
+        return self.as_shown(Escape(self.user(uid), uid, gids, path, answer.lines))
+
+    def as_shown(self, escape: Escape) -> Escape:
+        """An escape with the processes that can be moved, where the report has such a list."""
+        found = next((each for each in self.report.lists if (each.subtree, each.lines) == (escape.subtree, escape.lines)), None)
+        return dataclasses.replace(escape, lines=found.shown, told=found.told) if found else escape
 
 
 def host_of(report: Report, shown: Callable[[str], str] = visible) -> Host:
