@@ -81,7 +81,7 @@ class ElsewhereTest(HostTest):
         self.write(with_host=False)
         found = self.elsewhere(accounts=self.host.etc)
         self.assertEqual([(row[0], row[2], row[3]) for row in self.rows(found)], [
-            ("65534", "contained", "/team"), ("1002", "contained", "/up"), ("1001", "contained", "/up/m.service"),
+            ("anybody", "contained", "/team"), ("1002", "contained", "/up"), ("1001", "contained", "/up/m.service"),
             ("1000", "escapes", "/up/svc")])
         self.assertEqual((found["host"], found["cgroups"][2]["marks"]), ("", {}))
         self.assertIn("carries nothing of its host", "\n".join(lines_of(found)))

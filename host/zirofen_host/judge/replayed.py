@@ -43,7 +43,7 @@ def looked_for(options: CommandsOptions, user: User, subtree: Optional[str], ope
             raise Fault(f"there is no cgroup {subtree}")
         with output.temporary_folder() as folder:
             delegations = Delegations(snapshot.tree, accounts_of(asked.accounts, snapshot))
-            program = one.program_for(snapshot, asked, folder, delegations, {user.uid}).of[path]
-            return tried(snapshot, program, user, CgroupPath(path), operations)
+            programs = one.program_for(snapshot, asked, folder, delegations, {user.uid})
+            return tried(snapshot, programs.of[path], user, CgroupPath(path), operations)
     except (Fault, OSError) as error:
         return Tried(tuple(operations), f"these are the program's own processes, since the host couldn't be looked at: {error}")
