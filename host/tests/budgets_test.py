@@ -285,6 +285,15 @@ class LinesTest(ThreeTest):
     def lines_each(self, found):
         return lines.lines_of(made(found), True)
 
+    def test_odd_names_are_told_a_few_times(self):
+        for number in range(50):
+            os.makedirs(f"{self.host.mount}/alice/o d{number}")
+        found = self.report()
+        self.others(found)
+        told = [line for line in self.lines(found) if line.startswith("snapshot: name: ")]
+        self.assertEqual((len(told), len([each for each in found["snapshot"] if each["kind"] == "name"])), (4, 50))
+        self.assertIn("snapshot: .. and 46 more in what uid 1000 made: 46 name", self.lines(found))
+
     def test_what_isnt_alike_is_cut_and_counted(self):
         for number in range(64):
             self.host.cgroup(f"/alice/c{number}", owners=owned(1000), modes={"memory.max": 0o602 | number << 3 & 0o070 | number & 0o4})

@@ -147,6 +147,7 @@ class Walk:
             directory = owned_of(os.stat(folder))
             self.hold_at(path, directory[0])
             self.charge(self.cgroups)
+            self.charge(self.bytes, len(path))
             found, names = self.read_files(path, folder, directory)
             return found, self.children(path, folder, names)
         except (OSError, ValueError) as error:
@@ -229,6 +230,7 @@ class Walk:
                 children.append(child)
             else:
                 self.left_out[child] = self.count(folder, name)
+                self.charge(self.bytes, len(child))
         return children
 
     def count(self, folder: int, name: bytes) -> int:

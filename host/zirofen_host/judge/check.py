@@ -115,7 +115,9 @@ def report_of(checked: Checked, is_whole: bool) -> Report:
 
 
 def noted(checked: Checked, note: Note) -> Told:
-    return Told(note.kind, note.place, note.detail, within_of(checked.holds.within(path_of(note.place))))
+    # a name that isn't shown as it is stands quoted, as what is told of alone
+    place = note.place[2:] if note.place[:2] in ("b'", 'b"') else note.place
+    return Told(note.kind, note.place, note.detail, within_of(checked.holds.within(path_of(place))))
 
 
 def report(snapshot: Snapshot, options: Options, is_whole: bool, settings: Settings = NO_SETTINGS) -> Report:

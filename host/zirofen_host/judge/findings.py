@@ -1,6 +1,6 @@
 """The findings of a report, made of what the answers come to."""
 from collections import defaultdict
-from typing import Dict, Iterable, List, Mapping, Optional, Tuple, Union
+from typing import DefaultDict, Dict, Iterable, List, Mapping, Optional, Set, Tuple, Union
 
 from zirofen_host.ask.program import ESCAPES
 from zirofen_host.ask.questions import unit_of
@@ -17,7 +17,7 @@ from zirofen_host.judge.model import (ABSENT, AboveFinding, Absent, DiffersFindi
 from zirofen_host.judge.names import Names
 from zirofen_host.judge.opened import GROUP_WRITES, OTHERS_WRITE, WHO_IS_FIRST, what_differs
 from zirofen_host.judge.shell import closing_commands
-from zirofen_host.profile import CgroupPath, ancestors, is_inside, path_of, shown, text_of, topmost
+from zirofen_host.profile import CgroupPath, ancestors, path_of, shown, text_of, topmost
 
 NO_CLOSING: Mapping[CgroupPath, Tuple[str, ...]] = {}
 
@@ -75,8 +75,12 @@ def closing_of(checked: Checked, place: Place, entry: Entry, let_in: Iterable[Le
     """What keeps out those whom an entry shouldn't let in, and nobody else."""
     by = {each.by for each in let_in}
     kept = sum(bits for kind, bits in ((GROUP, GROUP_WRITES), (OTHERS, OTHERS_WRITE)) if kind not in by)
-    closed = Entry(entry.uid if OWNER in by else 0, entry.gid, entry.mode & ~kept)
-    return closing_commands(checked.snapshot.mount, text_of(place.path), {place.name: closed})
+    closed = {place.name: Entry(entry.uid if OWNER in by else 0, entry.gid, entry.mode & ~kept)}
+    threads = checked.snapshot.cgroups[place.path].files.get("cgroup.threads")
+    if place.name == "dir" and place.path in checked.questions.kept and threads:
+        # it is nobody's either, and no finding of its own while nothing there is threaded
+        closed["cgroup.threads"] = threads
+    return closing_commands(checked.snapshot.mount, text_of(place.path), closed)
 
 
 def closing_of_directories(checked: Checked) -> Mapping[CgroupPath, Tuple[str, ...]]:
@@ -108,8 +112,9 @@ def is_shown(checked: Checked, place: Place, let_in: Iterable[LetIn]) -> bool:
 def fault_findings(checked: Checked, advised: Advised) -> Iterable[FaultFinding]:
     """Subtrees that can't be asked of anybody, pairs without an answer, and users of whom not all was looked at."""
     by_why: Dict[Tuple[str, Optional[str]], List[str]] = defaultdict(list)
+    below = makers_below(checked)
     for path, why in sorted(checked.answers.refused.items()):
-        by_why[why, makers_of(checked, path, why)].append(shown(path))
+        by_why[why, makers_of(checked, below, path, why)].append(shown(path))
     yield from (FaultFinding("everybody", None, (), why, tuple(paths), made_by) for (why, made_by), paths in by_why.items())
     yield from faults_of_pairs(checked.names, advised)
     yield from faults_of_budgets(checked)
@@ -125,16 +130,24 @@ def faults_of_budgets(checked: Checked) -> Iterable[FaultFinding]:
                                texts_of(in_order(topmost(held))), checked.names.user(person))
 
 
-def makers_of(checked: Checked, path: CgroupPath, why: str) -> Optional[str]:
+def makers_below(checked: Checked) -> Mapping[CgroupPath, Set[Optional[str]]]:
+    """By whose making something is left out at a cgroup or inside of it; None stands for what is of nobody's."""
+    found: DefaultDict[CgroupPath, Set[Optional[str]]] = defaultdict(set)
+    for changing, why in checked.snapshot.changing.items():
+        place = path_of(changing)
+        maker = holder_at(checked, place) if is_by_somebody(why) else None
+        for above in (place, *ancestors(place)):
+            found[above].add(maker)
+    return found
+
+
+def makers_of(checked: Checked, below: Mapping[CgroupPath, Set[Optional[str]]], path: CgroupPath, why: str) -> Optional[str]:
     """Those by whose own making alone a subtree goes without an answer: it is too large, or what they hold inside of it changes
     all the time. What is above it, or what root alone has, is of nobody's making, and so is what can't be read."""
-    changing = {path_of(place): told for place, told in checked.snapshot.changing.items()}
-    places = [place for place in changing if is_inside(place, path)] or [path]
-    if why.startswith("fault:") or any(place in changing for place in ancestors(path)) or not all(
-            is_by_somebody(changing.get(place, CHANGED)) for place in places):
+    if why.startswith("fault:") or not checked.changing.isdisjoint(ancestors(path)):
         return None
-    makers = [holder_at(checked, place) for place in sorted(places)]
-    return None if None in makers else some(list(dict.fromkeys(filter(None, makers))))
+    makers = below.get(path) or {holder_at(checked, path)}
+    return None if None in makers else some(sorted(filter(None, makers)))
 
 
 def is_by_somebody(why: str) -> bool:

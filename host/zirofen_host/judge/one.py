@@ -9,7 +9,7 @@ from zirofen_host.ask.delegations import Delegations
 from zirofen_host.ask.model import Answer, Holders
 from zirofen_host.ask.program import Program, Refused, abilities_of, answer_of, user_words, worst
 from zirofen_host.ask.questions import holders_of, with_groups
-from zirofen_host.ask.spoiled import is_spared
+from zirofen_host.ask.spoiled import changed_in, is_spared
 from zirofen_host.ask.texts import Programs, texts_of, write
 from zirofen_host.collect.accounts import Accounts, accounts_of, is_id
 from zirofen_host.collect.model import OTHERS, Snapshot, Tree, User
@@ -72,9 +72,9 @@ def holders_at(delegations: Delegations, path: CgroupPath) -> Optional[Holders]:
 
 def program_for(snapshot: Snapshot, options: AskOptions, folder: str, delegations: Delegations, uids: AbstractSet[int]) -> Programs:
     """The program, with a text that has the subtree; where there is none, the program says so of the root alone."""
-    path, tree = path_of(options.path), snapshot.tree
+    path, tree, changed = path_of(options.path), snapshot.tree, changed_in(snapshot, delegations.accounts)
     for place in (path, *ancestors(path)) if options.path.startswith("/") else ():
-        if place in snapshot.spoiled and not is_spared(snapshot, delegations.accounts, holders_at(delegations, place), place):
+        if place in snapshot.spoiled and not is_spared(snapshot, delegations.accounts, changed, holders_at(delegations, place), place):
             raise Fault(f"nothing is asked of {shown(options.path)}: {snapshot.spoiled[place]}")
     if path not in tree.rows or is_root(path):
         root = path_of("/")
