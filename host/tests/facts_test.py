@@ -71,6 +71,14 @@ class OneLineTest(HostTest):
         self.assertEqual(self.told(self.report(), "everybody"), ["/up/a /up/b: 5 more users are let in as everybody is, and weren't "
                                                                  "asked: where the answer is unsettled, one of them may escape"])
 
+    def test_users_with_several_lists_of_groups_count_once(self):
+        self.host.cgroup("/up", modes={"cgroup.procs": 0o666})
+        self.host.cgroup("/up/a", owners=owned(1000), pids=(7, 8))
+        self.host.cgroup("/b", owners=owned(1001), pids=(9, 10))
+        for pid, uid, groups in ((7, 1000, (50,)), (8, 1000, ()), (9, 1001, (50,)), (10, 1001, (60,))):
+            self.host.process(pid, uid=uid, gid=uid, groups=groups)
+        self.assertEqual(self.told(self.report(), "everybody"), [])
+
     def test_everybodys_rows_say_anybody(self):
         self.host.cgroup("/open", modes={"dir": 0o777})
         self.host.cgroup("/nobodys", owners=owned(65534))

@@ -106,7 +106,7 @@ class MadeLaterTest(HostTest):
         self.assertEqual((found["status"], [row[0] for row in self.rows(found)]), (1, ["-"]))
         self.assertEqual(self.opened(found), [f"/system.slice/cron.service {name} by alice(1000)" for name in (
             "cgroup.kill", "cgroup.procs", "cgroup.subtree_control", "dir", "memory.max", "memory.oom.group")])
-        self.assertEqual(self.directories(found)[0][2:], ([f"chown root {place}"], WHY))
+        self.assertEqual(self.directories(found)[0][2:], ([f"chown root {place}/cgroup.threads {place}"], WHY))
         self.host.cgroup("/system.slice/cron.service", more=names, pids=(7,))
         found = self.report()
         self.assertEqual((found["status"], found["asked"], found["opened"]), (4, False, []))

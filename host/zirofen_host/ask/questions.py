@@ -352,7 +352,7 @@ def further_of(questions: Questions, plan: Plan, found: Mapping[Pair, Answer]) -
     escaped = {path for (user, path), answer in found.items() if answer.status == ESCAPES
                and not questions.holds(user, path) and not questions.handed_above(user, path)}
     uids = {uid for path in questions.subtrees for uid in questions.holders[path].uids}
-    holders = [few for user, few in plan.asked_as.items() if user.uid in uids]
+    holders = list(dict.fromkeys(few for user, few in plan.asked_as.items() if user.uid in uids))
     everybody, not_asked = set(plan.asked_as.values()), {}
     further: DefaultDict[Tuple[User, ...], List[CgroupPath]] = defaultdict(list)
     for path in questions.subtrees:

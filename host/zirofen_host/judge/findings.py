@@ -75,8 +75,12 @@ def closing_of(checked: Checked, place: Place, entry: Entry, let_in: Iterable[Le
     """What keeps out those whom an entry shouldn't let in, and nobody else."""
     by = {each.by for each in let_in}
     kept = sum(bits for kind, bits in ((GROUP, GROUP_WRITES), (OTHERS, OTHERS_WRITE)) if kind not in by)
-    closed = Entry(entry.uid if OWNER in by else 0, entry.gid, entry.mode & ~kept)
-    return closing_commands(checked.snapshot.mount, text_of(place.path), {place.name: closed})
+    closed = {place.name: Entry(entry.uid if OWNER in by else 0, entry.gid, entry.mode & ~kept)}
+    threads = checked.snapshot.cgroups[place.path].files.get("cgroup.threads")
+    if place.name == "dir" and place.path in checked.questions.kept and threads:
+        # it is nobody's either, and no finding of its own while nothing there is threaded
+        closed["cgroup.threads"] = threads
+    return closing_commands(checked.snapshot.mount, text_of(place.path), closed)
 
 
 def closing_of_directories(checked: Checked) -> Mapping[CgroupPath, Tuple[str, ...]]:
