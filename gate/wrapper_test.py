@@ -87,6 +87,18 @@ class ReleasedTest(WrapperTest):
                 self.assert_ran(checkout.call("may", PATH=NO_TOOLCHAIN))
                 self.assert_ran(checkout.call("may", program="./zirofen", cwd=checkout.top))
 
+    def test_whatever_the_environment_has_bash_do(self):
+        turned = f"{self.checkout.room}/turned"
+        for text in ("exit 0", "readlink() { echo /none; }; export -f readlink"):
+            write(turned, text + "\n")
+            self.assert_ran(self.checkout.call("may", BASH_ENV=turned, ENV=turned))
+        for name, value in (("SHELLOPTS", "noexec"), ("SHELLOPTS", "errexit:noglob:verbose"), ("BASHOPTS", "extdebug"),
+                            ("BASH_FUNC_readlink%%", "() { echo /none/zirofen; }"), ("POSIXLY_CORRECT", "1")):
+            with self.subTest(name, value=value):
+                self.assert_ran(self.checkout.call("may", **{name: value}))
+        self.checkout.change("crates/low/src/lib.rt", "changed")
+        self.assert_no_answer(self.checkout.call("may", PATH=NO_TOOLCHAIN, SHELLOPTS="noexec"), "no rt on the PATH", lines=2)
+
     def test_by_symbolic_links_from_anywhere(self):
         checkout, room = self.checkout, self.checkout.room
         os.symlink(f"{checkout.top}/zirofen", f"{room}/one")
@@ -136,6 +148,23 @@ class ReleasedTest(WrapperTest):
                 self.assert_no_answer(ended, "it doesn't run here")
                 if name == "an older C library":
                     self.assertIn("GLIBC_2.34", ended.stderr)
+
+    def test_it_tells_which_program_it_would_run(self):
+        checkout, path = self.checkout, ["--version"]
+        for built in (False, True):
+            with self.subTest(built):
+                self.assertFalse(built and checkout.build().returncode)
+                ended = checkout.call("--which", PATH=NO_TOOLCHAIN)
+                program = f"{checkout.top}/{'crates/zirofen/out' if built else 'release'}/zirofen"
+                self.assertEqual((ended.stdout, ended.stderr, ended.returncode), (f"{program}\n", "", 0))
+                self.assertEqual(subprocess.run([ended.stdout[:-1], *path], capture_output=True, text=True).stdout, "zirofen 0.3.1\n")
+        self.assert_ran(checkout.call("--which", "may"), "--which may", "built")
+        checkout.change("crates/low/src/lib.rt", "changed")
+        self.assert_no_answer(checkout.call("--which", PATH=NO_TOOLCHAIN), "no rt on the PATH", lines=2)
+
+    def test_which_program_it_would_run_is_told_or_a_fault(self):
+        ended = self.checkout.call("-c", 'exec "$0" --which >/dev/full', f"{self.checkout.top}/zirofen", program="sh")
+        self.assertEqual((ended.stdout, ended.stderr, ended.returncode), ("", "zirofen: can't write which program it is\n", 3))
 
     def test_a_lost_run_bit(self):
         os.chmod(f"{self.checkout.top}/release/zirofen", 0o644)
@@ -277,6 +306,12 @@ class EndedTest(WrapperTest):
                 self.assertEqual((ended.returncode, ended.stderr.count("\n")), (status, 1), ended.stderr)
                 self.assertIn(told, ended.stderr)
                 self.assertIn("no answer", ended.stderr)
+
+    def test_past_the_bound_of_a_files_size_the_program_is_told_so(self):
+        self.release("echo the output 2>/dev/null || { echo fault: write >&2; exit 3; }; exit 0")
+        out = f"{self.checkout.room}/out"
+        ended = self.checkout.call("-c", 'ulimit -f 0; exec "$0" may >"$1"', f"{self.checkout.top}/zirofen", out, program="bash")
+        self.assertEqual((ended.stderr.splitlines()[-1:], ended.returncode, read(out)), (["fault: write"], 3, ""))
 
     def test_a_signal_ends_both(self):
         child = f"{self.checkout.played}/child"

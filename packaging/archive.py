@@ -63,7 +63,8 @@ def md5(data):
 
 
 def debian_package(control, scripts, files):
-    """The package with this text of its control file, these scripts of its maintainer, and these files."""
-    sums = "".join(f"{md5(file.data)}  {file.path}\n" for file in sorted(files))
+    """The package with this text of its control file, these scripts of its maintainer, and these files. What is below etc/ is the
+    administrator's to change, and has no sum."""
+    sums = "".join(f"{md5(file.data)}  {file.path}\n" for file in sorted(files) if not file.path.startswith("etc/"))
     about = [File("control", 0o644, control.encode()), File("md5sums", 0o644, sums.encode()), *scripts]
     return ar([("debian-binary", b"2.0\n"), ("control.tar.xz", xz(tar(about))), ("data.tar.xz", xz(tar(files)))])

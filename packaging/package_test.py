@@ -182,6 +182,9 @@ class PackageTest(unittest.TestCase):
                 out.write(self.files[path].data)
             self.assertEqual(run("zsh", "-n", f"{self.folder.name}/_zirofen").stderr, "")
 
+    def test_the_copyright_names_the_toolchain_of_the_program(self):
+        self.assertIn(f"\nwith, {self.program.manifest['kit'].split(' ')[0]}, and uses", self.files[f"{package.DOCS}/copyright"].data.decode())
+
     def test_the_version_is_the_first_of_the_changes(self):
         with open(f"{TOP}/CHANGELOG.md", encoding="ascii") as text:
             self.assertEqual(re.search(r"^## (\S+),", text.read(), re.M)[1], self.program.version)

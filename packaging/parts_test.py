@@ -36,11 +36,6 @@ Options:
       --at <PATH>    Where
   -h, --help         Print help
 """
-PLAYED = """#!/bin/sh
-[ "$2" != --help ] || { echo "$HELPS"; exit; }
-echo "$*" >>"$SAID"
-exit 2
-"""
 
 
 def files_of(folder):
@@ -95,27 +90,34 @@ class InstalledTest(unittest.TestCase):
         self.addCleanup(room.cleanup)
         self.room = room.name
 
-    def check_again(self, helps):
-        """What zirofen-host is asked for by two runs, of which the first leaves a baseline."""
-        with open(f"{self.room}/zirofen-host", "w", encoding="ascii") as out:
-            out.write(PLAYED)
-        os.chmod(f"{self.room}/zirofen-host", 0o755)
-        said = f"{self.room}/said"
-        environment = {"PATH": f"{self.room}:/usr/bin:/bin", "STATE_DIRECTORY": self.room, "SAID": said, "HELPS": helps}
-        for _ in range(2):
-            ended = subprocess.run([f"{HERE}/check-again"], env=environment, capture_output=True)
-            self.assertEqual((ended.returncode, ended.stderr), (2, b""))
-            open(f"{self.room}/baseline.json", "w", encoding="ascii").close()
-        with open(said, encoding="ascii") as text:
-            return text.read().splitlines()
+    def unit(self):
+        """The settings of the service, of those that stand twice the last."""
+        with open(f"{HERE}/systemd/zirofen-check.service", encoding="ascii") as text:
+            return dict(line.split("=", 1) for line in text.read().splitlines() if "=" in line and line[:1] != "#")
 
-    def test_the_first_run_writes_a_baseline_and_later_ones_compare(self):
-        baseline = f"{self.room}/baseline.json"
-        self.assertEqual(self.check_again("  --baseline FILE\n  --baseline-update FILE"),
-                         [f"check --baseline-update {baseline}", f"check --baseline {baseline}"])
+    def test_the_unit_calls_the_helper_by_its_path_with_options_that_it_has(self):
+        words = self.unit()["ExecStart"].split()
+        self.assertEqual((words[:2], words[-1]), (["/usr/bin/zirofen-host", "check"], "$OPTIONS"))
+        helps = self.host("check", "--help").stdout
+        for option in words[2:-1]:
+            self.assertTrue(option[:2] != "--" or f"  {option} " in helps, option)
+        # it ends itself before it is ended
+        self.assertEqual((words[words.index("--seconds") + 1], self.unit()["TimeoutStartSec"]), ("1500", "30min"))
+        with open(f"{HERE}/debian/zirofen-check.default", encoding="ascii") as text:
+            self.assertEqual([line for line in text.read().splitlines() if line[:1] != "#"], ["OPTIONS="])
+        with open(f"{HERE}/debian/conffiles", encoding="ascii") as text:
+            self.assertEqual(text.read(), f"/{self.unit()['EnvironmentFile'][2:]}\n")
 
-    def test_a_helper_without_baselines_is_a_plain_check(self):
-        self.assertEqual(self.check_again("  --json"), ["check", "check"])
+    def test_the_unit_is_exposed_by_two_at_most(self):
+        """And nothing in it hides what a check by hand sees."""
+        unit = f"{HERE}/systemd/zirofen-check.service"
+        said = subprocess.run(["systemd-analyze", "security", "--offline=true", "--no-pager", "--threshold=20", unit],
+                              capture_output=True, text=True)
+        self.assertEqual(said.returncode, 0, said.stdout + said.stderr)
+        settings = self.unit()
+        self.assertEqual(settings["CapabilityBoundingSet"], "CAP_DAC_READ_SEARCH CAP_SYS_PTRACE CAP_SYS_ADMIN")
+        self.assertLessEqual({"TimeoutStartSec", "MemoryMax", "ReadOnlyPaths"}, settings.keys())
+        self.assertFalse({"ProtectProc", "ProcSubset", "PrivateUsers", "PrivatePIDs", "DynamicUser", "User"} & settings.keys())
 
     def test_nothing_is_switched_on(self):
         for name in os.listdir(f"{HERE}/debian"):
@@ -138,6 +140,13 @@ class InstalledTest(unittest.TestCase):
     def host(self, *words):
         environment = {**os.environ, "ZIROFEN": f"{self.room}/none"}
         return subprocess.run([sys.executable, f"{TOP}/host/zirofen-host", *words], env=environment, capture_output=True, text=True)
+
+    def test_how_package_is_called(self):
+        before = os.listdir(self.room)
+        for words, status in ((["--help"], 0), (["-h"], 0), (["-x"], 2), (["--bilt"], 2), (["one", "two"], 2)):
+            ended = subprocess.run([f"{TOP}/package", *words], cwd=self.room, capture_output=True, text=True)
+            self.assertEqual((ended.returncode, os.listdir(self.room)), (status, before), words)
+            self.assertIn("usage: ./package [--built] [FOLDER]", ended.stderr if status else ended.stdout)
 
     def test_one_command_for_the_helpers(self):
         helpers = completions.commands_of(self.host("--help").stdout)

@@ -28,6 +28,15 @@ class AsJsonTest(unittest.TestCase):
                 made = as_json.made_of(Report, report, "report", {})
                 self.assertEqual("".join(as_json.parts_of(made)), json.dumps(report, indent=1))
 
+    def test_bytes_that_are_in_no_utf_8_are_read_by_strict_readers(self):
+        texts = {"al\udcffice": "al\\udcffice", "\ud83d\udcff": "\ud83d\udcff".encode("utf-16", "surrogatepass").decode("utf-16"),
+                 "\\udcff": "\\udcff", "\\\udcff\n": "\\\\udcff\n", "\U0001f600\ud83d": "\U0001f600\\ud83d", "j\xfcrgen": "j\xfcrgen"}
+        report = {**example.kept(), "unseen": [{"kind": "x", "place": "", "text": text} for text in texts]}
+        found = json.loads("".join(as_json.parts_of(as_json.made_of(Report, report, "report", {}))))
+        self.assertEqual([each["text"] for each in found["unseen"]], list(texts.values()))
+        for each in texts.values():
+            each.encode()
+
     def test_what_is_absent_has_no_key(self):
         report = example.kept()
         without = {key: value for key, value in report.items() if key not in ("users", "groups", "cgroups", "processes")}
@@ -47,8 +56,8 @@ class AsJsonTest(unittest.TestCase):
 
     def test_what_may_lack(self):
         value = {"time": "", "new": [], "worse": [], "changed": [], "gone": []}
-        lacking = {(Comparison, "file"): "", (Comparison, "status"): 0}
-        self.assertEqual(as_json.made_of(Comparison, value, "it", lacking), Comparison("", "", (), (), (), (), 0))
+        lacking = {(Comparison, "file"): "", (Comparison, "status"): 0, (Comparison, "stand"): ()}
+        self.assertEqual(as_json.made_of(Comparison, value, "it", lacking), Comparison("", "", (), (), (), (), (), 0))
 
 
 class SchemaTest(unittest.TestCase):
@@ -63,7 +72,7 @@ class SchemaTest(unittest.TestCase):
     def test_what_isnt_as_it_says(self):
         report = example.kept()
         owner = {"uid": 0, "gid": 0, "mode": "9"}
-        compared = [f"report.baseline.{key}" for key in ("file", "time", "new", "worse", "changed", "gone", "status")]
+        compared = [f"report.baseline.{key}" for key in ("file", "time", "new", "worse", "stand", "changed", "gone", "status")]
         for spoil, places in (({"host": 1}, ["report.host"]), ({"version": 2}, ["report.version"]), ({"new": 1}, ["report.new"]),
                               ({"status": True}, ["report.status"]), ({"baseline": {}}, compared),
                               ({"entries": [{**report["entries"][0], "whom": []}]}, ["report.entries[0].whom"]),

@@ -1,6 +1,7 @@
 """Tests of comparing with an earlier report."""
 import json
 import os
+import re
 import subprocess
 import sys
 import unittest
@@ -21,15 +22,17 @@ class BaselineTest(HostTest):
         self.host.cgroup("/up", owners={"cgroup.procs": (0, 50)}, modes={"cgroup.procs": 0o664})
         self.host.cgroup("/up/b", owners=owned(1001))
 
-    def keep(self):
-        baseline.write(self.file, made(self.report(json=True)))
+    def keep(self, is_accepted=True):
+        baseline.write(self.file, made(self.report(json=True)), is_accepted)
 
-    def compared(self):
-        found = self.report(json=True)
-        compared = baseline.compared(made(found), baseline.read(self.file), self.file)
-        self.assertEqual(made(self.value_of(replace(made(found), baseline=compared))).baseline, compared)
-        lines = list(comparison_lines(compared))
-        self.assertEqual(all(line.startswith("    ") or line.split(":")[0] in baseline.KINDS for line in lines), any(
+    def compared(self, found=None):
+        found = replace(made(found or self.report(json=True)))
+        compared = baseline.compared(found, baseline.read(self.file), self.file)
+        found = replace(found, baseline=compared)
+        self.assertEqual(made(self.value_of(found)).baseline, compared)
+        lines = list(comparison_lines(found))
+        told = [line for line in lines if not re.match("    |[0-9]+ findings? stands? since|only |limits of ", line)]
+        self.assertEqual(all(line.split(":")[0] in baseline.KINDS for line in told), any(
             getattr(compared, kind) for kind in baseline.KINDS))
         return compared.status, lines
 
@@ -57,7 +60,63 @@ class BaselineTest(HostTest):
         self.assertEqual(status, 3)
         self.assertIn("new: fault: alice(1000) bob(1001) carol(1002) of /odd: fault: subtree missing", lines)
         self.keep()
-        self.assertEqual(self.compared()[0], 0)
+        status, lines = self.compared()
+        self.assertEqual((status, lines[0].partition(": ")[2]), (3, (
+            "fault: alice(1000) bob(1001) carol(1002) of /odd: fault: subtree missing")))
+
+    def test_what_nobody_accepted_stands(self):
+        self.host.cgroup("/up/b", owners={**owned(1001), "cgroup.max.depth": 1001})
+        self.keep(is_accepted=False)
+        for _ in range(2):
+            status, lines = self.compared()
+            self.assertEqual(status, 1)
+            self.assertRegex(lines[0], "^2 findings stand since 20[0-9-]*T[0-9:]*Z: /up cgroup.procs .*; /up/b cgroup.max.depth .*$")
+            self.assertEqual(lines[1:], [f"    change: chmod 644 {self.host.mount}/up/cgroup.procs",
+                                         f"    change: chown root {self.host.mount}/up/b/cgroup.max.depth"])
+        self.keep()
+        status, lines = self.compared()
+        self.assertEqual((status, len(lines)), (0, 1))
+        self.assertRegex(lines[0], "^nothing is new")
+
+    def test_what_is_new_isnt_accepted_by_being_seen(self):
+        self.keep()
+        self.host.cgroup("/c", modes={"cgroup.max.depth": 0o646})
+        for _ in range(2):
+            self.assertEqual(self.compared()[0], 1)
+
+    def test_a_baseline_of_a_plain_report_accepts_nothing(self):
+        baseline.write(self.file, made(self.report(json=True)), True)
+        with open(self.file, encoding="ascii") as kept:
+            before = json.load(kept)
+        del before["accepted"], before["version_1"]
+        with open(self.file, "w", encoding="ascii") as out:
+            json.dump(before, out)
+        self.assertEqual(self.compared()[0], 2)
+
+    def test_what_stands_and_changed_counts(self):
+        self.keep(is_accepted=False)
+        self.host.cgroup("/up", owners={"cgroup.procs": (7, 50)}, modes={"cgroup.procs": 0o664})
+        self.host.cgroup("/up/b")
+        self.host.cgroup("/a", modes={"cgroup.max.depth": 0o646})
+        self.keep(is_accepted=False)
+        self.host.cgroup("/a", modes={"cgroup.max.depth": 0o647})
+        status, lines = self.compared()
+        self.assertEqual((status, lines[0].split(":")[0]), (1, "changed"))
+        self.assertRegex(lines[-2], "^1 finding stands since")
+
+    def test_what_an_update_accepts(self):
+        self.host.cgroup("/odd", owners=owned(1000))
+        told = list(baseline.accepted_lines(made(self.report())))
+        self.assertEqual([line.split(":")[0] for line in told], ["not accepted", "accepted"])
+        self.assertTrue(told[0].endswith(": a fault counts in each run"))
+
+    def test_limits_of_version_1_stand_until_they_are_accepted(self):
+        self.host.cgroup("/up")
+        self.host.cgroup("/up/b")
+        found = replace(made(self.report(json=True)), version_1=("cpu", "memory"))
+        for is_accepted, status in ((False, 2), (True, 0)):
+            baseline.write(self.file, found, is_accepted)
+            self.assertEqual(self.compared(found)[0], status)
 
     def test_worse(self):
         self.keep()
@@ -96,8 +155,8 @@ class BaselineTest(HostTest):
         self.assertEqual(status, 2)
         self.assertIn("changed: /up: contained, by 7 who holds it", lines)
         self.assertEqual([line for line in lines if line.startswith("gone")], [
-            "gone: above: alice(1000), below /a: /a/in", "gone: differs /m.service: dir: not as a service manager leaves it",
-            "gone: /a/in: contained, by 1001 who holds it"])
+            "gone: differs /m.service: dir: not as a service manager leaves it", "gone: /a/in: contained, by 1001 who holds it",
+            "gone: above: alice(1000), below /a: /a/in"])
         self.host.cgroup("/up")
         status, lines = self.compared()
         self.assertEqual((status, "gone: /up cgroup.procs (0:50 664): unsettled, by group team(50): carol(1002), of /up/b"
@@ -106,14 +165,14 @@ class BaselineTest(HostTest):
     def test_another_host(self):
         found = self.report(json=True)
         before = {**found, "host": "other"}
-        compared = baseline.compared(made(found), made(before), self.file)
+        compared = baseline.compared(made(found), made({**before, "accepted": True}), self.file)
         self.assertEqual((compared.status, [each.before for each in compared.changed]), (0, ["host: other"]))
 
     def test_nothing_to_ask_any_more(self):
         self.keep()
         found = made({**self.report(json=True), "asked": False, "entries": [], "subtrees": []})
         self.assertEqual(baseline.compared(found, baseline.read(self.file), "").status, 4)
-        baseline.write(self.file, found)
+        baseline.write(self.file, found, True)
         self.assertEqual(baseline.compared(found, baseline.read(self.file), "").status, 0)
 
     def test_what_is_no_baseline(self):
@@ -125,18 +184,17 @@ class BaselineTest(HostTest):
                     out.write(text)
                 with self.assertRaisesRegex(Fault, told):
                     baseline.read(self.file)
-        with self.assertRaisesRegex(Fault, "can't read the baseline .*none"):
-            baseline.read(f"{self.host.folder}/none")
+        with self.assertRaisesRegex(Fault, "can't read the baseline"):
+            baseline.read(self.host.folder)
+        self.assertIsNone(baseline.read(f"{self.host.folder}/none"))
 
     def test_what_cant_be_written(self):
         found = made(self.report(json=True))
         with self.assertRaisesRegex(Fault, "can't write the baseline"):
-            baseline.write(f"{self.host.folder}/none/file", found)
-        self.keep()
-        os.symlink(f"{self.host.folder}/elsewhere", f"{self.file}.new")
-        with self.assertRaisesRegex(Fault, "can't write the baseline"):
-            self.keep()
-        self.assertFalse(os.path.exists(f"{self.host.folder}/elsewhere"))
+            baseline.write(f"{self.host.folder}/none/file", found, True)
+        baseline.write(self.file, found, True)
+        self.assertEqual(baseline.read(self.file), replace(found, accepted=True))
+        self.assertEqual([name for name in os.listdir(self.host.folder) if "baseline" in name or name[:1] == "."], ["baseline.json"])
 
     @unittest.skipUnless(os.geteuid() == 0, "only root gives files away")
     def test_from_outside(self):
@@ -144,8 +202,14 @@ class BaselineTest(HostTest):
             return subprocess.run([sys.executable, COMMAND, "check", "--plain-folder", "--mount", self.host.mount, "--proc",
                                    self.host.proc, "--accounts", self.host.etc, "--zirofen", self.program, *words],
                                   capture_output=True, text=True)
-        self.assertEqual(script("--baseline", self.file).returncode, 3)
-        self.assertEqual(script("--baseline-update", self.file).returncode, 2)
+        plain, first = script(), script("--baseline", self.file)
+        self.assertEqual((first.returncode, first.stdout), (2, plain.stdout))
+        self.assertEqual(first.stderr, f"zirofen-host check: {self.file} is a baseline from now on, which accepts nothing\n")
+        ended = script("--baseline", self.file)
+        self.assertEqual((ended.returncode, ended.stdout.split(" since ")[0]), (2, "1 finding stands"))
+        ended = script("--baseline-update", self.file)
+        self.assertEqual((ended.returncode, ended.stdout), (2, plain.stdout + (
+            "accepted: /up cgroup.procs (0:50 664): unsettled, by group team(50): carol(1002), of /up/b\n")))
         ended = script("--baseline", self.file)
         self.assertEqual((ended.returncode, ended.stdout.split(" since ")[0]), (0, "nothing is new, worse, changed or gone"))
         self.host.cgroup("/bad", owners={**owned(1000), "memory.max": 1000})

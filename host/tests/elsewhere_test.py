@@ -8,13 +8,15 @@ from dataclasses import replace
 
 from check_test import BY_GROUP, MARK, HostTest, owned
 from made_up import COMMAND
+from page_reader import PageReader
 from zirofen_host.collect import elsewhere
 from zirofen_host.ask import accepted
 from zirofen_host.ask.questions import subtrees_by
 from zirofen_host.collect.accounts import accounts_of
-from zirofen_host.judge import check, one
+from zirofen_host.judge import baseline, check, one
 from zirofen_host.options import AskOptions
-from shown import lines_of
+from shown import comparison_lines, lines_of, made
+from zirofen_host.show import page, tree_view
 from zirofen_host.fault import Fault
 from zirofen_host.collect.mount import Mounts
 from zirofen_host.collect.walk import CHANGED
@@ -79,7 +81,7 @@ class ElsewhereTest(HostTest):
         self.write(with_host=False)
         found = self.elsewhere(accounts=self.host.etc)
         self.assertEqual([(row[0], row[2], row[3]) for row in self.rows(found)], [
-            ("65534", "contained", "/team"), ("1002", "contained", "/up"), ("1001", "contained", "/up/m.service"),
+            ("anybody", "contained", "/team"), ("1002", "contained", "/up"), ("1001", "contained", "/up/m.service"),
             ("1000", "escapes", "/up/svc")])
         self.assertEqual((found["host"], found["cgroups"][2]["marks"]), ("", {}))
         self.assertIn("carries nothing of its host", "\n".join(lines_of(found)))
@@ -91,8 +93,8 @@ class ElsewhereTest(HostTest):
         taken = replace(taken, changing={b"/up/svc/new": CHANGED, b"/elsewhere": CHANGED})
         self.write(False, taken)
         found = self.elsewhere(accounts=self.host.etc)
-        self.assertEqual([(each["who"], each["subtrees"]) for each in found["faults"]], [("everybody", ["/up", "/up/svc"])])
-        self.assertEqual([row[3] for row in self.rows(found)], ["/team", "/up/m.service"])
+        self.assertEqual([(each["who"], each["subtrees"]) for each in found["faults"]], [("everybody", ["/up/svc"])])
+        self.assertEqual([row[3] for row in self.rows(found)], ["/team", "/up", "/up/m.service"])
         taken = replace(taken, changing={b"/elsewhere": "can't read it: no"})
         self.write(False, taken)
         self.assertEqual([each["fault"] for each in self.elsewhere(accounts=self.host.etc)["faults"]], ["can't read it: no"])
@@ -103,6 +105,23 @@ class ElsewhereTest(HostTest):
         taken = accepted.take(options, lambda *_: [b"/up/svc"])
         told, status = one.ask(taken, options, self.fail)
         self.assertEqual((told[0], status), ("escapes", 1))
+
+    def test_a_text_that_carries_nothing_of_its_host(self):
+        """It is dated by itself alone, and a page of it has a title."""
+        self.write(with_host=False)
+        found = self.elsewhere(accounts=self.host.etc)
+        self.assertEqual((found["host"], found["kernel"], found["time"]), ("", "", ""))
+        reader = PageReader(page.page([made(found)]))
+        self.assertIn("Made of a report of a tree text, at a time that isn't told, with made-up 1.0.", reader.text())
+        self.assertIn("a tree text\n", reader.text())
+        self.assertIn("<title>Zirofen: a tree text</title>", page.page([made(found)]))
+        drawn = tree_view.draw(made(found), tree_view.Drawing())
+        self.assertEqual(drawn[0], "a tree text, made-up 1.0")
+        compared = baseline.compared(made(found), replace(made(found), accepted=True), "/before.json")
+        self.assertEqual(list(comparison_lines(replace(made(found), baseline=compared))),
+                         ["nothing is new, worse, changed or gone since /before.json"])
+        self.write()
+        self.assertRegex(page.page([made(self.elsewhere())]), r'at <time datetime="20[^"]*Z">20[^<]*Z</time>, with made-up 1.0\.')
 
     def test_a_text_that_the_program_refuses(self):
         for text in ("no text", "format = 2\n", "\xff"):

@@ -80,7 +80,7 @@ class Example:
 
     def batch(self):
         self.host.cgroup("/batch.slice", owners={"cgroup.procs": (0, 50)}, modes={"cgroup.procs": 0o664}, enabled="memory pids")
-        self.runs("/batch.slice/nightly.service", 900, "cp", 990, owners=owned(990),
+        self.runs("/batch.slice/nightly.service", 900, "cp", 990, owners=owned(990), marks=(MARK,),
                   values={"memory.max": SIZE, "pids.max": 64})
 
     def report(self, program):

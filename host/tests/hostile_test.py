@@ -1,8 +1,10 @@
 """Tests of what one user does to keep others from their answers, or to have the helpers lie, hang or end badly."""
 import ast
 import glob
+import grp
 import json
 import os
+import pwd
 import re
 import shutil
 import subprocess
@@ -14,9 +16,10 @@ import made_up_program
 from check_test import BY_GROUP, HostTest, owned
 from made_up import COMMAND, TOP
 from zirofen_host import fault
-from zirofen_host.collect import processes, walk
+from zirofen_host.collect import bounded, processes
 from zirofen_host.ask import questions
-from shown import lines_of
+from shown import lines_of, made
+from zirofen_host.judge import as_json
 from zirofen_host.collect.accounts import accounts_here
 from zirofen_host.collect.model import Entry
 from zirofen_host.collect.mount import Mounts
@@ -24,8 +27,9 @@ from zirofen_host.ask.texts import Programs
 
 OLDEST = (3, 9)
 # modules that it has
-MODULES = set("argparse atexit base64 bisect collections concurrent dataclasses datetime enum errno functools grp hashlib html itertools "
-              "json os pwd re shlex shutil signal stat string subprocess sys tempfile textwrap time typing unicodedata".split())
+MODULES = set("argparse atexit base64 bisect collections concurrent contextlib dataclasses datetime enum errno functools grp hashlib html "
+              "itertools json os pwd re shlex shutil signal stat string subprocess sys tempfile textwrap time types typing "
+              "unicodedata".split())
 # what reads a text takes one of these
 READERS = {"tomllib", "tomli"}
 # what came later, by its name
@@ -91,10 +95,10 @@ class NamesTest(HostTest):
     def test_what_is_left_out_is_counted_only_so_far(self):
         for number in range(9):
             os.makedirs(f"{self.host.mount}/alice/o d/{number}")
-        with mock.patch.object(walk, "MOST_INSIDE", 5):
+        with mock.patch.object(bounded, "CGROUPS", bounded.Budget("cgroups", 5)):
             found = self.report()
         self.others(found)
-        self.assertEqual([(each["fault"], each["subtrees"]) for each in found["faults"]], [("over 5 cgroups inside", ["/alice"])])
+        self.assertEqual([(each["fault"], each["subtrees"]) for each in found["faults"]], [("uid 1000 has over 5 cgroups", ["/alice"])])
 
     def test_names_of_accounts_and_processes(self):
         self.host.accounts(passwd="al\x1b[2Jice:x:1000:1000::/:\nbob:x:1001:1001::/:\n", group="te\x07am:x:50:bob\n")
@@ -104,6 +108,20 @@ class NamesTest(HostTest):
         self.harmless(found)
         self.assertIn("'al\\x1b[2Jice'(1000)", "\n".join(lines_of(found)))
         self.assertEqual(found["processes"][0]["name"], "'x\\x1b[31m'")
+
+    def test_a_name_of_no_utf_8_in_the_hosts_own_look_up(self):
+        """The look-up keeps such a byte, and JSON with it is read nowhere else."""
+        self.host.cgroup("/alice", owners={**owned(1000), "memory.max": (0, 50)}, modes={"memory.max": 0o664}, pids=(7,))
+        self.host.process(7, uid=1000, gid=1000)
+        accounts = [pwd.struct_passwd(("al\udcffice", "x", 1000, 1000, "", "/", ""))]
+        groups = [grp.struct_group(("te\udcfeam", "x", 50, ["al\udcffice"]))]
+        with mock.patch.object(pwd, "getpwall", lambda: accounts), mock.patch.object(grp, "getgrall", lambda: groups):
+            found = self.report(json=True, accounts=None)
+        written = "".join(as_json.parts_of(made(found)))
+        json.dumps(json.loads(written), ensure_ascii=False).encode("utf-8")
+        self.harmless(found)
+        self.assertEqual({each["uid"]: each["name"] for each in found["users"]}, {1000: "'al\\udcffice'", 1001: None})
+        self.assertIn({"gid": 50, "name": "'te\\udcfeam'"}, found["groups"])
 
     def test_a_process_cant_name_itself_another_user(self):
         self.host.process(7, uid=1000, gid=1000, name="x\x0bUid:\t0\t0\x0cGid:")
@@ -151,8 +169,9 @@ class GarbageTest(HostTest):
             self.host.process(8)
             with open(f"{self.host.proc}/8/{file}", "w", encoding="ascii") as out:
                 out.write(text)
-            with self.assertRaisesRegex(fault.Fault, "what .*/8 tells of the process isn't known"):
-                processes.read_processes(self.host.proc)
+            found = self.report()
+            self.assertEqual([row[2:] for row in self.rows(found)][-1:], [("contained", "/bob")])
+            self.assertIn("8 left out: what is told of the process isn't known", [each["text"] for each in found["snapshot"]])
 
     def test_a_descriptor_of_a_file_system_of_his_own_isnt_asked(self):
         self.host.cgroup("/svc", owners=owned(1000))
@@ -170,10 +189,10 @@ class GarbageTest(HostTest):
         self.host.process(7, uid=1000)
         for number in range(5):
             self.host.opens(7, number, "/cgroup.subtree_control", os.O_WRONLY)
-        with mock.patch.object(processes, "MOST_DESCRIPTORS", 3):
+        with mock.patch.object(bounded, "DESCRIPTORS", bounded.Budget("open files with a path", 3)):
             told = self.told(self.report(), "descriptor")
         self.assertEqual(len(told), 2)
-        self.assertIn("not all were looked at", told[0])
+        self.assertIn("not all were looked at", told[1])
 
     def test_a_text_that_is_refused_is_a_fault_of_its_subtrees(self):
         self.host.cgroup("/a", owners=owned(1000))
@@ -300,9 +319,15 @@ class OutputTest(HostTest):
             self.assertEqual((ended.returncode, ended.stderr), (3, ""))
 
     def test_what_cant_be_kept(self):
+        """The answers are there all the same."""
         for keep in ("/dev/full", f"{self.host.folder}/none/file"):
-            ended = self.script("check", "--keep", keep)
-            self.assertEqual((ended.returncode, ended.stdout, ended.stderr.count("\n")), (3, "", 1), ended.stderr)
+            plain, ended = self.script("check"), self.script("check", "--keep", keep)
+            line = f"failed: keep: can't write the tree text {keep}: "
+            self.assertEqual((ended.returncode, ended.stderr), (3, ""))
+            self.assertEqual([each for each in ended.stdout.splitlines() if not each.startswith(line)][:-1], plain.stdout.splitlines()[:-1])
+            self.assertIn(f"\n{line}", ended.stdout)
+            plain, ended = self.script("ask"), self.script("ask", "--keep", keep)
+            self.assertEqual((ended.returncode, ended.stdout, ended.stderr.count("can't write the tree text")), (3, plain.stdout, 1))
 
     def test_words_from_elsewhere(self):
         for words in (("--only", "/a\x1b[31m"), ("--\x1b[31m",), ("--accounts", "/\x1b[31m")):

@@ -9,7 +9,7 @@ from check_test import BY_GROUP, MARK, HostTest, owned
 from made_up import MEMORY, path
 from zirofen_host import progress
 from zirofen_host.profile import text_of
-from zirofen_host.collect import walk
+from zirofen_host.collect import bounded, walk
 from zirofen_host.ask import texts
 from zirofen_host.ask.questions import subtrees_by
 from zirofen_host.judge import check
@@ -65,7 +65,7 @@ class LargeTest(HostTest):
         found = self.report(json=True)
         self.assertEqual((len(found["cgroups"]), len(found["processes"])), (4097 + 2 + 909 + 2, 4096 + 9000 + 5000 + 1900))
         self.assertEqual(found["faults"], [{"who": "everybody", "uid": None, "gids": [], "subtrees": ["/large"],
-                                            "fault": "4099 cgroups, and a tree text has 4096 at most"}])
+                                            "fault": "4099 cgroups, and a tree text has 4096 at most", "made_by": "u1000(1000)"}])
         self.assertEqual([row[2:] for row in self.rows(found)], [
             ("escapes", "/bad"), ("contained", "/large/c7/in"), ("contained", "/many"),
             *(("contained", f"/s{uid}") for uid in range(1002, 1011))])
@@ -138,18 +138,6 @@ class LargeTest(HostTest):
         self.assertEqual((packed.texts, packed.refused[some[0]]),
                          ([], "what it needs goes into no tree text: its paths are too long"))
 
-    def test_one_text_is_refused_after_one_walk(self):
-        for name in "abc":
-            self.host.cgroup(f"/{name}")
-        walks, start = [], walk.Walk.__init__
-
-        def started(of, *words):
-            walks.append(words)
-            start(of, *words)
-        with mock.patch.object(walk.Walk, "__init__", started), self.assertRaisesRegex(check.Fault, "4 cgroups, and a tree text has 3"):
-            walk.settled(self.host.mount, None, None, 3)
-        self.assertEqual(len(walks), 1)
-
     def test_progress_is_told_at_a_terminal(self):
         class Terminal(io.StringIO):
             def isatty(self):
@@ -197,7 +185,7 @@ class BusyTest(HostTest):
             return read(of, path)
 
         def started(of, *words):
-            self.walks.append(words[1:])
+            self.walks.append(words[1:2])
             start(of, *words)
         options = self.options(json=True)
         with mock.patch.object(walk.Walk, "read", reading), mock.patch.object(walk.Walk, "__init__", started):
@@ -208,14 +196,15 @@ class BusyTest(HostTest):
         self.assertEqual([(row[2], row[3]) for row in self.rows(found) if row[3] != of],
                          [each for each in (("contained", "/alice"), ("contained", "/bob"), ("escapes", "/carol")) if each[1] != of])
 
-    def one_is_spoiled(self, found, why=ALL_THE_TIME):
+    def one_is_spoiled(self, found, why=ALL_THE_TIME, made_by="alice(1000)"):
+        """Alice's own making hides no escape of carol's."""
         self.others(found, "/alice")
         self.assertEqual((found["faults"], found["status"]), ([{"who": "everybody", "uid": None, "gids": [], "fault": why,
-                                                               "subtrees": ["/alice"]}], 3))
+                                                               "subtrees": ["/alice"], "made_by": made_by}], 1 if made_by else 3))
 
-    def come_and_go(self, path, turn):
+    def come_and_go(self, path, turn, uid=1000):
         if turn % 2:
-            self.host.cgroup(path, owners=owned(1000))
+            self.host.cgroup(path, owners=owned(uid))
         else:
             shutil.rmtree(self.host.mount + path)
 
@@ -237,6 +226,41 @@ class BusyTest(HostTest):
             shutil.rmtree(f"{self.host.mount}/alice/in")
             self.host.cgroup("/alice/in", owners=owned(1000))
         self.one_is_spoiled(self.busy(act, b"/alice"))
+
+    def test_what_somebody_else_makes_is_no_fault_of_the_holder(self):
+        self.host.cgroup("/up")
+        self.host.cgroup("/up/dave", owners=owned(1003))
+
+        def act(turn):
+            self.host.cgroup("/up", values={"cgroup.max.depth": 10 + turn})
+        found = self.busy(act, b"/up")
+        self.assertEqual([(each["subtrees"], each["made_by"]) for each in found["faults"]], [(["/up/dave"], None)])
+        self.assertEqual(found["status"], 3)
+
+    def test_whose_making_it_is_inside_of_anothers(self):
+        self.host.cgroup("/alice/in/bobs", owners=owned(1001))
+        found = self.busy(lambda turn: self.come_and_go("/alice/in/bobs/new", turn, 1001), b"/alice")
+        self.assertEqual([(each["subtrees"], each["made_by"]) for each in found["faults"]], [(["/alice/in/bobs"], "bob(1001)")])
+        self.assertIn(("contained", "/alice"), [row[2:] for row in self.rows(found)])
+
+    def test_an_answer_that_hangs_on_how_much_there_is(self):
+        self.host.cgroup("/alice", owners=owned(1000, 1000), enabled="memory", values={"cgroup.max.descendants": 100})
+        self.host.cgroup("/alice/in/bobs", owners=owned(1001))
+        found = self.busy(lambda turn: self.come_and_go("/alice/in/bobs/new", turn, 1001), b"/alice")
+        self.assertEqual([(each["subtrees"], each["made_by"]) for each in found["faults"]], [(["/alice", "/alice/in/bobs"], "bob(1001)")])
+
+    def test_a_delegation_that_changes_itself(self):
+        def act(turn):
+            self.host.cgroup("/alice", owners=owned(1000, 1000), enabled="memory" if turn % 2 else "")
+        self.one_is_spoiled(self.busy(act, b"/alice"))
+
+    def test_where_nothing_else_is_found_the_sum_says_so(self):
+        self.host.cgroup("/carol")
+        found = self.busy(lambda turn: self.come_and_go("/alice/new", turn), b"/alice")
+        self.assertEqual(found["status"], 3)
+        lines = self.lines(found)
+        self.assertTrue(lines[-1].startswith("only faults of their holders' own making; "), lines[-1])
+        self.assertIn(f"fault: everybody of /alice: {ALL_THE_TIME}, of alice(1000)'s own making", lines)
 
     def test_a_cgroup_that_goes_each_time_it_is_read(self):
         def act(_):
@@ -293,14 +317,14 @@ class BusyTest(HostTest):
 
     def test_what_cant_be_read(self):
         os.remove(f"{self.host.mount}/alice/cgroup.controllers")
-        self.one_is_spoiled(self.busy(lambda turn: None), "can't read it: cgroup.controllers: No such file or directory")
+        self.one_is_spoiled(self.busy(lambda turn: None), "can't read it: cgroup.controllers: No such file or directory", None)
         self.assertEqual(len(self.walks), 2)
 
     def test_more_cgroups_than_are_read(self):
         for number in range(9):
             self.host.cgroup(f"/alice/in/c{number}", owners=owned(1000))
-        with mock.patch.object(walk, "MOST_INSIDE", 6):
-            self.one_is_spoiled(self.busy(lambda turn: None), "over 6 cgroups inside")
+        with mock.patch.object(bounded, "CGROUPS", bounded.Budget("cgroups", 6)):
+            self.one_is_spoiled(self.busy(lambda turn: None), "uid 1000 has over 6 cgroups")
 
     def test_the_root_changes_all_the_time(self):
         with self.assertRaisesRegex(check.Fault, "the root cgroup: it came, went or changed"):

@@ -9,7 +9,7 @@ PACKAGE = "zirofen_host"
 # in the order of the way that data goes
 FOLDERS = ("collect", "ask", "judge", "show")
 # what every folder may import, each from those before it
-SHARED = ("progress", "fault", "profile", "installed", "options", "arguments")
+SHARED = ("progress", "ending", "fault", "files", "profile", "output", "installed", "options", "arguments")
 # what makes one command of all of it
 LAST = "command"
 # what imports without a statement

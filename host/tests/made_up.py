@@ -12,6 +12,7 @@ COMMAND = os.path.join(TOP, "host", "zirofen-host")
 sys.path.insert(0, os.path.join(TOP, "host"))
 
 from zirofen_host.collect import walk  # noqa: E402
+from zirofen_host.collect.bounded import Attributes  # noqa: E402
 from zirofen_host.collect.accounts import Accounts, accounts_here  # noqa: E402
 from zirofen_host.collect.processes import read_processes  # noqa: E402
 from zirofen_host.options import Options  # noqa: E402
@@ -20,7 +21,7 @@ from zirofen_host.collect.snapshot import all_that_changes, take  # noqa: E402
 from zirofen_host.collect.model import AccountLists, Entry  # noqa: E402
 
 STATUS = ("Name:\t{name}\nUid:\t{uid}\t{uid}\t{uid}\t{uid}\nGid:\t{gid}\t{gid}\t{gid}\t{gid}\nGroups:\t{groups}\n"
-          "CapEff:\t{capabilities:016x}\n")
+          "CapPrm:\t{permitted:016x}\nCapEff:\t{capabilities:016x}\nThreads:\t{threads}\n")
 STAT = "{pid} (made) up) S 1 1 1 0 -1 {flags} 0 0 0\n"
 KERNEL_THREAD = 0x00200040
 # where many files are made soonest
@@ -81,24 +82,42 @@ class MadeUp:
         os.chmod(path, mode)
         self.owners[os.lstat(path).st_ino] = Entry(uid, gid, mode)
 
-    def process(self, pid, uid=0, gid=0, groups=(), flags=0x400000, capabilities=0, namespace=None,
-                name="made up"):
-        os.makedirs(f"{self.proc}/{pid}", exist_ok=True)
-        with open(f"{self.proc}/{pid}/status", "w", encoding="ascii") as out:
-            out.write(STATUS.format(uid=uid, gid=gid, groups=" ".join(map(str, groups)), capabilities=capabilities,
-                                    name=name))
+    def process(self, pid, uid=0, gid=0, groups=(), flags=0x400000, capabilities=0, permitted=None, namespace=None,
+                name="made up", threads=()):
+        """A process. Its capabilities are those that are effective, and permitted where no others are; threads are the
+        permitted ones of each beside the first."""
+        permitted = capabilities if permitted is None else permitted
+        told = {"uid": uid, "gid": gid, "groups": " ".join(map(str, groups)), "capabilities": capabilities, "name": name,
+                "threads": 1 + len(threads)}
+        folders = [f"{self.proc}/{pid}", *(f"{self.proc}/{pid}/task/{pid + number}" for number in range(1 + len(threads)))]
+        for folder, each in zip(folders, (permitted, permitted, *threads)):
+            os.makedirs(folder, exist_ok=True)
+            with open(f"{folder}/status", "w", encoding="ascii") as out:
+                out.write(STATUS.format(permitted=each, **told))
         if namespace:
-            os.makedirs(f"{self.proc}/{pid}/ns")
+            os.makedirs(f"{self.proc}/{pid}/ns", exist_ok=True)
             os.symlink(f"user:[{namespace}]", f"{self.proc}/{pid}/ns/user")
         with open(f"{self.proc}/{pid}/stat", "w", encoding="ascii") as out:
             out.write(STAT.format(pid=pid, flags=flags))
 
-    def opens(self, pid, number, path, flags):
+    def opens(self, pid, number, path, flags, mount=3, has_inode=True, more=""):
         for folder in ("fd", "fdinfo"):
             os.makedirs(f"{self.proc}/{pid}/{folder}", exist_ok=True)
         os.symlink(self.mount + path, f"{self.proc}/{pid}/fd/{number}")
         with open(f"{self.proc}/{pid}/fdinfo/{number}", "w", encoding="ascii") as out:
-            out.write(f"pos:\t0\nflags:\t0{flags:o}\nmnt_id:\t3\n")
+            is_there = has_inode and os.path.exists(self.mount + path)
+            inode = f"ino:\t{os.stat(self.mount + path).st_ino if is_there else 1}\n" if has_inode else ""
+            out.write(f"pos:\t0\nflags:\t0{flags:o}\nmnt_id:\t{mount}\n{inode}{more}")
+        if not os.path.exists(f"{self.proc}/{pid}/mountinfo"):
+            self.mounts(pid, "3 1 0:29 / /sys/fs/cgroup rw - cgroup2 cgroup2 rw\n")
+
+    def mounts(self, pid, text, namespace=None):
+        """The mounts that a process sees, and maybe in which namespace."""
+        os.makedirs(f"{self.proc}/{pid}/ns", exist_ok=True)
+        if namespace:
+            os.symlink(f"mnt:[{namespace}]", f"{self.proc}/{pid}/ns/mnt")
+        with open(f"{self.proc}/{pid}/mountinfo", "w", encoding="ascii") as out:
+            out.write(text)
 
     def accounts(self, **files):
         for name, text in files.items():
@@ -133,7 +152,8 @@ class MadeUp:
         return entry.uid, entry.gid, entry.mode
 
     def marks_of(self, folder):
-        return self.marks.get(os.stat(folder).st_ino, {})
+        marks = self.marks.get(os.stat(folder).st_ino, {})
+        return Attributes(marks, sum(map(len, marks.values())))
 
     @contextlib.contextmanager
     def owned(self):
@@ -143,7 +163,8 @@ class MadeUp:
 
     def take(self, subtrees_of=all_that_changes, only=None, **more):
         """A snapshot as the helpers take it."""
-        options = Options(**{"mount": self.mount, "only": only, "proc": self.proc, "plain_folder": True, **more})
+        etc = self.etc if os.path.exists(f"{self.etc}/passwd") else None
+        options = Options(**{"mount": self.mount, "only": only, "proc": self.proc, "plain_folder": True, "accounts": etc, **more})
         with self.owned():
             return take(options, subtrees_of)
 

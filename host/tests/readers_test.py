@@ -1,4 +1,4 @@
-"""Who reads what a user can choose: collect/bounded.py alone, which is given a bound."""
+"""Who reads what a user can choose, and who writes: collect/bounded.py alone, which is given a bound, and output.py."""
 import ast
 import os
 import tempfile
@@ -8,22 +8,23 @@ import made_up  # noqa: F401
 from layers_test import modules
 from zirofen_host.collect import bounded
 
-BOUNDED = "collect.bounded"
+BOUNDED, OUTPUT = "collect.bounded", "output"
 # what reads, by how it is called
 READS = {"open", "os.open", "os.fdopen", "os.read", "os.pread", "os.readv", "os.listdir", "os.scandir", "os.walk", "os.fwalk",
          "os.readlink", "os.getxattr", "os.listxattr", "io.open", "codecs.open", "glob.glob", "glob.iglob", "json.load",
          "shutil.copyfile", "shutil.copy"}
 # of a path object or a stream
 METHODS = {"read", "readline", "readlines", "read_text", "read_bytes", "iterdir", "readlink", "getxattr", "listxattr", "rglob"}
-# what a function reads that no user can choose, or that it writes and doesn't read
-NO_READS = {
-    ("show.markup", "read"): "the package's own templates",
-    ("ask.texts", "write"): "the tree text is written",
-    ("ask.accepted", "accept"): "the copy of a tree text is written",
-    ("judge.baseline", "write"): "the baseline is written",
-    ("show.page", "write"): "the page is written",
-    ("show.page", "replace"): "the page is written",
-}
+# what a function reads that no user can choose
+NO_READS = {("show.markup", "read"): "the package's own templates"}
+# what writes, by how it is called
+WRITES = {"os.write", "os.rename", "os.replace", "os.link", "os.symlink", "os.unlink", "os.remove", "os.mkdir", "os.makedirs", "os.mkfifo",
+          "os.chmod", "os.fchmod", "os.chown", "os.fchown", "os.truncate", "shutil.rmtree", "shutil.move", "tempfile.mkstemp",
+          "tempfile.mkdtemp", "tempfile.TemporaryDirectory", "tempfile.NamedTemporaryFile", "tempfile.TemporaryFile"}
+# what a function writes that is no file
+NO_WRITES = {("ending", "end"): "a line on standard error"}
+# of what is opened to be written, one is read: a link of root's on the way to it
+READ_TO_WRITE = {("opened_folder", "os.readlink")}
 
 
 def called(node):
@@ -48,14 +49,18 @@ def is_read(node, own_names):
     return name in READS or "." in name and of not in own_names and method in METHODS
 
 
-def reads(tree):
-    """The innermost function of each call that reads, and its line."""
+def is_write(node, _):
+    return called(node) in WRITES
+
+
+def reads(tree, holds=is_read):
+    """The innermost function of each call that reads, or is another, and its line."""
     left, own_names = [(tree, "")], own(tree)
     while left:
         node, function = left.pop()
         if isinstance(node, (ast.FunctionDef, ast.AsyncFunctionDef)):
             function = node.name
-        if isinstance(node, ast.Call) and is_read(node, own_names):
+        if isinstance(node, ast.Call) and holds(node, own_names):
             yield function, node.lineno
         left += [(each, function) for each in ast.iter_child_nodes(node)]
 
@@ -64,13 +69,26 @@ class ReadersTest(unittest.TestCase):
     def test_nothing_else_reads(self):
         there = {name: list(reads(tree)) for name, tree in modules()}
         for name, found in there.items():
-            if name != BOUNDED:
+            if name not in (BOUNDED, OUTPUT):
                 for function, line in found:
                     with self.subTest(name, line=line):
                         self.assertIn((name, function), NO_READS)
         self.assertTrue(there[BOUNDED])
         for name, function in NO_READS:
             self.assertIn(function, {each for each, _ in there[name]}, name)
+
+    def test_nothing_else_writes(self):
+        there = {name: {function for function, _ in reads(tree, is_write)} for name, tree in modules()}
+        found = {(name, function) for name, functions in there.items() if name != OUTPUT for function in functions}
+        self.assertEqual(found, NO_WRITES.keys())
+        self.assertIn("replace", there[OUTPUT])
+
+    def test_what_is_written_isnt_read(self):
+        (tree,) = [tree for name, tree in modules() if name == OUTPUT]
+        opens = {"open", "os.open"}
+        found = {(function.name, called(node)) for function in ast.walk(tree) if isinstance(function, ast.FunctionDef)
+                 for node in ast.walk(function) if isinstance(node, ast.Call) and is_read(node, own(tree))}
+        self.assertEqual({each for each in found if each[1] not in opens}, READ_TO_WRITE)
 
     def test_a_reader_is_seen(self):
         for text in ("open('x')", "os.read(0, 1)", "with os.scandir(x) as y: pass", "opened.read()", "Path(x).read_text()",

@@ -36,6 +36,8 @@ def real_mount():
 
 
 MOUNT = real_mount() if os.geteuid() == 0 else None
+# where limits are those of version 1, what would be 0 isn't
+GOOD = 2 if MOUNT and mounts_of_host().limits_of_version_1() else 0
 
 
 @unittest.skipUnless(MOUNT, "there is no mount of cgroups here that can be written to")
@@ -77,13 +79,53 @@ class RealMountTest(unittest.TestCase):
 
     def test_a_quiet_one(self):
         found, status, answers = self.report()
-        self.assertEqual((status, answers, found["faults"]), (0, {"/alice": "contained", "/bob": "contained"}, []))
+        self.assertEqual((status, answers, found["faults"]), (GOOD, {"/alice": "contained", "/bob": "contained"}, []))
+
+    def without(self, name):
+        """The report of a helper that lacks a capability, with its lines of that."""
+        words = ["setpriv", f"--bounding-set=-{name}", sys.executable, COMMAND, "check", "--mount", MOUNT, "--only", self.top, "--json",
+                 "--zirofen", REAL_PROGRAM or PROGRAM]
+        found = json.loads(subprocess.run(words, capture_output=True, text=True,
+                                          env={**os.environ, "MADE_UP": "all,advise", "CALLS": os.devnull}).stdout)
+        return found, [each["text"] for each in found["snapshot"] if each["kind"] == "lacking"]
+
+    def test_a_helper_that_lacks_a_capability_says_so(self):
+        """What it finds less is a mark, and a descriptor of another's process."""
+        self.make("/marked")
+        os.setxattr(f"{MOUNT}{self.top}/marked", "trusted.delegate", b"1")
+        file = f"{MOUNT}{self.top}/beside/cgroup.max.depth"
+        os.chown(file, 1000, 1000)
+        held = subprocess.Popen(["setpriv", "--reuid", "1000", "--clear-groups", "sh", "-c", 'exec 3>>"$0"; echo; exec sleep 60', file],
+                                stdout=subprocess.PIPE)
+        self.addCleanup(self.end_process, held)
+        held.stdout.readline()
+        os.chown(file, 0, 0)
+        with open(f"{MOUNT}{self.top}/alice/cgroup.procs", "w", encoding="ascii") as out:
+            out.write(f"{held.pid}\n")
+
+        def seen(found):
+            return ([each["path"] for each in found["subtrees"] if each["meant"]],
+                    [each["text"] for each in found["unseen"] if each["kind"] == "descriptor" and "cgroup.max.depth" in each["text"]])
+        marked, descriptor = seen(self.report()[0])
+        self.assertEqual((marked, len(descriptor)), ([f"{self.top}/marked"], 1))
+        found, lacking = self.without("sys_admin")
+        self.assertEqual((seen(found), lacking), (([], descriptor), [
+            "this helper hasn't CAP_SYS_ADMIN: the mark trusted.delegate can't be seen, so that what was handed over by it alone isn't "
+            "asked"]))
+        found, lacking = self.without("sys_ptrace")
+        self.assertEqual((seen(found), lacking), ((marked, []), [
+            "this helper hasn't CAP_SYS_PTRACE: what others' processes hold open, and their namespaces, can't be seen"]))
+        self.assertEqual([each for each in self.report()[0]["snapshot"] if each["kind"] == "lacking"], [])
+
+    def end_process(self, started):
+        started.kill()
+        started.communicate()
 
     def test_what_comes_and_goes_beside(self):
         self.loop("/beside")
         for _ in range(3):
             found, status, answers = self.report()
-            self.assertEqual((status, answers, found["faults"]), (0, {"/alice": "contained", "/bob": "contained"}, []))
+            self.assertEqual((status, answers, found["faults"]), (GOOD, {"/alice": "contained", "/bob": "contained"}, []))
 
     def test_what_comes_and_goes_in_one_of_two(self):
         self.loop("/alice")
@@ -91,7 +133,7 @@ class RealMountTest(unittest.TestCase):
             found, status, answers = self.report()
             self.assertEqual(answers["/bob"], "contained")
             spoiled = [path for each in found["faults"] for path in each["subtrees"]]
-            self.assertEqual((status, spoiled), (3, [f"{self.top}/alice"]) if "/alice" not in answers else (0, []))
+            self.assertEqual((status, spoiled), (3, [f"{self.top}/alice"]) if "/alice" not in answers else (GOOD, []))
 
     def test_an_escape_and_a_text_of_it(self):
         os.chown(f"{MOUNT}{self.top}/bob/cgroup.max.depth", 1001, 1001)
@@ -103,7 +145,7 @@ class RealMountTest(unittest.TestCase):
                                input=text, capture_output=True, text=True,
                                env={**os.environ, "MADE_UP": "all,advise", "CALLS": os.devnull})
         self.assertEqual((there.returncode, there.stderr), (1, ""))
-        self.assertIn(f"escapes    {self.top}/bob", there.stdout)
+        self.assertRegex(there.stdout, f"escapes {'' if GOOD == 0 else '.v1.'} *{self.top}/bob")
 
 
 if __name__ == "__main__":

@@ -3,7 +3,7 @@ import json
 
 import made_up  # noqa: F401
 from zirofen_host.judge import as_json
-from zirofen_host.judge.model import Comparison, Report, Subtree
+from zirofen_host.judge.model import Report, Subtree
 from zirofen_host.judge.saved import LACKING
 from zirofen_host.show import lines
 
@@ -24,5 +24,7 @@ def rows_of(subtree):
     return lines.rows_of(made(subtree, Subtree))
 
 
-def comparison_lines(compared):
-    return lines.comparison_lines(made(compared, Comparison))
+def comparison_lines(report):
+    """Of a report with a comparison."""
+    report = made(report)
+    return lines.comparison_lines(report, report.baseline)

@@ -8,7 +8,7 @@ import unittest
 from unittest import mock
 
 from made_up import DELEGATED, KERNEL_THREAD, TOP, MadeUpTest, path
-from zirofen_host.collect import mount, snapshot, walk
+from zirofen_host.collect import mount, walk
 from zirofen_host.fault import Fault
 from zirofen_host.profile import text_of
 from zirofen_host.collect.mount import Mounts
@@ -172,8 +172,7 @@ class SnapshotTest(MadeUpTest):
         self.assertEqual(taken.tree.processes, [(12, 0, path("/"))])
         self.assertNotIn("memory.max", rows["/extra/below"].files)
         self.assertEqual(sorted(note_lines(taken)), [
-            "controller: /: cpuset left out, which 2 cgroups enable",
-            "controller: /: io left out, which 0 cgroups enable",
+            "controller: /: left out, with how many cgroups enable each: cpuset (2)",
             "file-name: /idle/memory.stat: named as a file: a controller with that file can't be enabled above",
             "file: /extra/below: memory.max left out: the parent doesn't enable memory",
             "mode: /set: cgroup.procs has mode 0o1644, written as 0o644",
@@ -220,12 +219,10 @@ class SnapshotTest(MadeUpTest):
         with self.assertRaisesRegex(Fault, "isn't a cgroup"):
             walk.walk_over(self.host.mount)
 
-    def test_too_many_processes(self):
+    def test_a_text_without_processes(self):
         self.host.cgroup("/", pids=range(1, 5))
         for pid in range(1, 5):
             self.host.process(pid)
-        with mock.patch.object(snapshot, "MOST_PROCESSES", 3), self.assertRaisesRegex(Fault, "4 processes.*--only"):
-            tree_text(self.host.snapshot())
         self.assertNotIn("process", tree_text(self.host.snapshot(), with_processes=False).split("left out 0 kernel threads")[1])
 
     def test_a_process_that_ended(self):

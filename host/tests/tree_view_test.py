@@ -82,7 +82,7 @@ class TreeTest(unittest.TestCase):
         self.assertEqual(lines[1], "/user.slice/user-1001.slice")
         self.assertIn("├─user@1001.service  ✓ contained", lines)
         self.assertNotIn("system.slice", "\n".join(lines))
-        self.assertIn("The whole host has 8 delegations: 5 shown to be contained; 4 findings open", lines)
+        self.assertIn("The whole host has 6 delegations: 3 shown to be contained; 4 findings open", lines)
         self.assertFalse([line for line in lines if "opened" in line])
         with self.assertRaisesRegex(Fault, "there is no cgroup '/none' in the report"):
             drawn(example.kept(), only="/none")
@@ -118,7 +118,7 @@ class TreeTest(unittest.TestCase):
         report["faults"].append({"who": "everybody", "fault": "it changes all the time", "subtrees": ["/gone"]})
         lines = drawn(report)
         self.assertIn("∅ /gone: it changes all the time", lines)
-        self.assertIn("9 delegations: 5 shown to be contained; 5 findings open", lines)
+        self.assertIn("7 delegations: 3 shown to be contained; 5 findings open", lines)
 
     def test_control_bytes_arent_written(self):
         text = "\n".join(drawn(hostile(example.kept())))

@@ -32,8 +32,10 @@ somebody escapes or a limit stands open; else 2 where an answer is unsettled; el
     "commands": f"""Writes operations as shell commands for this host's mount: {NAME} commands [--uid N --gid N ..] < escape.ops
 
 A helper: no part of the proved program, and only tested. It carries out nothing. Where a user is named, each command is
-made his by setpriv, with his groups alone and without capabilities, so that the kernel asks what he may; run it as root,
-on a host where the operations may be tried. fork and exit, and the lines of an answer around its operations, are comments.
+made theirs by setpriv, with their groups alone and without capabilities, so that the kernel asks what they may; run it as
+root, on a host where the operations may be tried. There another process of the same cgroup stands for one that has
+capabilities, or is the kernel's, where the program finds that the list breaks the subtree with it too; a comment says so.
+fork and exit, and the lines of an answer around its operations, are comments.
 The status is 0, or 3 for a fault, and then nothing is written.
 """,
     "delegations": """Finds who was handed what in a tree text: one line for each user and subtree, UID TAB GIDS TAB PATH.
@@ -86,6 +88,7 @@ def add_host(parser: argparse.ArgumentParser) -> None:
     parser.add_argument("--only", metavar="PATH", type=os.fsencode,
                         help="that cgroup, its ancestors and what is inside it, and no more")
     parser.add_argument("--proc", metavar="FOLDER", default=PROC, help=f"where processes are told of ({PROC})")
+    parser.add_argument("--seconds", metavar="N", type=number, help="ends with a fault where the run takes longer (no bound)")
     parser.add_argument("--no-processes", action="store_true",
                         help="no processes in the tree text: no `contained` rests on them, but an `escapes` may be an `unsettled`")
     parser.add_argument("--plain-folder", action="store_true",
@@ -121,6 +124,7 @@ def add_ask(parser: argparse.ArgumentParser) -> None:
 def add_check(parser: argparse.ArgumentParser) -> None:
     for add in (add_host, add_text, add_accounts, add_keep, add_program):
         add(parser)
+    parser.add_argument("--each", action="store_true", help="each finding by itself, also those that are alike in one holder's own part")
     parser.add_argument("--json", action="store_true", help="all of it as JSON, with the host's cgroups and processes")
     parser.add_argument("--html", metavar="FILE", help="one page of it to look at, into a file; what is printed stays as it is")
     parser.add_argument("--baseline", metavar="FILE",
@@ -130,9 +134,13 @@ def add_check(parser: argparse.ArgumentParser) -> None:
 
 def add_commands(parser: argparse.ArgumentParser) -> None:
     parser.add_argument("--mount", metavar="FOLDER", default=MOUNT, help=f"the cgroup v2 mount ({MOUNT})")
+    parser.add_argument("--proc", metavar="FOLDER", default=PROC, help=f"where processes are told of ({PROC})")
+    parser.add_argument("--plain-folder", action="store_true", help="the mount is a folder of plain files")
     parser.add_argument("--uid", metavar="N", type=number, help="the user whose commands they are; else those of who runs them")
     parser.add_argument("--gid", metavar="N", type=number, action="append", default=[],
                         help="a group of the user, once or more; the first is the primary one")
+    parser.add_argument("--subtree", metavar="PATH", help=f"the subtree that they break, where {NAME} ask hasn't written it behind #")
+    add_program(parser)
 
 
 def add_delegations(parser: argparse.ArgumentParser) -> None:

@@ -1,23 +1,26 @@
 """The command `zirofen-host`: what each subcommand does with what it was asked for."""
 import argparse
 import dataclasses
-import subprocess
 import sys
-from typing import Callable, Dict, List, Mapping, NoReturn
+from typing import Callable, Dict, Iterator, List, Mapping, NoReturn, Optional, Tuple
 
-from zirofen_host import fault, installed
+from zirofen_host import ending, fault, installed
 from zirofen_host.arguments import ARGUMENTS, DESCRIPTIONS, NAME, parser_of
 from zirofen_host.ask import accepted
 from zirofen_host.ask.delegations import Delegations
+from zirofen_host.ask.program import program_at
 from zirofen_host.ask.questions import subtrees_by
-from zirofen_host.collect import bounded, elsewhere, snapshot
-from zirofen_host.collect.accounts import accounts_here, accounts_of
+from zirofen_host.collect import bounded, elsewhere, fitting, snapshot
+from zirofen_host.collect.accounts import accounts_here, accounts_of, payer_of
+from zirofen_host.collect.holds import holds_of
+from zirofen_host.collect.model import Snapshot, User
 from zirofen_host.collect.processes import read_processes
-from zirofen_host.collect.model import User
-from zirofen_host.judge import as_json, baseline, check, one, saved, shell
+from zirofen_host.collect.looks import why_of
+from zirofen_host.judge import as_json, baseline, check, one, replayed, saved, settings, shell
+from zirofen_host.judge.model import Comparison, Report
 from zirofen_host.options import (PROC, AskOptions, CheckOptions, CommandsOptions, DelegationsOptions, PageOptions,
                                   SnapshotOptions, TreeOptions)
-from zirofen_host.profile import MOST_ROWS, path_of, text_of
+from zirofen_host.profile import path_of, shown
 from zirofen_host.show import lines, listing, page, tree_view
 
 ABOUT = f"""The helpers of zirofen for a running host: from its cgroups to answers. They are no part of what is proved.
@@ -28,6 +31,7 @@ usage: {NAME} COMMAND ..      what each does: {NAME} COMMAND --help
 
 def ask(given: argparse.Namespace) -> int:
     options = AskOptions(**vars(given))
+    options = dataclasses.replace(options, program=program_at(options.program))
     taken = accepted.take(options, lambda *_: [path_of(options.path)])
     told, status = one.ask(taken, options, lambda line: fault.warn(f"{NAME} ask: {line}"))
     fault.write_lines(told)
@@ -36,26 +40,58 @@ def ask(given: argparse.Namespace) -> int:
 
 def check_host(given: argparse.Namespace) -> int:
     options = CheckOptions(**vars(given))
+    options = dataclasses.replace(options, program=program_at(options.program))
     before = baseline.read(options.baseline) if options.baseline else None
-    is_whole = bool(options.json or options.html or options.baseline_update)
-    report = check.report(accepted.take(options, subtrees_by(options)), options, is_whole)
+    is_first = bool(options.baseline) and before is None
+    is_whole = bool(options.json or options.html or options.baseline_update or is_first)
+    before_the_walk = settings.read(settings.systemctl_of(options))
+    report = check.report(accepted.take(options, subtrees_by(options)), options, is_whole, before_the_walk)
     comparison = baseline.compared(report, before, options.baseline) if before and options.baseline else None
     if comparison:
         report = dataclasses.replace(report, baseline=comparison)
+    status = comparison.status if comparison else report.status
+    return status if write_all(options, report, comparison, is_first) else fault.FAULT
+
+
+def write_all(options: CheckOptions, report: Report, comparison: Optional[Comparison], is_first: bool) -> bool:
+    """Writes a report in each way that was asked for. Where one fails a line says which, and the others are written; whether all
+    were."""
+    def written() -> None:
+        if options.json:
+            fault.write(as_json.parts_of(report))
+            fault.write("\n")
+        else:
+            fault.write_lines(lines.comparison_lines(report, comparison, options.each) if comparison else
+                              lines.lines_of(report, options.each))
+    ways: List[Tuple[str, Callable[[], None]]] = [("the JSON" if options.json else "the lines", written)]
     if options.html:
-        page.write(options.html, [report])
-    if options.json:
-        fault.write(as_json.parts_of(report))
-        fault.write("\n")
-    else:
-        fault.write_lines(lines.comparison_lines(comparison) if comparison else lines.lines_of(report))
+        ways.append(("the page", lambda: page.write(str(options.html), [report])))
+    if options.baseline or options.baseline_update:
+        ways.append(("the baseline", lambda: keep_baseline(options, report, is_first)))
+    failed = 0
+    for what, write in ways:
+        try:
+            write()
+        except Exception as error:
+            failed += 1
+            fault.warn(f"{NAME} check: {'' if isinstance(error, fault.Fault) else what + ': '}{why_of(error)}")
+    return not failed
+
+
+def keep_baseline(options: CheckOptions, report: Report, is_first: bool) -> None:
+    """Leaves what was found as a baseline: that of a first run accepts nothing, and one that was asked for all of it."""
+    if options.baseline and is_first and options.baseline != options.baseline_update:
+        baseline.write(options.baseline, report, False)
+        fault.warn(f"{NAME} check: {shown(options.baseline)} is a baseline from now on, which accepts nothing")
     if options.baseline_update:
-        baseline.write(options.baseline_update, report)
-    return comparison.status if comparison else report.status
+        baseline.write(options.baseline_update, report, True)
+        if not options.json:
+            fault.write_lines(baseline.accepted_lines(report))
 
 
 def write_commands(given: argparse.Namespace) -> int:
-    options = CommandsOptions(given.mount, given.uid, tuple(given.gid))
+    given.gid = tuple(given.gid)
+    options = CommandsOptions(**vars(given))
     if options.uid is None and options.gid:
         parser_of("commands").error("--gid goes with --uid")
     user = None if options.uid is None else User(options.uid, options.gid)
@@ -66,7 +102,9 @@ def write_commands(given: argparse.Namespace) -> int:
         text = given_in.text("ascii")
     except UnicodeDecodeError:
         raise fault.Fault("the operations aren't ASCII") from None
-    fault.write_lines(shell.commands(options.mount, text, user))
+    # what is no operation is a fault, before the host is looked at
+    made = shell.commands(options.mount, text, user)
+    fault.write_lines(replayed.commands(options, text, user) if user else made)
     return 0
 
 
@@ -87,11 +125,15 @@ def write_page(given: argparse.Namespace) -> int:
 
 def write_snapshot(given: argparse.Namespace) -> int:
     options = SnapshotOptions(**vars(given))
-    taken = snapshot.take(options, snapshot.all_that_changes, MOST_ROWS)
-    values: List[Mapping[str, object]] = [{"changing": [text_of(path), why]} for path, why in taken.changing.items()]
-    if options.with_host:
-        values += elsewhere.carried(taken, accounts_of(options.accounts, taken))
-    text = elsewhere.text_with(taken, values, not options.no_processes)
+    taken = snapshot.take(options, snapshot.all_that_changes)
+    accounts = accounts_of(options.accounts, taken) if options.with_host else None
+
+    def carried(of: Snapshot) -> Iterator[Mapping[str, object]]:
+        yield from fitting.told_changing(of)
+        if accounts:
+            yield from elsewhere.carried(of, accounts)
+    holds = holds_of(taken, accounts.payer if accounts else payer_of(options.accounts))
+    taken, text = elsewhere.fitting_text(taken, holds, carried, not options.no_processes)
     for line in snapshot.note_lines(taken):
         fault.warn(line)
     fault.write(text)
@@ -100,6 +142,7 @@ def write_snapshot(given: argparse.Namespace) -> int:
 
 def draw_tree(given: argparse.Namespace) -> int:
     options = TreeOptions(**vars(given))
+    options = dataclasses.replace(options, program=program_at(options.program))
     environment, is_terminal = tree_view.environment_of_start(), sys.stdout.isatty()
     if options.report:
         report = saved.read(options.report)
@@ -125,7 +168,7 @@ def help_text() -> str:
 def tell_version() -> int:
     """The version is the program's."""
     program = installed.default_program()
-    said = subprocess.run([program, "--version"], capture_output=True, text=True, check=False)
+    said = ending.run([program, "--version"])
     if said.returncode:
         raise fault.Fault(f"{program} doesn't run here, and ended with status {said.returncode}")
     fault.write(said.stdout.replace("zirofen ", f"{NAME} "))
@@ -141,7 +184,9 @@ def main(words: List[str]) -> int:
     if not words or words[0] not in RUNS:
         print(help_text(), file=sys.stderr)
         return fault.FAULT
-    return RUNS[words[0]](parser_of(words[0]).parse_args(words[1:]))
+    given = parser_of(words[0]).parse_args(words[1:])
+    fault.bound(vars(given).get("seconds"))
+    return RUNS[words[0]](given)
 
 
 def run() -> NoReturn:

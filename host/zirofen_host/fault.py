@@ -1,13 +1,14 @@
 """Why a helper can't give what was asked of it, and lines that harm no terminal."""
 import argparse
 import os
+import signal
 import sys
-from typing import Callable, Iterable, NoReturn
+import time
+from typing import Callable, Iterable, NoReturn, Optional
 
-from zirofen_host import progress
+from zirofen_host import ending, progress
 
 FAULT = 3
-INTERRUPTED = 130
 
 
 class Fault(Exception):
@@ -16,6 +17,37 @@ class Fault(Exception):
     def __init__(self, line: str, help_lines: Iterable[str] = ()) -> None:
         super().__init__(line)
         self.help_lines = tuple(help_lines)
+
+
+class OutOfTime(BaseException):
+    """The run as a whole took longer than it may; no look at a part of the host keeps this to itself."""
+
+
+class _Clock:
+    """When the run has to have ended, where there is a bound."""
+    end: Optional[float] = None
+    told = ""
+
+
+def bound(seconds: Optional[int]) -> None:
+    """Ends the run with a fault where it takes longer than so many seconds."""
+    if seconds:
+        def end_run(*_: object) -> NoReturn:
+            raise out_of_time()
+        _Clock.end = time.monotonic() + seconds
+        _Clock.told = f"it took longer than {seconds} seconds, and this is no answer"
+        signal.signal(signal.SIGALRM, end_run)
+        signal.alarm(seconds)
+
+
+def seconds_left() -> Optional[float]:
+    """The seconds that what is started now may take, where there is a bound."""
+    return None if _Clock.end is None else max(_Clock.end - time.monotonic(), 0.0)
+
+
+def out_of_time() -> OutOfTime:
+    """What ends a run of which a part took too long."""
+    return OutOfTime(_Clock.told)
 
 
 def plain(text: str) -> str:
@@ -62,6 +94,7 @@ def write_lines(lines: Iterable[str]) -> None:
 
 def run(name: str, main: Callable[[], int]) -> NoReturn:
     """Runs a command's main; a fault is one line on standard error, with status 3."""
+    ending.take_signals(name)
     try:
         status = main()
     except Fault as fault:
@@ -69,12 +102,12 @@ def run(name: str, main: Callable[[], int]) -> NoReturn:
         for line in fault.help_lines:
             warn(line)
         status = FAULT
+    except OutOfTime as over:
+        warn(f"{name}: {over}")
+        status = FAULT
     except SystemExit as ended:
         # argparse ends with 2 where the options are wrong, and this is another answer's status
         status = FAULT if ended.code else 0
-    except KeyboardInterrupt:
-        progress.end()
-        status = INTERRUPTED
     except OSError as error:
         warn(f"{name}: {error}")
         status = FAULT

@@ -24,11 +24,15 @@ class Options:
     # where the tree text is left
     keep: Optional[str] = None
     program: str = ""
+    # for the run as a whole; without a bound where there is none
+    seconds: Optional[int] = None
 
 
 @dataclass(frozen=True)
 class CheckOptions(Options):
     json: bool = False
+    # every finding by itself
+    each: bool = False
     html: Optional[str] = None
     baseline: Optional[str] = None
     baseline_update: Optional[str] = None
@@ -70,7 +74,8 @@ class PageOptions:
 
 
 @dataclass(frozen=True)
-class CommandsOptions:
-    mount: str = MOUNT
+class CommandsOptions(Options):
     uid: Optional[int] = None
     gid: Tuple[int, ...] = ()
+    # the subtree that the operations break; else what stands in them
+    subtree: Optional[str] = None

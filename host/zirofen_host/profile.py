@@ -3,6 +3,8 @@ import os
 import re
 from typing import Dict, FrozenSet, Iterable, Iterator, List, NewType, Optional, Tuple, TypeVar, Union, cast, overload
 
+from zirofen_host import files
+
 # a cgroup's path from the mount on, with the bytes that its names have; the root's is /
 CgroupPath = NewType("CgroupPath", bytes)
 ROOT = CgroupPath(b"/")
@@ -38,16 +40,6 @@ HANDED_OVER = ("dir", *CONTROL_FILES)
 KERNEL_LIST = "/sys/kernel/cgroup/delegate"
 USUAL_LIST = (*CONTROL_FILES, "cgroup.threads", "memory.oom.group", "memory.reclaim")
 
-# files that nobody sets anything by, whatever their owner and mode; pressure files only wake who waits on them
-_READ_ONLY = re.compile(r"(.*\.)?(controllers|events|events\.local|stat|stat\.local|numa_stat|current|peak|capacity"
-                        r"|effective|isolated|slabinfo|pressure)\Z")
-# limits beside the profile's own
-_OTHER_LIMIT = re.compile(r"cgroup\.(freeze|kill|type|threads)|cpu\.(max|max\.burst|idle|weight\.nice|uclamp\.(min|max))"
-                          r"|memory\.(swap\.(max|high)|zswap\.(max|writeback)|oom\.group|reclaim)"
-                          r"|io\.(max|weight|latency|bfq\.weight|prio\.class)"
-                          r"|cpuset\.(cpus|mems)(\.partition|\.exclusive)?"
-                          r"|(hugetlb|rdma|misc|dmem)\.(.*\.)?(max|min|low)\Z")
-
 # the settings of a unit that bring a file's value back
 SETTINGS: Dict[str, Optional[str]] = {
     "cgroup.max.descendants": None, "cgroup.max.depth": None, "cpu.weight": "CPUWeight=",
@@ -56,6 +48,16 @@ SETTINGS: Dict[str, Optional[str]] = {
     "cpu.weight.nice": "CPUWeight=", "memory.swap.max": "MemorySwapMax=", "memory.zswap.max": "MemoryZSwapMax=",
     "io.weight": "IOWeight=", "io.latency": "IODeviceLatencyTargetSec=", "io.max": "IOReadBandwidthMax= and its like",
     "cpuset.cpus": "AllowedCPUs=", "cpuset.mems": "AllowedMemoryNodes="}
+
+# what stands in other limits where nobody has set them
+USUAL = {"cgroup.freeze": "0", "cgroup.pressure": "1", "cgroup.type": "domain", "cpu.idle": "0", "cpu.max": "max 100000",
+         "cpu.max.burst": "0", "cpu.uclamp.max": "max", "cpu.uclamp.min": "0.00", "cpu.weight.nice": "0", "io.bfq.weight": "default 100",
+         "io.weight": "default 100", "memory.oom.group": "0", "memory.zswap.writeback": "1",
+         "cpuset.cpus.partition": "member", "io.prio.class": "no-change"}
+# as many bytes as no machine has: where a kernel doesn't write max, its own bound rounded down to whole pages, below 2^63
+NO_LIMIT = 2**62
+# limits with a line for each device or resource, of which each may have one
+KEYED = ("dmem.low", "dmem.max", "dmem.min", "misc.max", "rdma.max")
 
 # stands for a user of whom nothing is known but what everybody may do
 ANYBODY = 65534
@@ -68,16 +70,20 @@ def is_name(name: bytes) -> bool:
     return _NAME.match(name) is not None and name.decode("ascii") not in RESERVED_NAMES
 
 
-def is_set_by(file: str, mode: int) -> bool:
-    """Whether something is set by writing a file, as far as its name and its mode tell."""
-    if file in CONTROL_FILES or file in LIMIT_FILES or _OTHER_LIMIT.match(file):
-        return True
-    return not _READ_ONLY.match(file) and bool(mode & 0o222)
-
-
 def is_other_limit(file: str) -> bool:
-    """Whether a file is a limit that a tree text doesn't carry."""
-    return bool(_OTHER_LIMIT.match(file)) and file not in LIMIT_FILES
+    """Whether something is set by a file that a tree text doesn't carry."""
+    return files.is_known(file) and files.may_set(file) and file not in CONTROL_FILES and file not in LIMIT_FILES
+
+
+def is_usual(file: str, value: Union[int, str, None]) -> bool:
+    """Whether a limit is as it is where nobody has set it."""
+    if file in LIMIT_FILES:
+        return value == LIMIT_FILES[file][1]
+    usual = USUAL.get(file, "max" if file.rpartition(".")[2] in ("max", "high") else "0" if file.endswith((".min", ".low")) else "")
+    if file in KEYED:
+        return all(word.rpartition("=")[2] == usual for line in str(value or "").splitlines() for word in line.split()[1:])
+    is_none = usual == "max" and str(value).isdigit() and int(value or 0) >= NO_LIMIT
+    return is_none or value in (None, "", usual)
 
 
 def accepts(file: str, value: Union[int, str]) -> bool:

@@ -1,9 +1,10 @@
 """What is asked of: this host, or a text of another one, which the program takes first."""
 import atexit
+import contextlib
 import os
-import tempfile
 from dataclasses import replace
 
+from zirofen_host import output
 from zirofen_host.ask.program import Program
 from zirofen_host.collect import bounded, elsewhere
 from zirofen_host.collect import snapshot as snapshots
@@ -36,12 +37,11 @@ def accept(file: str, program: str) -> Accepted:
         content = bounded.read_named(file, LONGEST_TEXT + 1).data
     except OSError as error:
         raise Fault(f"can't read the tree text: {error.strerror}") from None
-    folder = tempfile.TemporaryDirectory()
     # the file stands for as long as it may be asked of
-    atexit.register(folder.cleanup)
-    copy = os.path.join(folder.name, "tree.toml")
-    with open(copy, "wb") as out:
-        out.write(content)
+    standing = contextlib.ExitStack()
+    atexit.register(standing.close)
+    copy = os.path.join(standing.enter_context(output.temporary_folder()), "tree.toml")
+    output.make(copy, content)
     Program(program, copy).refuse_text()
     text = content.decode("utf-8-sig", "replace")
     return Accepted(copy, text, read_tree(text))

@@ -93,5 +93,7 @@ class Answers:
     not_asked: Mapping[CgroupPath, int]
     # subtrees of which nothing was asked, each with why
     refused: Mapping[CgroupPath, str]
+    # subtrees that were asked of without processes, since they have too many
+    without_processes: Tuple[CgroupPath, ...]
     version: Optional[str]
     has_advise: bool

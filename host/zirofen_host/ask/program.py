@@ -10,10 +10,11 @@ from concurrent.futures import ThreadPoolExecutor
 from dataclasses import dataclass
 from typing import Callable, Collection, Dict, Iterable, Iterator, List, NamedTuple, Optional, Sequence, Tuple, TypeVar
 
-from zirofen_host import progress
+from zirofen_host import ending, output, progress
 from zirofen_host.ask.model import Abilities, Advice, Answer, Pair, Question
 from zirofen_host.collect.model import User
-from zirofen_host.fault import FAULT, Fault
+from zirofen_host.fault import FAULT, Fault, out_of_time, seconds_left
+from zirofen_host.installed import WRAPPER
 from zirofen_host.profile import CgroupPath, text_of
 
 CONTAINED, ESCAPES, UNSETTLED = 0, 1, 2
@@ -21,6 +22,8 @@ CONTAINED, ESCAPES, UNSETTLED = 0, 1, 2
 WORST_FIRST = (FAULT, ESCAPES, UNSETTLED, CONTAINED)
 WORDS = {"contained": CONTAINED, "escapes": ESCAPES, "unsettled": UNSETTLED}
 NOT_BUILT = 70
+# runs at once; one of the largest text of a host takes some 50 MB, and the timer's unit has 2 GB
+MOST_AT_ONCE = 16
 # bytes of one run's arguments, each with its pointer; a kernel takes two millions at least, with the environment
 ROOM = 900_000
 
@@ -70,6 +73,18 @@ def answer_of(ended: Optional[int], lines: Sequence[str]) -> Answer:
     return Answer(status, tuple(lines))
 
 
+def program_at(path: str) -> str:
+    """The program itself: a clone's wrapper sums all sources at each call, and is asked once which program it would run."""
+    if not os.path.isfile(path) or os.path.realpath(path) != os.path.realpath(WRAPPER):
+        return path
+    try:
+        told = ending.run([path, "--which"])
+    except OSError:
+        return path
+    found = told.stdout.rstrip("\n")
+    return found if not told.returncode and os.path.isabs(found) and os.access(found, os.X_OK) else path
+
+
 @dataclass(frozen=True)
 class Program:
     """The program, and the tree text that it is asked of."""
@@ -77,13 +92,15 @@ class Program:
     tree: str
 
     def start(self, words: Sequence[str]) -> "subprocess.CompletedProcess[str]":
-        return subprocess.run([self.path, *words], stdin=subprocess.DEVNULL, capture_output=True, text=True, errors="replace")
+        return ending.run([self.path, *words], seconds_left())
 
     def try_start(self, words: Sequence[str]) -> "subprocess.CompletedProcess[str]":
         try:
             return self.start(words)
         except OSError as error:
             raise Fault(f"can't run {self.path}: {error.strerror}") from None
+        except subprocess.TimeoutExpired:
+            raise out_of_time() from None
 
     def run(self, *words: str) -> Ended:
         ended = self.try_start(words)
@@ -98,6 +115,12 @@ class Program:
         if ended.returncode != CONTAINED:
             told = told_by(ended)
             raise Fault(told[0], help_below(told))
+
+    def breaks(self, user: User, subtree: CgroupPath, operations: Sequence[str]) -> bool:
+        """Whether a user's operations come to their end and break a subtree; Refused is for the caller."""
+        file = f"{self.tree}.{os.urandom(8).hex()}.ops"
+        output.make(file, "".join(f"{line}\n" for line in operations).encode("ascii", "replace"))
+        return self.run("replay", "--tree", self.tree, *user_words(user), "--ops", file, "--subtree", text_of(subtree)).status == ESCAPES
 
     def ask(self, questions: Iterable[Question], has_audit_all: bool) -> Answered:
         """The answers that aren't contained."""
@@ -190,7 +213,7 @@ def version_of(program: Program) -> Optional[str]:
 def at_once(call: Callable[[Item], Result], items: Sequence[Item]) -> List[Result]:
     """Calls with each of the items, several at once; the results in their order."""
     results = []
-    with ThreadPoolExecutor(os.cpu_count()) as workers:
+    with ThreadPoolExecutor(min(os.cpu_count() or 1, MOST_AT_ONCE)) as workers:
         for result in workers.map(call, items):
             results.append(result)
             progress.tell(f"{len(results)} of {len(items)} runs of the program are done")

@@ -10,7 +10,10 @@ from typing import (AbstractSet, Callable, Collection, Container, DefaultDict, D
 from zirofen_host.ask.delegations import Delegations
 from zirofen_host.ask.model import Answer, Cut, Guarded, Holders, Pair, Plan, Question
 from zirofen_host.ask.program import ESCAPES
+from zirofen_host.collect import bounded
 from zirofen_host.collect.accounts import Accounts, accounts_of
+from zirofen_host.collect.bounded import Spent
+from zirofen_host.collect.holds import Holds, handed_in
 from zirofen_host.collect.model import CLASSES, GROUP, OTHERS, OWNER, Snapshot, Tree, User
 from zirofen_host.collect.snapshot import SubtreesOf
 from zirofen_host.collect.tree import in_order
@@ -20,6 +23,7 @@ from zirofen_host.profile import ANYBODY, HANDED_OVER, MOST_GROUPS, CgroupPath, 
 
 # a unit of the system's manager stands in slices alone; those of a user's manager stand in a unit
 _UNIT = re.compile(r"(/[^/]+\.slice)*/([^/]+\.(service|scope))\Z")
+_SLICE = re.compile(r"(/[^/]+\.slice)+\Z")
 _USERS_MANAGER = re.compile(r"user@([1-9][0-9]*)\.service\Z")
 
 # of those whom nothing but everybody's bits lets in, so many are asked of each subtree
@@ -34,6 +38,11 @@ def unit_of(path: CgroupPath) -> Optional[str]:
     """The name of a unit of the system's manager, or None."""
     unit = _UNIT.match(text_of(path))
     return unit[2] if unit else None
+
+
+def is_slice(path: CgroupPath) -> bool:
+    """Whether a cgroup is a slice of the system's manager below the root, which is handed to nobody."""
+    return _SLICE.match(text_of(path)) is not None
 
 
 def with_groups(user: User, matter: Container[int], gids_of_tree: Container[int]) -> Tuple[Optional[User], int]:
@@ -57,6 +66,8 @@ class Questions:
     delegations: Delegations
     # what is meant to be handed over, each with why
     meant: Mapping[CgroupPath, str]
+    # what the system's manager keeps for itself, whoever owns it
+    kept: FrozenSet[CgroupPath]
     # those of which something can be asked
     subtrees: Tuple[CgroupPath, ...]
     # who holds each subtree, also of those of which nothing can be asked
@@ -99,7 +110,7 @@ class Questions:
         """By which class a cgroup's directory was handed to a user; what everybody writes was handed to nobody."""
         entry = self.tree.rows[path].directory
         by = user.class_of(entry)
-        if by == OTHERS or is_root(path) or not user.reaches(entry) or by == GROUP and not entry.gid:
+        if by == OTHERS or not self.is_handed_over(path) or not user.reaches(entry) or by == GROUP and not entry.gid:
             return None
         return by
 
@@ -119,7 +130,7 @@ class Questions:
     def is_of(self, path: CgroupPath, uid: int) -> bool:
         """Whether a cgroup's directory is that of a person, by their own uid or by subordinate ones."""
         owner = self.tree.rows[path].directory.uid
-        return owner != 0 and not is_root(path) and not self.accounts.roots(owner).isdisjoint(self.accounts.roots(uid))
+        return owner != 0 and self.is_handed_over(path) and not self.accounts.roots(owner).isdisjoint(self.accounts.roots(uid))
 
     def expected_above(self, plan: Plan) -> Dict[Tuple[int, CgroupPath], Set[CgroupPath]]:
         """Who has something above subtrees of which their pairs weren't asked: by uid and the topmost place that is theirs."""
@@ -135,8 +146,12 @@ class Questions:
     def is_inside_his(self, user: User, path: CgroupPath) -> bool:
         """Whether a cgroup lies properly inside one that was handed to that person."""
         persons = self.accounts.persons(user.uid)
-        return any(not is_root(place) and (self.tree.rows[place].directory.uid in persons or self.has_directory(user, place))
+        return any(self.is_handed_over(place) and (self.tree.rows[place].directory.uid in persons or self.has_directory(user, place))
                    for place in ancestors(path))
+
+    def is_handed_over(self, path: CgroupPath) -> bool:
+        """Whether a cgroup may be somebody's delegation: the root isn't, nor what the system's manager keeps."""
+        return not is_root(path) and path not in self.kept
 
     def already_over(self, subtree: CgroupPath) -> bool:
         row = self.tree.rows[subtree]
@@ -160,8 +175,9 @@ def questions_of(snapshot: Snapshot, accounts: Accounts) -> Questions:
     """What can be asked of a snapshot."""
     marks = {path: found.marks for path, found in snapshot.cgroups.items() if found.marks}
     delegations, meant = Delegations(snapshot.tree, accounts), meant_in(snapshot)
-    subtrees = subtrees_in(delegations, meant)
-    return Questions(snapshot.tree, accounts, marks, delegations, meant, tuple(subtrees),
+    kept = kept_in(snapshot, meant)
+    subtrees = subtrees_in(delegations, meant, kept)
+    return Questions(snapshot.tree, accounts, marks, delegations, meant, kept, tuple(subtrees),
                      {path: holders_of(delegations, path, path in meant) for path in subtrees})
 
 
@@ -172,27 +188,31 @@ def subtrees_by(options: Options) -> SubtreesOf:
     def subtrees_of(snapshot: Snapshot, _: Mapping[CgroupPath, str]) -> List[CgroupPath]:
         if not accounts:
             accounts.append(accounts_of(options.accounts, snapshot))
-        return subtrees_in(Delegations(snapshot.tree, accounts[0]), meant_in(snapshot))
+        meant = meant_in(snapshot)
+        return subtrees_in(Delegations(snapshot.tree, accounts[0]), meant, kept_in(snapshot, meant))
     return subtrees_of
 
 
-def subtrees_in(delegations: Delegations, meant: Iterable[CgroupPath]) -> List[CgroupPath]:
-    """What was handed over and what is meant to be."""
-    return in_order({each.path for each in delegations.find()}.union(meant))
+def subtrees_in(delegations: Delegations, meant: Iterable[CgroupPath], kept: Container[CgroupPath]) -> List[CgroupPath]:
+    """What was handed over and what is meant to be. What the manager keeps is no delegation, whoever reaches it."""
+    return in_order({each.path for each in delegations.find() if each.path not in kept}.union(meant))
 
 
 def meant_in(snapshot: Snapshot) -> Dict[CgroupPath, str]:
-    return {path: why for path in snapshot.tree.rows if (why := why_meant(snapshot, path))}
+    """What is meant to be handed over, each with why: by the system manager's mark, as a user's manager, or, where the manager
+    sets no marks, as a unit with a user of its own."""
+    rows = snapshot.tree.rows
+    marked = {path for path in rows if not is_root(path) and snapshot.cgroups[path].marks.get(MANAGERS_MARK, b"0") != b"0"}
+    units = {path for path in rows if (name := unit_of(path))
+             and (_USERS_MANAGER.match(name) or not marked and rows[path].directory.uid)}
+    return {path: MANAGERS_MARK if path in marked else "unit" for path in rows if path in marked or path in units}
 
 
-def why_meant(snapshot: Snapshot, path: CgroupPath) -> Optional[str]:
-    """Why a cgroup is meant to be handed over: by the system manager's mark, or as a unit with a user of its own."""
-    if is_root(path):
-        return None
-    if snapshot.cgroups[path].marks.get(MANAGERS_MARK, b"0") != b"0":
-        return MANAGERS_MARK
-    name = unit_of(path)
-    return "unit" if name and (_USERS_MANAGER.match(name) or snapshot.tree.rows[path].directory.uid) else None
+def kept_in(snapshot: Snapshot, meant: Mapping[CgroupPath, str]) -> FrozenSet[CgroupPath]:
+    """What the system's manager keeps for itself: slices, and units without its mark where others have it. It starts there what
+    it likes, as root."""
+    has_marks = MANAGERS_MARK in meant.values()
+    return frozenset(path for path in snapshot.tree.rows if path not in meant and (is_slice(path) or has_marks and unit_of(path)))
 
 
 def holders_of(delegations: Delegations, path: CgroupPath, is_meant: bool) -> Holders:
@@ -282,6 +302,28 @@ def with_questions(plan: Plan, questions: Questions, asked: Mapping[CgroupPath, 
     return replace(plan, questions=asks, expected_of=expected_of)
 
 
+def bounded_plan(questions: Questions, plan: Plan) -> Tuple[Plan, Dict[CgroupPath, str]]:
+    """A plan with no more uids of one person's than are asked of, and no more questions for what one person made: of what is over
+    these budgets nothing is asked, and it is told of which subtrees, each with why."""
+    payer = questions.accounts.payer
+    holds = Holds(questions.tree.rows, payer, handed_in(questions.marks))
+    runs, users = Spent(bounded.RUNS, payer), Spent(bounded.USERS, payer)
+    uids = {user.uid for each in plan.questions for user in each.users}
+    left_out = {uid for uid in sorted(uids, key=lambda uid: (payer(uid) != uid, uid)) if not users.take(uid)}
+    over, kept = {}, []
+    for each in plan.questions:
+        makers = {path: holds.within(path) or 0 for path in each.subtrees}
+        dropped = {maker for maker in set(makers.values()) if not runs.take(maker)}
+        over.update({path: bounded.RUNS.told(maker) for path, maker in makers.items() if maker in dropped})
+        some = Question(tuple(user for user in each.users if user.uid not in left_out),
+                        tuple(path for path in each.subtrees if makers[path] not in dropped))
+        kept += [some] if some.users and some.subtrees else []
+    lost = {payer(uid) for uid in left_out}
+    over.update({path: bounded.USERS.told(person) for path in questions.subtrees for person in lost
+                 if any(payer(uid) == person for uid in questions.holders[path].uids)} if lost else {})
+    return replace(plan, questions=tuple(kept)), over
+
+
 def named_as_asked(plan: Plan, path: CgroupPath) -> Set[User]:
     return {plan.asked_as[user] for user in plan.named[path] if user in plan.asked_as}
 
@@ -291,7 +333,7 @@ def by_owners_above(questions: Questions) -> Dict[FrozenSet[int], List[CgroupPat
     found = defaultdict(list)
     for path in questions.subtrees:
         above = () if path in questions.meant else ancestors(path)
-        uids = {questions.tree.rows[place].directory.uid for place in above if not is_root(place)} - {0}
+        uids = {questions.tree.rows[place].directory.uid for place in above if questions.is_handed_over(place)} - {0}
         found[frozenset(root for uid in uids for root in questions.accounts.roots(uid))].append(path)
     return found
 
@@ -310,13 +352,14 @@ def further_of(questions: Questions, plan: Plan, found: Mapping[Pair, Answer]) -
     escaped = {path for (user, path), answer in found.items() if answer.status == ESCAPES
                and not questions.holds(user, path) and not questions.handed_above(user, path)}
     uids = {uid for path in questions.subtrees for uid in questions.holders[path].uids}
-    holders = [few for user, few in plan.asked_as.items() if user.uid in uids]
-    everybody, further, not_asked = set(plan.asked_as.values()), [], {}
+    holders = list(dict.fromkeys(few for user, few in plan.asked_as.items() if user.uid in uids))
+    everybody, not_asked = set(plan.asked_as.values()), {}
+    further: DefaultDict[Tuple[User, ...], List[CgroupPath]] = defaultdict(list)
     for path in questions.subtrees:
         if path not in escaped and questions.is_open(path):
             of = named_as_asked(plan, path)
             some = tuple(sorted(itertools.islice((user for user in holders if user not in of), FURTHER)))
-            further += [Question(some, (path,))] if some else []
+            further[some].append(path)
             left = len(everybody - of) - len(some)
             not_asked.update({path: left} if left else {})
-    return tuple(further), not_asked
+    return tuple(Question(users, tuple(paths)) for users, paths in further.items() if users), not_asked

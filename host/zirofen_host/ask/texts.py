@@ -5,14 +5,16 @@ which no `contained` rests, those inside go in first, and then as many of the ot
 """
 from bisect import bisect_left
 from dataclasses import dataclass
+from functools import partial
 from itertools import accumulate
 from typing import AbstractSet, Callable, Dict, Iterable, List, Mapping, Sequence, Set, Tuple
 
-from zirofen_host import progress
+from zirofen_host import output, progress
 from zirofen_host.ask.model import Advice, Question
 from zirofen_host.ask.program import Answered, Program
 from zirofen_host.collect import snapshot as snapshots
-from zirofen_host.collect.model import Placed, Snapshot, Tree, User
+from zirofen_host.collect.looks import Looks
+from zirofen_host.collect.model import Note, Placed, Snapshot, Tree, User
 from zirofen_host.collect.tree import head_text, in_order, process_text, row_text
 from zirofen_host.fault import Fault
 from zirofen_host.options import Options
@@ -151,6 +153,10 @@ class Texts:
     texts: Sequence[Text]
     refused: Mapping[CgroupPath, str]
 
+    def without_processes(self) -> Tuple[CgroupPath, ...]:
+        """The subtrees that go without any."""
+        return tuple(path for text in self.texts if not text.with_processes for path in text.subtrees)
+
     def fill(self, uids_of: Callable[[CgroupPath], AbstractSet[int]]) -> None:
         """Fills the texts with further processes, first those of the users that `uids_of` gives for a subtree."""
         for text in self.texts:
@@ -198,6 +204,8 @@ class Programs:
     """The program, to be asked in the texts of a host."""
     texts: Sequence[Text]
     of: Mapping[CgroupPath, Program]
+    # where a text couldn't be kept, and why
+    failed: Sequence[Note] = ()
 
     def ask(self, questions: Sequence[Question], has_audit_all: bool) -> Tuple[Answered, Dict[CgroupPath, str]]:
         """The answers that aren't contained, and the subtrees whose text was refused, each with the program's line."""
@@ -222,13 +230,16 @@ class Programs:
 
 
 def write(texts: Texts, options: Options, folder: str, snapshot: Snapshot) -> Programs:
-    """Writes the texts into a folder, or to where they are to be kept, for the program to be asked in them."""
+    """Writes the texts into a folder for the program to be asked in them, and to where they are to be kept."""
     of: Dict[CgroupPath, Program] = {}
+    looks = Looks()
     for number, text in enumerate(texts.texts, 1):
         file = snapshot.source.file
         if not (file and text.is_whole()):
-            file = f"{options.keep}.{number}" if options.keep and number > 1 else options.keep or f"{folder}/{number}.toml"
-            with open(file, "w", encoding="ascii") as out:
-                out.write(text.written(snapshots.head(snapshot)))
+            file, written = f"{folder}/{number}.toml", text.written(snapshots.head(snapshot))
+            output.make(file, written.encode("ascii"))
+            if options.keep:
+                kept = f"{options.keep}.{number}" if number > 1 else options.keep
+                looks.at("keep", partial(output.write, kept, [written], "the tree text"), None)
         of.update(dict.fromkeys(text.subtrees, Program(options.program, file)))
-    return Programs(texts.texts, of)
+    return Programs(texts.texts, of, looks.failed)

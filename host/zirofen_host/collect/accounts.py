@@ -9,6 +9,7 @@ from itertools import accumulate
 from typing import DefaultDict, Dict, FrozenSet, Iterable, List, Mapping, Optional, Sequence, Set, Tuple
 
 from zirofen_host.collect import bounded
+from zirofen_host.collect.bounded import Payer
 from zirofen_host.collect.model import Account, AccountLists, Group, Process, Range, Snapshot, User
 from zirofen_host.fault import Fault
 
@@ -104,6 +105,7 @@ class Accounts:
         self.lists = lists
         self.running = {user for user in users if user.uid != 0}
         self._persons: Dict[int, Set[int]] = {}
+        self._payers: Dict[int, int] = {}
 
     @cached_property
     def owners_of_uids(self) -> Counted:
@@ -173,6 +175,12 @@ class Accounts:
         """Whoever has a uid that is no account's among their subordinate ones, or that uid itself."""
         return {uid} if uid in self.names else self.persons(uid) - {uid} or {uid}
 
+    def payer(self, uid: int) -> int:
+        """To whom is charged what a uid made: to themselves, or to whose subordinate uid it is. Root pays for nobody."""
+        if uid not in self._payers:
+            self._payers[uid] = min(self.roots(uid) - {0}, default=uid)
+        return self._payers[uid]
+
     def subordinate_to(self, uid: int) -> Sequence[Range]:
         """The ranges of subordinate uids of an account."""
         return self.ranges_by_uid.get(uid, ())
@@ -197,6 +205,14 @@ def accounts_here(folder: Optional[str], processes: Iterable[Process]) -> Accoun
     """The accounts of a folder, or else this host's."""
     users = {process.user for process in processes}
     return Accounts(read_folder(folder) if folder else read_host(users), users)
+
+
+def payer_of(folder: Optional[str]) -> Payer:
+    """By whom uids are paid for, as the accounts of a folder or of this host have it; each for itself where these can't be read."""
+    try:
+        return Accounts(read_folder(folder) if folder else read_host(())).payer
+    except (Fault, OSError):
+        return int
 
 
 def accounts_of(folder: Optional[str], snapshot: Snapshot) -> Accounts:

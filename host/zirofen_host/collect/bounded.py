@@ -4,8 +4,9 @@ Each reader has its bound as an argument, and tells in what it gives whether som
 """
 import errno
 import os
+from collections import Counter
 from itertools import islice
-from typing import Container, Mapping, NamedTuple, Optional, Sequence, Tuple, Union
+from typing import Callable, Dict, Iterator, List, Mapping, NamedTuple, Optional, Sequence, Tuple, Union
 
 Place = Union[str, bytes]
 
@@ -19,10 +20,14 @@ ACCOUNT_FILE = 1 << 30
 REPORT_FILE = 1 << 32
 # bytes of all operations that are turned into commands
 OPERATIONS = 1 << 30
-# bytes of one extended attribute, which a kernel bounds at 2^16
-ATTRIBUTE = 1 << 20
+# bytes that are kept of one extended attribute: a mark has one digit
+ATTRIBUTE = 16
 # names in one folder
 NAMES = 1 << 30
+# bytes of what /proc tells of one process, of its flags, and of one descriptor: its first lines, which are all that is used
+STATUS, FLAGS, DESCRIPTOR = 1 << 20, 1 << 12, 1 << 12
+# bytes of the host's own list of mounts
+HOST_MOUNTS = 1 << 26
 
 PART = 1 << 14
 FOLDER = os.O_RDONLY | os.O_DIRECTORY | os.O_NOFOLLOW | os.O_CLOEXEC
@@ -30,6 +35,69 @@ FILE = os.O_RDONLY | os.O_NOFOLLOW | os.O_NONBLOCK | os.O_CLOEXEC
 # as a file is opened that was named on the command line, or that the host has: a link is followed
 NAMED = os.O_RDONLY | os.O_CLOEXEC
 STANDARD_INPUT = "-"
+
+
+class Budget(NamedTuple):
+    """How much is spent on what one person made, under their own uid and the subordinate ones together."""
+    what: str
+    most: int
+
+    def told(self, person: int) -> str:
+        """What a line says of whoever has more."""
+        return f"uid {person} has over {self.most} {self.what}"
+
+
+# all that is spent on one person: in a walk over the mount
+CGROUPS = Budget("cgroups", 32768)
+CGROUP_BYTES = Budget("bytes in the files and marks of cgroups", 1 << 26)
+# of /proc: what is over them is no part of any answer but that person's own
+PROCESSES = Budget("processes", 16384)
+THREADS = Budget("threads", 4096)
+PROCESS_BYTES = Budget("bytes in what /proc tells of processes", 1 << 26)
+MOUNT_BYTES = Budget("bytes in lists of mounts", 1 << 22)
+LINKS = Budget("open files", 65536)
+DESCRIPTORS = Budget("open files with a path", 4096)
+LONG_DESCRIPTORS = Budget("open files that /proc tells much of", 16)
+# of the program
+USERS = Budget("uids to ask of", 4096)
+RUNS = Budget("questions that differ in whom they ask of", 256)
+# of the lines of a report, for what is below a holder's own delegation
+LINES = Budget("lines", 16)
+# runs of the program for advice, of a whole host
+ADVICE = 64
+# lists of operations in which other processes are tried, each by one run
+REPLAYS = 16
+
+# by whom a uid's budgets are spent
+Payer = Callable[[int], int]
+
+
+class Spent:
+    """What was spent on each person so far, against one budget. What is root's is charged to nobody."""
+
+    def __init__(self, budget: Budget, payer: Payer) -> None:
+        self.budget, self.payer = budget, payer
+        self.by: Dict[int, int] = Counter()
+
+    def take(self, uid: int, amount: int = 1) -> bool:
+        """Charges a uid; whether what is charged stayed within the budget."""
+        if not uid:
+            return True
+        person = self.payer(uid)
+        self.by[person] += amount
+        return self.by[person] <= self.budget.most
+
+    def is_over(self, uid: int) -> bool:
+        """Whether somebody has more than is looked at."""
+        return bool(uid) and self.by.get(self.payer(uid), 0) > self.budget.most
+
+    def left(self, uid: int) -> int:
+        """What may still be spent on a uid."""
+        return self.budget.most - self.by.get(self.payer(uid), 0)
+
+    def over(self) -> List[int]:
+        """The persons who have more."""
+        return sorted(person for person, amount in self.by.items() if amount > self.budget.most)
 
 
 class Read(NamedTuple):
@@ -48,12 +116,12 @@ class Listed(NamedTuple):
 
 
 class Attributes(NamedTuple):
-    """Extended attributes by name, and whether one was longer."""
+    """The first bytes of extended attributes by name, and how many bytes were read for them."""
     values: Mapping[str, bytes]
-    is_cut: bool
+    read: int
 
 
-NO_ATTRIBUTES = Attributes({}, False)
+NO_MARKS = Attributes({}, 0)
 
 
 def read_opened(opened: int, most: int) -> Read:
@@ -85,6 +153,11 @@ def open_folder(path: Place, folder: Optional[int] = None, flags: int = FOLDER) 
     return os.open(path, flags, dir_fd=folder)
 
 
+def hold(path: Place) -> int:
+    """A descriptor of what a path leads to, which is to be closed; its file system isn't asked for it."""
+    return os.open(path, os.O_PATH | os.O_CLOEXEC)
+
+
 def list_folder(folder: Union[str, int], most: int) -> Listed:
     """The names in a folder, up to so many."""
     with os.scandir(folder) as entries:
@@ -97,15 +170,39 @@ def read_link(path: Place) -> str:
     return os.readlink(os.fsdecode(path))
 
 
-def read_attributes(folder: int, wanted: Container[str], most: int) -> Attributes:
-    """Those of some extended attributes that an opened folder has, each up to so many bytes. None where they are gone by then,
-    or the file system has none."""
-    try:
-        values = {name: os.getxattr(folder, name) for name in os.listxattr(folder) if name in wanted}
-    except OSError as error:
-        if error.errno in (errno.ENODATA, errno.ENOTSUP):
-            return NO_ATTRIBUTES
-        raise
-    if not values:
-        return NO_ATTRIBUTES
-    return Attributes({name: value[:most] for name, value in values.items()}, any(len(value) > most for value in values.values()))
+class Lines:
+    """The lines of a file one after another, as far as so many bytes go; how many were read, and whether there were more."""
+
+    def __init__(self, path: Place, most: int) -> None:
+        self.path, self.most = path, most
+        self.read, self.is_cut = 0, False
+
+    def __iter__(self) -> Iterator[bytes]:
+        opened = os.open(self.path, NAMED)
+        try:
+            rest = b""
+            while part := os.read(opened, PART):
+                self.read += len(part)
+                *lines, rest = (rest + part).split(b"\n")
+                yield from lines
+                if self.read > self.most:
+                    self.is_cut = True
+                    return
+            yield rest
+        finally:
+            os.close(opened)
+
+
+def read_attributes(folder: int, wanted: Sequence[str], most: int) -> Attributes:
+    """The first bytes of those of some extended attributes that an opened folder has. A kernel gives a whole one, of at most
+    2^16 bytes; one that isn't there, or that the file system doesn't know, has no value."""
+    values, read = {}, 0
+    for name in wanted:
+        try:
+            value = os.getxattr(folder, name)
+        except OSError as error:
+            if error.errno in (errno.ENODATA, errno.ENOTSUP):
+                continue
+            raise
+        values[name], read = value[:most], read + len(value)
+    return Attributes(values, read)

@@ -9,13 +9,16 @@ import re
 from dataclasses import dataclass, replace
 from typing import Callable, Dict, Iterable, Iterator, List, Mapping, Optional, Tuple
 
+from zirofen_host.collect import fitting
 from zirofen_host.collect import snapshot as snapshots
 from zirofen_host.collect.accounts import Accounts, is_id
+from zirofen_host.collect.holds import Holds
 from zirofen_host.collect.model import (About, Account, AccountLists, Carried, Cgroup, Entry, Group, Note, Process, Range, Row, Snapshot,
                                         Source, Tree, User)
 from zirofen_host.collect.mount import read_kernel_list
 from zirofen_host.collect.tree import number_in, table_in, text_in, texts_in
 from zirofen_host.fault import Fault
+from zirofen_host.files import OF_LIMITS, is_known
 from zirofen_host.profile import CONTROL_FILES, LIMIT_FILES, LONGEST_TEXT, CgroupPath, is_other_limit, is_root, path_of, text_of
 
 MARK = "#= "
@@ -94,6 +97,10 @@ class Gathered:
         path, why = parts_in(value)
         self.changing[CgroupPath(os.fsencode(text_in(path)))] = str(why)
 
+    def kind(self, path: CgroupPath) -> str:
+        """What a cgroup's type is, where a note tells that it isn't in domain mode."""
+        return next((note.detail.partition(":")[0] for note in self.notes if (note.kind, note.place) == ("type", text_of(path))), "domain")
+
     def carried(self) -> Optional[Carried]:
         if self.mount is None:
             return None
@@ -118,7 +125,7 @@ def read(accepted: Accepted, mount: str) -> Snapshot:
     return Snapshot(about=gathered.about, mount=gathered.mount or mount, mount_options=gathered.options,
                     cgroups={path: cgroup_of(tree, row, gathered) for path, row in tree.rows.items()}, tree=tree, processes=processes,
                     kernel_threads=0, places={}, kernel_list=frozenset(gathered.kernel_list) or read_kernel_list(None),
-                    notes=tuple(gathered.notes), changing=gathered.changing, spoiled={},
+                    notes=tuple(gathered.notes), changing=gathered.changing, spoiled={}, version_1=version_1_in(gathered.notes),
                     source=Source(accepted.file, gathered.carried()))
 
 
@@ -147,7 +154,16 @@ def gather(text: str, tree: Tree) -> Gathered:
 def cgroup_of(tree: Tree, row: Row, gathered: Gathered) -> Cgroup:
     """A cgroup as the tree has it, with what is carried of it."""
     files = {name: row.entry(name) for name in (*CONTROL_FILES, *tree.limit_files(row.path))}
-    return Cgroup(row.directory, {**files, **gathered.files[row.path]}, {}, row.enabled, (), "domain", gathered.marks[row.path], ())
+    carried = gathered.files[row.path]
+    directory = carried.get("dir", row.directory)
+    files.update({name: entry for name, entry in carried.items() if name != "dir"})
+    return Cgroup(directory, files, {}, row.enabled, (), gathered.kind(row.path), gathered.marks[row.path], ())
+
+
+def version_1_in(notes: Iterable[Note]) -> Tuple[str, ...]:
+    """The controllers with limits of version 1, which a note names."""
+    words = {word.strip(",") for note in notes if note.kind == "version-1" for word in note.detail.split()}
+    return tuple(sorted(words & OF_LIMITS))
 
 
 def told_unseen(snapshot: Snapshot) -> str:
@@ -207,7 +223,9 @@ def carried(snapshot: Snapshot, accounts: Accounts) -> Iterator[Mapping[str, obj
 def carried_of(snapshot: Snapshot, path: CgroupPath, found: Cgroup) -> Mapping[str, object]:
     """What a text carries of a cgroup: other files than the tree's, as far as they matter, other limits, and marks."""
     others = {name: entry for name, entry in found.files.items()
-              if is_other_limit(name) or entry.uid or entry.mode & 0o022 or entry.mode > 0o777}
+              if is_other_limit(name) or not is_known(name) or entry.uid or entry.mode & 0o022 or entry.mode > 0o777}
+    if found.directory.mode > 0o777:
+        others["dir"] = found.directory
     values = {name: snapshots.value_of(snapshot, path, name) for name in others if is_other_limit(name)}
     return {"path": text_of(path), "files": {name: word_of(entry) for name, entry in others.items()},
             "values": {name: value for name, value in values.items() if value is not None},
@@ -222,7 +240,21 @@ def text_with(snapshot: Snapshot, values: Iterable[Mapping[str, object]], with_p
     """The tree text of a snapshot with what it carries."""
     lines = "".join(f"{MARK}{json.dumps(value, separators=(',', ':'))}\n" for value in values)
     text = snapshots.tree_text(snapshot, with_processes) + ("\n" + lines if lines else "")
-    if len(text) > LONGEST_TEXT:
-        raise Fault(f"{len(text)} bytes, and a tree text has {LONGEST_TEXT} at most: --only PATH writes less, and so does a text "
-                    "without --with-host, whose accounts are named by --accounts")
     return text
+
+
+def fitting_text(snapshot: Snapshot, holds: Holds, values: Callable[[Snapshot], Iterable[Mapping[str, object]]],
+                 with_processes: bool) -> Tuple[Snapshot, str]:
+    """One text with what it carries, and what it is of: what is inside of whoever has most is left out until it fits."""
+    if not with_processes:
+        snapshot = replace(snapshot, tree=replace(snapshot.tree, processes=()))
+    snapshot = fitting.fitted(snapshot, holds)
+    while True:
+        text = text_with(snapshot, values(snapshot), with_processes)
+        if len(text) <= LONGEST_TEXT:
+            return snapshot, text
+        person = fitting.heaviest(snapshot, holds, fitting.length(snapshot))
+        if person is None:
+            raise Fault(f"{len(text)} bytes, and a tree text has {LONGEST_TEXT} at most: --only PATH writes less, and so does a text "
+                        "without --with-host, whose accounts are named by --accounts")
+        snapshot = fitting.without_inside(snapshot, holds, person, f"a text has {LONGEST_TEXT} bytes at most")

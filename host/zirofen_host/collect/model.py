@@ -101,7 +101,12 @@ class Process:
     user: User
     is_kernel_thread: bool
     name: str = ""
+    # those that it or one of its threads is permitted, whether they are effective or not
     capabilities: Tuple[str, ...] = ()
+    # whether it has any capability, by which a kernel may refuse that it is moved
+    is_privileged: bool = False
+    # how many of its threads weren't looked at
+    threads_left: int = 0
 
 
 @dataclass(frozen=True)
@@ -183,7 +188,13 @@ class Snapshot:
     # what changed all the time or can't be read, and the subtrees that this spoils, each with why
     changing: Mapping[CgroupPath, str]
     spoiled: Mapping[CgroupPath, str]
+    # the controllers whose limits are those of version 1
+    version_1: Tuple[str, ...] = ()
     source: Source = Source()
+    # whose that is which changed or can't be read, as far as it is somebody's
+    makers: Mapping[CgroupPath, int] = field(default_factory=dict)
+    # of whom not all processes were looked at, each with why
+    over: Mapping[int, str] = field(default_factory=dict)
 
     @property
     def processes_told(self) -> Collection[Process]:

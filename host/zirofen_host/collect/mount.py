@@ -4,10 +4,14 @@ from typing import Dict, FrozenSet, List, Optional, Tuple
 
 from zirofen_host.collect import bounded
 from zirofen_host.fault import Fault
+from zirofen_host.files import OF_LIMITS
 from zirofen_host.profile import CONTROL_FILES, USUAL_LIST
 
 # the number of the cgroup namespace that a kernel begins with
 FIRST_NAMESPACE = "cgroup:[4026531835]"
+FIRST_PID_NAMESPACE = "pid:[4026531836]"
+# what version 1 calls otherwise
+V1_NAMES = {"blkio": "io"}
 WHOLE_UID_MAP = ["0", "0", "4294967295"]
 
 
@@ -37,6 +41,11 @@ class Mounts:
         if found[0] != "/":
             raise Fault(f"{mount} is a part of the hierarchy, {found[0]}, and not the whole")
 
+    def limits_of_version_1(self) -> Tuple[str, ...]:
+        """The controllers with limits that a hierarchy of version 1 has, as version 2 calls them."""
+        names = {V1_NAMES.get(name, name) for options in self.first for name in options.split(",")}
+        return tuple(sorted(names & OF_LIMITS))
+
     def options(self, mount: str) -> List[str]:
         found = self.second.get(mount.rstrip("/") or "/")
         return found[1] if found else []
@@ -57,6 +66,8 @@ def refuse_what_is_no_host(mount: str) -> Mounts:
         raise Fault("inside a user namespace: owners would be told wrongly. Run this on the host")
     if bounded.read_link("/proc/self/ns/cgroup") != FIRST_NAMESPACE:
         raise Fault("inside a cgroup namespace: what is above its root isn't seen. Run this on the host")
+    if bounded.read_link("/proc/self/ns/pid") != FIRST_PID_NAMESPACE:
+        raise Fault("inside a PID namespace: processes outside of it aren't seen. Run this on the host")
     mounts = mounts_of_host()
     mounts.refuse(mount)
     return mounts

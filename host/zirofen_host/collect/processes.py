@@ -1,21 +1,21 @@
 """Processes, as /proc tells of them."""
-import os
-from typing import Dict, Iterable, Iterator, List, Mapping, Optional, Tuple
+from typing import Dict, Iterator, List, Mapping, Optional, Tuple
 
 from zirofen_host.collect import bounded
-from zirofen_host.collect.model import FilePlace, Process, User
-from zirofen_host.fault import Fault
+from zirofen_host.collect.bounded import Payer, Spent
+from zirofen_host.collect.model import Note, Process, User
 
 KERNEL_THREAD = 0x00200000
-WRITES = os.O_WRONLY | os.O_RDWR
 
-# capabilities by which a process passes over owners, or becomes who does, by their numbers in CapEff
+# capabilities by which a process passes over owners, or becomes who does, by their numbers in CapPrm: what is
+# permitted and not effective is raised again at will
 CAPABILITIES = {0: "CHOWN", 1: "DAC_OVERRIDE", 3: "FOWNER", 6: "SETGID", 7: "SETUID", 16: "SYS_MODULE", 17: "SYS_RAWIO",
                 19: "SYS_PTRACE", 21: "SYS_ADMIN"}
+# what a helper sees by a capability alone: the numbers of which one is enough, its name, and what isn't seen without
+NEEDED = (({21}, "SYS_ADMIN", "the mark trusted.delegate can't be seen, so that what was handed over by it alone isn't asked"),
+          ({19}, "SYS_PTRACE", "what others' processes hold open, and their namespaces, can't be seen"),
+          ({1, 2}, "DAC_READ_SEARCH", "what its owner closed to others can't be read"))
 FIRST_USER_NAMESPACE = "user:[4026531837]"
-
-# descriptors of one user that are looked at
-MOST_DESCRIPTORS = 4096
 
 Fields = Mapping[str, List[str]]
 
@@ -25,32 +25,89 @@ def status_fields(text: str) -> Fields:
     return {key: value.split() for key, _, value in (line.partition(":") for line in text.split("\n"))}
 
 
-def text_of(path: str) -> str:
-    return bounded.read_file(path, bounded.PROC_FILE).text("utf-8", "replace")
+def names_in(folder: str, most: int = bounded.NAMES) -> List[str]:
+    return [name for name, _ in bounded.list_folder(folder, most).names]
 
 
-def names_in(folder: str) -> List[str]:
-    return [name for name, _ in bounded.list_folder(folder, bounded.NAMES).names]
+class Reader:
+    """Reads processes, charged to whose they are."""
+
+    def __init__(self, proc: str, payer: Payer = int) -> None:
+        self.proc = proc
+        self.count, self.bytes, self.threads = (
+            Spent(budget, payer) for budget in (bounded.PROCESSES, bounded.PROCESS_BYTES, bounded.THREADS))
+        self.found: Dict[int, Process] = {}
+        # of which what is told isn't known
+        self.unknown: List[int] = []
+        self.failed: List[Note] = []
+
+    def over(self) -> Mapping[int, str]:
+        """Of whom not all processes were looked at, each with why."""
+        return {person: spent.budget.told(person) for spent in (self.bytes, self.count) for person in spent.over()}
+
+    def look(self) -> "Reader":
+        """Reads all processes, as far as the budgets of their users go."""
+        for name in names_in(self.proc):
+            process = self.process(int(name)) if name.isdigit() else None
+            if process:
+                self.found[process.pid] = process
+        return self
+
+    def process(self, pid: int) -> Optional[Process]:
+        """A process, or None where it has ended or isn't looked at. Its uid is the real one; as a user it acts under the effective
+        ones."""
+        try:
+            fields = self.fields(pid)
+            if fields is None:
+                return None
+            stat = bounded.read_file(f"{self.proc}/{pid}/stat", bounded.FLAGS).text("utf-8", "replace")
+            flags = int(stat.rpartition(")")[2].split()[6])
+            gid = int(fields["Gid"][1])
+            others = [int(group) for group in fields.get("Groups", ()) if int(group) != gid]
+            bits, left = self.permitted(pid, fields)
+            return Process(pid, int(fields["Uid"][0]), User(int(fields["Uid"][1]), (gid, *others)), flags & KERNEL_THREAD != 0,
+                           " ".join(fields.get("Name", ())), capabilities_of(self.proc, pid, bits), bits != 0, left)
+        except (FileNotFoundError, ProcessLookupError):
+            return None
+        except (ValueError, KeyError, IndexError, OSError):
+            self.unknown.append(pid)
+            return None
+
+    def fields(self, pid: int) -> Optional[Fields]:
+        """What a process's status has, or None where its user has more than is looked at. The head says whose it is, and a list of
+        groups may be long."""
+        file = f"{self.proc}/{pid}/status"
+        read = bounded.read_file(file, bounded.FLAGS)
+        uid = int(status_fields(read.text("utf-8", "replace"))["Uid"][0])
+        if not self.count.take(uid) or self.bytes.is_over(uid):
+            return None
+        if read.is_cut:
+            read = bounded.read_file(file, bounded.STATUS)
+        return status_fields(read.text("utf-8", "replace")) if self.bytes.take(uid, len(read.data)) else None
+
+    def permitted(self, pid: int, fields: Fields) -> Tuple[int, int]:
+        """The capabilities that a process or one of its threads is permitted, as bits, and how many threads weren't looked at."""
+        bits, count, uid = int(fields.get("CapPrm", ["0"])[0], 16), int(fields.get("Threads", ["1"])[0]), int(fields["Uid"][0])
+        if count < 2:
+            return bits, 0
+        try:
+            names = bounded.list_folder(f"{self.proc}/{pid}/task", min(count, max(self.threads.left(uid), 0)) if uid else count).names
+        except OSError:
+            return bits, 0
+        for name, _ in names:
+            self.threads.take(uid)
+            try:
+                read = bounded.read_file(f"{self.proc}/{pid}/task/{name}/status", bounded.STATUS)
+                self.bytes.take(uid, len(read.data))
+                bits |= int(status_fields(read.text("utf-8", "replace")).get("CapPrm", ["0"])[0], 16)
+            except OSError:
+                # it has ended
+                continue
+        return bits, max(count - len(names), 0)
 
 
-def read_process(proc: str, pid: int) -> Optional[Process]:
-    """A process, or None where it has ended. Its uid is the real one; as a user it acts under the effective ones."""
-    try:
-        fields = status_fields(text_of(f"{proc}/{pid}/status"))
-        flags = int(text_of(f"{proc}/{pid}/stat").rpartition(")")[2].split()[6])
-        gid = int(fields["Gid"][1])
-        others = [int(group) for group in fields.get("Groups", ()) if int(group) != gid]
-        return Process(pid, int(fields["Uid"][0]), User(int(fields["Uid"][1]), (gid, *others)),
-                       flags & KERNEL_THREAD != 0, " ".join(fields.get("Name", ())), capabilities_of(proc, pid, fields))
-    except (FileNotFoundError, ProcessLookupError):
-        return None
-    except (ValueError, KeyError, IndexError):
-        raise Fault(f"what {proc}/{pid} tells of the process isn't known") from None
-
-
-def capabilities_of(proc: str, pid: int, fields: Fields) -> Tuple[str, ...]:
+def capabilities_of(proc: str, pid: int, bits: int) -> Tuple[str, ...]:
     """Those that count on the host: a user namespace's own don't reach outside of it."""
-    bits = int(fields.get("CapEff", ["0"])[0], 16)
     names = tuple(name for number, name in CAPABILITIES.items() if bits >> number & 1)
     try:
         return names if not names or bounded.read_link(f"{proc}/{pid}/ns/user") == FIRST_USER_NAMESPACE else ()
@@ -58,52 +115,15 @@ def capabilities_of(proc: str, pid: int, fields: Fields) -> Tuple[str, ...]:
         return names
 
 
+def lacking_notes(proc: str) -> Iterator[Note]:
+    """What this process can't see for want of a capability."""
+    status = bounded.read_file(f"{proc}/self/status", bounded.STATUS).text("utf-8", "replace")
+    bits = int(status_fields(status)["CapEff"][0], 16)
+    for numbers, name, unseen in NEEDED:
+        if not any(bits >> number & 1 for number in numbers):
+            yield Note("lacking", "/", f"this helper hasn't CAP_{name}: {unseen}")
+
+
 def read_processes(proc: str) -> Dict[int, Process]:
     """All processes by their PIDs."""
-    read = (read_process(proc, int(name)) for name in names_in(proc) if name.isdigit())
-    return {process.pid: process for process in read if process}
-
-
-def open_for_writing(proc: str, pids: Iterable[int]) -> Iterator[Tuple[int, Optional[FilePlace]]]:
-    """What these processes hold open for writing on a mount of cgroups, as (pid, device and inode), since a path looks otherwise
-    in a container; and at last, where there is more than is looked at, (pid, None)."""
-    left = MOST_DESCRIPTORS
-    for pid in pids:
-        folder, kinds = f"{proc}/{pid}/fd", kinds_of_mounts(f"{proc}/{pid}/mountinfo")
-        try:
-            numbers = names_in(folder)
-        except OSError:
-            continue
-        for number in numbers[:left]:
-            file = file_for_writing(f"{proc}/{pid}/fdinfo/{number}", f"{folder}/{number}", kinds)
-            if file:
-                yield pid, file
-        left -= len(numbers)
-        if left < 0:
-            yield pid, None
-            return
-
-
-def kinds_of_mounts(file: str) -> Optional[Mapping[str, str]]:
-    """The file system of each mount of a process by its number, or None where nothing tells of them."""
-    try:
-        lines = text_of(file).split("\n")
-    except OSError:
-        return None
-    parts = (line.partition(" - ") for line in lines)
-    return {before.split(" ")[0]: after.split(" ")[0] for before, _, after in parts}
-
-
-def file_for_writing(info: str, link: str, kinds: Optional[Mapping[str, str]]) -> Optional[FilePlace]:
-    """The device and the inode of a descriptor that is for writing. No other file system is asked: it may be a user's own,
-    which answers when they like."""
-    try:
-        fields = status_fields(text_of(info))
-        if int(fields["flags"][0], 8) & WRITES == 0:
-            return None
-        if kinds is not None and kinds.get(fields["mnt_id"][0]) != "cgroup2":
-            return None
-        status = os.stat(link)
-        return status.st_dev, status.st_ino
-    except (OSError, ValueError, KeyError, IndexError):
-        return None
+    return Reader(proc).look().found

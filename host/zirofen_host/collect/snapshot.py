@@ -5,13 +5,16 @@ from collections import Counter
 from typing import Callable, Dict, Iterable, Iterator, List, Mapping, Optional, Tuple
 
 from zirofen_host.collect import walk
+from zirofen_host.collect.accounts import payer_of
+from zirofen_host.collect.bounded import Payer
+from zirofen_host.collect.looks import Looks
 from zirofen_host.collect.model import About, Cgroup, Entry, Note, Placed, Process, Row, Snapshot, Tree, Value
 from zirofen_host.collect.mount import Mounts, read_kernel_list, refuse_what_is_no_host
-from zirofen_host.collect.processes import read_processes
+from zirofen_host.collect.processes import Reader, lacking_notes
 from zirofen_host.collect.tree import tree_text as text_of_tree
 from zirofen_host.fault import Fault
-from zirofen_host.options import Options
-from zirofen_host.profile import (CONTROL_FILES, CONTROLLERS, KERNEL_LIST, LIMIT_FILES, MOST_PROCESSES, MOST_ROWS, CgroupPath, accepts,
+from zirofen_host.options import PROC, Options
+from zirofen_host.profile import (CONTROL_FILES, CONTROLLERS, KERNEL_LIST, LIMIT_FILES, MOST_ROWS, CgroupPath, accepts,
                                   is_root, parent_of, path_of, shown, text_of, topmost)
 
 ANY_MODE = 0o777
@@ -39,18 +42,24 @@ def name_notes(walked: walk.Walk) -> Iterator[Note]:
             yield Note("file-name", shown(path), "named as a file: a controller with that file can't be enabled above")
 
 
-def controller_notes(cgroups: Cgroups, root: Cgroup) -> Iterator[Note]:
+def controller_notes(cgroups: Cgroups) -> Iterator[Note]:
+    """Controllers that a tree text leaves out, as far as a cgroup enables them."""
     others = Counter(name for found in cgroups.values() for name in found.enabled if name not in CONTROLLERS)
-    others.update({name: 0 for name in root.available if name not in CONTROLLERS})
-    for name, count in sorted(others.items()):
-        yield Note("controller", "/", f"{name} left out, which {count} cgroups enable")
+    if others:
+        told = ", ".join(f"{name} ({count})" for name, count in sorted(others.items()))
+        yield Note("controller", "/", f"left out, with how many cgroups enable each: {told}")
 
 
-def first_version_notes(mounts: Mounts) -> Iterator[Note]:
-    """Controllers that a version 1 hierarchy has are no part of what is looked at."""
-    names = {name for options in mounts.first for name in options.split(",")} & set(CONTROLLERS)
-    for name in sorted(names):
-        yield Note("version-1", "/", f"the controller {name} is in a hierarchy of cgroup v1, which isn't looked at")
+def process_notes(reader: Reader) -> Iterator[Note]:
+    for pid in sorted(reader.unknown):
+        yield Note("pid", "/", f"{pid} left out: what is told of the process isn't known")
+
+
+def version_1_notes(mounts: Mounts) -> Iterator[Note]:
+    """Controllers of limits that a version 1 hierarchy has are no part of what is looked at."""
+    names = mounts.limits_of_version_1()
+    if names:
+        yield Note("version-1", "/", f"limits of {', '.join(names)} are v1's and weren't looked at")
 
 
 class Bending:
@@ -135,36 +144,62 @@ def about_this_host() -> About:
     return About(names.nodename, f"{names.sysname} {names.release}", time.strftime("%Y-%m-%dT%H:%M:%SZ", time.gmtime()))
 
 
-def snapshot_of(settled: walk.Settled, processes: Mapping[int, Process], options: Options, mounts: Mounts) -> Snapshot:
+def snapshot_of(settled: walk.Settled, reader: Reader, options: Options, mounts: Mounts) -> Snapshot:
     """What was found of this host, as a snapshot."""
-    walked = settled.walk
+    walked, processes = settled.walk, reader.found
     cgroups = {path_of(path): found for path, found in walked.found.items()}
     root = cgroups[path_of("/")]
     bending = Bending(cgroups)
-    bending.notes += [*changing_notes(settled.changing), *name_notes(walked), *controller_notes(cgroups, root)]
-    rows = {path: bending.row(path, found) for path, found in cgroups.items()}
+    bending.notes += [*changing_notes(settled.changing), *name_notes(walked), *controller_notes(cgroups), *process_notes(reader)]
+    looks = Looks()
+    rows = whole_rows({row.path: row for row in looks.each("cgroups", cgroups, lambda path: bending.row(path, cgroups[path]))})
+    cgroups = {path: cgroups[path] for path in rows}
     placed, threads = bending.placed(rows, processes)
     tree = Tree(tuple(name for name in CONTROLLERS if name in root.available), rows, placed)
+    lacking = () if options.plain_folder else looks.all("capabilities", lambda: lacking_notes(PROC))
+    kernel_list = looks.at("delegate", lambda: read_kernel_list(None if options.plain_folder else KERNEL_LIST), read_kernel_list(None))
     return Snapshot(about=about_this_host(), mount=options.mount, mount_options=tuple(mounts.options(options.mount)), cgroups=cgroups,
                     tree=tree, processes=processes, kernel_threads=threads, places=walked.places,
-                    kernel_list=read_kernel_list(None if options.plain_folder else KERNEL_LIST),
-                    notes=(*bending.notes, *first_version_notes(mounts)), changing=settled.changing,
-                    spoiled={path_of(path): why for path, why in settled.spoiled.items()})
+                    kernel_list=kernel_list,
+                    notes=(*bending.notes, *version_1_notes(mounts), *lacking, *reader.failed, *looks.failed), changing=settled.changing,
+                    spoiled={path_of(path): why for path, why in settled.spoiled.items()},
+                    version_1=mounts.limits_of_version_1(),
+                    makers={path_of(path): walked.holds[path].uid for path in settled.changing if path in walked.holds},
+                    over=reader.over())
 
 
-def take(options: Options, subtrees_of: SubtreesOf, most: Optional[int] = None) -> Snapshot:
-    """A snapshot of this host. More cgroups than `most` are a fault after one walk."""
+def whole_rows(rows: Mapping[CgroupPath, Row]) -> Mapping[CgroupPath, Row]:
+    """The rows that have all of theirs above."""
+    kept: Dict[CgroupPath, Row] = {}
+    for path in sorted(rows, key=len):
+        parent = parent_of(path)
+        if parent is None or parent in kept:
+            kept[path] = rows[path]
+    return rows if len(kept) == len(rows) else kept
+
+
+def take(options: Options, subtrees_of: SubtreesOf) -> Snapshot:
+    """A snapshot of this host."""
     mounts = Mounts("") if options.plain_folder else refuse_what_is_no_host(options.mount)
-    running: Dict[int, Process] = {}
+    payer = payer_of(options.accounts)
+    running: List[Reader] = []
 
     def subtrees_in(walked: walk.Walk, changing: Changing) -> Iterable[CgroupPath]:
         if not running:
-            running.update(read_processes(options.proc))
-        found = snapshot_of(walk.Settled(walked, {}, {}), running, options, mounts)
+            running.append(look_at_processes(options, payer))
+        found = snapshot_of(walk.Settled(walked, {}, {}), running[0], options, mounts)
         return [CgroupPath(os.fsencode(path)) for path in subtrees_of(found, changing)]
 
-    settled = walk.settled(options.mount, options.only, subtrees_in, most)
-    return snapshot_of(settled, read_processes(options.proc), options, mounts)
+    settled = walk.settled(options.mount, options.only, subtrees_in, payer)
+    return snapshot_of(settled, look_at_processes(options, payer), options, mounts)
+
+
+def look_at_processes(options: Options, payer: Payer) -> Reader:
+    """Processes, as far as they can be read."""
+    looks, reader = Looks(), Reader(options.proc, payer)
+    looks.at("processes", reader.look, reader)
+    reader.failed += looks.failed
+    return reader
 
 
 def all_that_changes(_: Snapshot, changing: Changing) -> Iterable[CgroupPath]:
@@ -193,11 +228,8 @@ def head(snapshot: Snapshot) -> List[str]:
 def tree_text(snapshot: Snapshot, with_processes: bool = True) -> str:
     """One tree text of everything."""
     tree = snapshot.tree if with_processes else Tree(snapshot.tree.controllers, snapshot.tree.rows)
-    for what, most, count, hint in (
-            ("cgroups", MOST_ROWS, len(tree.rows), "--only PATH writes less"),
-            ("processes", MOST_PROCESSES, len(tree.processes), "--no-processes leaves them out, --only PATH writes less")):
-        if count > most:
-            raise Fault(f"{count} {what}, and a tree text has {most} at most: {hint}")
+    if len(tree.rows) > MOST_ROWS:
+        raise Fault(f"{len(tree.rows)} cgroups, and a tree text has {MOST_ROWS} at most: --only PATH writes less")
     return text_of_tree(tree, head(snapshot))
 
 

@@ -6,21 +6,20 @@ import errno
 import os
 import stat
 import sys
-from collections import Counter
 from typing import (Callable, Collection, Dict, FrozenSet, Iterable, List, Mapping, NamedTuple, Optional, Sequence, Set, Tuple,
                     TypeVar)
 
 from zirofen_host import progress
 from zirofen_host.collect import bounded
+from zirofen_host.collect.bounded import Payer, Spent
 from zirofen_host.collect.model import Cgroup, Entry, FilePlace
 from zirofen_host.fault import Fault
-from zirofen_host.profile import (CONTROL_FILES, LIMIT_FILES, LONGEST_PATH, ROOT, CgroupPath, ancestors, is_inside, is_name, is_set_by,
-                                  parent_of, shown, topmost)
+from zirofen_host.files import may_set
+from zirofen_host.profile import (CONTROL_FILES, LIMIT_FILES, LONGEST_PATH, ROOT, CgroupPath, ancestors, is_name, parent_of, shown,
+                                  topmost)
 
 MANAGERS_MARK, OWNERS_MARK = MARKS = ("trusted.delegate", "user.delegate")
 MOST_WALKS = 8
-# cgroups below the topmost one that isn't root's alone; whoever has more keeps nobody else waiting
-MOST_INSIDE = 32768
 # the longest path that a kernel takes; what is in a folder is read by the folder's descriptor
 LONGEST_FOLDER = 4095
 
@@ -40,6 +39,16 @@ class Vanished(Exception):
 
 class Unread(Exception):
     """A cgroup that can't be read, with why."""
+
+
+class OverBudget(Exception):
+    """Somebody has more than is looked at, as a line says it."""
+
+
+class Hold(NamedTuple):
+    """The topmost cgroup of somebody's own, and whose."""
+    path: CgroupPath
+    uid: int
 
 
 class Once:
@@ -70,10 +79,13 @@ class Once:
 
 class Walk:
     """One walk over a mount: the cgroups that were found by path, what was left out on the way, what went before it was read,
-    and what can't be read. Where tops are named, it is these with what is inside, and their ancestors."""
+    and what can't be read. Where tops are named, it is these with what is inside, and their ancestors. What is read is charged to
+    the owner of a cgroup, and of root's own inside of somebody's to whose that is."""
 
-    def __init__(self, mount: str, tops: Optional[Iterable[CgroupPath]] = None) -> None:
+    def __init__(self, mount: str, tops: Optional[Iterable[CgroupPath]] = None, payer: Payer = int) -> None:
         self.mount = os.fsencode(mount)
+        self.payer = payer
+        self.cgroups, self.bytes = Spent(bounded.CGROUPS, payer), Spent(bounded.CGROUP_BYTES, payer)
         self.tops: Optional[FrozenSet[CgroupPath]] = None if tops is None else topmost(tops)
         self.on_the_way = {place for top in self.tops or () for place in ancestors(top)}
         self.found: Dict[CgroupPath, Cgroup] = {}
@@ -82,17 +94,17 @@ class Walk:
         self.gone: Set[CgroupPath] = set()
         # each file by which something is set, by its device and inode
         self.places: Dict[FilePlace, Tuple[CgroupPath, str]] = {}
-        self.inside: Counter[CgroupPath] = Counter()
-        self.counted = 0
+        # whose each cgroup is that was left out or not found again, where it is somebody's
+        self.holds: Dict[CgroupPath, Hold] = {}
+        self.hold: Optional[Hold] = None
         self.once = Once()
 
     def walk(self) -> None:
-        waiting: List[Tuple[CgroupPath, Optional[CgroupPath]]] = [(ROOT, None)]
+        waiting: List[Tuple[CgroupPath, Optional[Hold]]] = [(ROOT, None)]
         while waiting:
-            path, hold = waiting.pop()
-            if hold in self.unread:
+            path, self.hold = waiting.pop()
+            if self.hold and self.hold.path in self.unread:
                 continue
-            self.counted = 0
             try:
                 self.found[path], children = self.read(path)
             except Vanished:
@@ -101,19 +113,28 @@ class Walk:
             except Unread as unread:
                 self.unread[path] = str(unread)
                 continue
-            hold = hold or (path if path != ROOT and is_somebodys(self.found[path].directory) else None)
-            self.count(hold, 1 + self.counted)
-            waiting += [(child, hold) for child in children]
+            except OverBudget as over:
+                # all of it is given up at once, and what was read of it is dropped at last
+                self.unread[self.hold.path if self.hold else path] = str(over)
+                continue
+            finally:
+                if self.hold:
+                    self.holds[path] = self.hold
+            waiting += [(child, self.hold) for child in children]
             progress.tell(f"{len(self.found)} cgroups read, {len(waiting)} known to be left")
+        if self.unread:
+            self.without(self.unread)
 
-    def count(self, hold: Optional[CgroupPath], more: int) -> None:
-        """Counts what is below a cgroup that somebody has, and gives all of it up where it is too much."""
-        if hold is None:
-            return
-        self.inside[hold] += more
-        if self.inside[hold] > MOST_INSIDE:
-            self.unread[hold] = f"over {MOST_INSIDE} cgroups inside"
-            self.found = {path: found for path, found in self.found.items() if not is_inside(path, hold)}
+    def hold_at(self, path: CgroupPath, uid: int) -> None:
+        """Whose a cgroup is, by the owner of its directory."""
+        person = self.payer(uid) if uid else 0
+        if path != ROOT and person and (self.hold is None or self.hold.uid != person):
+            self.hold = Hold(path, person)
+
+    def charge(self, spent: Spent, amount: int = 1) -> None:
+        """Charges whose cgroup is read."""
+        if self.hold and not spent.take(self.hold.uid, amount):
+            raise OverBudget(spent.budget.told(self.hold.uid))
 
     def full(self, path: CgroupPath) -> bytes:
         return self.mount if path == ROOT else self.mount + path
@@ -123,7 +144,11 @@ class Walk:
         folder = None
         try:
             folder = bounded.open_folder(self.full(path), None, bounded.FOLDER if path != ROOT else bounded.FOLDER & ~os.O_NOFOLLOW)
-            found, names = self.read_files(path, folder)
+            directory = owned_of(os.stat(folder))
+            self.hold_at(path, directory[0])
+            self.charge(self.cgroups)
+            self.charge(self.bytes, len(path))
+            found, names = self.read_files(path, folder, directory)
             return found, self.children(path, folder, names)
         except (OSError, ValueError) as error:
             if path == ROOT:
@@ -146,7 +171,7 @@ class Walk:
         except OSError:
             return False
 
-    def read_files(self, path: CgroupPath, folder: int) -> Tuple[Cgroup, List[bytes]]:
+    def read_files(self, path: CgroupPath, folder: int, directory: Owned) -> Tuple[Cgroup, List[bytes]]:
         """A cgroup, and the names of the folders in it."""
         pairs, names = [], []
         for name, is_folder in bounded.list_folder(folder, bounded.NAMES).names:
@@ -157,21 +182,41 @@ class Walk:
             if stat.S_ISREG(status.st_mode):
                 name, owned = sys.intern(name), owned_of(status)
                 pairs.append((name, owned))
-                if is_set_by(name, owned[2]):
+                if may_set(name):
                     self.places[status.st_dev, status.st_ino] = path, name
         files = self.once.files_of(tuple(pairs))
         for file in CONTROL_FILES:
             if file not in files:
                 raise FileNotFoundError(errno.ENOENT, os.strerror(errno.ENOENT), file)
-        return self.cgroup(folder, files), names
+        return self.cgroup(folder, files, directory), names
 
-    def cgroup(self, folder: int, files: Mapping[str, Entry]) -> Cgroup:
-        texts = self.once.texts_of(tuple((file, text_of(folder, file)) for file in LIMIT_FILES if file in files))
-        kind = text_of(folder, "cgroup.type") if "cgroup.type" in files else "domain"
-        return Cgroup(directory=self.once.entry(owned_of(os.stat(folder))), files=files, texts=texts,
-                      enabled=tuple(text_of(folder, "cgroup.subtree_control").split()),
-                      available=tuple(text_of(folder, "cgroup.controllers").split()),
-                      kind=sys.intern(kind), marks=marks_of(folder), pids=pids_of(folder))
+    def cgroup(self, folder: int, files: Mapping[str, Entry], directory: Owned) -> Cgroup:
+        texts = self.once.texts_of(tuple((file, self.text(folder, file)) for file in LIMIT_FILES if file in files))
+        kind = self.text(folder, "cgroup.type") if "cgroup.type" in files else "domain"
+        marks = marks_of(folder)
+        self.charge(self.bytes, marks.read)
+        return Cgroup(directory=self.once.entry(directory), files=files, texts=texts,
+                      enabled=tuple(map(sys.intern, self.text(folder, "cgroup.subtree_control").split())),
+                      available=tuple(map(sys.intern, self.text(folder, "cgroup.controllers").split())),
+                      kind=sys.intern(kind), marks=marks.values, pids=self.pids(folder))
+
+    def text(self, folder: int, file: str) -> str:
+        """What a file has, charged to whose cgroup it is of."""
+        text = text_of(folder, file)
+        self.charge(self.bytes, len(text) + 1)
+        return text
+
+    def pids(self, folder: int) -> Optional[Tuple[int, ...]]:
+        """The processes of a cgroup, or None where it lists none since it is threaded."""
+        try:
+            words = self.text(folder, "cgroup.procs").split()
+        except OSError as error:
+            if error.errno == errno.EOPNOTSUPP:
+                return None
+            raise
+        if not all(word.isascii() and word.isdigit() and len(word) < 20 for word in words):
+            raise ValueError("cgroup.procs has no list of PIDs")
+        return tuple(map(int, words))
 
     def children(self, path: CgroupPath, folder: int, names: Iterable[bytes]) -> List[CgroupPath]:
         """The paths below that are to be walked; the others are written down as left out."""
@@ -184,9 +229,21 @@ class Walk:
             if is_name(name) and len(child) <= LONGEST_PATH and len(self.full(child)) <= LONGEST_FOLDER:
                 children.append(child)
             else:
-                self.left_out[child] = count_of(folder, name)
-                self.counted += self.left_out[child]
+                self.left_out[child] = self.count(folder, name)
+                self.charge(self.bytes, len(child))
         return children
+
+    def count(self, folder: int, name: bytes) -> int:
+        """How many cgroups one is that is left out, charged to its owner, or to whose it stands in."""
+        try:
+            uid = os.stat(name, dir_fd=folder, follow_symlinks=False).st_uid
+        except OSError:
+            return 1
+        uid = uid or (self.hold.uid if self.hold else 0)
+        count = count_of(folder, name, max(self.cgroups.left(uid), 0) if uid else self.cgroups.budget.most)
+        if not self.cgroups.take(uid, count) and self.hold and self.payer(uid) == self.hold.uid:
+            raise OverBudget(self.cgroups.budget.told(self.hold.uid))
+        return count
 
     def covers(self, path: CgroupPath) -> bool:
         """Whether a path is among those that this walk was of."""
@@ -206,6 +263,7 @@ class Walk:
         put_in_place(self.unread, later.unread, later)
         self.gone = {path for path in self.gone if not later.covers(path)} | later.gone
         self.places.update(later.places)
+        self.holds.update(later.holds)
         self.without(())
 
     def without(self, paths: Collection[CgroupPath]) -> None:
@@ -224,9 +282,9 @@ class Settled(NamedTuple):
     spoiled: Whys
 
 
-def walk_over(mount: str, tops: Optional[Iterable[CgroupPath]] = None, before: Optional[Walk] = None) -> Walk:
+def walk_over(mount: str, tops: Optional[Iterable[CgroupPath]] = None, before: Optional[Walk] = None, payer: Payer = int) -> Walk:
     """A walk; what is equal to what one before found is held once."""
-    walk = Walk(mount, tops)
+    walk = Walk(mount, tops, payer)
     if before:
         walk.once = before.once
     walk.walk()
@@ -248,17 +306,13 @@ def key_of(found: Cgroup) -> Tuple[object, ...]:
     return found.directory, found.files, found.texts, found.enabled, found.available, found.kind, found.marks
 
 
-def is_somebodys(directory: Entry) -> bool:
-    return bool(directory.uid or directory.mode & 0o022)
-
-
 def owned_of(status: os.stat_result) -> Owned:
     return status.st_uid, status.st_gid, stat.S_IMODE(status.st_mode)
 
 
-def marks_of(folder: int) -> Mapping[str, bytes]:
+def marks_of(folder: int) -> bounded.Attributes:
     """The marks of delegation that a service manager sets: `trusted.` ones are root's, `user.` ones any owner's."""
-    return bounded.read_attributes(folder, MARKS, bounded.ATTRIBUTE).values
+    return bounded.read_attributes(folder, MARKS, bounded.ATTRIBUTE)
 
 
 def text_of(folder: int, file: str) -> str:
@@ -278,19 +332,6 @@ def value_of(path: bytes, file: str) -> Optional[str]:
         return None
 
 
-def pids_of(folder: int) -> Optional[Tuple[int, ...]]:
-    """The processes of a cgroup, or None where it lists none since it is threaded."""
-    try:
-        words = text_of(folder, "cgroup.procs").split()
-    except OSError as error:
-        if error.errno == errno.EOPNOTSUPP:
-            return None
-        raise
-    if not all(word.isascii() and word.isdigit() and len(word) < 20 for word in words):
-        raise ValueError("cgroup.procs has no list of PIDs")
-    return tuple(map(int, words))
-
-
 def folders_in(folder: int) -> List[str]:
     try:
         return [name for name, is_folder in bounded.list_folder(folder, bounded.NAMES).names if is_folder]
@@ -298,11 +339,12 @@ def folders_in(folder: int) -> List[str]:
         return []
 
 
-def count_of(folder: int, name: bytes) -> int:
-    """How many cgroups one is, with all inside, however deep: one folder is open at a time. No more than so many are counted."""
+def count_of(folder: int, name: bytes, most: int) -> int:
+    """How many cgroups one is, with all inside, however deep: one folder is open at a time. No more than one over so many are
+    counted."""
     count, levels, here = 0, [[os.fsdecode(name)]], os.dup(folder)
     try:
-        while levels and count <= MOST_INSIDE:
+        while levels and count <= most:
             is_up = not levels[-1]
             try:
                 below = bounded.open_folder(".." if is_up else levels[-1].pop(), here)
@@ -324,15 +366,14 @@ def count_of(folder: int, name: bytes) -> int:
 
 
 def settled(mount: str, only: Optional[CgroupPath], subtrees_of: Callable[[Walk, Whys], Iterable[CgroupPath]],
-            most: Optional[int] = None) -> Settled:
+            payer: Payer = int) -> Settled:
     """Walks until two walks in a row agree on all that can matter for a subtree: itself, what is inside, and its ancestors.
     Only what doesn't agree is walked over again. `subtrees_of` gives the subtrees that are asked of, by a walk and by what
-    changes. Where no more than so many cgroups are of use, one walk is enough to tell."""
+    changes."""
     tops = None if only is None else (only,)
-    before = walk_over(mount, tops)
-    if most is not None and len(before.found) > most:
-        raise Fault(f"{len(before.found)} cgroups, and a tree text has {most} at most: --only PATH writes less")
-    walk = walk_over(mount, tops, before)
+    before = walk_over(mount, tops, None, payer)
+    walk = walk_over(mount, tops, before, payer)
+    walk.holds = {**before.holds, **walk.holds}
     if only is not None and only not in walk.found and only not in walk.unread:
         raise Fault(f"there is no cgroup {shown(only)}")
     changing: Whys = walk.differing(before)
@@ -341,7 +382,7 @@ def settled(mount: str, only: Optional[CgroupPath], subtrees_of: Callable[[Walk,
         again: Sequence[CgroupPath] = [ROOT] if ROOT in changing else [path for path, why in spoiled.items() if why == CHANGED]
         if not again:
             break
-        part = walk_over(mount, again, walk)
+        part = walk_over(mount, again, walk, payer)
         changing = {**{path: why for path, why in changing.items() if not part.covers(path)}, **part.differing(walk)}
         walk.take(part)
         spoiled = spoiled_by(changing, subtrees_of(walk, changing))

@@ -2,6 +2,7 @@
 import dataclasses
 import functools
 import json
+import re
 import typing
 from typing import Annotated, Dict, Iterator, List, Mapping, Tuple, Type, TypeVar, Union, cast
 
@@ -9,6 +10,8 @@ from zirofen_host.judge.model import ABSENT, Absent, Report
 
 Json = Union[None, bool, int, str, List["Json"], Dict[str, "Json"]]
 Made = TypeVar("Made")
+# in JSON a pair of surrogates, one alone (a byte that is in no UTF-8, which strict readers refuse), and what else is escaped
+_ESCAPED = re.compile(r"\\u[dD][89abAB]..\\u[dD][c-fC-F]..|(\\u[dD][89a-fA-F]..)|\\.")
 # by class and field, what stands in the place of a key that isn't there
 Lacking = Mapping[Tuple[type, str], object]
 
@@ -19,7 +22,13 @@ class Wrong(Exception):
 
 def parts_of(report: Report) -> Iterator[str]:
     """The JSON of a report, a part after another. What is frozen holds no circle, and looking for one costs a third."""
-    return json.JSONEncoder(indent=1, default=keys_of, check_circular=False).iterencode(report)
+    for part in json.JSONEncoder(indent=1, default=keys_of, check_circular=False).iterencode(report):
+        yield _ESCAPED.sub(with_surrogate_shown, part) if "\\ud" in part else part
+
+
+def with_surrogate_shown(found: "re.Match[str]") -> str:
+    """What is escaped in JSON, but for a surrogate alone, which is written as a text can be."""
+    return f"\\{found[0]}" if found[1] else found[0]
 
 
 def keys_of(made: object) -> Dict[str, object]:

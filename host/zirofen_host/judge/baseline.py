@@ -1,37 +1,46 @@
 """What is new, worse, gone or changed since an earlier report."""
 import dataclasses
 import json
-import os
-from typing import Dict, FrozenSet, Iterable, List, NamedTuple, Optional, Tuple, Union
+from itertools import chain
+from typing import Dict, FrozenSet, Iterable, Iterator, List, NamedTuple, Optional, Tuple, Union
 
-from zirofen_host.ask.program import CONTAINED, ESCAPES, WORDS, WORST_FIRST, worst
+from zirofen_host import output
+from zirofen_host.ask.program import CONTAINED
 from zirofen_host.collect.bounded import REPORT_FILE, read_file
-from zirofen_host.fault import FAULT, Fault
+from zirofen_host.fault import Fault
 from zirofen_host.judge import as_json
-from zirofen_host.judge.finding_lines import above_line, differs_line, entry_line, opened_line
-from zirofen_host.judge.model import (ABSENT, NOTHING_ASKED, VERSION, Comparison, Difference, DiffersFinding, EntryFinding,
-                                      OpenedFinding, Report, Subtree, Whom)
+from zirofen_host.judge.finding_lines import above_line, differs_line, entry_line, fault_line, opened_line, version_1_line
+from zirofen_host.judge.gravity import Gravity, of_answer, of_fault, worst
+from zirofen_host.collect.looks import FAILED
+from zirofen_host.judge.model import (ABSENT, VERSION, Comparison, Difference, DiffersFinding, EntryFinding,
+                                      OpenedFinding, Report, Subtree, Whom, Within)
 from zirofen_host.judge.saved import LACKING
 from zirofen_host.profile import shown
 
-KINDS = ("new", "worse", "changed", "gone")
+KINDS = ("new", "worse", "stand", "changed", "gone")
+# findings that are told as accepted; where there are more, it is told how many
+ACCEPTED = 64
 # a finding by its kind, where it stands, and what it is of
 Key = Tuple[str, str, str]
 
 
 class Found(NamedTuple):
-    """A finding: its status, its line, what it lets in, and what mends it."""
-    status: int
+    """A finding: how grave it is, its line, what it lets in, and what mends it."""
+    gravity: Gravity
     line: str
     lets_in: FrozenSet[Tuple[object, ...]] = frozenset()
     mended: Union[EntryFinding, OpenedFinding, DiffersFinding, None] = None
+    # whose own making it is
+    within: Within = ABSENT
 
 
-def read(file: str) -> Report:
-    """An earlier report; only one of this version of its keys can be compared."""
+def read(file: str) -> Optional[Report]:
+    """An earlier report, or None where there is no such file; only one of this version of its keys can be compared."""
     none = Fault(f"the baseline {shown(file)} is no report of zirofen-host check --json")
     try:
         before = json.loads(read_file(file, REPORT_FILE).text("ascii"))
+    except FileNotFoundError:
+        return None
     except OSError as error:
         raise Fault(f"can't read the baseline {shown(file)}: {error.strerror}") from None
     except (ValueError, RecursionError):
@@ -47,18 +56,20 @@ def read(file: str) -> Report:
         raise none from None
 
 
-def write(file: str, report: Report) -> None:
+def accepted_lines(report: Report) -> Iterator[str]:
+    """What a baseline of a report accepts. Nobody accepts a fault."""
+    found = [(key, each) for key, each in sorted(found_in(report).items(), key=lambda pair: (pair[1].gravity.rank, pair[0]))
+             if is_standing(key, each, False)]
+    for key, each in found[:ACCEPTED]:
+        yield f"accepted: {each.line}" if key[0] != "fault" else f"not accepted: {each.line}: a fault counts in each run"
+    if len(found) > ACCEPTED:
+        yield f"accepted: {len(found) - ACCEPTED} more"
+
+
+def write(file: str, report: Report, is_accepted: bool) -> None:
     """Leaves a report as a baseline: the whole of it, or what stood there before."""
-    new = f"{file}.new"
-    try:
-        with open(os.open(new, os.O_WRONLY | os.O_CREAT | os.O_TRUNC | os.O_NOFOLLOW, 0o644), "w", encoding="ascii") as out:
-            out.writelines(as_json.parts_of(dataclasses.replace(report, baseline=ABSENT)))
-            out.write("\n")
-            out.flush()
-            os.fsync(out.fileno())
-        os.replace(new, file)
-    except OSError as error:
-        raise Fault(f"can't write the baseline {shown(file)}: {error.strerror}") from None
+    kept = dataclasses.replace(report, baseline=ABSENT, accepted=is_accepted)
+    output.write(file, chain(as_json.parts_of(kept), ["\n"]), "the baseline")
 
 
 def found_in(report: Report) -> Dict[Key, Found]:
@@ -66,27 +77,33 @@ def found_in(report: Report) -> Dict[Key, Found]:
     found = {("subtree", each.path, ""): subtree_found(each) for each in report.subtrees}
     for entry in report.entries:
         found["entry", entry.path, entry.entry] = Found(
-            WORDS[entry.answer], entry_line([entry]), let_in(entry.whom, entry.subtrees), entry)
+            of_answer(entry.answer), entry_line([entry]), let_in(entry.whom, entry.subtrees), entry, entry.within)
     for opened in report.opened:
-        found["opened", opened.path, opened.file] = Found(ESCAPES, opened_line(opened), let_in(opened.whom, ()), opened)
+        found["opened", opened.path, opened.file] = Found(Gravity.ESCAPES, opened_line(opened), let_in(opened.whom, ()), opened,
+                                                          opened.within)
     for fault in report.faults:
         for path in fault.subtrees:
-            found["fault", path, fault.fault] = Found(FAULT, f"fault: {fault.who} of {path}: {fault.fault}")
+            found["fault", path, fault.fault] = Found(of_fault(fault), fault_line(fault, [path]))
     for differs in report.differs:
         found["differs", differs.path, ""] = Found(
-            CONTAINED, differs_line(differs), frozenset((name,) for name in differs.entries), differs)
+            Gravity.CONTAINED, differs_line(differs), frozenset((name,) for name in differs.entries), differs)
     for above in report.above:
-        found["above", above.handed, above.who] = Found(CONTAINED, above_line(above))
+        found["above", above.handed, above.who] = Found(Gravity.CONTAINED, above_line(above), within=above.within)
+    for told in (*report.unseen, *report.snapshot):
+        if told.kind == FAILED:
+            found[FAILED, told.place, told.text] = Found(Gravity.FAULT, f"{FAILED}: {told.place}: {told.text}")
+    if report.version_1:
+        found["version-1", "", ""] = Found(Gravity.NOT_LOOKED_AT, version_1_line(report.version_1))
     return found
 
 
 def subtree_found(subtree: Subtree) -> Found:
     """What those who hold a subtree were answered."""
     if not subtree.answers:
-        return Found(CONTAINED, f"{subtree.path}: held by root alone")
-    statuses = {CONTAINED if each.is_above else WORDS.get(each.lines[0].split(" ")[0], FAULT) for each in subtree.answers}
+        return Found(Gravity.CONTAINED, f"{subtree.path}: held by root alone", within=subtree.within)
+    gravities = [Gravity.CONTAINED if each.is_above else of_answer(each.lines[0].split(" ")[0]) for each in subtree.answers]
     told = "; ".join(f"{each.lines[0]}, by {each.who} who holds it" for each in subtree.answers)
-    return Found(worst(statuses), f"{subtree.path}: {told}")
+    return Found(worst(gravities), f"{subtree.path}: {told}", within=subtree.within)
 
 
 def let_in(whom: Iterable[Whom], subtrees: Iterable[str]) -> FrozenSet[Tuple[object, ...]]:
@@ -96,19 +113,32 @@ def let_in(whom: Iterable[Whom], subtrees: Iterable[str]) -> FrozenSet[Tuple[obj
 
 
 def compared(report: Report, before: Report, file: str) -> Comparison:
-    """What differs from an earlier report, with its status."""
+    """What differs from an earlier report, and what stands since then, with its status."""
     now, then = found_in(report), found_in(before)
     differing: Dict[str, List[Difference]] = {kind: [] for kind in KINDS}
+    gravities = []
     for key in sorted({*now, *then}):
         kind = kind_of(now.get(key), then.get(key))
+        if kind in ("new", "worse"):
+            gravities.append(now[key].gravity)
+        elif key in now and is_standing(key, now[key], before.accepted is True):
+            gravities.append(now[key].gravity)
+            differing["stand"].append(difference(key, now[key], then[key]))
         if kind:
             differing[kind].append(difference(key, now.get(key), then.get(key)))
     differing["changed"] += changes_of_host(report, before)
-    statuses = {each.status for kind in ("new", "worse") for each in differing[kind]}
-    nothing = not report.asked and before.asked
-    new, worse, changed, gone = (tuple(differing[kind]) for kind in KINDS)
-    return Comparison(file, before.time, new, worse, changed, gone,
-                      worst(statuses) or (NOTHING_ASKED if nothing else CONTAINED))
+    if not report.asked and before.asked:
+        gravities.append(Gravity.NOTHING_ASKED)
+    new, worse, stand, changed, gone = (tuple(differing[kind]) for kind in KINDS)
+    return Comparison(file, before.time, new, worse, stand, changed, gone, worst(gravities).status)
+
+
+def is_standing(key: Key, now: Found, is_accepted: bool) -> bool:
+    """Whether a finding that was there already counts: a fault always does, and others where nobody accepted them. A subtree's
+    row is told by the entries that it rests on."""
+    if now.gravity is Gravity.CONTAINED or key[0] == "subtree":
+        return False
+    return not is_accepted or key[0] in ("fault", FAILED)
 
 
 def changes_of_host(report: Report, before: Report) -> Iterable[Difference]:
@@ -123,7 +153,7 @@ def kind_of(now: Optional[Found], then: Optional[Found]) -> Optional[str]:
         return "new"
     if now is None:
         return "gone"
-    if WORST_FIRST.index(now.status) < WORST_FIRST.index(then.status) or now.lets_in - then.lets_in:
+    if now.gravity.rank < then.gravity.rank or now.lets_in - then.lets_in:
         return "worse"
     return "changed" if now.line != then.line else None
 
@@ -131,5 +161,5 @@ def kind_of(now: Optional[Found], then: Optional[Found]) -> Optional[str]:
 def difference(key: Key, now: Optional[Found], then: Optional[Found]) -> Difference:
     mended = now.mended if now else None
     told = now or then
-    return Difference(key[0], told.line if told else "", then.line if now and then else None, now.status if now else CONTAINED,
-                      mended.changes if mended else (), mended.setting if mended else None)
+    return Difference(key[0], told.line if told else "", then.line if now and then else None, now.gravity.status if now else CONTAINED,
+                      mended.changes if mended else (), mended.setting if mended else None, told.within if told else ABSENT)

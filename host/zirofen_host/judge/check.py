@@ -1,31 +1,40 @@
 """A snapshot, everybody asked of everything in it, and the report that the answers come to."""
-import tempfile
-import time
 from collections import defaultdict
 from dataclasses import replace
-from typing import Dict, FrozenSet, Iterable, List, Optional, Tuple
+from typing import Dict, FrozenSet, List, Optional, Tuple
 
+from zirofen_host import output
 from zirofen_host.ask.asking import ask_all
 from zirofen_host.ask.model import Answer
-from zirofen_host.ask.program import CONTAINED, ESCAPES, UNSETTLED, WORDS
+from zirofen_host.ask.program import CONTAINED
 from zirofen_host.ask.questions import unit_of
-from zirofen_host.collect.accounts import accounts_of
-from zirofen_host.collect.model import GROUP, Snapshot, User
-from zirofen_host.fault import FAULT, Fault
+from zirofen_host.collect.accounts import Accounts, accounts_of
+from zirofen_host.collect.holds import holds_of
+from zirofen_host.collect.looks import Looks
+from zirofen_host.collect.model import GROUP, OWNER, Note, Snapshot, User
+from zirofen_host.fault import Fault
 from zirofen_host.judge import unseen, whole
-from zirofen_host.judge.checked import Checked, advise
+from zirofen_host.judge.advised import Advised, advise
+from zirofen_host.judge.checked import Checked
 from zirofen_host.judge.finding_lines import SHOWN
 from zirofen_host.judge.findings import above_findings, differs_findings, entry_findings, fault_findings, opened_findings
+from zirofen_host.judge.gravity import gravity_of
 from zirofen_host.judge.judged import Own, judge
-from zirofen_host.judge.model import NOTHING_ASKED, VERSION, EntryFinding, HeldBy, HolderAnswer, Report, Subtree, Told
+from zirofen_host.judge.lists import shown_lists
+from zirofen_host.judge.model import VERSION, HeldBy, HolderAnswer, Report, Subtree, Told, within_of
 from zirofen_host.judge.names import names_of
+from zirofen_host.judge.settings import Settings
 from zirofen_host.options import Options
-from zirofen_host.profile import CgroupPath, text_of
+from zirofen_host.profile import ANYBODY, CgroupPath, path_of, text_of
+
+NO_SETTINGS: Settings = {}
 
 
-def ask(snapshot: Snapshot, options: Options, folder: str) -> Checked:
+def ask(snapshot: Snapshot, options: Options, folder: str, settings: Settings) -> Checked:
     """Everybody asked of everything, with texts that stand in a folder."""
-    accounts = accounts_of(options.accounts, snapshot)
+    looks = Looks()
+    accounts = looks.at("accounts", lambda: accounts_of(options.accounts, snapshot), Accounts(), True)
+    snapshot = replace(snapshot, notes=(*snapshot.notes, *looks.failed))
     found = ask_all(snapshot, accounts, options, folder)
     answers = found.answers
     asked_of: Dict[CgroupPath, List[FrozenSet[User]]] = defaultdict(list)
@@ -37,13 +46,14 @@ def ask(snapshot: Snapshot, options: Options, folder: str) -> Checked:
     for user in sorted({user for users, _ in (*answers.plan.questions, *answers.further) for user in users}):
         asked[user.uid].append(user)
     return Checked(snapshot, options, names_of(accounts), found.questions, answers, found.programs,
-                   judge(found.questions, answers), asked, asked_of)
+                   judge(found.questions, answers), asked, asked_of, holds_of(snapshot, accounts.payer),
+                   settings)
 
 
 def subtree_of(checked: Checked, path: CgroupPath) -> Subtree:
     holders = checked.questions.holders[path]
     return Subtree(text_of(path), checked.questions.meant.get(path), unit_of(path), HeldBy(holders.by, holders.ids),
-                   answers_of(checked, path))
+                   answers_of(checked, path), within_of(checked.holds.within(path)))
 
 
 def answers_of(checked: Checked, subtree: CgroupPath) -> Tuple[HolderAnswer, ...]:
@@ -71,41 +81,47 @@ def contained(checked: Checked, uid: int, subtree: CgroupPath) -> Optional[Own]:
 def answer_of(checked: Checked, subtree: CgroupPath, lines: Tuple[str, ...], is_above: bool, found: Dict[int, Own]) -> HolderAnswer:
     holders, uids = checked.questions.holders[subtree], tuple(found)
     gids = found[uids[0]].user.gids if len(uids) == 1 else holders.ids if holders.by == GROUP else ()
-    who = ",".join(map(str, uids)) if len(uids) <= 3 else f"{len(uids)} users"
+    # whoever has nothing but everybody's bits has no number of their own
+    names = ["anybody" if uid == ANYBODY and holders.by != OWNER else str(uid) for uid in uids]
+    who = ",".join(names) if len(uids) <= 3 else f"{len(uids)} users"
     return HolderAnswer(who, uids[:SHOWN], len(uids), gids, lines, is_above)
 
 
-def status_of(entries: Iterable[EntryFinding], is_opened: bool, is_faulty: bool, is_asked: bool) -> int:
-    """The worst that a report tells of."""
-    answers = {WORDS.get(each.answer) for each in entries}
-    if is_faulty:
-        return FAULT
-    if is_opened or ESCAPES in answers:
-        return ESCAPES
-    if UNSETTLED in answers:
-        return UNSETTLED
-    return CONTAINED if is_asked else NOTHING_ASKED
-
-
 def report_of(checked: Checked, is_whole: bool) -> Report:
-    snapshot, about, answers = checked.snapshot, checked.snapshot.about, checked.answers
-    advised = advise(checked)
-    entries, opened, faults = entry_findings(checked, advised), opened_findings(checked), fault_findings(checked, advised)
+    """The report on a host that was asked. What fails of it is told, and all else stands."""
+    snapshot, about, answers, looks = checked.snapshot, checked.snapshot.about, checked.answers, Looks()
+    looks.failed += checked.programs.failed
+    advised = looks.at("advice", lambda: advise(checked), Advised({}, checked.judged.faults))
+    subtrees = looks.each("answers", checked.questions.subtrees, lambda path: subtree_of(checked, path))
+    entries = entry_findings(checked, advised, looks)
+    opened = dict(looks.all("opened", lambda: opened_findings(checked)))
+    faults = looks.all("faults", lambda: fault_findings(checked, advised))
+    differs = looks.all("differs", lambda: differs_findings(checked, opened))
+    above = looks.all("above", lambda: above_findings(checked))
+    told = unseen.lines(checked, advised, looks)
+    notes = tuple(noted(checked, note) for note in snapshot.notes)
     made = Report(
         VERSION, answers.version, about.host or "", about.kernel or "",
-        about.time or time.strftime("%Y-%m-%dT%H:%M:%SZ", time.gmtime()), snapshot.mount,
-        checked.is_asked, answers.has_advise,
-        subtrees=tuple(subtree_of(checked, path) for path in checked.questions.subtrees), entries=entries,
-        opened=tuple(opened.values()), faults=faults, differs=tuple(differs_findings(checked, opened)),
-        above=tuple(above_findings(checked)),
-        unseen=tuple(unseen.lines(snapshot, checked.questions, answers, checked.names, checked.options)),
-        snapshot=tuple(Told(note.kind, note.place, note.detail) for note in snapshot.notes),
-        status=status_of(entries, bool(opened), bool(faults), checked.is_asked))
-    return replace(made, users=tuple(whole.users_of(checked)), groups=tuple(whole.groups_of(checked)),
-                   cgroups=tuple(whole.cgroups_of(checked)), processes=tuple(whole.processes_of(checked))) if is_whole else made
+        about.time or "", snapshot.mount, checked.is_asked, answers.has_advise,
+        subtrees=subtrees, entries=entries, opened=tuple(opened.values()), faults=faults, differs=differs, above=above,
+        unseen=told, snapshot=notes, status=CONTAINED, version_1=snapshot.version_1,
+        lists=looks.all("lists", lambda: shown_lists(checked, subtrees, entries)))
+    if is_whole:
+        made = replace(made, users=looks.all("users", lambda: whole.users_of(checked)),
+                       groups=looks.all("groups", lambda: whole.groups_of(checked)), cgroups=whole.cgroups_of(checked, looks),
+                       processes=looks.all("processes", lambda: whole.processes_of(checked)))
+    made = replace(made, unseen=(*(noted(checked, note) for note in looks.failed), *told))
+    return replace(made, status=gravity_of(made).status)
 
 
-def report(snapshot: Snapshot, options: Options, is_whole: bool) -> Report:
-    """The report on a host, with the host itself where it is to be whole."""
-    with tempfile.TemporaryDirectory() as folder:
-        return report_of(ask(snapshot, options, folder), is_whole)
+def noted(checked: Checked, note: Note) -> Told:
+    # a name that isn't shown as it is stands quoted, as what is told of alone
+    place = note.place[2:] if note.place[:2] in ("b'", 'b"') else note.place
+    return Told(note.kind, note.place, note.detail, within_of(checked.holds.within(path_of(place))))
+
+
+def report(snapshot: Snapshot, options: Options, is_whole: bool, settings: Settings = NO_SETTINGS) -> Report:
+    """The report on a host, with the host itself where it is to be whole, and with the settings of units from before it was
+    looked at, where they are to be compared."""
+    with output.temporary_folder() as folder:
+        return report_of(ask(snapshot, options, folder, settings), is_whole)

@@ -2,7 +2,7 @@
 from typing import Iterable, Sequence
 
 from zirofen_host.collect.model import GROUP, OTHERS
-from zirofen_host.judge.model import AboveFinding, DiffersFinding, EntryFinding, OpenedFinding, Owner, Whom
+from zirofen_host.judge.model import AboveFinding, DiffersFinding, EntryFinding, FaultFinding, OpenedFinding, Owner, Whom
 
 # names in a line; where there are more, it tells how many
 SHOWN = 8
@@ -31,7 +31,13 @@ def entry_line(entries: Sequence[EntryFinding]) -> str:
 
 
 def opened_line(each: OpenedFinding) -> str:
-    return f"opened {each.path} {each.file} by {whom_text(each.whom)}"
+    return f"opened {each.path} {each.file} by {whom_text(each.whom)}" + (f": {each.why}" if each.why else "")
+
+
+def fault_line(each: FaultFinding, subtrees: Sequence[str]) -> str:
+    """The line of a fault, of some of its subtrees."""
+    own = f", of {each.made_by}'s own making" if each.made_by else ""
+    return f"fault: {each.who} of {some(subtrees)}: {each.fault}{own}"
 
 
 def differs_line(each: DiffersFinding) -> str:
@@ -40,3 +46,7 @@ def differs_line(each: DiffersFinding) -> str:
 
 def above_line(each: AboveFinding) -> str:
     return f"above: {each.who}, below {each.handed}: {some(each.subtrees)}"
+
+
+def version_1_line(controllers: Iterable[str]) -> str:
+    return f"limits of {', '.join(controllers)} are v1's and weren't looked at"

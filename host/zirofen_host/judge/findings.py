@@ -1,29 +1,36 @@
 """The findings of a report, made of what the answers come to."""
 from collections import defaultdict
-from typing import Dict, Iterable, List, Optional, Tuple
+from typing import DefaultDict, Dict, Iterable, List, Mapping, Optional, Set, Tuple, Union
 
+from zirofen_host.ask.program import ESCAPES
 from zirofen_host.ask.questions import unit_of
-from zirofen_host.collect.model import GROUP, Entry, User
+from zirofen_host.collect.model import GROUP, OTHERS, OWNER, Entry, User
 from zirofen_host.collect.tree import in_order
-from zirofen_host.collect.walk import MANAGERS_MARK
-from zirofen_host.judge.checked import Advised, Checked
+from zirofen_host.collect.walk import CHANGED, MANAGERS_MARK
+from zirofen_host.judge.advised import Advised
+from zirofen_host.judge.checked import Checked
 from zirofen_host.judge.finding_lines import some
+from zirofen_host.collect.looks import Looks
 from zirofen_host.judge.judged import LetIn, LetsIn, Place
-from zirofen_host.judge.model import (AboveFinding, DiffersFinding, EntryFinding, Example, FaultFinding, OpenedFinding, Owner, Whom)
+from zirofen_host.judge.model import (ABSENT, AboveFinding, Absent, DiffersFinding, EntryFinding, Example, FaultFinding, OpenedFinding,
+                                      Owner, Whom, within_of)
 from zirofen_host.judge.names import Names
-from zirofen_host.judge.opened import find_openings, what_differs
+from zirofen_host.judge.opened import GROUP_WRITES, OTHERS_WRITE, WHO_IS_FIRST, what_differs
 from zirofen_host.judge.shell import closing_commands
-from zirofen_host.profile import SETTINGS, CgroupPath, shown, text_of, topmost
+from zirofen_host.profile import CgroupPath, ancestors, path_of, shown, text_of, topmost
+
+NO_CLOSING: Mapping[CgroupPath, Tuple[str, ...]] = {}
 
 
 def owner_of(entry: Entry) -> Owner:
     return Owner(entry.uid, entry.gid, f"{entry.mode:03o}")
 
 
-def setting_of(place: Place) -> Optional[str]:
-    """The setting of a unit that brings back what a file has."""
-    unit, setting = unit_of(place.path), SETTINGS.get(place.name)
-    return f"{setting} of {unit}" if unit and setting else None
+def setting_of(path: CgroupPath) -> Optional[str]:
+    """The settings of a unit that bring back the owners of what it hands over. A scope isn't started again, and a slice hands
+    nothing over."""
+    unit = unit_of(path)
+    return f"Delegate= and User= of {unit}" if unit and unit.endswith(".service") else None
 
 
 def texts_of(paths: Iterable[CgroupPath]) -> Tuple[str, ...]:
@@ -36,38 +43,133 @@ def whom_of(names: Names, let_in: Iterable[LetIn]) -> Tuple[Whom, ...]:
                       tuple(names.member(uid) for uid in sorted(each.uids)) if each.by == GROUP else ()) for each in let_in)
 
 
-def entry_findings(checked: Checked, advised: Advised) -> Tuple[EntryFinding, ...]:
-    return tuple(entry_finding(checked, advised, found) for _, found in sorted(checked.judged.entries.items()))
+def entry_findings(checked: Checked, advised: Advised, looks: Looks) -> Tuple[EntryFinding, ...]:
+    closing = looks.at("closing", lambda: closing_of_directories(checked), NO_CLOSING)
+    return looks.each("entries", [found for _, found in sorted(checked.judged.entries.items())],
+                      lambda found: entry_finding(checked, advised, found, closing.get(found.place.path, ())))
 
 
-def entry_finding(checked: Checked, advised: Advised, found: LetsIn) -> EntryFinding:
+def entry_finding(checked: Checked, advised: Advised, found: LetsIn, closing: Tuple[str, ...]) -> EntryFinding:
+    """An entry with what to change of it, and what closes the directory beside it."""
     (user, subtree), place, lines = found.worst, found.place, found.answer.lines
     # an entry of others is everybody's; who of them was asked is among the users
     is_own, path = checked.questions.holds(user, subtree), text_of(place.path)
     example = None if is_own else Example(checked.names.who(user), user.uid, user.gids, text_of(subtree), lines)
+    changes = checked.commands(advised.changes_of(found))
     return EntryFinding(path, place.name, owner_of(found.entry) if found.entry else None, lines[0].split(" ")[0],
                         whom_of(checked.names, found.whom()), texts_of(in_order(topmost(found.subtrees))), example,
-                        checked.commands(advised.changes.get((path, place.name), ())), setting_of(place))
+                        (*changes, *(() if place.name == "dir" else closing)), None, within_of(checked.holds.within(place.path)),
+                        is_own_affair(checked, place, found.whom(), found.subtrees))
 
 
-def opened_findings(checked: Checked) -> Dict[Place, OpenedFinding]:
-    """Every limit that stands open, but for the entries that the answers show."""
-    found = {}
-    for place, entry, let_in in find_openings(checked.snapshot, checked.questions):
-        if place not in checked.judged.entries:
-            found[place] = OpenedFinding(
+def is_own_affair(checked: Checked, place: Place, let_in: Iterable[LetIn], subtrees: Iterable[CgroupPath]) -> Union[bool, Absent]:
+    """Whether an entry of somebody's own making lets in them alone, and to nothing that another holds."""
+    person = checked.holds.within(place.path)
+    if person is None:
+        return ABSENT
+    uids = {uid for each in let_in for uid in each.uids}.union(*(checked.questions.holders[path].uids for path in subtrees))
+    return checked.holds.is_all_of(person, uids)
+
+
+def closing_of(checked: Checked, place: Place, entry: Entry, let_in: Iterable[LetIn]) -> Tuple[str, ...]:
+    """What keeps out those whom an entry shouldn't let in, and nobody else."""
+    by = {each.by for each in let_in}
+    kept = sum(bits for kind, bits in ((GROUP, GROUP_WRITES), (OTHERS, OTHERS_WRITE)) if kind not in by)
+    closed = {place.name: Entry(entry.uid if OWNER in by else 0, entry.gid, entry.mode & ~kept)}
+    threads = checked.snapshot.cgroups[place.path].files.get("cgroup.threads")
+    if place.name == "dir" and place.path in checked.questions.kept and threads:
+        # it is nobody's either, and no finding of its own while nothing there is threaded
+        closed["cgroup.threads"] = threads
+    return closing_commands(checked.snapshot.mount, text_of(place.path), closed)
+
+
+def closing_of_directories(checked: Checked) -> Mapping[CgroupPath, Tuple[str, ...]]:
+    """What closes each directory that a manager makes something in, and that stands open."""
+    return {place.path: closing_of(checked, place, entry, let_in) for place, entry, let_in in checked.openings if place.name == "dir"}
+
+
+def opened_findings(checked: Checked) -> Iterable[Tuple[Place, OpenedFinding]]:
+    """Everything that stands open, but for what the answers show."""
+    closing = closing_of_directories(checked)
+    for place, entry, let_in in checked.openings:
+        if not is_shown(checked, place, let_in):
+            is_directory = place.name == "dir"
+            changes = closing_of(checked, place, entry, let_in)
+            yield place, OpenedFinding(
                 text_of(place.path), place.name, owner_of(entry), whom_of(checked.names, let_in),
-                closing_commands(checked.snapshot.mount, text_of(place.path), {place.name: entry}), setting_of(place))
+                (*changes, *(() if is_directory else closing.get(place.path, ()))), None, WHO_IS_FIRST if is_directory else None,
+                within_of(checked.holds.within(place.path)), is_own_affair(checked, place, let_in, ()))
+
+
+def is_shown(checked: Checked, place: Place, let_in: Iterable[LetIn]) -> bool:
+    """Whether the answers show an entry: of a directory that a manager makes something in, an escape of all whom it lets in."""
+    shown_by = checked.judged.entries.get(place)
+    if shown_by is None or place.name != "dir":
+        return shown_by is not None
+    return shown_by.answer.status == ESCAPES and {(each.by, each.id) for each in let_in} <= set(shown_by.uids)
+
+
+def fault_findings(checked: Checked, advised: Advised) -> Iterable[FaultFinding]:
+    """Subtrees that can't be asked of anybody, pairs without an answer, and users of whom not all was looked at."""
+    by_why: Dict[Tuple[str, Optional[str]], List[str]] = defaultdict(list)
+    below = makers_below(checked)
+    for path, why in sorted(checked.answers.refused.items()):
+        by_why[why, makers_of(checked, below, path, why)].append(shown(path))
+    yield from (FaultFinding("everybody", None, (), why, tuple(paths), made_by) for (why, made_by), paths in by_why.items())
+    yield from faults_of_pairs(checked.names, advised)
+    yield from faults_of_budgets(checked)
+
+
+def faults_of_budgets(checked: Checked) -> Iterable[FaultFinding]:
+    """Whoever has more processes than are looked at may have groups that aren't known: a fault of what they hold."""
+    for person, why in sorted(checked.snapshot.over.items()):
+        held = [path for path in checked.questions.subtrees
+                if any(checked.holds.payer(uid) == person for uid in checked.questions.holders[path].uids)]
+        if held:
+            yield FaultFinding(checked.names.user(person), person, (), f"{why}: not all were looked at",
+                               texts_of(in_order(topmost(held))), checked.names.user(person))
+
+
+def makers_below(checked: Checked) -> Mapping[CgroupPath, Set[Optional[str]]]:
+    """By whose making something is left out at a cgroup or inside of it; None stands for what is of nobody's."""
+    found: DefaultDict[CgroupPath, Set[Optional[str]]] = defaultdict(set)
+    for changing, why in checked.snapshot.changing.items():
+        place = path_of(changing)
+        maker = holder_at(checked, place) if is_by_somebody(why) else None
+        for above in (place, *ancestors(place)):
+            found[above].add(maker)
     return found
 
 
-def fault_findings(checked: Checked, advised: Advised) -> Tuple[FaultFinding, ...]:
-    """Subtrees that can't be asked of anybody, and pairs without an answer."""
-    by_why: Dict[str, List[str]] = defaultdict(list)
-    for path, why in sorted((shown(path), why) for path, why in checked.answers.refused.items()):
-        by_why[why].append(path)
-    return (*(FaultFinding("everybody", None, (), why, tuple(paths)) for why, paths in by_why.items()),
-            *faults_of_pairs(checked.names, advised))
+def makers_of(checked: Checked, below: Mapping[CgroupPath, Set[Optional[str]]], path: CgroupPath, why: str) -> Optional[str]:
+    """Those by whose own making alone a subtree goes without an answer: it is too large, or what they hold inside of it changes
+    all the time. What is above it, or what root alone has, is of nobody's making, and so is what can't be read."""
+    if why.startswith("fault:") or not checked.changing.isdisjoint(ancestors(path)):
+        return None
+    makers = below.get(path) or {holder_at(checked, path)}
+    return None if None in makers else some(sorted(filter(None, makers)))
+
+
+def is_by_somebody(why: str) -> bool:
+    """Whether somebody makes a cgroup change, or has more than is looked at, so that it is left out."""
+    return why == CHANGED or why.startswith("uid ")
+
+
+def holder_at(checked: Checked, path: CgroupPath) -> Optional[str]:
+    """Who holds the nearest subtree that a cgroup is in, or that cgroup itself where it was left out."""
+    holders, makers = checked.questions.holders, checked.snapshot.makers
+    if makers.get(path):
+        return checked.names.user(makers[path])
+    for place in (path, *ancestors(path)):
+        if place in holders and holders[place].by:
+            return holder_of(checked, place)
+    return None
+
+
+def holder_of(checked: Checked, path: CgroupPath) -> str:
+    """Who holds a subtree, in few words."""
+    holders = checked.questions.holders[path]
+    return " ".join(checked.names.by_class(holders.by or "", number) for number in holders.ids) or "everybody"
 
 
 def faults_of_pairs(names: Names, advised: Advised) -> Iterable[FaultFinding]:
@@ -77,7 +179,7 @@ def faults_of_pairs(names: Names, advised: Advised) -> Iterable[FaultFinding]:
         users[line, texts_of(subtrees)].append(user)
     for (line, paths), of in users.items():
         uid, gids = (of[0].uid, of[0].gids) if len(of) == 1 else (None, ())
-        yield FaultFinding(some([names.who(user) for user in of]), uid, gids, line, paths)
+        yield FaultFinding(some([names.who(user) for user in of]), uid, gids, line, paths, None)
 
 
 def differs_findings(checked: Checked, opened: Iterable[Place]) -> Iterable[DiffersFinding]:
@@ -87,11 +189,11 @@ def differs_findings(checked: Checked, opened: Iterable[Place]) -> Iterable[Diff
         differs = what_differs(checked.snapshot, path) if why == MANAGERS_MARK else {}
         differs = {name: entry for name, entry in differs.items() if Place(path, name) not in told}
         if differs:
-            unit = unit_of(path)
-            yield DiffersFinding(text_of(path), tuple(sorted(differs)), f"Delegate= and User= of {unit}" if unit else None,
+            yield DiffersFinding(text_of(path), tuple(sorted(differs)), setting_of(path),
                                  closing_commands(checked.snapshot.mount, text_of(path), differs))
 
 
 def above_findings(checked: Checked) -> Iterable[AboveFinding]:
     for (uid, handed), subtrees in sorted(checked.judged.above.items()):
-        yield AboveFinding(checked.names.user(uid), uid, text_of(handed), texts_of(in_order(topmost(subtrees))))
+        yield AboveFinding(checked.names.user(uid), uid, text_of(handed), texts_of(in_order(topmost(subtrees))),
+                           checked.holds.payer(uid))

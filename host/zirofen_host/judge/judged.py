@@ -1,14 +1,14 @@
 """What the answers come to: the holders' own, what is expected of whoever is above, and the entries that let somebody in."""
 from collections import defaultdict
 from dataclasses import dataclass, field
-from typing import DefaultDict, Dict, List, NamedTuple, Optional, Set, Tuple
+from typing import DefaultDict, Dict, List, NamedTuple, Optional, Sequence, Set, Tuple
 
 from zirofen_host.ask.model import Answer, Answers, Pair
 from zirofen_host.ask.program import worst
 from zirofen_host.ask.questions import Questions
 from zirofen_host.collect.model import GROUP, OTHERS, OWNER, Entry, User
 from zirofen_host.fault import FAULT
-from zirofen_host.profile import ANYBODY, CgroupPath
+from zirofen_host.profile import ANYBODY, CgroupPath, is_inside, parts_of
 
 # what lets somebody in where no entry does
 OVER, UNKNOWN = "already-over", "unknown"
@@ -44,7 +44,9 @@ class LetsIn:
     worst: Pair
     answer: Answer
     uids: DefaultDict[Tuple[str, Optional[int]], Set[int]] = field(default_factory=lambda: defaultdict(set))
+    # of those inside one another the outermost, where they come in the order of their tree
     subtrees: Set[CgroupPath] = field(default_factory=set)
+    last: Optional[CgroupPath] = None
     # a pair of each class that it lets in, to be advised of
     pairs: Dict[str, Pair] = field(default_factory=dict)
 
@@ -52,7 +54,9 @@ class LetsIn:
         user, entry = pair.user, self.entry
         by = user.class_of(entry) if entry else OWNER
         self.uids[by, None if by == OTHERS else entry.gid if entry and by == GROUP else user.uid].add(user.uid)
-        self.subtrees.add(pair.subtree)
+        if self.last is None or not is_inside(pair.subtree, self.last):
+            self.subtrees.add(pair.subtree)
+            self.last = pair.subtree
         self.pairs.setdefault(by, pair)
         if worst({answer.status, self.answer.status}) != self.answer.status:
             self.worst, self.answer = pair, answer
@@ -76,9 +80,13 @@ def judge(questions: Questions, answers: Answers) -> Judged:
     for each in answers.plan.cut:
         line = f"{each.count} of his groups matter here, and the program takes 32: nothing was asked"
         add(judged, questions, Pair(each.user, each.subtree), Answer(FAULT, (line,)))
-    for pair, answer in sorted(answers.found.items(), key=lambda found: (found[0].subtree, found[0].user.uid != ANYBODY, found[0].user)):
+    for pair, answer in sorted(answers.found.items(), key=lambda each: in_turn(each[0])):
         add(judged, questions, pair, answer)
     return judged
+
+
+def in_turn(pair: Pair) -> Tuple[Sequence[bytes], bool, User]:
+    return parts_of(pair.subtree), pair.user.uid != ANYBODY, pair.user
 
 
 def add(judged: Judged, questions: Questions, pair: Pair, answer: Answer) -> None:

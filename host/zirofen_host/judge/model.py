@@ -18,6 +18,12 @@ class Absent(Enum):
 ABSENT = Absent.ABSENT
 # what a limit file has; one that can't be read has none
 FileValue = Union[int, str, None, Absent]
+# whose own making something is: the uid of somebody who can have made it; what root made or handed over has none
+Within = Union[int, Absent]
+
+
+def within_of(person: Optional[int]) -> Within:
+    return ABSENT if person is None else person
 
 
 @dataclass(frozen=True)
@@ -74,6 +80,7 @@ class Subtree:
     unit: Optional[str]
     held_by: HeldBy
     answers: Tuple[HolderAnswer, ...]
+    within: Within = ABSENT
 
 
 @dataclass(frozen=True)
@@ -109,17 +116,24 @@ class EntryFinding:
     example: Optional[Example]
     changes: Tuple[str, ...]
     setting: Optional[str]
+    within: Within = ABSENT
+    # nobody but that person is let in, and to nothing that isn't theirs
+    is_own: Union[bool, Absent] = ABSENT
 
 
 @dataclass(frozen=True)
 class OpenedFinding:
-    """A limit that stands open to somebody; seen, and not proved."""
+    """A limit, or a directory that a manager makes something in, that stands open to somebody; seen, and not proved."""
     path: str
     file: str
     owner: Owner
     whom: AllLetIn
     changes: Tuple[str, ...]
     setting: Optional[str]
+    # of a directory, why it counts
+    why: Optional[str]
+    within: Within = ABSENT
+    is_own: Union[bool, Absent] = ABSENT
 
 
 @dataclass(frozen=True)
@@ -130,6 +144,8 @@ class FaultFinding:
     gids: Tuple[int, ...]
     fault: str
     subtrees: Tuple[str, ...]
+    # those who hold the subtrees, where it is of their own making
+    made_by: Optional[str]
 
 
 @dataclass(frozen=True)
@@ -148,6 +164,16 @@ class AboveFinding:
     uid: int
     handed: str
     subtrees: Tuple[str, ...]
+    within: Within = ABSENT
+
+
+@dataclass(frozen=True)
+class ShownList:
+    """An escape's lines as a page shows them, where they aren't those of the program or may not run, and why."""
+    subtree: str
+    lines: Lines
+    shown: Lines
+    told: str
 
 
 @dataclass(frozen=True)
@@ -156,6 +182,7 @@ class Told:
     kind: str
     place: str
     text: str
+    within: Within = ABSENT
 
 
 @dataclass(frozen=True)
@@ -206,6 +233,7 @@ class Difference:
     status: int
     changes: Tuple[str, ...]
     setting: Optional[str]
+    within: Within = ABSENT
 
 
 @dataclass(frozen=True)
@@ -215,6 +243,8 @@ class Comparison:
     time: str
     new: Tuple[Difference, ...]
     worse: Tuple[Difference, ...]
+    # what stands since then and was accepted by nobody, and faults, which nobody accepts
+    stand: Tuple[Difference, ...]
     changed: Tuple[Difference, ...]
     gone: Tuple[Difference, ...]
     status: int
@@ -239,9 +269,14 @@ class Report:
     unseen: Tuple[Told, ...]
     snapshot: Tuple[Told, ...]
     status: int
+    # the controllers whose limits are those of version 1, which aren't looked at
+    version_1: Tuple[str, ...]
+    lists: Tuple[ShownList, ...]
     # the host itself, where the report is to be whole
     users: Union[Tuple[ReportUser, ...], Absent] = ABSENT
     groups: Union[Tuple[ReportGroup, ...], Absent] = ABSENT
     cgroups: Union[Tuple[ReportCgroup, ...], Absent] = ABSENT
     processes: Union[Tuple[ReportProcess, ...], Absent] = ABSENT
     baseline: Union[Comparison, Absent] = ABSENT
+    # of a baseline, whether what it tells of is accepted
+    accepted: Union[bool, Absent] = ABSENT

@@ -16,6 +16,9 @@ class Names:
     def user(self, uid: int) -> str:
         return f"{shown(self.users[uid])}({uid})" if uid in self.users else f"uid {uid}"
 
+    def user_name(self, uid: int) -> Optional[str]:
+        return shown(self.users[uid]) if uid in self.users else None
+
     def member(self, uid: int) -> str:
         """A member of a group, who may be unknown."""
         return self.user(uid) if uid != ANYBODY else "members unknown"

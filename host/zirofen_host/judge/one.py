@@ -1,15 +1,16 @@
 """One user and one subtree, by name."""
 import os
 import pwd
-import tempfile
 from dataclasses import dataclass
 from typing import AbstractSet, Callable, Dict, Iterable, Iterator, List, Optional, Tuple
 
+from zirofen_host import output
 from zirofen_host.ask.delegations import Delegations
-from zirofen_host.ask.model import Answer
+from zirofen_host.ask.model import Answer, Holders
 from zirofen_host.ask.program import Program, Refused, abilities_of, answer_of, user_words, worst
-from zirofen_host.ask.questions import with_groups
-from zirofen_host.ask.texts import texts_of, write
+from zirofen_host.ask.questions import holders_of, with_groups
+from zirofen_host.ask.spoiled import changed_in, is_spared
+from zirofen_host.ask.texts import Programs, texts_of, write
 from zirofen_host.collect.accounts import Accounts, accounts_of, is_id
 from zirofen_host.collect.model import OTHERS, Snapshot, Tree, User
 from zirofen_host.fault import FAULT, Fault
@@ -65,11 +66,15 @@ def is_known(user: User, tree: Tree, accounts: Accounts) -> bool:
                    for entry in (row.directory, *row.files.values())))
 
 
-def program_for(snapshot: Snapshot, options: AskOptions, folder: str, uids: AbstractSet[int]) -> Program:
+def holders_at(delegations: Delegations, path: CgroupPath) -> Optional[Holders]:
+    return holders_of(delegations, path, False) if path in delegations.tree.rows else None
+
+
+def program_for(snapshot: Snapshot, options: AskOptions, folder: str, delegations: Delegations, uids: AbstractSet[int]) -> Programs:
     """The program, with a text that has the subtree; where there is none, the program says so of the root alone."""
-    path, tree = path_of(options.path), snapshot.tree
+    path, tree, changed = path_of(options.path), snapshot.tree, changed_in(snapshot, delegations.accounts)
     for place in (path, *ancestors(path)) if options.path.startswith("/") else ():
-        if place in snapshot.spoiled:
+        if place in snapshot.spoiled and not is_spared(snapshot, delegations.accounts, changed, holders_at(delegations, place), place):
             raise Fault(f"nothing is asked of {shown(options.path)}: {snapshot.spoiled[place]}")
     if path not in tree.rows or is_root(path):
         root = path_of("/")
@@ -78,7 +83,7 @@ def program_for(snapshot: Snapshot, options: AskOptions, folder: str, uids: Abst
     if texts.refused:
         raise Fault(f"nothing is asked of {options.path}: {texts.refused[path]}")
     texts.fill(lambda _: uids)
-    return write(texts, options, folder, snapshot).of[path]
+    return write(texts, options, folder, snapshot)
 
 
 def as_asked(one: One, users: Iterable[User], warn: Warn) -> Dict[User, int]:
@@ -129,6 +134,9 @@ def lines_of(one: One, answers: Dict[User, Answer]) -> Iterator[str]:
         yield from each.lines
         if each.status not in (0, FAULT) and is_advised:
             yield from (f"# {line}" for line in changes(one, user))
+    if any(each.lines[0] == "escapes" for each in answers.values()):
+        # for whoever makes commands of it
+        yield f"# subtree {text_of(one.path)}"
 
 
 def ask(snapshot: Snapshot, options: AskOptions, warn: Warn) -> Tuple[List[str], int]:
@@ -137,11 +145,14 @@ def ask(snapshot: Snapshot, options: AskOptions, warn: Warn) -> Tuple[List[str],
     users = users_of(options.user, accounts, not options.accounts and snapshot.source.file is None)
     if not any(is_known(user, snapshot.tree, accounts) for user in users):
         warn(f"uid {users[0].uid} owns nothing, writes nothing of his own, has no process and no account here")
-    with tempfile.TemporaryDirectory() as folder:
-        program = program_for(snapshot, options, folder, {user.uid for user in users})
-        one = One(path_of(options.path), snapshot.mount, Delegations(snapshot.tree, accounts), program)
+    with output.temporary_folder() as folder:
+        delegations = Delegations(snapshot.tree, accounts)
+        programs = program_for(snapshot, options, folder, delegations, {user.uid for user in users})
+        for note in programs.failed:
+            warn(note.detail)
+        one = One(path_of(options.path), snapshot.mount, delegations, programs.of[path_of(options.path)])
         answers = {user: answer(one, user, count) for user, count in sorted(as_asked(one, users, warn).items())}
         if all(each.status == FAULT for each in answers.values()):
             line, *help_lines = next(iter(answers.values())).lines
             raise Fault(line, help_lines)
-        return list(lines_of(one, answers)), worst({each.status for each in answers.values()})
+        return list(lines_of(one, answers)), worst({each.status for each in answers.values()} | ({FAULT} if programs.failed else set()))

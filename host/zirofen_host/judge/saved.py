@@ -6,14 +6,15 @@ from zirofen_host.collect.bounded import REPORT_FILE, read_named
 from zirofen_host.fault import Fault
 from zirofen_host.judge import as_json
 from zirofen_host.judge.model import (ABSENT, VERSION, AboveFinding, Absent, Comparison, Difference, FaultFinding, HolderAnswer,
-                                      Report, ReportCgroup, ReportProcess)
+                                      OpenedFinding, Report, ReportCgroup, ReportProcess)
 from zirofen_host.profile import is_root, parent_of
 
 # what an earlier report may lack, and what stands in its place
 LACKING: as_json.Lacking = {
-    (HolderAnswer, "users"): 0, (FaultFinding, "uid"): None, (FaultFinding, "gids"): (), (AboveFinding, "uid"): 0,
-    (ReportCgroup, "enabled"): (), (ReportProcess, "capabilities"): (), (Comparison, "file"): "", (Comparison, "status"): 0,
-    (Difference, "status"): 0, (Difference, "what"): ""}
+    (HolderAnswer, "users"): 0, (FaultFinding, "uid"): None, (FaultFinding, "gids"): (), (FaultFinding, "made_by"): None,
+    (AboveFinding, "uid"): 0, (OpenedFinding, "why"): None, (ReportCgroup, "enabled"): (), (ReportProcess, "capabilities"): (),
+    (Comparison, "file"): "", (Comparison, "status"): 0, (Comparison, "stand"): (), (Difference, "status"): 0, (Difference, "what"): "",
+    (Report, "version_1"): (), (Report, "lists"): ()}
 
 
 def named_in(report: Report) -> Iterator[str]:

@@ -1,28 +1,28 @@
 """What no answer looks at, as far as a host tells of it: a line each, of a user, a cgroup or the host."""
 import os
-import shutil
-import subprocess
 from bisect import bisect_left
-from collections import defaultdict
+from collections import Counter, defaultdict
 from dataclasses import dataclass
 from typing import DefaultDict, Dict, Iterable, Iterator, List, Mapping, Optional, Sequence, Set, Tuple
 
 from zirofen_host.ask.model import Answers
 from zirofen_host.ask.questions import Questions, unit_of
+from zirofen_host.collect import bounded
+from zirofen_host.collect.descriptors import Descriptors, inodes_of
 from zirofen_host.collect.elsewhere import told_unseen
-from zirofen_host.collect.model import GROUP, OWNER, Entry, Snapshot, User, Value
-from zirofen_host.collect.processes import MOST_DESCRIPTORS, open_for_writing
+from zirofen_host.collect.holds import Holds
+from zirofen_host.collect.model import GROUP, OWNER, Entry, Snapshot, User
 from zirofen_host.collect.walk import MANAGERS_MARK, OWNERS_MARK
+from zirofen_host.judge import settings
+from zirofen_host.judge.advised import Advised
+from zirofen_host.judge.checked import Checked
 from zirofen_host.judge.finding_lines import some
-from zirofen_host.judge.model import Told
+from zirofen_host.collect.looks import Looks
+from zirofen_host.judge.model import Told, within_of
 from zirofen_host.judge.names import Names
-from zirofen_host.options import Options
-from zirofen_host.profile import ANYBODY, LIMIT_FILES, SETTINGS, CgroupPath, ancestors, path_of, text_of
-
-# what a unit's settings are called where they are asked for, and the file that each sets
-PROPERTIES = {setting.rstrip("="): file for file in LIMIT_FILES if (setting := SETTINGS[file])}
-PAGE = 4096
-SECONDS = 30
+from zirofen_host.judge.opened import unknown_files
+from zirofen_host.judge.settings import Settings
+from zirofen_host.profile import ANYBODY, CgroupPath, ancestors, is_inside, path_of, text_of
 
 
 @dataclass(frozen=True)
@@ -34,26 +34,43 @@ class Host:
     names: Names
     # what each uid holds
     held: Mapping[int, Sequence[CgroupPath]]
+    holds: Holds
     proc: Optional[str]
     systemctl: Optional[str]
+    # of units, before the host was looked at
+    settings: Settings
 
     def uid(self, uid: int) -> str:
         return self.names.user(uid)
 
+    def of_user(self, kind: str, uid: int, text: str) -> Told:
+        """What is told of a user, charged to whose uid it is."""
+        return Told(kind, self.uid(uid), text, self.holds.payer(uid))
 
-def lines(snapshot: Snapshot, questions: Questions, answers: Answers, names: Names, options: Options) -> Iterator[Told]:
-    """Looks at a host once."""
+    def of_cgroup(self, kind: str, path: CgroupPath, text: str) -> Told:
+        """What is told of a cgroup, charged to whose making it is."""
+        return Told(kind, text_of(path), text, within_of(self.holds.within(path)))
+
+
+def lines(checked: Checked, advised: Advised, looks: Looks) -> Tuple[Told, ...]:
+    """Looks at a host once, each look by itself."""
+    found: List[Told] = []
+    for host in looks.all("unseen", lambda: [host_of(checked)]):
+        for look in (descriptors, group_class, subordinates, deputies, outside, capabilities, search_bits, marks, groups, everybody,
+                     unknown, restarts, about_the_mount, processes):
+            found += looks.all(look.__name__, lambda: look(host))
+    return (*found, *not_advised(advised))
+
+
+def host_of(checked: Checked) -> Host:
+    snapshot, questions, options = checked.snapshot, checked.questions, checked.options
     is_text = snapshot.source.file is not None
-    has_manager = not options.plain_folder and not is_text and os.path.isdir("/run/systemd/system")
     held: DefaultDict[int, List[CgroupPath]] = defaultdict(list)
     for path in questions.subtrees:
         for uid in questions.holders[path].uids - {ANYBODY}:
             held[uid].append(path)
-    host = Host(snapshot, questions, answers, names, held, None if is_text else options.proc,
-                shutil.which("systemctl") if has_manager else None)
-    for look in (descriptors, group_class, subordinates, deputies, outside, capabilities, search_bits, marks, groups, everybody,
-                 restarts, about_the_mount):
-        yield from look(host)
+    return Host(snapshot, questions, checked.answers, checked.names, held, checked.holds, None if is_text else options.proc,
+                settings.systemctl_of(options), checked.settings)
 
 
 def descriptors(host: Host) -> Iterator[Told]:
@@ -65,27 +82,26 @@ def descriptors(host: Host) -> Iterator[Told]:
     for user in host.answers.plan.users:
         users[user.uid].append(user)
     pids = {pid: process.user.uid for pid, process in host.snapshot.processes.items() if process.user.uid in users}
-    held: DefaultDict[Tuple[int, str, str], Set[int]] = defaultdict(set)
-    for pid, file in (found for of in by_user(pids) for found in open_for_writing(host.proc, of)):
-        if file is None:
-            yield Told("descriptor", host.uid(pids[pid]), f"more than {MOST_DESCRIPTORS} are open in his processes: not all "
-                       "were looked at")
-            continue
-        entry, path, name = entry_at(host.snapshot, file)
+    inodes = inodes_of(host.snapshot.places)
+    looked = Descriptors(host.proc, host.holds.payer, inodes)
+    held: DefaultDict[Tuple[int, str, str, bool], Set[int]] = defaultdict(set)
+    for pid, inode, is_sure in looked.held(pids):
+        entry, path, name = entry_at(host.snapshot, inodes[inode])
         if entry and name != "cgroup.procs" and not any(user.reaches(entry) for user in users[pids[pid]]):
-            held[pids[pid], path, name].add(pid)
-    for (uid, path, name), of in sorted(held.items()):
-        yield Told("descriptor", host.uid(uid), f"{name} at {path} is open for writing in process {numbers(of)}, and he may not "
-                   "open it now")
+            held[pids[pid], path, name, is_sure].add(pid)
+    for (uid, path, name, is_sure), of in sorted(held.items()):
+        perhaps = "" if is_sure else "perhaps "
+        yield host.of_user("descriptor", uid, f"{name} at {path} is {perhaps}open for writing in process {numbers(of)}, and he may not "
+                           "open it now")
+    for uid, why in looked.unlooked:
+        yield host.of_user("descriptor", uid, why)
 
 
-def entry_at(snapshot: Snapshot, file: Tuple[int, int]) -> Tuple[Optional[Entry], str, str]:
-    """The entry of a file by its device and inode, with its place; none where it isn't there any more."""
-    if file not in snapshot.places:
-        return None, "", ""
-    place, name = snapshot.places[file]
-    found = snapshot.cgroups.get(path_of(place))
-    return found.files.get(name) if found else None, text_of(place), name
+def entry_at(snapshot: Snapshot, found: Tuple[bytes, str]) -> Tuple[Optional[Entry], str, str]:
+    """The entry of a file that a walk found, with its place; none where it isn't there any more."""
+    place, name = found
+    cgroup = snapshot.cgroups.get(path_of(place))
+    return cgroup.files.get(name) if cgroup else None, os.fsdecode(place), name
 
 
 def numbers(found: Iterable[int]) -> str:
@@ -96,22 +112,14 @@ def texts(paths: Iterable[CgroupPath]) -> List[str]:
     return list(map(text_of, paths))
 
 
-def by_user(pids: Mapping[int, int]) -> Iterable[List[int]]:
-    """The processes of one user after another."""
-    found: DefaultDict[int, List[int]] = defaultdict(list)
-    for pid, uid in sorted(pids.items()):
-        found[uid].append(pid)
-    return found.values()
-
-
 def group_class(host: Host) -> Iterator[Told]:
     """What only a group keeps its members from is no wall where they can drop it."""
     guarded = {(each.path, each.name) for path in host.questions.subtrees for each in host.questions.guarded(path)}
     for path, name in sorted(guarded):
         entry = host.snapshot.tree.rows[path].entry(name)
         if entry.gid and entry.mode & 0o002 and not entry.mode & 0o020:
-            yield Told("group-class", text_of(path),
-                       f"only {host.names.group(entry.gid)} keeps its members from {name}, which they can drop")
+            yield host.of_cgroup("group-class", path,
+                                 f"only {host.names.group(entry.gid)} keeps its members from {name}, which they can drop")
 
 
 def subordinates(host: Host) -> Iterator[Told]:
@@ -120,8 +128,9 @@ def subordinates(host: Host) -> Iterator[Told]:
         for each in host.questions.accounts.subordinate_to(uid):
             last = each.first + each.count - 1
             found = asked[bisect_left(asked, each.first):bisect_left(asked, last + 1)]
-            told = f"asked above: {numbers(found)}" if found else "none of them has anything here"
-            yield Told("subordinate", host.uid(uid), f"uids {each.first} to {last} are his too; {told}")
+            told = "theirs too, and asked above" if found else "theirs too, and none of them has anything here"
+            asked_of = f", asked {numbers(found)}" if found else ""
+            yield host.of_user("subordinate", uid, f"{told}: uids {each.first} to {last}{asked_of}")
 
 
 def deputies(host: Host) -> Iterator[Told]:
@@ -129,8 +138,8 @@ def deputies(host: Host) -> Iterator[Told]:
     for uid, paths in sorted(host.held.items()):
         found = [path for path in paths if path in host.questions.meant and host.questions.holders[path].by == OWNER]
         if found:
-            yield Told("deputy", host.uid(uid), "the service manager moves his processes, from anywhere, on request into "
-                       + some(texts(found)))
+            yield host.of_user("deputy", uid, "the service manager moves their processes, from anywhere, on request: into "
+                               + some(texts(found)))
 
 
 def outside(host: Host) -> Iterator[Told]:
@@ -141,21 +150,28 @@ def outside(host: Host) -> Iterator[Told]:
         if uid in held and held[uid].isdisjoint((at, *ancestors(at))):
             places[uid].add(at)
     for uid, found in sorted(places.items()):
-        yield Told("outside", host.uid(uid), f"processes of his are in {some(texts(sorted(found)))}")
+        yield host.of_user("outside", uid, f"processes of theirs are outside of what they hold: in {some(texts(sorted(found)))}")
 
 
 def capabilities(host: Host) -> Iterator[Told]:
-    """Processes that pass over owners: root's inside of what somebody else holds, and everybody else's."""
+    """Processes that pass over owners: those inside of what somebody else than root holds, and everybody's but root's elsewhere;
+    all of one user at one place in one line."""
     asked = {path for path in host.questions.subtrees if host.questions.holders[path].by}
-    found: DefaultDict[Tuple[CgroupPath, bool, int, Tuple[str, ...]], List[int]] = defaultdict(list)
+    found: DefaultDict[Tuple[CgroupPath, bool, int], Dict[Tuple[str, ...], List[int]]] = defaultdict(lambda: defaultdict(list))
     for pid, uid, at in host.snapshot.tree.processes:
         process = host.snapshot.processes[pid]
-        inside = not asked.isdisjoint((at, *ancestors(at)))
-        if process.capabilities and (inside or process.user.uid):
-            found[at, inside, process.user.uid, process.capabilities].append(pid)
-    for (at, inside, uid, names), pids in sorted(found.items()):
-        yield Told("capability", text_of(at), f"{'inside' if inside else 'beside'}: process {numbers(pids)} of {host.uid(uid)} has "
-                   f"{' '.join('CAP_' + name for name in names)}, and passes over owners")
+        held = [place for place in (at, *ancestors(at)) if place in asked]
+        if process.capabilities and (held or process.user.uid):
+            found[held[0] if held else at, bool(held), process.user.uid][process.capabilities].append(pid)
+    for (place, inside, uid), by_names in sorted(found.items()):
+        told = "; ".join(f"process {numbers(pids)} of {host.uid(uid)} has {' '.join('CAP_' + name for name in names)}"
+                         for names, pids in sorted(by_names.items()))
+        yield host.of_cgroup("capability", place, f"{'inside' if inside else 'beside'}: {told}, and passes over owners")
+    left: Counter[int] = Counter()
+    for process in host.snapshot.processes.values():
+        left[process.uid] += process.threads_left
+    for uid, count in sorted((uid, count) for uid, count in left.items() if count):
+        yield host.of_user("capability", uid, f"{count} threads weren't looked at: more than {bounded.THREADS.most} run")
 
 
 def search_bits(host: Host) -> Iterator[Told]:
@@ -165,7 +181,7 @@ def search_bits(host: Host) -> Iterator[Told]:
             seen |= {(uid, place) for path in paths for place in ancestors(path)
                      if not searches(user, host.snapshot.cgroups[place].directory)}
     for uid, place in sorted(seen):
-        yield Told("search", host.uid(uid), f"he can't search {text_of(place)}: safer than the answer")
+        yield host.of_user("search", uid, f"he can't search {text_of(place)}: safer than the answer")
 
 
 def searches(user: User, directory: Entry) -> bool:
@@ -176,57 +192,37 @@ def marks(host: Host) -> Iterator[Told]:
     for path, found in sorted(host.questions.marks.items()):
         if OWNERS_MARK in found and MANAGERS_MARK not in found:
             owner = host.uid(host.snapshot.cgroups[path].directory.uid)
-            yield Told("mark", text_of(path), f"{OWNERS_MARK} alone, which its owner {owner} can set: nothing is asked for it")
+            yield host.of_cgroup("mark", path, f"{OWNERS_MARK} alone, which its owner can set, so that nothing is asked for it: of {owner}")
 
 
 def groups(host: Host) -> Iterator[Told]:
     for uid, count in sorted(host.answers.plan.left_out.items()):
         if count:
-            yield Told("groups", host.uid(uid), f"{count} of his groups that stand in the tree were left out; "
-                       "no entry that a guard stands on names them")
+            yield host.of_user("groups", uid, f"{count} of his groups that stand in the tree were left out; "
+                               "no entry that a guard stands on names them")
 
 
 def everybody(host: Host) -> Iterator[Told]:
     """Users who weren't asked of what everybody is let in to."""
-    for path, count in host.answers.not_asked.items():
-        yield Told("everybody", text_of(path), f"{count} more users are let in as everybody is, and weren't asked: where the answer "
-                   "is unsettled, one of them may escape")
+    counts = set(host.answers.not_asked.values())
+    if counts:
+        many = f"{max(counts)} more" if len(counts) == 1 else f"up to {max(counts)} more"
+        yield Told("everybody", some(texts(host.answers.not_asked)), f"{many} users are let in as everybody is, and weren't asked: "
+                   "where the answer is unsettled, one of them may escape")
+
+
+def unknown(host: Host) -> Iterator[Told]:
+    """Files of names that aren't in the table of them."""
+    names = [f"{name} ({'a limit' if is_limit else 'it only tells'})" for name, is_limit in unknown_files(host.snapshot).items()]
+    if names:
+        yield Told("unknown-file", "", f"{some(names)}: by the mode that most cgroups have these with, since their names aren't known")
 
 
 def restarts(host: Host) -> Iterator[Told]:
-    """Limits that a unit doesn't set, and that are gone when it is started anew."""
-    units = {unit: path for path in host.questions.subtrees if (unit := unit_of(path))}
-    for unit, settings in settings_of(host.systemctl, sorted(units)):
-        values = host.snapshot.tree.rows[units[unit]].values if unit in units else {}
-        differing = [f"{file} is {values[file]}, and {name}={settings[name]}" for name, file in PROPERTIES.items()
-                     if name in settings and file in values and not is_same(settings[name], file, values[file])]
-        if differing:
-            yield Told("restart", text_of(units[unit]),
-                       f"{unit} is started anew with its own settings alone: {'; '.join(differing)}")
-
-
-def settings_of(systemctl: Optional[str], units: Sequence[str]) -> Iterator[Tuple[str, Dict[str, str]]]:
-    if not systemctl or not units:
-        return
-    words = [systemctl, "show", f"--property=Id,{','.join(PROPERTIES)}", "--", *units]
-    try:
-        ended = subprocess.run(words, stdin=subprocess.DEVNULL, capture_output=True, text=True, errors="replace", timeout=SECONDS)
-    except (OSError, subprocess.TimeoutExpired):
-        return
-    for block in ended.stdout.split("\n\n"):
-        settings = dict(line.split("=", 1) for line in block.splitlines() if "=" in line)
-        if settings.get("Id"):
-            yield settings["Id"], settings
-
-
-def is_same(setting: str, file: str, value: Value) -> bool:
-    """Whether a setting, as systemctl tells it, is what a limit file has; memory is kept in whole pages."""
-    if setting in ("infinity", "18446744073709551615"):
-        return value == "max"
-    if not setting.isascii() or not setting.isdigit() or len(setting) > 20:
-        return value == LIMIT_FILES[file][1]
-    pages = PAGE if file.startswith("memory.") else 1
-    return isinstance(value, int) and int(setting) // pages == value // pages
+    """Limits that a service's settings don't bring, and that are gone when it is started anew."""
+    units = {unit: path for path in host.questions.subtrees if (unit := unit_of(path)) and unit.endswith(".service")}
+    for path, text in settings.told(host.snapshot, units, host.systemctl, host.settings):
+        yield host.of_cgroup("restart", path, text)
 
 
 def about_the_mount(host: Host) -> Iterator[Told]:
@@ -235,3 +231,21 @@ def about_the_mount(host: Host) -> Iterator[Told]:
         yield Told("elsewhere", "", told_unseen(host.snapshot))
     if "nsdelegate" in host.snapshot.mount_options:
         yield Told("nsdelegate", "", "the mount has it: what runs in a cgroup namespace is kept in there, safer than the answers")
+
+
+def processes(host: Host) -> Iterator[Told]:
+    """Users of whom not all processes were looked at, where no answer of theirs hangs on it: they hold nothing."""
+    holders = {host.holds.payer(uid) for uid in host.held}
+    for person, why in sorted(host.snapshot.over.items()):
+        if person not in holders:
+            yield host.of_user("processes", person, f"{why}: not all were looked at")
+    for path in host.answers.without_processes:
+        count = sum(is_inside(at, path) for _, _, at in host.snapshot.tree.processes)
+        yield host.of_cgroup("processes", path, f"{count} inside, more than a text takes: it was asked of without any, so that an "
+                             "unsettled answer might have been an escape")
+
+
+def not_advised(advised: Advised) -> Iterator[Told]:
+    if advised.unasked:
+        yield Told("advice", "", f"what to change isn't told of {advised.unasked} entries: the program is asked {bounded.ADVICE} times, "
+                   "once for all that are alike. Ask again after these changes")

@@ -1,30 +1,29 @@
 """The host itself in a report: users, groups, cgroups and processes, from which a page or a tree can be drawn."""
-from typing import Iterable
+from typing import Iterable, Tuple
 
 from zirofen_host.ask.questions import unit_of
 from zirofen_host.collect.model import Entry
 from zirofen_host.collect.snapshot import value_of
 from zirofen_host.collect.tree import in_order
+from zirofen_host.files import WITHOUT_VALUE
 from zirofen_host.judge.checked import Checked
 from zirofen_host.judge.findings import owner_of
+from zirofen_host.collect.looks import Looks
 from zirofen_host.judge.model import ABSENT, FileValue, ReportCgroup, ReportFile, ReportGroup, ReportProcess, ReportUser
 from zirofen_host.profile import CONTROL_FILES, CgroupPath, is_other_limit, shown, text_of
-
-# files that do something, or list what isn't a limit
-NO_VALUE = {"cgroup.threads", "cgroup.kill", "memory.reclaim"}
 
 
 def users_of(checked: Checked) -> Iterable[ReportUser]:
     for uid in sorted({*checked.asked, *(uid for _, uid, _ in checked.snapshot.tree.processes)}):
-        yield ReportUser(uid, checked.names.users.get(uid), tuple(user.gids for user in checked.asked.get(uid, ())))
+        yield ReportUser(uid, checked.names.user_name(uid), tuple(user.gids for user in checked.asked.get(uid, ())))
 
 
 def groups_of(checked: Checked) -> Iterable[ReportGroup]:
-    return (ReportGroup(gid, name) for gid, name in sorted(checked.names.groups.items()))
+    return (ReportGroup(gid, shown(name)) for gid, name in sorted(checked.names.groups.items()))
 
 
-def cgroups_of(checked: Checked) -> Iterable[ReportCgroup]:
-    return (cgroup_of(checked, path) for path in in_order(checked.snapshot.cgroups))
+def cgroups_of(checked: Checked, looks: Looks) -> Tuple[ReportCgroup, ...]:
+    return looks.each("cgroups", in_order(checked.snapshot.cgroups), lambda path: cgroup_of(checked, path))
 
 
 def cgroup_of(checked: Checked, path: CgroupPath) -> ReportCgroup:
@@ -35,7 +34,7 @@ def cgroup_of(checked: Checked, path: CgroupPath) -> ReportCgroup:
     files = {name: file_of(row.entry(name), row.values.get(name, ABSENT)) for name in (*CONTROL_FILES, *tree.limit_files(path))}
     for name, entry in found.files.items():
         if is_other_limit(name):
-            files[name] = file_of(entry, None if name in NO_VALUE else value_of(checked.snapshot, path, name))
+            files[name] = file_of(entry, None if name in WITHOUT_VALUE else value_of(checked.snapshot, path, name))
     marks = {name: mark.decode("ascii", "replace") for name, mark in sorted(found.marks.items())}
     return ReportCgroup(text_of(path), owner_of(row.directory), row.enabled, unit_of(path), marks, files)
 

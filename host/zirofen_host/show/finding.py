@@ -73,6 +73,9 @@ class Article:
             return f"{code(part.path)} isn't as a service manager leaves it"
         if isinstance(part, FaultFinding):
             return f"No answer of {self.titled(part.subtrees[0])}"
+        if isinstance(part, OpenedFinding) and part.why:
+            verb = "makes" if words.is_one(part.whom) else "make"
+            return f"{text(capital(words.who(part.whom)))} {verb} cgroups in {code(part.path)}: {text(part.why)}"
         if isinstance(part, OpenedFinding):
             verb = "sets" if words.is_one(part.whom) else "set"
             return f"{text(capital(words.who(part.whom)))} {verb} limits of {code(part.path)}"
@@ -147,7 +150,7 @@ class Article:
             return ""
         heading = self.at.level(4)
         return (f"<{heading}>What {text(self.broken.escape.who)} can do</{heading}>"
-                f"<ol>\n{items(map(sentence, steps.told))}\n</ol>")
+                f"<ol>\n{items(map(sentence, steps.told))}\n</ol>{paragraph(text(capital(self.broken.escape.told)))}")
 
     def change(self) -> str:
         mended = [each for each in self.finding.parts if not isinstance(each, FaultFinding)]

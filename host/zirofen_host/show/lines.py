@@ -1,15 +1,25 @@
 """A report as it is printed, made of it alone."""
 import itertools
-from typing import Callable, Dict, Iterable, Iterator, List, Sequence, Tuple, TypeVar, Union
+from collections import Counter
+from typing import Callable, Dict, Iterable, Iterator, List, Optional, Sequence, Tuple, TypeVar, Union
 
+from zirofen_host.fault import FAULT
 from zirofen_host.installed import MANUAL
 from zirofen_host.judge.baseline import KINDS
-from zirofen_host.judge.finding_lines import above_line, differs_line, entry_line, opened_line, some
-from zirofen_host.judge.model import (Comparison, Difference, DiffersFinding, EntryFinding, OpenedFinding, Report, Subtree,
-                                      Told)
+from zirofen_host.judge.finding_lines import (SHOWN, above_line, differs_line, entry_line, fault_line, opened_line,
+                                              version_1_line, whom_text)
+from zirofen_host.judge.model import (ABSENT, AboveFinding, Absent, Comparison, Difference, DiffersFinding, EntryFinding,
+                                      OpenedFinding, Report, Subtree, Told)
+from zirofen_host.show.folded import GRAVITY, Part, counted, folded
 
 # how far the table's columns are filled up; a longer word stands out
 WIDEST = (12, 24, 48)
+# kinds of which a line has all, each behind its colon
+JOINED = ("deputy", "mark", "outside", "subordinate")
+# behind an answer where limits are those of version 1
+VERSION_1 = " [v1]"
+# lines of each kind of what no answer looks at, for what one person made
+TOLD = 4
 # what brings changes and a setting
 Mended = Union[EntryFinding, OpenedFinding, DiffersFinding, Difference]
 One = TypeVar("One")
@@ -21,24 +31,34 @@ def gids_text(gids: Iterable[int]) -> str:
     return ",".join(map(str, gids)) or "-"
 
 
-def rows_of(subtree: Subtree) -> Iterator[Row]:
-    """The table's rows of a subtree: one for each answer of whoever holds it."""
+def rows_of(subtree: Subtree, mark: str = "") -> Iterator[Row]:
+    """The table's rows of a subtree: one for each answer of whoever holds it, each with a mark where limits aren't looked at."""
     for each in subtree.answers:
         first = each.lines[0]
         answer, below = (f"above: {first}", ()) if each.is_above else (first, each.lines[1:])
-        yield each.who, gids_text(each.gids), answer, subtree.path, below
+        yield each.who, gids_text(each.gids), answer + mark, subtree.path, below
     if not subtree.answers:
-        yield "-", "-", "held by root alone", subtree.path, ()
+        yield "-", "-", "held by root alone" + mark, subtree.path, ()
 
 
-def table(report: Report) -> Iterator[str]:
-    """Columns of who holds a subtree, his groups, the answer and the path, which may be long; what it shows stands below."""
-    rows: List[Row] = [("UID", "GIDS", "ANSWER", "PATH", ())]
-    rows += [row for subtree in report.subtrees for row in rows_of(subtree)]
-    widths = [min(most, max(len(row[at]) for row in rows)) for at, most in enumerate(WIDEST)]
-    for *columns, path, below in rows:
-        yield "  ".join([word.ljust(width) for word, width in zip(columns, widths)] + [path])
-        yield from (f"    {line}" for line in below)
+def table(report: Report, is_each: bool = False) -> Iterator[str]:
+    """Columns of who holds a subtree, his groups, the answer and the path, which may be long; what it shows stands below. What
+    somebody made below their own delegation stands last."""
+    mark = VERSION_1 if report.version_1 else ""
+    rows = [(subtree.within, row) for subtree in report.subtrees for row in rows_of(subtree, mark)]
+    head: Row = ("UID", "GIDS", "ANSWER", "PATH", ())
+    shown = [head, *(row for _, row in rows)]
+    widths = [min(most, max(len(row[at]) for row in shown)) for at, most in enumerate(WIDEST)]
+    yield from (line for row in (head, *(row for within, row in rows if within is ABSENT)) for line in row_lines(row, widths))
+    made = [Part(within, (within, row[:2], row[2].split(" ")[0]), row[2].split(" ")[0].rstrip(":"), None, list(row_lines(row, widths)))
+            for within, row in rows if not isinstance(within, Absent)]
+    yield from folded(made, is_each)
+
+
+def row_lines(row: Row, widths: Sequence[int]) -> Iterator[str]:
+    *columns, path, below = row
+    yield "  ".join([word.ljust(width) for word, width in zip(columns, widths)] + [path])
+    yield from (f"    {line}" for line in below)
 
 
 def together(commands: Iterable[str]) -> List[str]:
@@ -82,33 +102,114 @@ def opened_in_common(each: OpenedFinding) -> object:
     return each.path, each.whom
 
 
-def finding_lines(report: Report) -> Iterator[str]:
-    """Everything that counts, and then what doesn't."""
-    for entries in alike(report.entries, entry_in_common):
-        yield from entry_lines(entries)
-    for opened in alike(report.opened, opened_in_common):
-        yield from map(opened_line, opened)
-        yield from what_to_change(opened)
+def opened_lines(opened: Sequence[OpenedFinding]) -> Iterator[str]:
+    yield from map(opened_line, opened)
+    yield from what_to_change(opened)
+
+
+def finding_lines(report: Report, is_each: bool = False) -> Iterator[str]:
+    """Everything that counts, and then what doesn't; at last what somebody made below their own delegation."""
+    entries = [(found[0].within, found) for found in alike(report.entries, entry_in_common)]
+    opened = [(each[0].within, each) for each in alike(report.opened, opened_in_common)]
+    yield from (line for within, found in entries if within is ABSENT for line in entry_lines(found))
+    yield from (line for within, each in opened if within is ABSENT for line in opened_lines(each))
     for fault in report.faults:
-        yield f"fault: {fault.who} of {some(fault.subtrees)}: {fault.fault}"
+        yield fault_line(fault, fault.subtrees)
     if report.entries and not report.has_advice:
         yield "what to change of an entry isn't told: this program has no advise"
     for differs in report.differs:
         yield differs_line(differs)
         yield from what_to_change([differs])
+    made = [Part(within, (found[0].answer, owners, found[0].whom), found[0].answer, others_in(found), list(entry_lines(found)))
+            for within, found in entries if not isinstance(within, Absent)
+            for owners in [tuple((each.entry, each.owner) for each in found)]]
+    made += [Part(within, ("opened", owners, each[0].whom), "opened", others_in(each), list(opened_lines(each)))
+             for within, each in opened if not isinstance(within, Absent) for owners in [tuple((one.file, one.owner) for one in each)]]
+    yield from folded(made, is_each)
+
+
+def others_in(found: Sequence[Union[EntryFinding, OpenedFinding]]) -> Optional[str]:
+    """Whom entries let in, but where they are nobody's matter but theirs who made them."""
+    return None if all(each.is_own is True for each in found) else whom_text(found[0].whom)
 
 
 def place_text(each: Told) -> str:
     return ": ".join(word for word in (each.kind, each.place, each.text) if word)
 
 
-def lines_of(report: Report) -> Iterator[str]:
+def told_lines(found: Iterable[Told], is_each: bool) -> Iterator[str]:
+    """What no answer looks at; of what somebody made, so many lines of each kind."""
+    told = list(found)
+    listed = [each for each in told if is_each or each.kind not in JOINED]
+    yield from (place_text(each) for each in listed if each.within is ABSENT)
+    yield from joined_lines(each for each in told if not is_each and each.kind in JOINED)
+    for kind in sorted({each.kind for each in listed}):
+        yield from folded((Part(each.within, (number,), each.kind, None, [place_text(each)]) for number, each in enumerate(listed)
+                           if each.kind == kind and not isinstance(each.within, Absent)), is_each, TOLD)
+
+
+def joined_lines(found: Iterable[Told]) -> Iterator[str]:
+    """What is one fact of several, in one line: of each person one, and then further ones."""
+    facts: Dict[Tuple[str, str], List[Told]] = {}
+    for each in found:
+        facts.setdefault((each.kind, each.text.partition(": ")[0]), []).append(each)
+    for (kind, fact), of in facts.items():
+        first = {each.within: each for each in reversed(of)}
+        told = [*reversed(first.values()), *(each for each in of if first[each.within] is not each)]
+        if len(told) == 1:
+            yield place_text(told[0])
+            continue
+        parts = [" ".join(filter(None, (each.place, each.text.partition(": ")[2]))) for each in told[:SHOWN]]
+        more = [f"{len(told) - SHOWN} more"] if len(told) > SHOWN else []
+        yield f"{kind}: {fact}: {'; '.join(parts + more)}"
+
+
+def above_lines(found: Iterable[AboveFinding], is_each: bool) -> Iterator[str]:
+    listed = list(found)
+    yield from (above_line(each) for each in listed if each.within is ABSENT)
+    yield from folded((Part(each.within, each.handed, "above", None, [above_line(each)]) for each in listed
+                       if not isinstance(each.within, Absent)), is_each)
+
+
+def said_first(report: Report, status: int) -> str:
+    """What a sum says before its numbers: that nothing but faults of somebody's own making is behind the status, and what of the
+    limits isn't looked at at all."""
+    own = {each.made_by for each in report.faults}
+    told = ["only faults of their holders' own making"] if status == FAULT and own and None not in own else []
+    return "; ".join(told + ([version_1_line(report.version_1)] if report.version_1 else []))
+
+
+def sum_line(report: Report) -> str:
+    """All of it in one line: how many subtrees were asked of, and how many of them stand how."""
+    counts = Counter(standings(report).values())
+    told = f"{sum(counts.values())} asked: {counted(counts) or 'nothing'}"
+    return "; ".join(filter(None, (said_first(report, report.status), told)))
+
+
+def standings(report: Report) -> Dict[str, str]:
+    """How each subtree stands, by the gravest that is told of it."""
+    told = {(each.path, standing(each)) for each in report.subtrees}
+    told |= {(path, entry.answer) for entry in report.entries for path in entry.subtrees}
+    told |= {(path, "fault") for fault in report.faults for path in fault.subtrees}
+    paths = {path for path, _ in told}
+    told |= {(each.path, "opened") for each in report.opened if each.path in paths}
+    return {path: word for path, word in sorted(told, key=lambda each: (each[0], -GRAVITY.index(each[1])))}
+
+
+def standing(subtree: Subtree) -> str:
+    """How a subtree stands by the answers of who holds it."""
+    words = {"above" if each.is_above else each.lines[0].split(" ")[0] for each in subtree.answers}
+    words = {word if word in GRAVITY else "fault" for word in words} - ({"above"} if len(words) > 1 else set())
+    return min(words, key=GRAVITY.index, default="contained")
+
+
+def lines_of(report: Report, is_each: bool = False) -> Iterator[str]:
     """The report as it is printed."""
     if report.subtrees:
-        yield from table(report)
+        yield from table(report, is_each)
     if not report.asked:
         yield "nothing was found to ask: no subtree and user of which containment could be asked"
-    found = list(finding_lines(report))
+    found = list(finding_lines(report, is_each))
     if found:
         yield ""
         yield "What lets somebody in, each once; opened and differs were seen by this helper and aren't proved:"
@@ -116,28 +217,53 @@ def lines_of(report: Report) -> Iterator[str]:
     if report.above:
         yield ""
         yield "What lies below what was handed to somebody is open to him, and isn't counted:"
-        yield from map(above_line, report.above)
+        yield from above_lines(report.above, is_each)
     yield ""
     yield f"What none of these answers looks at ({MANUAL}):"
-    yield from map(place_text, report.unseen)
-    yield from (f"snapshot: {place_text(each)}" for each in report.snapshot)
+    yield from told_lines(report.unseen, is_each)
+    # what is version 1's is said in the sum
+    yield from (f"snapshot: {line}" for line in told_lines((each for each in report.snapshot if each.kind != "version-1"), is_each))
     if not report.unseen and not report.snapshot:
         yield "this host tells of nothing"
+    yield sum_line(report)
 
 
 def by_kind(compared: Comparison) -> Iterator[Tuple[str, Tuple[Difference, ...]]]:
-    """What differs from a baseline, by its kind."""
-    return zip(KINDS, (compared.new, compared.worse, compared.changed, compared.gone))
+    """What differs from a baseline or stands since then, by its kind."""
+    return zip(KINDS, (compared.new, compared.worse, compared.stand, compared.changed, compared.gone))
 
 
-def comparison_lines(compared: Comparison) -> Iterator[str]:
-    """The lines of what differs from a baseline."""
-    for kind, found in by_kind(compared):
-        for each in found:
-            yield f"{kind}: {each.line}"
-            if each.before and each.before != each.line:
-                yield f"    before: {each.before}"
-            if kind in ("new", "worse"):
-                yield from what_to_change([each])
+def standing_line(compared: Comparison) -> str:
+    """What stands since a baseline, and was accepted by nobody."""
+    told = "; ".join(each.line for each in compared.stand[:SHOWN])
+    more = f"; and {len(compared.stand) - SHOWN} more" if len(compared.stand) > SHOWN else ""
+    verb = "finding stands" if len(compared.stand) == 1 else "findings stand"
+    return f"{len(compared.stand)} {verb} since {compared.time or compared.file}: {told}{more}"
+
+
+def comparison_lines(report: Report, compared: Comparison, is_each: bool = False) -> Iterator[str]:
+    """The lines of what differs from a baseline; what somebody made below their own delegation stands last."""
+    differing = [(kind, found) for kind, found in by_kind(compared) if kind != "stand"]
+    for kind, found in differing:
+        yield from (line for each in found if each.within is ABSENT for line in difference_lines(kind, each))
+    for kind, found in differing:
+        yield from folded((Part(each.within, (each.what, each.status, each.changes == ()), kind, None, list(difference_lines(kind, each)))
+                           for each in found if not isinstance(each.within, Absent)), is_each)
+    if compared.stand:
+        yield standing_line(compared)
+        yield from what_to_change([each for each in compared.stand if each.within is ABSENT])
+        yield from folded((Part(each.within, (each.what, each.status), each.what, None, list(what_to_change([each])))
+                           for each in compared.stand if not isinstance(each.within, Absent) and each.changes), is_each)
     if not any(found for _, found in by_kind(compared)):
-        yield f"nothing is new, worse, changed or gone since {compared.time}"
+        yield f"nothing is new, worse, changed or gone since {compared.time or compared.file}"
+    first = said_first(report, compared.status)
+    if first:
+        yield first
+
+
+def difference_lines(kind: str, each: Difference) -> Iterator[str]:
+    yield f"{kind}: {each.line}"
+    if each.before and each.before != each.line:
+        yield f"    before: {each.before}"
+    if kind in ("new", "worse"):
+        yield from what_to_change([each])

@@ -1,13 +1,11 @@
 """Reports of hosts as one page in one file, which loads nothing and works without its script."""
 import base64
 import hashlib
-import os
-import tempfile
 from dataclasses import dataclass
 from string import Template
 from typing import Dict, List, Sequence, Tuple
 
-from zirofen_host.fault import Fault
+from zirofen_host import output
 from zirofen_host.judge.model import Absent, Difference, Report
 from zirofen_host.show import words
 from zirofen_host.show.branches import Branches
@@ -36,6 +34,18 @@ class HostPage:
         if self.host.findings and self.host.findings[0].kind in STANDINGS:
             return self.host.findings[0].kind
         return CONTAINED if self.host.report.asked else NOT_ASKED
+
+    @property
+    def name(self) -> str:
+        return words.name_of(self.host.report)
+
+    def source(self) -> str:
+        """What it was made of, as far as a report tells."""
+        report = self.host.report
+        time = f'at <time datetime="{text(report.time)}">{text(report.time)}</time>' if report.time else "at a time that isn't told"
+        told = (f'<span class="name">{text(self.name)}</span>', text(report.kernel), time,
+                f"with {text(report.program)}" if report.program else "")
+        return ", ".join(filter(None, told))
 
     def sentence(self) -> str:
         """How the host stands, at once."""
@@ -68,7 +78,7 @@ class HostPage:
         return f" ({told})" if told else ""
 
     def html(self) -> str:
-        report, (delegations, contained, open_findings) = self.host.report, self.host.numbers
+        delegations, contained, open_findings = self.host.numbers
         findings = "\n".join(each.html() for each in articles(self.host, self.at))
         return filled("host.html", id=self.at.id, heading=self.at.level(1), second=self.at.level(2), kind=css(self.kind),
                       sign=SIGNS[self.kind][0],
@@ -77,8 +87,7 @@ class HostPage:
                       open_kinds=text(self.open_kinds()), findings=findings or paragraph("There are none."),
                       baseline=self.baseline(), tree="\n".join(Branches(self.host, self.at.id).parts()), signs=self.signs(),
                       expected=self.expected(), unseen=self.unseen(),
-                      host=text(report.host), kernel=text(report.kernel), time=text(report.time),
-                      program=text(str(report.program)))
+                      host=text(self.name), source=self.source())
 
     def baseline(self) -> str:
         """What is new, worse, changed or gone since an earlier report, where one was compared."""
@@ -89,7 +98,7 @@ class HostPage:
         for kind, differ in by_kind(found):
             parts = [f'<li id="{self.at.id}-{kind}-{number}">{difference(each)}</li>' for number, each in enumerate(differ, 1)]
             told += [f"<{third}>{kind.capitalize()}</{third}><ul>", *parts, "</ul>"] if parts else []
-        return (f'<section id="{self.at.id}-baseline"><{second}>Since {text(found.time)}</{second}>\n'
+        return (f'<section id="{self.at.id}-baseline"><{second}>Since {text(found.time or found.file)}</{second}>\n'
                 + "\n".join(told or ["<p>Nothing is new, worse, changed or gone.</p>"]) + "\n</section>")
 
     def signs(self) -> str:
@@ -125,7 +134,7 @@ class HostPage:
     def overview(self) -> str:
         """The host in the list of several."""
         delegations, contained, open_findings = self.host.numbers
-        link = f'<a href="#{self.at.id}">{text(self.host.report.host)}</a>'
+        link = f'<a href="#{self.at.id}">{text(self.name)}</a>'
         return (f'<li class="{css(self.kind)}">{link} <span class="standing">{SIGNS[self.kind][0]} {self.kind}</span>'
                 f"<br>{text(self.sentence())} <br>{words.count(delegations, 'delegation')}, {contained} shown to be contained, "
                 f"{open_findings} open</li>")
@@ -152,7 +161,7 @@ def page(reports: Sequence[Report]) -> str:
     hosts = [host_of(report) for report in reports]
     is_alone = len(hosts) == 1
     pages = sorted((HostPage(host, Place(f"host-{number}", is_alone)) for number, host in enumerate(hosts, 1)), key=gravity)
-    title = text(hosts[0].report.host if is_alone else words.count(len(hosts), "host"))
+    title = text(words.name_of(hosts[0].report) if is_alone else words.count(len(hosts), "host"))
     overview = filled("overview.html", title=f"Zirofen: cgroup delegations of {title}",
                       hosts="\n".join(each.overview() for each in pages))
     style, script = read("page.css"), read("page.js")
@@ -166,27 +175,4 @@ def page(reports: Sequence[Report]) -> str:
 
 def write(file: str, reports: Sequence[Report]) -> None:
     """Writes the page, whole or not at all."""
-    made = page(reports).encode("utf-8")
-    try:
-        if file == "-" or os.path.exists(file) and not os.path.isfile(file):
-            with open(1 if file == "-" else file, "wb", closefd=file != "-") as out:
-                out.write(made)
-        else:
-            replace(file, made)
-    except OSError as error:
-        raise Fault(f"can't write the page: {error.strerror}") from None
-
-
-def replace(file: str, made: bytes) -> None:
-    """Puts a new file in the place of one, as whoever writes one leaves it."""
-    number, beside = tempfile.mkstemp(dir=os.path.dirname(file) or ".", prefix=".zirofen-")
-    try:
-        with open(number, "wb") as out:
-            out.write(made)
-        mask = os.umask(0)
-        os.umask(mask)
-        os.chmod(beside, 0o666 & ~mask)
-        os.replace(beside, file)
-    except OSError:
-        os.unlink(beside)
-        raise
+    output.write(output.STANDARD_OUTPUT if file == "-" else file, [page(reports)], "the page")

@@ -6,7 +6,7 @@ import sys
 from dataclasses import dataclass
 from typing import Iterable, Iterator, List, Mapping, NamedTuple, Optional, Sequence, Tuple, Union
 
-from zirofen_host import progress
+from zirofen_host import ending, progress
 from zirofen_host.arguments import LEAST_WIDTH
 from zirofen_host.collect import bounded
 from zirofen_host.fault import Fault, plain
@@ -59,7 +59,8 @@ class Drawer:
         if only not in self.host.rows:
             raise Fault(f"there is no cgroup {only!a} in the report")
         report = self.host.report
-        yield self.cut_end(f"{report.host}, {report.kernel}, {report.time}, {report.program}", self.drawing.width)
+        told = words.name_of(report), report.kernel, report.time, report.program
+        yield self.cut_end(", ".join(filter(None, told)), self.drawing.width)
         left: List[Left] = [(only, "", "")]
         while left:
             path, first, rest = left.pop()
@@ -213,7 +214,7 @@ def show(lines: Iterable[str], pager: Optional[str], encoding: str) -> None:
     progress.end()
     if pager and shutil.which(pager.split()[0]):
         environment = {"LESS": "FRSX", **os.environ, "LESSSECURE": "1"}
-        with subprocess.Popen(["sh", "-c", pager], stdin=subprocess.PIPE, env=environment) as shown:
+        with subprocess.Popen(["sh", "-c", pager], stdin=subprocess.PIPE, env=environment) as shown, ending.uninterrupted():
             try:
                 shown.communicate(text)
             except BrokenPipeError:

@@ -9,7 +9,7 @@ from zirofen_host.collect.model import Value
 from zirofen_host.collect.walk import OWNERS_MARK
 from zirofen_host.judge.model import (Absent, DiffersFinding, EntryFinding, FaultFinding, HeldBy, OpenedFinding, Owner, Report,
                                       ReportCgroup, ReportFile, ReportProcess, ReportUser, Subtree, Whom)
-from zirofen_host.profile import CONTROL_FILES, HANDED_OVER, LIMIT_FILES, ancestors, parent_of
+from zirofen_host.profile import CONTROL_FILES, HANDED_OVER, LIMIT_FILES, ancestors, is_usual, parent_of
 from zirofen_host.show import words
 from zirofen_host.show.lines import alike, entry_in_common, opened_in_common
 from zirofen_host.show.words import ABOVE, CONTAINED, ESCAPES, FAULT, NOT_ASKED, OPENED, STANDINGS, UNSETTLED, visible
@@ -36,17 +36,14 @@ class Escape:
     uid: Optional[int]
     gids: Tuple[int, ...]
     subtree: str
+    # as they are shown, and what is said of it where they aren't the program's or may not run
     lines: Tuple[str, ...]
+    told: str = ""
 
 
 DIFFERS = "differs"
 KINDS = {"opened": OPENED, "faults": FAULT, "differs": DIFFERS}
 COUNTED = (ESCAPES, OPENED, UNSETTLED, FAULT)
-# what stands in other limits where nobody has set them
-USUAL = {"cgroup.freeze": "0", "cgroup.type": "domain", "cpu.idle": "0", "cpu.max": "max 100000", "cpu.max.burst": "0",
-         "cpu.uclamp.max": "max", "cpu.uclamp.min": "0.00", "cpu.weight.nice": "0", "io.bfq.weight": "default 100",
-         "io.weight": "default 100", "memory.oom.group": "0", "memory.zswap.writeback": "1",
-         "cpuset.cpus.partition": "member", "io.prio.class": "no-change"}
 
 
 def seen(value: object, shown: Callable[[str], str]) -> object:
@@ -67,14 +64,6 @@ def with_texts(made: Made, shown: Callable[[str], str]) -> Made:
 
 def present(parts: Union[Tuple[One, ...], Absent]) -> Tuple[One, ...]:
     return () if isinstance(parts, Absent) else parts
-
-
-def is_usual(file: str, value: Optional[Value]) -> bool:
-    """Whether a limit is as it is where nobody has set it."""
-    if file in LIMIT_FILES:
-        return value == LIMIT_FILES[file][1]
-    usual = USUAL.get(file, "max" if file.rpartition(".")[2] in ("max", "high") else "0" if file.endswith(".min") else "")
-    return value in (None, "", usual)
 
 
 def is_handed(entry: Union[Owner, ReportFile], held: HeldBy) -> bool:
@@ -267,7 +256,7 @@ class Host:
     def escape(self, part: EntryFinding) -> Optional[Escape]:
         """Who breaks what by an entry, and how; an example of somebody else's, or the answer of who holds a subtree."""
         if part.example:
-            return Escape(part.example.who, part.example.uid, part.example.gids, part.example.subtree, part.example.lines)
+            return self.as_shown(Escape(part.example.who, part.example.uid, part.example.gids, part.example.subtree, part.example.lines))
         let_in = {each.id for each in part.whom if each.by == "owner"}
         found = [(not let_in.intersection(answer.uids), path, answer) for path in part.subtrees if path in self.subtrees
                  for answer in self.subtrees[path].answers
@@ -278,7 +267,12 @@ class Host:
         uid = next((uid for uid in answer.uids if uid in let_in), answer.uids[0] if answer.uids else None)
         user = None if uid is None else self.users.get(uid)
         gids = max(user.groups if user else (), key=len, default=answer.gids)
-        return Escape(self.user(uid), uid, gids, path, answer.lines)
+        return self.as_shown(Escape(self.user(uid), uid, gids, path, answer.lines))
+
+    def as_shown(self, escape: Escape) -> Escape:
+        """An escape with the processes that can be moved, where the report has such a list."""
+        found = next((each for each in self.report.lists if (each.subtree, each.lines) == (escape.subtree, escape.lines)), None)
+        return dataclasses.replace(escape, lines=found.shown, told=found.told) if found else escape
 
 
 def host_of(report: Report, shown: Callable[[str], str] = visible) -> Host:

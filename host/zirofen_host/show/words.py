@@ -2,7 +2,7 @@
 from typing import Iterable, List, Optional, Sequence
 
 from zirofen_host.collect.model import Value
-from zirofen_host.judge.model import Whom
+from zirofen_host.judge.model import Report, Whom
 from zirofen_host.profile import parent_of
 
 ESCAPES, OPENED, UNSETTLED, FAULT, NOT_ASKED, ABOVE, CONTAINED = (
@@ -14,7 +14,7 @@ SIGNS = {ESCAPES: ("✗", "X"), OPENED: ("!", "!"), UNSETTLED: ("?", "?"), FAULT
          ABOVE: ("↑", "^"), CONTAINED: ("✓", "+")}
 MEANINGS = {
     ESCAPES: "operations were found by which somebody breaks it",
-    OPENED: "a limit stands open to somebody; seen, and not proved",
+    OPENED: "a limit, or where a manager makes what it starts, stands open to somebody; seen, and not proved",
     UNSETTLED: "an entry above or at it is open to somebody, and nothing was found that breaks it",
     FAULT: "there is no answer for somebody",
     NOT_ASKED: "nothing was asked of it",
@@ -32,11 +32,18 @@ WHAT_NO_ANSWER_SEES = {
     "mark": "A mark that its owner can set proves nothing.",
     "groups": "The program takes 32 groups of a user.",
     "everybody": "Where everybody is let in, some users stand for all.",
+    "unknown-file": "A newer kernel's files, taken as the mode tells that most cgroups have them with.",
     "restart": "A unit's cgroup is made anew when it is started again, with its own settings alone.",
+    "lacking": "The helper ran without a capability by which it would have seen more.",
     "nsdelegate": "A mount option that keeps containers in.",
 }
 SHOWN_USERS = 8
 SIZES = (("T", 2**40), ("G", 2**30), ("M", 2**20), ("K", 2**10))
+
+
+def name_of(report: Report) -> str:
+    """What a report is of: a host, or a text that doesn't name its own."""
+    return report.host or "a tree text"
 
 
 def visible(text: str) -> str:

@@ -1,0 +1,441 @@
+"""What one user makes is charged to them: the two others are answered as if it weren't there, and no more is read, asked and told
+than the budgets say. All of it is counted, and nothing timed."""
+import json
+import os
+import subprocess
+import sys
+import unittest
+from unittest import mock
+
+import made_up_program
+import scaling
+from check_test import HostTest, owned
+from made_up import COMMAND, MEMORY, accounts_with
+from shown import made
+from zirofen_host import command
+from zirofen_host.ask import accepted
+from zirofen_host.ask import program as asking
+from zirofen_host.ask.questions import subtrees_by
+from zirofen_host.collect import bounded, descriptors, looks, processes, snapshot, walk
+from zirofen_host.collect.accounts import Accounts
+from zirofen_host.collect.bounded import Budget, Spent
+from zirofen_host.collect.holds import Holds
+from zirofen_host.collect.model import AccountLists, Range
+from zirofen_host.judge import check, findings, unseen, whole
+from zirofen_host.profile import path_of
+from zirofen_host.show import lines
+
+OTHERS = [("contained", "/bob"), ("escapes", "/carol")]
+MOUNT = "3 1 0:29 / /sys/fs/cgroup rw - cgroup2 cgroup2 rw\n"
+
+
+class ThreeTest(HostTest):
+    """One hostile user, one who is well handed over, and one with a limit left open."""
+
+    folder = MEMORY
+
+    def setUp(self):
+        super().setUp()
+        self.host.cgroup("/alice", owners=owned(1000, 1000), enabled="memory")
+        self.host.cgroup("/bob", owners=owned(1001))
+        self.host.cgroup("/carol", owners={**owned(1002), "cgroup.max.depth": 1002})
+
+    def others(self, found):
+        self.assertEqual([row[2:] for row in self.rows(found) if row[3] in ("/bob", "/carol")], OTHERS)
+        (entry,) = [each for each in found["entries"] if each["path"] == "/carol"]
+        self.assertEqual(entry["changes"], [f"chown root {self.host.mount}/carol/cgroup.max.depth"])
+        told = self.lines(found)
+        self.assertTrue(any(line.startswith("/carol cgroup.max.depth (1002:0 644): escapes, by carol(1002), of /carol") for line in told))
+
+    def small(self, name, most):
+        patched = mock.patch.object(bounded, name, Budget(getattr(bounded, name).what, most))
+        patched.start()
+        self.addCleanup(patched.stop)
+
+    def counted(self, call):
+        """What a call gives, and how many bytes were read in it."""
+        self.bytes, read = 0, os.read
+
+        def reading(opened, most):
+            data = read(opened, most)
+            self.bytes += len(data)
+            return data
+        with mock.patch.object(bounded.os, "read", reading):
+            return call()
+
+
+class SpentTest(unittest.TestCase):
+    def test_a_subordinate_uid_is_its_owners_and_root_pays_for_nobody(self):
+        payer = Accounts(AccountLists(subordinate_uids=(Range("1000", 100000, 10), Range("0", 200000, 10)))).payer
+        spent = Spent(Budget("things", 2), payer)
+        self.assertEqual([payer(uid) for uid in (0, 1000, 1001, 100003, 200003)], [0, 1000, 1001, 1000, 200003])
+        self.assertEqual([spent.take(0), spent.take(1000), spent.take(100001), spent.take(1001), spent.take(100002)],
+                         [True, True, True, True, False])
+        self.assertEqual((spent.over(), spent.is_over(100009), spent.is_over(1001), spent.left(1001)), ([1000], True, False, 1))
+
+    def test_what_root_handed_over_is_nobodys_making(self):
+        payer, rows = accounts_with(uids=(Range("1000", 100000, 10),)).payer, {}
+        for path, uid, mode in (("/", 0, 0o755), ("/a", 1000, 0o755), ("/a/in", 100001, 0o755), ("/a/in/roots", 0, 0o755),
+                                ("/a/bobs", 1001, 0o755), ("/tmp", 0, 0o777), ("/tmp/x", 1001, 0o755)):
+            rows[path_of(path)] = mock.Mock(directory=mock.Mock(uid=uid, mode=mode))
+        rows[path_of("/a/m.service")] = rows[path_of("/a/in")]
+        holds = Holds(rows, payer, {path_of("/a/m.service")})
+        self.assertEqual([holds.within(path_of(path)) for path in (*rows, "/a/in/gone", "/gone")],
+                         [None, None, 1000, 1000, None, None, 1001, None, 1000, None])
+
+
+class CgroupsTest(ThreeTest):
+    def test_more_cgroups_than_are_read(self):
+        for number in range(30):
+            self.host.cgroup(f"/alice/c{number}", owners=owned(1000))
+        self.counted(lambda: self.others(self.report()))
+        whole = self.bytes
+        self.small("CGROUPS", 10)
+        found = self.counted(self.report)
+        self.others(found)
+        self.assertEqual([(each["subtrees"], each["fault"], each["made_by"]) for each in found["faults"]],
+                         [(["/alice"], "uid 1000 has over 10 cgroups", "alice(1000)")])
+        self.assertLess(self.bytes, whole / 2)
+
+    def test_cgroups_of_subordinate_uids_are_their_owners(self):
+        for number in range(9):
+            self.host.cgroup(f"/alice/c{number}", owners=owned(100000 + number))
+        self.small("CGROUPS", 6)
+        found = self.report()
+        self.others(found)
+        self.assertEqual([each["fault"] for each in found["faults"]], ["uid 1000 has over 6 cgroups"])
+
+    def test_anothers_cgroups_inside_of_his_are_the_others(self):
+        self.host.cgroup("/alice/daves", owners=owned(1003))
+        for number in range(9):
+            self.host.cgroup(f"/alice/daves/c{number}", owners=owned(1003))
+        self.small("CGROUPS", 6)
+        found = self.report()
+        self.others(found)
+        self.assertEqual([(each["subtrees"], each["fault"]) for each in found["faults"]],
+                         [(["/alice/daves"], "uid 1003 has over 6 cgroups")])
+        self.assertIn(("contained", "/alice"), [row[2:] for row in self.rows(found)])
+
+    def test_long_marks(self):
+        for number in range(9):
+            self.host.cgroup(f"/alice/c{number}", owners=owned(1000))
+        self.host.cgroup("/alice/c0", owners=owned(1000), marks=("user.delegate",))
+
+        def marks_of(folder):
+            return bounded.Attributes({"user.delegate": b"1" * 16}, 60000) if os.fstat(folder).st_uid else bounded.NO_MARKS
+        with mock.patch.object(self.host, "marks_of", marks_of):
+            found = self.report(json=True)
+            self.others(found)
+            self.assertEqual({len(each["marks"].get("user.delegate", "")) for each in found["cgroups"]}, {0, 16})
+            self.small("CGROUP_BYTES", 300000)
+            found = self.report()
+        self.others(found)
+        self.assertEqual([each["subtrees"] for each in found["faults"]], [["/alice"]])
+
+    def test_a_controller_that_comes_behind_the_first_walk_and_goes_behind_the_second(self):
+        self.host.cgroup("/alice/in", owners=owned(1000))
+        self.host.cgroup("/alice/in/deep", owners=owned(1000))
+        turns, read = [], walk.Walk.read
+
+        def reading(of, path):
+            if path == b"/alice":
+                turns.append(path)
+                for deep in ("/alice/in", "/alice/in/deep"):
+                    for name in ("memory.max", "memory.high", "memory.low", "memory.min"):
+                        if deep.endswith("deep") and os.path.exists(f"{self.host.mount}{deep}/{name}"):
+                            os.remove(f"{self.host.mount}{deep}/{name}")
+                self.host.cgroup("/alice/in", owners=owned(1000), enabled="memory" if len(turns) == 2 else "")
+                self.host.cgroup("/alice/in/deep", owners={**owned(1000), "memory.max": 1000} if len(turns) == 2 else owned(1000))
+            return read(of, path)
+        with mock.patch.object(walk.Walk, "read", reading):
+            taken = self.host.take(accounts=self.host.etc)
+        self.assertGreater(len(turns), 2)
+        with mock.patch.object(self.host, "snapshot", lambda: taken):
+            for is_json in (False, True):
+                self.others(self.report(json=is_json))
+
+
+class ProcessesTest(ThreeTest):
+    def test_more_processes_than_are_looked_at(self):
+        for pid in range(10, 30):
+            self.host.process(pid, uid=1000, gid=1000)
+        self.host.process(31, uid=1001, gid=1001)
+        self.small("PROCESSES", 5)
+        found = self.report()
+        self.others(found)
+        self.assertEqual([(each["who"], each["subtrees"], each["fault"]) for each in found["faults"]],
+                         [("alice(1000)", ["/alice"], "uid 1000 has over 5 processes: not all were looked at")])
+
+    def test_who_holds_nothing_has_a_line_alone(self):
+        for pid in range(10, 30):
+            self.host.process(pid, uid=1003, gid=1003)
+        self.small("PROCESSES", 5)
+        found = self.report()
+        self.others(found)
+        self.assertEqual((found["faults"], self.told(found, "processes")),
+                         ([], ["uid 1003: uid 1003 has over 5 processes: not all were looked at"]))
+
+    def test_long_lists_of_groups(self):
+        for pid in range(10, 20):
+            self.host.process(pid, uid=1000, gid=1000, groups=range(100000, 110000))
+        self.small("PROCESS_BYTES", 100000)
+        found = self.counted(self.report)
+        self.others(found)
+        self.assertLess(self.bytes, 400000)
+        self.assertEqual([each["subtrees"] for each in found["faults"]], [["/alice"]])
+
+
+class MountsTest(ThreeTest):
+    def mounts(self, count):
+        return "".join(f"{number} 1 0:30 / /tmp/{'n' * 200}/{number} rw - tmpfs none rw\n" for number in range(10, 10 + count)) + MOUNT
+
+    def test_each_namespace_is_read_once(self):
+        for pid in range(10, 50):
+            self.host.process(pid, uid=1000)
+            self.host.mounts(pid, self.mounts(100), namespace=4026532000)
+        self.others(self.counted(self.report))
+        self.assertLess(self.bytes, 2 * len(self.mounts(100)) + 40 * 2000)
+
+    def test_no_more_than_his_budget_is_read(self):
+        for pid in range(10, 20):
+            self.host.process(pid, uid=1000)
+            self.host.mounts(pid, self.mounts(500), namespace=4026532000 + pid)
+        self.small("MOUNT_BYTES", 50000)
+        self.others(self.counted(self.report))
+        self.assertLess(self.bytes, 50000 + 2 * bounded.PART + 60000)
+        self.assertGreater(10 * len(self.mounts(500)), 1000000)
+
+
+class DescriptorsTest(ThreeTest):
+    def setUp(self):
+        super().setUp()
+        self.host.process(7, uid=1000)
+        self.text = ("alice(1000): cgroup.max.depth at /bob is {}open for writing in process 7, and he may not open it now")
+
+    def test_a_mount_that_another_namespace_has(self):
+        self.host.opens(7, 3, "/bob/cgroup.max.depth", os.O_WRONLY, mount=31)
+        self.host.mounts(7, "40 1 0:30 / / rw - ext4 none rw\n", namespace=4026532001)
+        self.host.process(8, uid=1001)
+        self.host.mounts(8, MOUNT.replace("3 1", "31 1"), namespace=4026531832)
+        self.host.cgroup("/bob", owners=owned(1001), pids=(8,))
+        self.assertEqual(self.told(self.report(), "descriptor"), [self.text.format("")])
+
+    def test_a_mount_that_nothing_tells_of(self):
+        self.host.opens(7, 3, "/bob/cgroup.max.depth", os.O_WRONLY, mount=31)
+        with mock.patch.object(bounded, "hold") as asked:
+            found = self.report()
+        self.assertEqual((self.told(found, "descriptor"), asked.called), ([self.text.format("perhaps ")], False))
+        self.others(found)
+
+    def test_without_an_inode_it_is_told_as_not_looked_at(self):
+        self.host.opens(7, 3, "/bob/cgroup.max.depth", os.O_WRONLY, mount=31, has_inode=False)
+        found = self.report()
+        self.assertEqual(self.told(found, "descriptor"), [
+            "alice(1000): 1 open files are on mounts that nothing tells of, and this kernel doesn't tell which files they are: they "
+            "weren't looked at"])
+
+    def test_of_an_older_kernel_a_file_is_held_before_it_is_asked(self):
+        self.host.opens(7, 3, "/bob/cgroup.max.depth", os.O_WRONLY, has_inode=False)
+        with mock.patch.object(descriptors, "number_in", lambda fields, key: 3 if key == "mnt_id" else -1):
+            self.assertEqual(self.told(self.report(), "descriptor"), [self.text.format("")])
+        self.assertEqual(descriptors.inode_of(f"{self.host.mount}/bob/cgroup.max.depth", {}), -1)
+        self.assertEqual(descriptors.inode_of(f"{self.host.mount}/none", {3: True}), -1)
+
+    def test_what_has_no_path_isnt_asked_what_it_has_to_tell(self):
+        for number in range(3, 40):
+            self.host.opens(7, number, "/bob/cgroup.max.depth", os.O_WRONLY, more="tfd: 1\n" * 15000)
+            os.remove(f"{self.host.proc}/7/fd/{number}")
+            os.symlink("anon_inode:[eventpoll]", f"{self.host.proc}/7/fd/{number}")
+        self.host.opens(7, 40, "/bob/cgroup.max.depth", os.O_WRONLY)
+        found = self.counted(self.report)
+        self.others(found)
+        self.assertEqual(self.told(found, "descriptor"), [self.text.format("")])
+        self.assertLess(self.bytes, 30000)
+
+    def test_what_tells_much_is_looked_at_a_few_times(self):
+        for number in range(3, 40):
+            self.host.opens(7, number, "/bob/cgroup.max.depth", os.O_WRONLY, more="lock: 1\n" * 15000)
+        found = self.counted(self.report)
+        self.others(found)
+        self.assertEqual(self.told(found, "descriptor"), [
+            self.text.format(""), "alice(1000): more than 16 open files that /proc tells much of are in his processes: not all were looked "
+            "at"])
+        self.assertLess(self.bytes, 150000)
+
+
+class LinesTest(ThreeTest):
+    def test_what_is_alike_is_one_with_a_number(self):
+        for number in range(50):
+            self.host.cgroup(f"/alice/c{number}", owners=owned(1000), modes={name: 0o666 for name in ("cgroup.procs", "memory.max")})
+        found = self.report()
+        self.others(found)
+        told = self.lines(found)
+        self.assertLess(len(told), 40)
+        self.assertEqual([line for line in told if "49 more" in line][-1],
+                         "    .. and 49 more that are alike, in what uid 1000 made: --each tells them")
+        entries = [each for each in found["entries"] if each["path"].startswith("/alice/c")]
+        self.assertEqual({each["path"] for each in entries}, {f"/alice/c{number}" for number in range(50)})
+        self.assertEqual({tuple(each["changes"]) for each in entries if each["path"] == "/alice/c49" and each["entry"] == "memory.max"},
+                         {(f"chmod 664 {self.host.mount}/alice/c49/memory.max",)})
+        each = list(self.lines_each(found))
+        self.assertTrue(all(any(line.startswith(f"/alice/c{number} ") for line in each) for number in range(50)))
+        first = next(line for line in told if line.startswith("/alice/c") or line.startswith("/carol "))
+        self.assertTrue(first.startswith("/carol "))
+
+    def lines_each(self, found):
+        return lines.lines_of(made(found), True)
+
+    def test_odd_names_are_told_a_few_times(self):
+        for number in range(50):
+            os.makedirs(f"{self.host.mount}/alice/o d{number}")
+        found = self.report()
+        self.others(found)
+        told = [line for line in self.lines(found) if line.startswith("snapshot: name: ")]
+        self.assertEqual((len(told), len([each for each in found["snapshot"] if each["kind"] == "name"])), (4, 50))
+        self.assertIn("snapshot: .. and 46 more in what uid 1000 made: 46 name", self.lines(found))
+
+    def test_what_isnt_alike_is_cut_and_counted(self):
+        for number in range(64):
+            self.host.cgroup(f"/alice/c{number}", owners=owned(1000), modes={"memory.max": 0o602 | number << 3 & 0o070 | number & 0o4})
+        found = self.report()
+        self.others(found)
+        self.host.cgroup("/alice/c0", owners=owned(1000), modes={"memory.max": 0o602, "cgroup.procs": 0o606})
+        modes = {tuple((each["owner"]["mode"]) for each in found["entries"] if each["path"] == f"/alice/c{number}") for number in range(64)}
+        self.assertGreaterEqual(len(modes), 8)
+        with mock.patch("zirofen_host.show.folded.folded.__defaults__", (False, 3)):
+            told = self.lines(found)
+        (more,) = [line for line in told if line.startswith(".. and") and "let in" in line]
+        self.assertRegex(more, r"^\.\. and [0-9]+ more in what uid 1000 made that let in everybody: [0-9]+ escapes$")
+        self.assertLess(len(told), 60)
+
+    def test_the_program_is_asked_for_advice_so_many_times(self):
+        for number in range(200):
+            self.host.cgroup(f"/alice/c{number}", owners=owned(1000), modes={"memory.max": 0o602 | (number & 0o7) << 3,
+                                                                             "memory.high": 0o602 | number & 0o70})
+        found = self.report()
+        self.others(found)
+        self.assertLessEqual(len([words for words in self.called() if words[0] == "advise"]), 64)
+        with mock.patch.object(bounded, "ADVICE", 2):
+            found = self.report()
+        self.others(found)
+        (told,) = self.told(found, "advice")
+        self.assertRegex(told, "^: what to change isn't told of [0-9]+ entries: the program is asked 2 times")
+
+    def test_the_sum(self):
+        self.host.cgroup("/odd", owners=owned(1003))
+        self.assertEqual(self.lines(self.report())[-1], "4 asked: 1 fault, 1 escapes, 2 contained")
+
+
+class LooksTest(ThreeTest):
+    """Each look stands alone."""
+
+    def broken(self, module, name):
+        def fails(*_):
+            raise KeyError("memory.max")
+        patched = mock.patch.object(module, name, fails)
+        patched.start()
+        self.addCleanup(patched.stop)
+
+    def test_each_look_stands_alone(self):
+        for module, name, what in ((unseen, "inodes_of", "descriptors"), (whole, "users_of", "users"), (unseen, "numbers", None),
+                                   (findings, "closing_of_directories", "closing"), (findings, "what_differs", "differs")):
+            with self.subTest(name):
+                self.host.cgroup("/m.service", owners=owned(1001), marks=("trusted.delegate",))
+                original = getattr(module, name)
+                self.broken(module, name)
+                found = self.report(json=True)
+                setattr(module, name, original)
+                self.others(found)
+                if what:
+                    self.assertIn(f"{what}: KeyError('memory.max')", self.told(found, looks.FAILED))
+                    self.assertEqual(found["status"], 3)
+
+    def test_what_is_collected_stands_alone(self):
+        row, process = snapshot.Bending.row, processes.Reader.process
+
+        def odd_row(of, path, found):
+            return {}["memory.max"] if path == path_of("/alice/in") else row(of, path, found)
+
+        def odd_process(of, pid):
+            return {}["Uid"] if pid == 8 else process(of, pid)
+        self.host.process(8, uid=1000)
+        for place in ("/alice/in", "/alice/in/deep"):
+            self.host.cgroup(place, owners=owned(1000))
+        for module, name, what, odd in ((snapshot.Bending, "row", "cgroups: KeyError('memory.max')", odd_row),
+                                        (processes.Reader, "process", "processes: KeyError('Uid')", odd_process),
+                                        (snapshot, "lacking_notes", "", None), (check, "accounts_of", "accounts: OSError('no')", None)):
+            with self.subTest(name), mock.patch.object(module, name, odd or mock.Mock(side_effect=OSError("no"))):
+                found = self.report(json=True)
+                self.assertEqual([row_[2:] for row_ in self.rows(found) if row_[3] in ("/bob", "/carol")], OTHERS)
+                self.assertEqual([f"{each['place']}: {each['text']}" for each in found["snapshot"] if each["kind"] == looks.FAILED],
+                                 [what] if what else [])
+                self.assertEqual(found["status"], 3 if what else 1)
+
+    def test_the_ways_to_write_stand_alone(self):
+        out = []
+        words = ["check", "--plain-folder", "--mount", self.host.mount, "--proc", self.host.proc, "--accounts", self.host.etc,
+                 "--zirofen", self.program, "--html", f"{self.host.folder}/none/page.html",
+                 "--baseline-update", f"{self.host.folder}/base.json"]
+        warned = []
+        with mock.patch("zirofen_host.fault.write", lambda parts: out.append("".join(parts))), \
+                mock.patch("zirofen_host.fault.warn", warned.append), self.host.owned():
+            self.assertEqual(command.main(words), 3)
+        self.assertIn("/carol cgroup.max.depth (1002:0 644): escapes", "".join(out))
+        self.assertEqual(len([line for line in warned if "the page" in line]), 1)
+        with open(f"{self.host.folder}/base.json", encoding="ascii") as kept:
+            self.assertEqual(json.load(kept)["status"], 1)
+
+
+class SecondsTest(ThreeTest):
+    def test_a_run_is_cut_off(self):
+        program = f"{self.host.folder}/slow"
+        with open(program, "w", encoding="ascii") as out:
+            out.write("#!/bin/sh\nexec sleep 20\n")
+        os.chmod(program, 0o755)
+        ended = subprocess.run([sys.executable, COMMAND, "check", "--plain-folder", "--mount", self.host.mount, "--proc", self.host.proc,
+                                "--accounts", self.host.etc, "--zirofen", program, "--seconds", "1"], capture_output=True, text=True)
+        self.assertEqual((ended.stdout, ended.stderr, ended.returncode),
+                         ("", "zirofen-host check: it took longer than 1 seconds, and this is no answer\n", 3))
+
+
+class LargeTest(ThreeTest):
+    def test_a_text_leaves_out_what_is_inside_of_whoever_has_most(self):
+        for number in range(30):
+            self.host.cgroup(f"/alice/c{number}", owners=owned(1000))
+        self.host.cgroup("/bob/in", owners=owned(1001))
+        file = f"{self.host.folder}/tree.toml"
+        words = ["snapshot", "--with-host", "--plain-folder", "--mount", self.host.mount, "--proc", self.host.proc, "--accounts",
+                 self.host.etc]
+        out, warned = [], []
+        with mock.patch("zirofen_host.collect.fitting.MOST_ROWS", 20), \
+                mock.patch("zirofen_host.collect.snapshot.MOST_ROWS", 20), \
+                mock.patch("zirofen_host.fault.write", lambda parts: out.append("".join(parts))), \
+                mock.patch("zirofen_host.fault.warn", warned.append), self.host.owned():
+            self.assertEqual(command.main(words), 0)
+        why = "uid 1000 has 30 cgroups in /alice, left out: a text has 20 cgroups at most"
+        self.assertIn(f"large: /alice: {why}", warned)
+        with open(file, "w", encoding="ascii") as kept:
+            kept.write("".join(out))
+        self.assertIn("/bob/in", "".join(out))
+        options = self.options(tree=file, accounts=None)
+        found = self.value_of(check.report(accepted.take(options, subtrees_by(options)), options, False))
+        self.others(found)
+        self.assertEqual([(each["subtrees"], each["fault"], each["made_by"]) for each in found["faults"]],
+                         [(["/alice"], why, "alice(1000)")])
+        self.assertEqual(found["status"], 1)
+
+
+class ScalingTest(HostTest):
+    folder = MEMORY
+
+    def test_runs_and_lines_dont_grow_and_bytes_grow_as_what_is_there(self):
+        def play(of, words):
+            return made_up_program.play(words)
+        with mock.patch.object(asking.Program, "start", play):
+            few, many = scaling.cost(self.program, 40), scaling.cost(self.program, 160)
+        self.assertEqual((few[0], few[2]), (many[0], many[2]))
+        self.assertLess(many[1], 5 * few[1])
+
+
+if __name__ == "__main__":
+    unittest.main()

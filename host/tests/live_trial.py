@@ -1,0 +1,442 @@
+#!/usr/bin/env python3
+"""Plays one hostile user of three on a real mount of cgroups, live, and counts how often the other two get their lines. Run by hand,
+as root, on a machine that may be loaded for minutes:
+
+    host/tests/live_trial.py HOST_FOLDER [--mount FOLDER] [--runs 20] [--only ROW,ROW] [--cgroups 1000]
+
+HOST_FOLDER has zirofen-host. The users have uids without an account, and all that is made is removed again.
+"""
+import argparse
+import ctypes
+import os
+import re
+import resource
+import select
+import signal
+import subprocess
+import sys
+import tempfile
+import time
+
+HOSTILE, QUIET, OPEN = 61001, 61002, 61003
+NAMES = {HOSTILE: "hostile", QUIET: "quiet", OPEN: "open"}
+HANDED = ("", "/cgroup.procs", "/cgroup.subtree_control", "/cgroup.threads")
+LIBC = ctypes.CDLL(None, use_errno=True)
+NEW_USER, NEW_MOUNTS, BIND, PRIVATE, REC = 0x10000000, 0x00020000, 4096, 1 << 18, 16384
+IN_OPEN, SET_DUMPABLE = 0x20, 4
+SECONDS = 300
+COPIES = 400
+
+
+def write(path, text):
+    with open(path, "w", encoding="ascii") as out:
+        out.write(text)
+
+
+def call(name, *words):
+    if getattr(LIBC, name)(*words) < 0:
+        raise OSError(ctypes.get_errno(), f"{name}: {os.strerror(ctypes.get_errno())}")
+
+
+class Place:
+    """Three delegations on a mount: one whose user is hostile, one that is well handed over, and one with a limit left open."""
+
+    def __init__(self, mount, name):
+        self.mount, self.top, self.path = mount, f"/{name}", f"{mount}/{name}"
+        self.enabled_here = []
+        self.controller = None
+
+    def of(self, uid):
+        return f"{self.path}/{NAMES[uid]}"
+
+    def make(self):
+        os.mkdir(self.path)
+        with open(f"{self.mount}/cgroup.controllers", encoding="ascii") as names:
+            there = names.read().split()
+        with open(f"{self.mount}/cgroup.subtree_control", encoding="ascii") as names:
+            enabled = names.read().split()
+        self.controller = next((name for name in ("memory", "pids", "cpu", "hugetlb") if name in there), None)
+        if self.controller:
+            if self.controller not in enabled:
+                write(f"{self.mount}/cgroup.subtree_control", f"+{self.controller}")
+                self.enabled_here.append(self.controller)
+            write(f"{self.path}/cgroup.subtree_control", f"+{self.controller}")
+        for uid in NAMES:
+            os.mkdir(self.of(uid))
+            for file in HANDED:
+                if os.path.exists(self.of(uid) + file):
+                    os.chown(self.of(uid) + file, uid, uid)
+        os.chown(f"{self.of(OPEN)}/cgroup.max.depth", OPEN, OPEN)
+
+    def remove(self):
+        for folder in reversed(folders_in(self.path)):
+            for _ in range(50):
+                try:
+                    os.rmdir(folder)
+                    break
+                except OSError:
+                    time.sleep(0.02)
+        for name in self.enabled_here:
+            write(f"{self.mount}/cgroup.subtree_control", f"-{name}")
+
+
+def folders_in(top):
+    """A folder and all below it, each before what is inside it."""
+    found, left = [], [top]
+    while left:
+        found.append(left.pop())
+        with os.scandir(found[-1]) as entries:
+            left += [entry.path for entry in entries if entry.is_dir(follow_symlinks=False)]
+    return found
+
+
+def made(place, count):
+    """So many cgroups of the hostile user's own."""
+    for number in range(count):
+        os.makedirs(f"{place.of(HOSTILE)}/c{number}", exist_ok=True)
+
+
+# what the hostile user does; each says when it is ready, and goes on until it is ended
+
+
+def toggles(place, ready, options):
+    """Enables a controller behind the first walk and disables it behind the second, told by inotify."""
+    made(place, 50)
+    inotify = LIBC.inotify_init()
+    watched = f"{place.of(HOSTILE)}/c49/cgroup.subtree_control"
+    LIBC.inotify_add_watch(inotify, watched.encode(), IN_OPEN)
+    ready()
+    turn = 0
+    while True:
+        if not select.select([inotify], [], [], 0.5)[0]:
+            turn = 0
+            continue
+        os.read(inotify, 4096)
+        turn += 1
+        try:
+            write(f"{place.of(HOSTILE)}/cgroup.subtree_control", f"{'+' if turn % 2 else '-'}{place.controller}")
+        except OSError:
+            pass
+
+
+def toggles_once(place, ready, options):
+    """The same, but is quiet from the third walk on."""
+    made(place, 50)
+    inotify = LIBC.inotify_init()
+    LIBC.inotify_add_watch(inotify, f"{place.of(HOSTILE)}/c49/cgroup.subtree_control".encode(), IN_OPEN)
+    ready()
+    turn = 0
+    while True:
+        if not select.select([inotify], [], [], 0.5)[0]:
+            turn = 0
+            continue
+        os.read(inotify, 4096)
+        turn += 1
+        if turn <= 2:
+            write(f"{place.of(HOSTILE)}/cgroup.subtree_control", f"{'+' if turn == 1 else '-'}{place.controller}")
+
+
+def comes_and_goes(place, ready, options):
+    """Makes and removes cgroups."""
+    ready()
+    while True:
+        os.makedirs(f"{place.of(HOSTILE)}/a/b/c", exist_ok=True)
+        for below in ("a/b/c", "a/b", "a"):
+            os.rmdir(f"{place.of(HOSTILE)}/{below}")
+
+
+def own_namespaces():
+    """A user and a mount namespace of one's own."""
+    uid, gid = os.getuid(), os.getgid()
+    call("unshare", NEW_USER | NEW_MOUNTS)
+    write("/proc/self/setgroups", "deny")
+    write("/proc/self/uid_map", f"0 {uid} 1")
+    write("/proc/self/gid_map", f"0 {gid} 1")
+
+
+def mounts(place, ready, options):
+    """Many long mounts in a namespace of one's own, and many processes in it."""
+    own_namespaces()
+    call("mount", b"none", b"/", None, PRIVATE | REC, None)
+    call("mount", b"none", b"/tmp", b"tmpfs", 0, None)
+    folder = "/tmp" + "".join(f"/{'n' * 250}" for _ in range(10))
+    os.makedirs(folder)
+    for _ in range(options.mounts):
+        call("mount", folder.encode(), folder.encode(), None, BIND, None)
+    for _ in range(40):
+        if not os.fork():
+            signal.pause()
+    ready()
+    signal.pause()
+
+
+def epolls(place, ready, options):
+    """One epoll with many files, and many copies of it: what /proc tells of each copy is long."""
+    epoll = select.epoll()
+    for _ in range(options.files):
+        epoll.register(os.eventfd(0) if hasattr(os, "eventfd") else os.pipe()[0])
+    copies = [os.dup(epoll.fileno()) for _ in range(COPIES)]
+    ready()
+    select.select([], [], [], None if copies else 0)
+    signal.pause()
+
+
+def many_at_0666(place, ready, options):
+    """Many cgroups of one's own, each with all its files open to everybody."""
+    made(place, options.cgroups)
+    for number in range(options.cgroups):
+        folder = f"{place.of(HOSTILE)}/c{number}"
+        for file in os.listdir(folder):
+            os.chmod(f"{folder}/{file}", 0o666)
+    ready()
+    signal.pause()
+
+
+def a_chain_at_0666(place, ready, options):
+    """The same, one inside another."""
+    folder = place.of(HOSTILE)
+    for _ in range(min(options.cgroups, 1200)):
+        folder += "/c"
+        os.mkdir(folder)
+        for file in os.listdir(folder):
+            os.chmod(f"{folder}/{file}", 0o666)
+    ready()
+    signal.pause()
+
+
+def modes(place, ready, options):
+    """Many cgroups, each open in another way, so that none are alike."""
+    made(place, options.cgroups)
+    for number in range(options.cgroups):
+        folder = f"{place.of(HOSTILE)}/c{number}"
+        for at, file in enumerate(sorted(os.listdir(folder))):
+            os.chmod(f"{folder}/{file}", (number * 7 + at) % 512 | 0o602)
+    ready()
+    signal.pause()
+
+
+def marks(place, ready, options):
+    """Long marks in many cgroups."""
+    made(place, options.cgroups)
+    for number in range(options.cgroups):
+        os.setxattr(f"{place.of(HOSTILE)}/c{number}", "user.delegate", b"1" * 60000)
+    ready()
+    signal.pause()
+
+
+def hides_a_descriptor(place, ready, options):
+    """Holds a limit file open that was taken away again, from within namespaces of one's own."""
+    held = os.open(f"{place.of(HOSTILE)}/cgroup.max.depth", os.O_WRONLY)
+    own_namespaces()
+    call("mount", b"none", b"/", None, PRIVATE | REC, None)
+    LIBC.umount2(place.mount.encode(), 2)
+    ready()
+    while held:
+        signal.pause()
+
+
+def over_a_text(place, ready, options):
+    """More cgroups than a text takes."""
+    made(place, 4100)
+    ready()
+    signal.pause()
+
+
+def over_the_budget(place, ready, options):
+    """More cgroups than are read of one person."""
+    for number in range(330):
+        for below in range(100):
+            os.makedirs(f"{place.of(HOSTILE)}/c{number}/d{below}", exist_ok=True)
+    ready()
+    signal.pause()
+
+
+def processes(place, ready, options):
+    """Many processes that come and go."""
+    def reap(*_):
+        try:
+            while os.waitpid(-1, os.WNOHANG)[0]:
+                pass
+        except ChildProcessError:
+            pass
+    signal.signal(signal.SIGCHLD, reap)
+    ready()
+    while True:
+        try:
+            if not os.fork():
+                time.sleep(0.2)
+                os._exit(0)
+        except OSError:
+            time.sleep(0.05)
+
+
+ROWS = {"toggles": toggles, "toggles-once": toggles_once, "comes-and-goes": comes_and_goes, "mounts": mounts, "epolls": epolls,
+        "many-0666": many_at_0666, "chain-0666": a_chain_at_0666, "modes": modes, "marks": marks, "descriptor": hides_a_descriptor,
+        "over-a-text": over_a_text, "over-the-budget": over_the_budget, "processes": processes}
+# these take a minute and much memory of the kernel's
+LARGE = {"over-the-budget"}
+
+
+class Hostile:
+    """The hostile user at work, as long as the runs take."""
+
+    def __init__(self, act, place, options):
+        told, tell = os.pipe()
+        self.pid = os.fork()
+        if not self.pid:
+            os.close(told)
+            status = 1
+            try:
+                os.setsid()
+                resource.setrlimit(resource.RLIMIT_NOFILE, (options.files + 2 * COPIES,) * 2)
+                resource.setrlimit(resource.RLIMIT_NPROC, (400, 400))
+                os.setgroups([])
+                os.setresgid(HOSTILE, HOSTILE, HOSTILE)
+                os.setresuid(HOSTILE, HOSTILE, HOSTILE)
+                # else /proc/self is root's from now on
+                LIBC.prctl(SET_DUMPABLE, 1, 0, 0, 0)
+                act(place, lambda: os.write(tell, b"+"), options)
+            except OSError as error:
+                print(f"{act.__name__}: {error}", file=sys.stderr)
+            finally:
+                os._exit(status)
+        os.close(tell)
+        is_told = bool(select.select([told], [], [], SECONDS)[0])
+        self.is_ready = is_told and os.read(told, 1) == b"+"
+        os.close(told)
+
+    def end(self):
+        # all that it started has its session
+        try:
+            os.killpg(self.pid, signal.SIGKILL)
+        except ProcessLookupError:
+            pass
+        os.waitpid(self.pid, 0)
+
+
+class Ran:
+    """A run of the helper: what it wrote, how it ended, and what it took."""
+
+    def __init__(self, words, given=None):
+        with tempfile.TemporaryFile() as out, tempfile.TemporaryFile() as err:
+            start = time.monotonic()
+            process = subprocess.Popen(words, stdin=given or subprocess.DEVNULL, stdout=out, stderr=err)
+            self.is_late = not wait_for(process, SECONDS)
+            _, status, used = os.wait4(process.pid, 0)
+            process.returncode = os.waitstatus_to_exitcode(status)
+            self.status, self.seconds = process.returncode, time.monotonic() - start
+            self.memory = used.ru_maxrss // 1024
+            self.processor = used.ru_utime + used.ru_stime
+            out.seek(0)
+            err.seek(0)
+            self.out, self.err = out.read().decode("utf-8", "replace"), err.read().decode("utf-8", "replace")
+
+
+def wait_for(process, seconds):
+    end = time.monotonic() + seconds
+    while time.monotonic() < end:
+        if os.waitid(os.P_PID, process.pid, os.WEXITED | os.WNOHANG | os.WNOWAIT):
+            return True
+        time.sleep(0.02)
+    process.kill()
+    return False
+
+
+def missing(place, ran):
+    """Which lines of the two others aren't there."""
+    wanted = {"the quiet one's row": rf"^{QUIET}\s.*contained.*\s{place.top}/quiet$",
+              "the open one's row": rf"^{OPEN}\s.*escapes.*\s{place.top}/open$",
+              "the open one's entry": rf"^{place.top}/open cgroup.max.depth .*escapes, by uid {OPEN}",
+              "what to change of it": rf"change: .*{place.top}/open/cgroup.max.depth"}
+    found = [name for name, pattern in wanted.items() if not re.search(pattern, ran.out, re.M)]
+    bad = [word for word in ("Traceback", "a fault of this helper", "Error(") if word in ran.out + ran.err]
+    return found + bad + (["it took too long"] if ran.is_late else [])
+
+
+def play(name, place, options):
+    """A row: the two others' lines in so many runs, and the most that a run took."""
+    if name == "descriptor":
+        os.chown(f"{place.of(HOSTILE)}/cgroup.max.depth", HOSTILE, HOSTILE)
+    hostile = Hostile(ROWS[name], place, options)
+    if name == "descriptor":
+        os.chown(f"{place.of(HOSTILE)}/cgroup.max.depth", 0, 0)
+    try:
+        if not hostile.is_ready:
+            return f"{name}: not played: it wasn't ready"
+        good, statuses, ran, wrong = 0, set(), [], []
+        for _ in range(options.runs):
+            each = Ran([f"{options.folder}/zirofen-host", "check", "--mount", place.mount, "--only", place.top])
+            lacks = missing(place, each)
+            if name == "descriptor" and "descriptor: uid 61001: cgroup.max.depth" not in each.out:
+                lacks.append("the descriptor's line")
+            good += not lacks
+            wrong += lacks or []
+            statuses.add(each.status)
+            ran.append(each)
+        told = "; ".join(sorted(set(wrong)))
+        first = next((each for each in ran if missing(place, each)), None)
+        if first and options.verbose:
+            print(first.out[-3000:], first.err[-1000:], file=sys.stderr)
+        more = also(name, place, options)
+        return (f"{name}: {good} of {len(ran)}, status {'/'.join(map(str, sorted(statuses)))}, at most "
+                f"{max(each.seconds for each in ran):.1f} s, {max(each.processor for each in ran):.1f} s of processor, "
+                f"{max(each.memory for each in ran)} MB, {max(each.out.count(chr(10)) for each in ran)} lines"
+                + (f"; lacking: {told}" if told else "") + more)
+    finally:
+        hostile.end()
+
+
+def also(name, place, options):
+    """What else is tried where somebody has more than a text takes: a text of it all, judged elsewhere, and a baseline."""
+    if name not in ("over-a-text", "over-the-budget", "marks"):
+        return ""
+    with tempfile.TemporaryDirectory() as folder:
+        file = f"{folder}/tree.toml"
+        taken = Ran([f"{options.folder}/zirofen-host", "snapshot", "--with-host", "--mount", place.mount, "--only", place.top])
+        write_text(file, taken.out)
+        judged = Ran([f"{options.folder}/zirofen-host", "check", "--tree", file])
+        told = [line for line in missing(place, judged) if "change" not in line]
+        words = [f"{options.folder}/zirofen-host", "check", "--mount", place.mount, "--only", place.top, "--baseline", f"{folder}/base"]
+        first, second = Ran(words), Ran(words)
+        size = os.path.getsize(f"{folder}/base") if os.path.exists(f"{folder}/base") else 0
+        return (f"; snapshot: status {taken.status}, {len(taken.out)} bytes; its check: status {judged.status}, "
+                f"{'; '.join(told) or 'both answered'}; baseline: status {first.status} then {second.status}, {size} bytes")
+
+
+def write_text(file, text):
+    with open(file, "w", encoding="utf-8") as out:
+        out.write(text)
+
+
+def mount_here():
+    """The mount of version 2."""
+    with open("/proc/self/mountinfo", encoding="utf-8", errors="surrogateescape") as lines:
+        return next(line.split(" ")[4] for line in lines if " - cgroup2 " in line)
+
+
+def main():
+    parser = argparse.ArgumentParser(description=__doc__, formatter_class=argparse.RawDescriptionHelpFormatter)
+    parser.add_argument("folder", metavar="HOST_FOLDER")
+    parser.add_argument("--mount", default=None)
+    parser.add_argument("--runs", type=int, default=20)
+    parser.add_argument("--only", default=",".join(name for name in ROWS if name not in LARGE), help=f"of {' '.join(ROWS)}")
+    parser.add_argument("--cgroups", type=int, default=1000)
+    parser.add_argument("--mounts", type=int, default=2000)
+    parser.add_argument("--files", type=int, default=15000)
+    parser.add_argument("--verbose", action="store_true", help="what a run wrote in which something is lacking")
+    options = parser.parse_args()
+    failed = 0
+    for name in options.only.split(","):
+        place = Place(options.mount or mount_here(), f"zirofen-live-{os.getpid()}")
+        try:
+            place.make()
+            line = play(name, place, options)
+        finally:
+            place.remove()
+        failed += f": {options.runs} of {options.runs}," not in line
+        print(line, flush=True)
+    return 1 if failed else 0
+
+
+if __name__ == "__main__":
+    sys.exit(main())

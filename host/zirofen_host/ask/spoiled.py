@@ -1,0 +1,60 @@
+"""Which subtrees have no answer since something in them, or above them, changed all the time or can't be read."""
+from collections import defaultdict
+from dataclasses import dataclass
+from typing import DefaultDict, Dict, FrozenSet, Mapping, Optional, Set
+
+from zirofen_host.ask.model import Holders
+from zirofen_host.ask.questions import Questions
+from zirofen_host.collect.accounts import Accounts
+from zirofen_host.collect.model import Row, Snapshot
+from zirofen_host.profile import ANYBODY, CgroupPath, ancestors, path_of, text_of
+
+# of what is inside of a subtree an answer rests on nothing but how many cgroups and levels it has, where it has such a limit
+COUNTED = ("cgroup.max.descendants", "cgroup.max.depth")
+
+
+@dataclass(frozen=True)
+class Changed:
+    """What changed or can't be read, and by path who made what of it is inside of a cgroup; 0 stands for what is of nobody's."""
+    places: FrozenSet[CgroupPath]
+    inside: Mapping[CgroupPath, Set[int]]
+
+
+def changed_in(snapshot: Snapshot, accounts: Accounts) -> Changed:
+    inside: DefaultDict[CgroupPath, Set[int]] = defaultdict(set)
+    places = frozenset(path_of(text_of(place)) for place in snapshot.changing)
+    for place in places:
+        maker = maker_of(snapshot, accounts, place)
+        for above in ancestors(place):
+            inside[above].add(maker)
+    return Changed(places, inside)
+
+
+def maker_of(snapshot: Snapshot, accounts: Accounts, place: CgroupPath) -> int:
+    """Who made a cgroup, as far as it is known, or else whose the nearest one above it is."""
+    rows = snapshot.tree.rows
+    uids = (rows[above].directory.uid for above in ancestors(place) if above in rows)
+    return snapshot.makers.get(place) or accounts.payer(next((uid for uid in uids if uid), 0))
+
+
+def spoiled(snapshot: Snapshot, questions: Questions) -> Dict[CgroupPath, str]:
+    """The subtrees of which nothing is asked, each with why. What somebody else made inside of one is left out of it, and changes
+    no answer of it but of how much there may be."""
+    changed = changed_in(snapshot, questions.accounts)
+    return {path: why for path, why in snapshot.spoiled.items()
+            if not is_spared(snapshot, questions.accounts, changed, questions.holders.get(path), path)}
+
+
+def is_spared(snapshot: Snapshot, accounts: Accounts, changed: Changed, holders: Optional[Holders], path: CgroupPath) -> bool:
+    """Whether a subtree is answered without what changed inside of it: all of that was made by others than who holds it."""
+    row = snapshot.tree.rows.get(path)
+    if row is None or holders is None or ANYBODY in holders.uids or has_counts(row):
+        return False
+    if not changed.places.isdisjoint((path, *ancestors(path))):
+        return False
+    inside = changed.inside.get(path, set())
+    return bool(inside) and inside.isdisjoint({0, *map(accounts.payer, holders.uids)})
+
+
+def has_counts(row: Row) -> bool:
+    return any(isinstance(row.values.get(name), int) for name in COUNTED)

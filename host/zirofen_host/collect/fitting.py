@@ -1,0 +1,85 @@
+"""One text of a host that is too large for one: what is inside of whoever has most is left out until the rest fits, and the text
+says so. A check of it has a fault of what it lacks alone."""
+from collections import Counter, defaultdict
+from dataclasses import replace
+from typing import Callable, DefaultDict, Dict, Iterable, List, Mapping, Optional
+
+from zirofen_host.collect.holds import Holds
+from zirofen_host.collect.model import Note, Placed, Snapshot
+from zirofen_host.collect.tree import row_text
+from zirofen_host.profile import MOST_PROCESSES, MOST_ROWS, CgroupPath, ancestors, parent_of, path_of, text_of, topmost
+
+# how much each cgroup takes of what there is too much of
+Weight = Callable[[CgroupPath], int]
+
+
+def fitted(snapshot: Snapshot, holds: Holds) -> Snapshot:
+    """A snapshot with no more cgroups and processes than a text takes, where those of somebody's own making can be left out."""
+    while len(snapshot.tree.rows) > MOST_ROWS:
+        person = heaviest(snapshot, holds, lambda _: 1)
+        if person is None:
+            return snapshot
+        snapshot = without_inside(snapshot, holds, person, f"a text has {MOST_ROWS} cgroups at most")
+    return without_processes(snapshot, holds)
+
+
+def heaviest(snapshot: Snapshot, holds: Holds, weight: Weight) -> Optional[int]:
+    """Who made the most of what is there."""
+    weights: Dict[int, int] = Counter()
+    for path in snapshot.tree.rows:
+        maker = holds.within(path)
+        if maker is not None:
+            weights[maker] += weight(path)
+    return min(weights, key=lambda person: (-weights[person], person)) if weights else None
+
+
+def length(snapshot: Snapshot) -> Weight:
+    """How long a cgroup's lines in a text are, with what is carried of it."""
+    lengths: Dict[CgroupPath, int] = Counter()
+    for note in snapshot.notes:
+        lengths[path_of(note.place)] += len(note.place) + len(note.detail)
+
+    def of(path: CgroupPath) -> int:
+        marks = snapshot.cgroups[path].marks.values()
+        return len(row_text(snapshot.tree.rows[path])) + lengths[path] + 40 * len(snapshot.cgroups[path].files) + sum(map(len, marks))
+    return of
+
+
+def without_inside(snapshot: Snapshot, holds: Holds, person: int, why: str) -> Snapshot:
+    """A snapshot without the cgroups that somebody made, and what is inside of these. What is told of each place where some were is
+    told at the first of them."""
+    made = {path for path in snapshot.tree.rows if holds.within(path) == person}
+    lost = {path for path in snapshot.tree.rows if path in made or not made.isdisjoint(ancestors(path))}
+    by_parent: DefaultDict[CgroupPath, List[CgroupPath]] = defaultdict(list)
+    for path in sorted(topmost(made)):
+        parent = parent_of(path)
+        if parent is not None:
+            by_parent[parent].append(path)
+    counts = Counter(top for path in lost for top in (path, *ancestors(path)) if top in by_parent)
+    changing = {**snapshot.changing, **{paths[0]: f"uid {person} has {counts[parent]} cgroups in {text_of(parent)}, left out: {why}"
+                                        for parent, paths in by_parent.items()}}
+    tree = snapshot.tree
+    return replace(
+        snapshot, cgroups={path: found for path, found in snapshot.cgroups.items() if path not in lost},
+        tree=replace(tree, rows={path: row for path, row in tree.rows.items() if path not in lost},
+                     processes=[each for each in tree.processes if each.at not in lost]),
+        notes=(*(note for note in snapshot.notes if holds.within(path_of(note.place)) != person),
+               *(Note("large", text_of(parent), changing[paths[0]]) for parent, paths in by_parent.items())),
+        changing=changing, makers={**snapshot.makers, **{paths[0]: person for paths in by_parent.values()}})
+
+
+def without_processes(snapshot: Snapshot, holds: Holds) -> Snapshot:
+    """A snapshot with no more processes than a text takes: those of whoever has most are left out."""
+    processes: List[Placed] = list(snapshot.tree.processes)
+    notes = list(snapshot.notes)
+    while len(processes) > MOST_PROCESSES:
+        counts = Counter(holds.payer(each.uid) if each.uid else 0 for each in processes)
+        person = max(sorted(counts), key=lambda each: (each != 0, counts[each]))
+        processes = [each for each in processes if (holds.payer(each.uid) if each.uid else 0) != person]
+        notes.append(Note("processes", "/", f"{counts[person]} of uid {person} left out: a text has {MOST_PROCESSES} at most"))
+    return replace(snapshot, tree=replace(snapshot.tree, processes=processes), notes=tuple(notes))
+
+
+def told_changing(snapshot: Snapshot) -> Iterable[Mapping[str, object]]:
+    """What a text always carries: what it lacks, and why."""
+    return ({"changing": [text_of(path), why]} for path, why in snapshot.changing.items())

@@ -1,0 +1,59 @@
+"""Looks that stand alone: where one fails, a line says which and why, and all others are told."""
+from typing import Callable, Iterable, List, Tuple, TypeVar
+
+from zirofen_host.collect.model import Note
+from zirofen_host.fault import Fault
+
+FAILED = "failed"
+
+Item = TypeVar("Item")
+Made = TypeVar("Made")
+
+
+def why_of(error: Exception) -> str:
+    """Why something failed, in one line."""
+    if isinstance(error, Fault):
+        return str(error)
+    if isinstance(error, OSError) and error.strerror:
+        return f"{error.filename}: {error.strerror}" if error.filename is not None else error.strerror
+    return repr(error)
+
+
+class Looks:
+    """What failed so far."""
+
+    def __init__(self) -> None:
+        self.failed: List[Note] = []
+
+    def at(self, what: str, look: Callable[[], Made], instead: Made, is_asked_for: bool = False) -> Made:
+        """What a look gives, or something instead where it fails. A fault of what was asked for isn't kept back."""
+        try:
+            return look()
+        except Exception as error:
+            if is_asked_for and isinstance(error, Fault):
+                raise
+            self.failed.append(Note(FAILED, what, why_of(error)))
+            return instead
+
+    def all(self, what: str, look: Callable[[], Iterable[Made]]) -> Tuple[Made, ...]:
+        """All that a look gives, as far as it gets."""
+        found: List[Made] = []
+
+        def gather() -> None:
+            for each in look():
+                found.append(each)
+        self.at(what, gather, None)
+        return tuple(found)
+
+    def each(self, what: str, items: Iterable[Item], make: Callable[[Item], Made]) -> Tuple[Made, ...]:
+        """What is made of each of some items; those of which none can be are told together, with why the first can't."""
+        made, wrong = [], []
+        for item in items:
+            try:
+                made.append(make(item))
+            except Exception as error:
+                wrong.append(why_of(error))
+        if wrong:
+            more = f", and {len(wrong) - 1} more" if len(wrong) > 1 else ""
+            self.failed.append(Note(FAILED, what, f"{wrong[0]}{more}"))
+        return tuple(made)

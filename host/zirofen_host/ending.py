@@ -1,0 +1,69 @@
+"""What nothing is left of, however a helper ends: files that it hasn't finished, temporary folders, and programs that it runs."""
+import contextlib
+import os
+import signal
+import subprocess
+from types import FrameType
+from typing import Callable, Dict, Iterator, Optional, Sequence
+
+from zirofen_host import progress
+
+SIGNALS = (signal.SIGINT, signal.SIGTERM, signal.SIGHUP)
+STANDARD_ERROR = 2
+
+_left: Dict[object, Callable[[], None]] = {}
+
+
+@contextlib.contextmanager
+def undone(undo: Callable[[], None]) -> Iterator[None]:
+    """Has something undone behind a `with`, and where a signal ends the helper meanwhile. It may come to be undone twice."""
+    key = object()
+    _left[key] = undo
+    try:
+        yield
+    finally:
+        undo()
+        del _left[key]
+
+
+def run(words: Sequence[str], seconds: Optional[float] = None) -> "subprocess.CompletedProcess[str]":
+    """Runs a program to its end, or cuts it off where it takes longer. Python ignores SIGXFSZ, and so does the program: a file that
+    gets too large is its fault line."""
+    with subprocess.Popen(words, stdin=subprocess.DEVNULL, stdout=subprocess.PIPE, stderr=subprocess.PIPE, text=True,
+                          errors="replace", restore_signals=False) as child, undone(child.terminate):
+        try:
+            stdout, stderr = child.communicate(timeout=seconds)
+        except subprocess.TimeoutExpired:
+            child.kill()
+            raise
+    return subprocess.CompletedProcess(words, child.returncode, stdout, stderr)
+
+
+@contextlib.contextmanager
+def uninterrupted() -> Iterator[None]:
+    """Leaves an interrupt at the terminal to the program that is shown there."""
+    before = signal.signal(signal.SIGINT, signal.SIG_IGN)
+    try:
+        yield
+    finally:
+        signal.signal(signal.SIGINT, before)
+
+
+def take_signals(name: str) -> None:
+    """Has a signal that ends the helper undo what it hasn't finished, and tell so; what is ignored stays so."""
+    def end(number: int, _: Optional[FrameType]) -> None:
+        for undo in list(_left.values()):
+            # whatever can't be undone keeps nothing else
+            with contextlib.suppress(Exception):
+                undo()
+        with contextlib.suppress(Exception):
+            progress.end()
+        with contextlib.suppress(OSError):
+            # a line may be on its way through the stream
+            os.write(STANDARD_ERROR, f"{name}: ended by {signal.Signals(number).name}, and this is no answer\n".encode())
+        signal.signal(number, signal.SIG_DFL)
+        os.kill(os.getpid(), number)
+
+    for number in SIGNALS:
+        if signal.getsignal(number) != signal.SIG_IGN:
+            signal.signal(number, end)

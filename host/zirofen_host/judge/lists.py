@@ -1,0 +1,108 @@
+"""Lists of operations as they can be tried: a kernel may refuse to move a process that has capabilities, or that is its own, so that
+another of the same cgroup stands in its place. The program's own list stays as it is in a report's lines."""
+from typing import Dict, Iterable, Iterator, List, NamedTuple, Optional, Sequence, Set, Tuple
+
+from zirofen_host.ask.program import Program, Refused
+from zirofen_host.collect.bounded import REPLAYS
+from zirofen_host.collect.model import Snapshot, User
+from zirofen_host.judge.checked import Checked
+from zirofen_host.judge.model import EntryFinding, ShownList, Subtree
+from zirofen_host.profile import CgroupPath, is_number, path_of
+
+# operations whose first word behind their own is a process
+OF_PROCESSES = ("move", "fork", "exit")
+
+
+class Tried(NamedTuple):
+    """A list as it can be tried, with what is said of it where it isn't the program's own as it was."""
+    lines: Tuple[str, ...]
+    told: Optional[str]
+
+
+def tried(snapshot: Snapshot, program: Program, user: User, subtree: CgroupPath, lines: Sequence[str]) -> Tried:
+    """A list in which other processes stand for those that can't be moved, where it breaks the subtree as well."""
+    wanted = [pid for pid in pids_in(lines) if not is_movable(snapshot, pid)]
+    if not wanted:
+        return Tried(tuple(lines), None)
+    others = others_for(snapshot, user, wanted, set(pids_in(lines)))
+    if others is None:
+        return Tried(tuple(lines), f"process {wanted[0]} has capabilities or is the kernel's, and where it is stands no other that hasn't: "
+                     "a kernel may refuse to move it")
+    changed = tuple(with_others(line, others) for line in lines)
+    swaps = ", ".join(f"{other} for {pid}" for pid, other in others.items())
+    try:
+        breaks = program.breaks(user, subtree, changed)
+    except Refused:
+        breaks = False
+    if not breaks:
+        return Tried(tuple(lines), f"with process {swaps} it isn't shown to break the subtree: this list is the program's own, and a "
+                     "kernel may refuse it")
+    return Tried(changed, f"process {swaps}, which has capabilities or is the kernel's; the program was asked again, and it breaks the "
+                 "subtree")
+
+
+def pids_in(lines: Iterable[str]) -> List[int]:
+    """The processes that operations name, each once, but for those that they start."""
+    found: Dict[int, None] = {}
+    started: Set[int] = set()
+    for words in (line.split(" ") for line in lines):
+        if len(words) > 1 and words[0] in OF_PROCESSES and is_number(words[1]) and int(words[1]) not in started:
+            found[int(words[1])] = None
+        if words[0] == "fork" and len(words) > 2 and is_number(words[2]):
+            started.add(int(words[2]))
+    return list(found)
+
+
+def is_movable(snapshot: Snapshot, pid: int) -> bool:
+    process = snapshot.processes.get(pid)
+    return process is None or not process.is_kernel_thread and not process.is_privileged and not process.capabilities
+
+
+def others_for(snapshot: Snapshot, user: User, wanted: Iterable[int], taken: Set[int]) -> Optional[Dict[int, int]]:
+    """Another process of the same cgroup for each, the user's own first; None where one has none."""
+    places = {placed.pid: placed.at for placed in snapshot.tree.processes}
+    found: Dict[int, int] = {}
+    for pid in wanted:
+        beside = [each for each in snapshot.tree.processes if pid in places and each.at == places[pid] and each.pid not in taken
+                  and each.pid not in found.values() and is_movable(snapshot, each.pid)]
+        if not beside:
+            return None
+        found[pid] = min(beside, key=lambda each: (each.uid != user.uid, each.pid)).pid
+    return found
+
+
+def with_others(line: str, others: Dict[int, int]) -> str:
+    """An operation with other processes in the place of some."""
+    words = line.split(" ")
+    if len(words) > 1 and words[0] in OF_PROCESSES and is_number(words[1]):
+        words[1] = str(others.get(int(words[1]), words[1]))
+    return " ".join(words)
+
+
+def shown_lists(checked: Checked, subtrees: Iterable[Subtree], entries: Iterable[EntryFinding]) -> Iterator[ShownList]:
+    """The lists of a report that aren't shown as the program has them, of so many at most."""
+    seen: Set[Tuple[str, Tuple[str, ...]]] = set()
+    for user, path, lines in escapes_in(checked, subtrees, entries):
+        if (path, lines) in seen or len(seen) == REPLAYS or path_of(path) not in checked.programs.of:
+            continue
+        seen.add((path, lines))
+        found = tried(checked.snapshot, checked.programs.of[path_of(path)], user, path_of(path), lines[1:])
+        if found.told:
+            yield ShownList(path, lines, (lines[0], *found.lines), found.told)
+
+
+def escapes_in(checked: Checked, subtrees: Iterable[Subtree],
+               entries: Iterable[EntryFinding]) -> Iterator[Tuple[User, str, Tuple[str, ...]]]:
+    """Each escape that a report tells of, with whom it is by."""
+    for entry in entries:
+        if entry.example and entry.answer == "escapes":
+            yield User(entry.example.uid, entry.example.gids), entry.example.subtree, entry.example.lines
+    for subtree in subtrees:
+        for answer in subtree.answers:
+            if answer.uids and answer.lines[0] == "escapes":
+                yield longest(checked, answer.uids[0], answer.gids), subtree.path, answer.lines
+
+
+def longest(checked: Checked, uid: int, gids: Tuple[int, ...]) -> User:
+    """A user with the longest list of groups that was asked of."""
+    return max(checked.asked.get(uid, ()), key=lambda user: len(user.gids), default=User(uid, gids))

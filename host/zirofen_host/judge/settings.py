@@ -1,0 +1,101 @@
+"""The settings of units, as systemctl tells them, and the limits that a unit's next start doesn't bring back.
+
+Settings are asked for before and behind the walk, and what they don't agree on is told by nobody.
+"""
+import os
+import shutil
+import subprocess
+from typing import Dict, Iterable, Iterator, List, Mapping, Optional, Sequence, Tuple
+
+from zirofen_host import ending
+from zirofen_host.collect.model import Snapshot, Value
+from zirofen_host.collect.snapshot import value_of
+from zirofen_host.files import Kind, kind_of
+from zirofen_host.options import Options
+from zirofen_host.profile import LIMIT_FILES, SETTINGS, CgroupPath, is_usual
+
+# by a unit's name, and by what a setting is called where it is asked for
+Settings = Mapping[str, Mapping[str, str]]
+
+# the file that each setting brings, where both are one number
+NUMBERS = {setting.rstrip("="): file for file in (*LIMIT_FILES, "memory.swap.max", "memory.zswap.max") if (setting := SETTINGS[file])}
+# what cpu.max is brought by
+QUOTA = "CPUQuotaPerSecUSec"
+# what is loaded of the units that are started again; a scope never is
+SERVICES = ("*.service",)
+PAGE = 4096
+SECONDS = 30
+
+
+def systemctl_of(options: Options) -> Optional[str]:
+    """What tells the settings of this host's units, where there is one."""
+    has_manager = not options.plain_folder and not options.tree and os.path.isdir("/run/systemd/system")
+    return shutil.which("systemctl") if has_manager else None
+
+
+def read(systemctl: Optional[str], units: Sequence[str] = SERVICES) -> Settings:
+    """The settings of units; none where they aren't told."""
+    if not systemctl or not units:
+        return {}
+    words = [systemctl, "show", f"--property=Id,{','.join((*NUMBERS, QUOTA))}", "--", *units]
+    try:
+        said = ending.run(words, SECONDS).stdout
+    except (OSError, subprocess.TimeoutExpired):
+        return {}
+    blocks = [dict(line.split("=", 1) for line in block.splitlines() if "=" in line) for block in said.split("\n\n")]
+    return {block["Id"]: block for block in blocks if block.get("Id")}
+
+
+def agreed(before: Settings, behind: Settings) -> Settings:
+    """What the settings of each unit were both times."""
+    return {unit: dict(before[unit].items() & settings.items()) for unit, settings in behind.items() if unit in before}
+
+
+def values_of(snapshot: Snapshot, path: CgroupPath) -> Dict[str, Optional[Value]]:
+    """What the limits of a cgroup have: of the tree's at the walk, and of others now."""
+    values: Dict[str, Optional[Value]] = dict(snapshot.tree.rows[path].values)
+    others = [name for name in snapshot.cgroups[path].files if kind_of(name) is Kind.LIMIT and name not in LIMIT_FILES]
+    values.update({name: value_of(snapshot, path, name) for name in sorted(others)})
+    return values
+
+
+def lost(values: Mapping[str, Optional[Value]], settings: Mapping[str, str]) -> List[str]:
+    """The limits that a unit's next start doesn't bring back, each with why."""
+    return [*different(values, settings), *unsettable(values)]
+
+
+def different(values: Mapping[str, Optional[Value]], settings: Mapping[str, str]) -> Iterator[str]:
+    for name, file in NUMBERS.items():
+        value = values.get(file)
+        if name in settings and value is not None and not is_same(settings[name], file, value):
+            yield f"{file} is {value}, and {name}={settings[name]}"
+    quota = str(values.get("cpu.max") or "")
+    if settings.get(QUOTA) == "infinity" and not is_usual("cpu.max", quota) and quota.split(" ")[0] != "max":
+        yield f"cpu.max is {quota}, and CPUQuota= isn't set"
+
+
+def unsettable(values: Mapping[str, Optional[Value]]) -> Iterable[str]:
+    """Limits that are set and that no setting brings."""
+    return (f"{file} is {' '.join(str(value).split())}, and no setting brings it" for file, value in values.items()
+            if not SETTINGS.get(file) and not is_usual(file, value))
+
+
+def is_same(setting: str, file: str, value: Value) -> bool:
+    """Whether a setting, as systemctl tells it, is what a limit file has; memory is kept in whole pages."""
+    if setting in ("infinity", "18446744073709551615"):
+        return is_usual(file, value) or value == "max"
+    if not setting.isascii() or not setting.isdigit() or len(setting) > 20:
+        return is_usual(file, value)
+    pages = PAGE if file.startswith("memory.") else 1
+    return str(value).isdigit() and int(setting) // pages == int(value) // pages
+
+
+def told(snapshot: Snapshot, units: Mapping[str, CgroupPath], systemctl: Optional[str],
+         before: Settings) -> Iterator[Tuple[CgroupPath, str]]:
+    """For each unit what goes at its next start. Values are read before the settings are asked for again."""
+    values = {unit: values_of(snapshot, path) for unit, path in sorted(units.items()) if unit in before}
+    found = agreed(before, read(systemctl, list(values)))
+    for unit, settings in found.items():
+        limits = lost(values[unit], settings) if unit in values else []
+        if limits:
+            yield units[unit], f"{unit} is started anew with its own settings alone: {'; '.join(limits)}"

@@ -1,0 +1,79 @@
+"""What somebody can make any number of, in so many lines: what is alike is one with a number, and the gravest stands first."""
+from collections import Counter
+from dataclasses import dataclass
+from typing import Dict, Hashable, Iterable, Iterator, List, Optional, Sequence, Tuple
+
+from zirofen_host.collect.bounded import LINES
+
+# the gravest first
+GRAVITY = ("fault", "escapes", "opened", "unsettled", "contained", "above")
+
+
+@dataclass(frozen=True)
+class Part:
+    """Something that is told of what one person made."""
+    within: int
+    # what it has in common with others that are alike
+    alike: Hashable
+    # a word that it is counted by
+    reason: str
+    # whom it lets in beside whose making it is, which is never left out
+    others: Optional[str]
+    lines: Sequence[str]
+
+
+@dataclass(frozen=True)
+class Run:
+    """Parts that are alike, of which the first is told."""
+    first: Part
+    count: int
+
+    def gravity(self) -> Tuple[bool, int]:
+        """What lets in another goes first, and then by its word."""
+        return self.first.others is None, GRAVITY.index(self.first.reason) if self.first.reason in GRAVITY else len(GRAVITY)
+
+    def lines(self) -> Iterator[str]:
+        yield from self.first.lines
+        if self.count > 1:
+            yield f"    .. and {self.count - 1} more that are alike, in what uid {self.first.within} made: --each tells them"
+
+
+def folded(parts: Iterable[Part], is_each: bool = False, most: int = LINES.most) -> Iterator[str]:
+    """The lines of what some persons made, so many runs of each of them, and how many more there are of what."""
+    persons: Dict[int, List[Part]] = {}
+    for part in parts:
+        persons.setdefault(part.within, []).append(part)
+    for _, made in sorted(persons.items()):
+        if is_each:
+            yield from (line for part in made for line in part.lines)
+            continue
+        runs = runs_of(made)
+        for run in runs[:most]:
+            yield from run.lines()
+        yield from left_out(runs[most:])
+
+
+def runs_of(parts: Iterable[Part]) -> List[Run]:
+    """What is alike together, the gravest first."""
+    first: Dict[Hashable, Part] = {}
+    counts: Dict[Hashable, int] = Counter()
+    for part in parts:
+        first.setdefault(part.alike, part)
+        counts[part.alike] += 1
+    return sorted((Run(part, counts[alike]) for alike, part in first.items()), key=Run.gravity)
+
+
+def left_out(runs: Iterable[Run]) -> Iterator[str]:
+    """How many more there are, by whom they let in and by reason."""
+    counts: Dict[Tuple[int, Optional[str]], Counter[str]] = {}
+    for run in runs:
+        counts.setdefault((run.first.within, run.first.others), Counter())[run.first.reason] += run.count
+    for (within, others), reasons in counts.items():
+        let_in = f" that let in {others}" if others else ""
+        yield f".. and {sum(reasons.values())} more in what uid {within} made{let_in}: {counted(reasons)}"
+
+
+def counted(reasons: Dict[str, int]) -> str:
+    """Counts by reason, the gravest first."""
+    words = sorted(reasons, key=lambda word: (GRAVITY.index(word) if word in GRAVITY else len(GRAVITY), word))
+    return ", ".join(f"{reasons[word]} {word}" for word in words)
