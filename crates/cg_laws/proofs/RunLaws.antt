@@ -124,7 +124,7 @@ alone user other (suc i, below, is) = absurd (omega (arith, below))
 some-one : (user : Identity) → user ∷ [] ≢ []
 some-one user h = cc
 
-all-own : (user : Identity) (ops : List Op) → AreBy (user ∷ []) (by_user user ops)
+pub all-own : (user : Identity) (ops : List Op) → AreBy (user ∷ []) (by_user user ops)
 all-own user [] = tt
 all-own user (op ∷ ops) = ((0, omega arith, refl), all-own user ops)
 

@@ -1,0 +1,26 @@
+//! Laws of the second row: over whatever its users do, and others do to processes.
+ghost use Rattle.std.specs.Prelude.{◌≡◌, List, [], ◌∷◌, true};
+ghost use Rattle.std.specs.List.{All};
+ghost use Rattle.cg_cgroup.specs.Paths.{Names};
+ghost use Rattle.cg_cgroup.specs.Identity.{Identity};
+ghost use Rattle.cg_model.specs.States.{State};
+ghost use Rattle.cg_model.specs.WellFormed.{IsWellFormed};
+ghost use Rattle.cg_model.specs.Guards.{IsSubtree};
+ghost use Rattle.cg_model.specs.Held.{IsContained};
+ghost use Rattle.cg_settle.specs.SecondRow.{SecondRowHolds, AreSettled};
+
+/// Where the second row of a subtree holds for a user, it is contained against them: whatever they do, in whatever order,
+/// no step of theirs breaks it.
+pub fn second_row_is_contained()
+    ensures { (st : State) (user : Identity) (subtree : Names)
+        → IsWellFormed st → IsSubtree st subtree → SecondRowHolds st (user ∷ []) subtree → IsContained st user subtree }
+{}
+
+/// Where the second row of each of some subtrees holds for some users together, each is held over every run of theirs, in
+/// whatever order they act; in every state on the way the second row holds again; and where others only move, fork and
+/// end processes meanwhile, by the rules, the first to break one is none of these users.
+pub fn second_row_for_several()
+    ensures { (st : State) (users : List Identity) (subtrees : List Names)
+        → IsWellFormed st → All (IsSubtree st) subtrees → All (SecondRowHolds st users) subtrees
+        → AreSettled st users subtrees }
+{}
