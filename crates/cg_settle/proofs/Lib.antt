@@ -7,3 +7,4 @@ pub mod Full
 pub mod HeldFast
 pub mod Others
 pub mod Runs
+pub mod Cases

@@ -1,8 +1,9 @@
 -- What some users don't reach, they don't reach after a step of one of them.
-use Rattle.std.proofs.Common.{◌≡◌, Bool, true, false, ◌&&◌, cond, List, [], refl, sym, ap, ◌∙◌, true≢false, Some, None, is_some}
+use Rattle.std.proofs.Common.{◌≡◌, Bool, true, false, ◌&&◌, cond, List, [], refl, sym, ap, ◌∙◌, true≢false, Some, None, is_some, get_or}
 use Rattle.std.specs.List.{Contains, list_any}
 use Rattle.std.proofs.lemmas.Bool.{false_from_ne_true, and_parts, and_right, or_right}
-use Rattle.std.proofs.lemmas.List.Folds.{list_any_at}
+use Rattle.std.proofs.lemmas.List.Folds.{list_any_at, list_any_none}
+use Rattle.std.proofs.lemmas.List.Elements.{Contains-get_or}
 use Rattle.cg_cgroup.specs.Paths.{Names, same_path}
 use Rattle.cg_cgroup.specs.Identity.{Identity}
 use Rattle.cg_cgroup.specs.Users.{writes, owns, reaches}
@@ -42,6 +43,18 @@ module _ (st : State) (users : List Identity) (user : Identity) (named : Contain
   pub never_reached : {P : Type 0} (path : Names) (name : EntryName) (entry : Entry) → entry_at st path name ≡ Some entry
       → reaches user entry ≡ true → is_reached st users path name ≡ false → P
   never_reached path name entry is can unreached = absurd (true≢false (sym (reached path name entry is can) ∙ unreached))
+
+-- where none of them reaches it
+pub unreached : (st : State) (users : List Identity) (path : Names) (name : EntryName)
+    → ((user : Identity) → Contains users user → (entry : Entry) → entry_at st path name ≡ Some entry → reaches user entry ≡ false)
+    → is_reached st users path name ≡ false
+unreached st users path name each =
+    elim (entry_at st path name) as (λ found. ((user : Identity) → Contains users user → (entry : Entry) → found ≡ Some entry
+    → reaches user entry ≡ false) → elim found [ None ↦ false | Some entry ↦ list_any (λ user. reaches user entry) users ] ≡ false) [
+      | None ↦ λ each. refl
+      | Some entry ↦ λ each. list_any_none (λ user. reaches user entry) users (λ k d within.
+          each (get_or users k d) (Contains-get_or users k d within) entry refl)
+    ] each
 
 -- ---- a step that nothing bars
 

@@ -1,12 +1,13 @@
 //! Laws of the second row: over whatever its users do, and others do to processes.
-ghost use Rattle.std.specs.Prelude.{◌≡◌, List, [], ◌∷◌, true};
-ghost use Rattle.std.specs.List.{All};
+ghost use Rattle.std.specs.Prelude.{◌≡◌, ◌≢◌, List, [], ◌∷◌, true};
+ghost use Rattle.std.specs.List.{All, Contains};
 ghost use Rattle.cg_cgroup.specs.Paths.{Names};
 ghost use Rattle.cg_cgroup.specs.Identity.{Identity};
 ghost use Rattle.cg_model.specs.States.{State};
 ghost use Rattle.cg_model.specs.WellFormed.{IsWellFormed};
 ghost use Rattle.cg_model.specs.Guards.{IsSubtree};
 ghost use Rattle.cg_model.specs.Held.{IsContained};
+ghost use Rattle.cg_model.specs.Strangers.{GuardsHoldForAll};
 ghost use Rattle.cg_settle.specs.SecondRow.{SecondRowHolds, AreSettled};
 
 /// Where the second row of a subtree holds for a user, it is contained against them: whatever they do, in whatever order,
@@ -23,4 +24,18 @@ pub fn second_row_for_several()
     ensures { (st : State) (users : List Identity) (subtrees : List Names)
         → IsWellFormed st → All (IsSubtree st) subtrees → All (SecondRowHolds st users) subtrees
         → AreSettled st users subtrees }
+{}
+
+/// Where the guards of a subtree hold for each of some users, at least one, its second row holds for them together.
+pub fn guards_are_a_case()
+    ensures { (st : State) (users : List Identity) (subtree : Names)
+        → IsWellFormed st → IsSubtree st subtree → users ≢ [] → GuardsHoldForAll st users subtree
+        → SecondRowHolds st users subtree }
+{}
+
+/// Where the second row of a subtree holds for some users together, it holds for whichever of them.
+pub fn second_row_for_fewer()
+    ensures { (st : State) (users fewer : List Identity) (subtree : Names)
+        → ((user : Identity) → Contains fewer user → Contains users user)
+        → SecondRowHolds st users subtree → SecondRowHolds st fewer subtree }
 {}
