@@ -1,7 +1,7 @@
 -- A subtree that is within its own limits of descendants and depth is within them after a step that nothing bars.
 use Rattle.std.proofs.Common.{◌≡◌, ℕ, zero, suc, ◌+◌, ◌-◌, ◌<◌, ◌≤◌, max, Bool, true, false, cond, [], length, take, refl, sym, ap, ◌∙◌, subst, Option, Some, None, option_and_then, ⊎_elim, arith, le-leb, leb-true, ltb-true}
 use Rattle.std.proofs.lemmas.Bool.{cases_lt, and_parts}
-use Rattle.cg_cgroup.specs.Paths.{Names, is_root, inside, below, parent}
+use Rattle.cg_cgroup.specs.Paths.{Names, inside, below, parent}
 use Rattle.cg_cgroup.specs.Identity.{Identity}
 use Rattle.cg_cgroup.specs.Cgroups.{value_in}
 use Rattle.cg_cgroup.specs.declared.files.Limit.{Limit}

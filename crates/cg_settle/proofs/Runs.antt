@@ -1,6 +1,5 @@
 -- Runs of users for whom the second row holds, and of others.
-use Rattle.std.proofs.Common.{◌≡◌, ℕ, suc, ◌+◌, true, false, List, [], ◌∷◌, Some, refl, sym, ap, ◌∙◌, subst, cond, is_some, option_and_then, arith}
-use Rattle.std.specs.Prelude.{slice_get}
+use Rattle.std.proofs.Common.{◌≡◌, ℕ, true, false, List, [], ◌∷◌, refl, sym, ap, ◌∙◌, subst, cond, is_some, option_and_then}
 use Rattle.std.specs.List.{All, Contains}
 use Rattle.cg_cgroup.specs.Paths.{Names, parent}
 use Rattle.cg_cgroup.specs.Identity.{Identity}
@@ -15,16 +14,17 @@ use Rattle.cg_model.specs.Steps.{after, after_all, Deed}
 use Rattle.cg_model.specs.declared.operation.Op.{Op}
 use Rattle.cg_model.specs.Limits.{limits}
 use Rattle.cg_model.specs.Guards.{IsSubtree}
-use Rattle.cg_model.specs.Verdicts.{broken, or_later, verdict_from, verdict}
+use Rattle.cg_model.specs.Verdicts.{verdict}
 use Rattle.cg_model.specs.Held.{IsHeld, by_user, IsContained, AreBy}
 use Rattle.cg_model.specs.Strangers.{IsOfStranger}
 use Rattle.cg_model.specs.declared.verdict.Clause.{Clause}
-use Rattle.cg_model.specs.declared.verdict.Verdict.TheVariants.{Kept, Broken}
-use Rattle.cg_steps.proofs.BrokenLaws.{IsWhole, whole-broken, broken-whole}
+use Rattle.cg_model.specs.declared.verdict.Verdict.TheVariants.{Broken}
+use Rattle.cg_steps.proofs.BrokenLaws.{IsWhole}
 use Rattle.cg_steps.proofs.Edges.{none-crosses, none-crosses-same}
 use Rattle.cg_steps.proofs.StepFormed.{after-barred}
 use Rattle.cg_laws.proofs.Crossing.{crosses-by}
 use Rattle.cg_laws.proofs.RunLaws.{all-own}
+use Rattle.cg_laws.proofs.Ways.{OnlyThese, way-after_all, held-on_way, broken-on_way}
 use Rattle.cg_laws.proofs.Steps.{sound-formed}
 use Rattle.cg_settle.specs.Lasting.{Lasting}
 use Rattle.cg_settle.specs.SecondRow.{SecondRowHolds, AreSettled, is_of_processes, ChangesCgroups, OnlyTheseChange}
@@ -74,25 +74,6 @@ module _ (users : List Identity) (start : State) (subtree : Names) (lasting : La
             (at, still st at)
       ] refl
 
-  -- ---- runs of these users alone
-
-  pub way-after_all : (st : State) → OnWay st → (deeds : List Deed) → AreBy users deeds → OnWay (after_all st deeds)
-  way-after_all st at [] all = at
-  way-after_all st at (deed ∷ deeds) all =
-      way-after_all (after st deed.0 deed.1) (own st at deed.0 all.0 deed.1).0 deeds all.1
-
-  kept-from : (steps : ℕ) (st : State) → OnWay st → (deeds : List Deed) → AreBy users deeds
-      → verdict_from start steps st deeds subtree ≡ Kept
-  kept-from steps st at [] all = refl
-  kept-from steps st at (deed ∷ deeds) all =
-      let new = after st deed.0 deed.1 in
-      let step = own st at deed.0 all.0 deed.1 in
-      ap (λ clauses. or_later clauses (suc steps) (verdict_from start (suc steps) new deeds subtree))
-      (whole-broken (limits start subtree) st new subtree step.1)
-      ∙ kept-from (suc steps) new step.0 deeds all.1
-
-  -- ---- runs in which others act too
-
   -- a step that breaks nothing, where these users alone change cgroups
   anyones : (st : State) → OnWay st → (user : Identity) (op : Op) → (ChangesCgroups st user op → Contains users user)
       → IsWhole (limits start subtree) st (after st user op) subtree → OnWay (after st user op)
@@ -106,41 +87,10 @@ module _ (users : List Identity) (start : State) (subtree : Names) (lasting : La
         | bar ∷ others ↦ λ is. subst OnWay (sym (after-barred st user op bar others is)) at
       ] refl
 
-  -- the deed that makes up so many steps is another's
-  abbrev IsOfStrangerAfter : List Deed → ℕ → ℕ → Type 0
-  IsOfStrangerAfter deeds made steps =
-      (before : ℕ) × (deed : Deed) × (steps ≡ made + suc before) × (slice_get deeds before ≡ Some deed) × ¬ (Contains users deed.0)
-
-  same_steps : (steps other : ℕ) (clause found : Clause) → Broken steps clause ≡ Broken other found → steps ≡ other
-  same_steps steps other clause found h = cc
-
-  not_empty : (clause : Clause) (clauses : List Clause) → clause ∷ clauses ≡ [] → ⊥
-  not_empty clause clauses h = cc
-
-  of_stranger-from : (made : ℕ) (st : State) → OnWay st → (deeds : List Deed) → OnlyTheseChange users st deeds
-      → (steps : ℕ) (clause : Clause) → verdict_from start made st deeds subtree ≡ Broken steps clause
-      → IsOfStrangerAfter deeds made steps
-  of_stranger-from made st at [] only steps clause h = cc
-  of_stranger-from made st at (deed ∷ deeds) only steps clause h =
-      let new = after st deed.0 deed.1 in
-      elim (broken start st new subtree) as (λ found. broken start st new subtree ≡ found
-      → or_later found (suc made) (verdict_from start (suc made) new deeds subtree) ≡ Broken steps clause
-      → IsOfStrangerAfter (deed ∷ deeds) made steps) [
-        | [] ↦ λ none more.
-            let whole = broken-whole (limits start subtree) st new subtree none in
-            let later =
-            of_stranger-from (suc made) new (anyones st at deed.0 deed.1 only.0 whole) deeds only.1 steps clause more in
-            (suc later.0, later.1, omega (arith, later.2), later.3, later.4)
-        | found ∷ others ↦ λ is h. (
-          0,
-          deed,
-          omega (arith, same_steps _ _ _ _ h),
-          refl,
-          λ named.
-              not_empty found others
-              (sym is ∙ whole-broken (limits start subtree) st new subtree (own st at deed.0 named deed.1).1),
-        )
-      ] refl h
+only_these : (users : List Identity) (st : State) (deeds : List Deed) → OnlyTheseChange users st deeds
+    → OnlyThese ChangesCgroups users st deeds
+only_these users st [] only = tt
+only_these users st (deed ∷ deeds) only = (only.0, only_these users (after st deed.0 deed.1) deeds only.1)
 
 -- ---- from a well-formed tree
 
@@ -158,23 +108,20 @@ module _ (st : State) (users : List Identity) (subtree : Names) (formed : IsWell
           ap (λ r. is_some (option_and_then (λ row. file_of row file) r)) here.1 ∙ (formed.rows subtree here.0 here.1).files file
           ∙ ap (λ b. stands_under (cond b no_controllers (enabled_at st (parent subtree))) file) is.1
 
-  none_broken : broken st st st subtree ≡ []
-  none_broken = whole-broken (limits st subtree) st st subtree (still users st subtree row.0 st start)
+  abbrev OnTheWay : State → Type 0
+  OnTheWay s = IsOnWay users st s subtree row.0
 
   pub held-settled : (deeds : List Deed) → AreBy users deeds → IsHeld st deeds subtree
-  held-settled deeds all =
-      ap (λ clauses. or_later clauses 0 (verdict_from st 0 st deeds subtree)) none_broken
-      ∙ kept-from users st subtree row.0 0 st start deeds all
+  held-settled = held-on_way users st subtree OnTheWay (own users st subtree row.0) start (still users st subtree row.0 st start)
 
   pub settled-again : (deeds : List Deed) → AreBy users deeds → SecondRowHolds (after_all st deeds) users subtree
-  settled-again deeds all = (row.0, (way-after_all users st subtree row.0 st start deeds all).firm.fast)
+  settled-again deeds all = (row.0, (way-after_all users st subtree OnTheWay (own users st subtree row.0) st start deeds all).firm.fast)
 
   pub broken-of_stranger : (deeds : List Deed) → OnlyTheseChange users st deeds → (steps : ℕ) (clause : Clause)
       → verdict st deeds subtree ≡ Broken steps clause → IsOfStranger users deeds steps
-  broken-of_stranger deeds only steps clause h =
-      let later = sym (ap (λ clauses. or_later clauses 0 (verdict_from st 0 st deeds subtree)) none_broken) ∙ h in
-      let found = of_stranger-from users st subtree row.0 0 st start deeds only steps clause later in
-      (found.0, found.1, omega (arith, found.2), found.3, found.4)
+  broken-of_stranger deeds only =
+      broken-on_way users st subtree OnTheWay (own users st subtree row.0) ChangesCgroups (anyones users st subtree row.0) start
+      (still users st subtree row.0 st start) deeds (only_these users st deeds only)
 
 pub contained-settled : (st : State) (user : Identity) (subtree : Names) → IsWellFormed st → IsSubtree st subtree
     → SecondRowHolds st (user ∷ []) subtree → IsContained st user subtree
