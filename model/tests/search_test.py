@@ -91,7 +91,14 @@ class RowTest(unittest.TestCase):
                 ("/a/s/q", "", [], {})]
         state = state_of(rows, {7: (0, ("a", "b"))})
         self.assertEqual(found(state, "/a/s"), (False, True))
-        self.assertTrue(turned_rows.holds(turned_rows.RARE, state, [ONE], ("a", "s")))
+        self.assertTrue(turned_rows.holds(turned_rows.RARE[0], state, [ONE], ("a", "s")))
+
+    def test_a_limit_is_raised(self):
+        rows = [("/", "", ["memory"], {}), ("/a", "p", ["memory"], {DESCENDANTS: 2}), ("/a/b", "", [], {}), ("/a/s", "d", [], {})]
+        state = state_of(rows, {7: (0, ("a", "b"))})
+        state.cgroups[("a",)].entries[DESCENDANTS] = Entry(ONE[0])
+        self.assertEqual(found(state, "/a/s"), (False, True))
+        self.assertTrue(turned_rows.holds(turned_rows.RARE[1], state, [ONE], ("a", "s")))
 
     def test_two_who_are_each_contained_alone_may_break_it_together(self):
         rows = [("/", "P", [], {}), ("/a", "p", [], {}), ("/a/s", "p", [], {}), ("/a/z", "P", [], {}), ("/b", "", [], {})]
