@@ -1,5 +1,6 @@
 -- No user makes a cgroup in one that is full.
-use Rattle.std.proofs.Common.{◌≡◌, ℕ, ◌+◌, ◌-◌, ◌<◌, ◌≤◌, Bool, true, false, ◌&&◌, cond, List, [], ◌∷◌, length, take, count_by, refl, sym, ap, ◌∙◌, option_and_then, ⊎_elim, arith, take-take, ltb-true}
+use Rattle.std.proofs.Common.{◌≡◌, ℕ, ◌+◌, ◌-◌, ◌<◌, ◌≤◌, Bool, true, false, ◌&&◌, cond, List, [], ◌∷◌, length, take, count_by, refl, sym, ap, ◌∙◌, option_and_then, ⊎_elim, arith, take-take, ltb-true, true≢false}
+use Rattle.std.proofs.lemmas.Bool.{and_parts}
 use Rattle.std.proofs.lemmas.List.Recursion.{is_count_by}
 use Rattle.cg_cgroup.specs.Paths.{Names, parent, below}
 use Rattle.cg_cgroup.specs.Identity.{Identity}
@@ -23,27 +24,33 @@ use Rattle.cg_laws.proofs.Counts.{limits-asked}
 use Rattle.cg_laws.proofs.Sound.{take-there}
 use Rattle.cg_settle.specs.Lasting.{Lasting, lasting_below, IsFull}
 
--- fewer pass two tests than one
-fewer_both : (test other : Names → Bool) (paths : List Names)
-    → gathered (one_more (λ q. test q && other q)) 0 paths ≤ gathered (one_more test) 0 paths
-fewer_both test other [] = omega arith
-fewer_both test other (path ∷ paths) = by_tests (test path) (other path) _ _ (fewer_both test other paths)
+-- more pass a test that all pass which pass another
+pub count_by-more : (test other : Names → Bool) → ((path : Names) → test path ≡ true → other path ≡ true) → (paths : List Names)
+    → count_by test paths ≤ count_by other paths
+count_by-more test other all paths =
+    let first = counted test paths in
+    let second = counted other paths in
+    let fewer = more paths in
+    omega (arith, first, second, fewer)
   where
-    by_tests : (first second : Bool) (less count : ℕ) → less ≤ count → cond (first && second) (1 + less) less ≤ cond first (1 + count) count
-    by_tests true true less count h = omega (arith, h)
-    by_tests true false less count h = omega (arith, h)
-    by_tests false second less count h = h
+    by_tests : (one two : Bool) (less count : ℕ) → (one ≡ true → two ≡ true) → less ≤ count
+        → cond one (1 + less) less ≤ cond two (1 + count) count
+    by_tests true true less count all h = omega (arith, h)
+    by_tests true false less count all h = absurd (true≢false (sym (all refl)))
+    by_tests false true less count all h = omega (arith, h)
+    by_tests false false less count all h = h
 
-counted : (test : Names → Bool) (paths : List Names) → gathered (one_more test) 0 paths ≡ count_by test paths
-counted test = is_count_by (gathered (one_more test) 0) test refl (λ x xs. refl)
+    counted : (test : Names → Bool) (paths : List Names) → gathered (one_more test) 0 paths ≡ count_by test paths
+    counted test = is_count_by (gathered (one_more test) 0) test refl (λ x xs. refl)
+
+    more : (paths : List Names) → gathered (one_more test) 0 paths ≤ gathered (one_more other) 0 paths
+    more [] = omega arith
+    more (path ∷ paths) = by_tests (test path) (other path) _ _ (all path) (more paths)
 
 lasting-fewer : (st : State) (users : List Identity) (lasting : Lasting) (path : Names)
     → lasting_below st users lasting path ≤ count_below st path
 lasting-fewer st users lasting path =
-    let first = counted (λ q. below path q && lasting.stays q) (paths_of st) in
-    let second = counted (below path) (paths_of st) in
-    let fewer = fewer_both (below path) lasting.stays (paths_of st) in
-    omega (arith, first, second, fewer)
+    count_by-more (λ q. below path q && lasting.stays q) (below path) (λ q both. (and_parts (below path q) _ both).0) (paths_of st)
 
 under-most : (count most : ℕ) (limit : Limit) → limit ≡ At most → is_under count limit ≡ true → count < most
 under-most count most limit is under = ltb-true count most (sym (ap (is_under count) is) ∙ under)

@@ -8,3 +8,4 @@ pub mod HeldFast
 pub mod Others
 pub mod Runs
 pub mod Cases
+pub mod Greatest

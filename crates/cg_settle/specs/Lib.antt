@@ -1,2 +1,3 @@
 pub mod Lasting
 pub mod SecondRow
+pub mod Greatest

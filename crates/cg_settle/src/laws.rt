@@ -1,5 +1,5 @@
 //! Laws of the second row: over whatever its users do, and others do to processes.
-ghost use Rattle.std.specs.Prelude.{◌≡◌, ◌≢◌, List, [], ◌∷◌, true};
+ghost use Rattle.std.specs.Prelude.{◌≡◌, ◌≢◌, ◌↔◌, List, [], ◌∷◌, true};
 ghost use Rattle.std.specs.List.{All, Contains};
 ghost use Rattle.cg_cgroup.specs.Paths.{Names};
 ghost use Rattle.cg_cgroup.specs.Identity.{Identity};
@@ -8,7 +8,8 @@ ghost use Rattle.cg_model.specs.WellFormed.{IsWellFormed};
 ghost use Rattle.cg_model.specs.Guards.{IsSubtree};
 ghost use Rattle.cg_model.specs.Held.{IsContained};
 ghost use Rattle.cg_model.specs.Strangers.{GuardsHoldForAll};
-ghost use Rattle.cg_settle.specs.SecondRow.{SecondRowHolds, AreSettled};
+ghost use Rattle.cg_settle.specs.SecondRow.{IsHeldFast, SecondRowHolds, AreSettled};
+ghost use Rattle.cg_settle.specs.Greatest.{greatest};
 
 /// Where the second row of a subtree holds for a user, it is contained against them: whatever they do, in whatever order,
 /// no step of theirs breaks it.
@@ -38,4 +39,11 @@ pub fn second_row_for_fewer()
     ensures { (st : State) (users fewer : List Identity) (subtree : Names)
         → ((user : Identity) → Contains fewer user → Contains users user)
         → SecondRowHolds st users subtree → SecondRowHolds st fewer subtree }
+{}
+
+/// Of all that lasts of a tree there is a greatest, which is found level by level, and the second row holds exactly where it
+/// holds by that.
+pub fn second_row_is_by_the_greatest()
+    ensures { (st : State) (users : List Identity) (subtree : Names)
+        → SecondRowHolds st users subtree ↔ IsHeldFast st users subtree (greatest st users) }
 {}
