@@ -1,5 +1,5 @@
 -- What is found level by level lasts, and all that lasts is found.
-use Rattle.std.proofs.Common.{◌≡◌, ◌↔◌, ◌⊎◌, inl, inr, ℕ, zero, suc, ◌+◌, ◌-◌, ◌≤◌, Bool, true, false, not, ◌&&◌, ◌||◌, List, [], ◌∷◌, length, take, refl, sym, ap, ◌∙◌, subst, true≢false, ⊎_elim, arith, eqb-true, take_all, length-take-le, take-take}
+use Rattle.std.proofs.Common.{◌≡◌, ◌↔◌, ◌⊎◌, inl, inr, ℕ, zero, suc, ◌+◌, ◌-◌, ◌≤◌, Bool, true, false, not, ◌&&◌, ◌||◌, List, [], ◌∷◌, length, take, refl, sym, ap, ◌∙◌, subst, true≢false, is_some, ⊎_elim, arith, eqb-true, take_all, length-take-le, take-take}
 use Rattle.std.specs.List.{list_any}
 use Rattle.std.specs.FinMap as finite
 use Rattle.std.proofs.lemmas.Bool.{and_parts, and_from, or_left, or_right, or_cases, not-true, not_from_false}
@@ -23,17 +23,18 @@ use Rattle.cg_settle.specs.Greatest.{longest, levels_from, any_child, stays_with
 
 -- ---- cgroups of a tree
 
-row-any : (st : State) (test : Names → Bool) (path : Names) → has_row st path ≡ true → test path ≡ true
+pub row-any : (st : State) (test : Names → Bool) (path : Names) → has_row st path ≡ true → test path ≡ true
     → list_any test (paths_of st) ≡ true
 row-any st test path there h =
     let row = some_value (row_at st path) there in
     list_any-map test (λ e. e.0) (finite.entries st.rows)
     ∙ entry_any path_cmp-IsAntisymmetric (λ e. test e.0) st.rows path row.0 row.1 h
 
-any-row : (st : State) (test : Names → Bool) → list_any test (paths_of st) ≡ true → (path : Names) × (test path ≡ true)
+pub any-row : (st : State) (test : Names → Bool) → list_any test (paths_of st) ≡ true
+    → (path : Names) × (has_row st path ≡ true) × (test path ≡ true)
 any-row st test h =
     let found = any_entry path_cmp_total (λ e. test e.0) st.rows (sym (list_any-map test (λ e. e.0) (finite.entries st.rows)) ∙ h) in
-    (found.0, found.3)
+    (found.0, ap is_some found.2, found.3)
 
 within_longest : (path : Names) (paths : List Names) → list_any (same_path path) paths ≡ true → length path ≤ longest paths
 within_longest path [] h = absurd (true≢false (sym h))
@@ -54,11 +55,11 @@ child_level st path child levels is h =
     let longer = eqb-true (length child) (length path + 1) (and_parts (inside path child) _ h).1 in
     omega (arith, is, longer)
 
-child_found : (st : State) (path : Names) (test : Names → Bool) → any_child st path test ≡ true
+pub child_found : (st : State) (path : Names) (test : Names → Bool) → any_child st path test ≡ true
     → (child : Names) × (is_child path child ≡ true) × (test child ≡ true)
 child_found st path test h =
     let found = any-row st (λ child. is_child path child && test child) h in
-    let parts = and_parts _ _ found.1 in
+    let parts = and_parts _ _ found.2 in
     (found.0, parts.0, parts.1)
 
 -- what passes a test of its levels has one

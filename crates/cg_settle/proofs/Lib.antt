@@ -9,3 +9,4 @@ pub mod Others
 pub mod Runs
 pub mod Cases
 pub mod Greatest
+pub mod Judged

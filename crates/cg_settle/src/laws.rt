@@ -10,6 +10,7 @@ ghost use Rattle.cg_model.specs.Held.{IsContained};
 ghost use Rattle.cg_model.specs.Strangers.{GuardsHoldForAll};
 ghost use Rattle.cg_settle.specs.SecondRow.{IsHeldFast, SecondRowHolds, AreSettled};
 ghost use Rattle.cg_settle.specs.Greatest.{greatest};
+ghost use Rattle.cg_settle.specs.Judged.{second_row};
 
 /// Where the second row of a subtree holds for a user, it is contained against them: whatever they do, in whatever order,
 /// no step of theirs breaks it.
@@ -46,4 +47,10 @@ pub fn second_row_for_fewer()
 pub fn second_row_is_by_the_greatest()
     ensures { (st : State) (users : List Identity) (subtree : Names)
         → SecondRowHolds st users subtree ↔ IsHeldFast st users subtree (greatest st users) }
+{}
+
+/// The second row is a test: it holds exactly where `second_row` says so.
+pub fn second_row_is_a_test()
+    ensures { (st : State) (users : List Identity) (subtree : Names)
+        → SecondRowHolds st users subtree ↔ (second_row st users subtree ≡ true) }
 {}
