@@ -48,7 +48,7 @@ count_by-more test other all paths =
     more (path ∷ paths) = by_tests (test path) (other path) _ _ (all path) (more paths)
 
 lasting-fewer : (st : State) (users : List Identity) (lasting : Lasting) (path : Names)
-    → lasting_below st users lasting path ≤ count_below st path
+    → lasting_below st lasting path ≤ count_below st path
 lasting-fewer st users lasting path =
     count_by-more (λ q. below path q && lasting.stays q) (below path) (λ q both. (and_parts (below path q) _ both).0) (paths_of st)
 

@@ -239,7 +239,7 @@ module _ (st : State) (users : List Identity) (lasting : Lasting) (lasts : IsLas
 -- ---- the second row, by the greatest of what lasts
 
 module _ (st : State) (users : List Identity) (subtree : Names) (lasting : Lasting) (fast : IsHeldFast st users subtree lasting) where
-  count-greatest : (path : Names) → lasting_below st users lasting path ≤ lasting_below st users (greatest st users) path
+  count-greatest : (path : Names) → lasting_below st lasting path ≤ lasting_below st (greatest st users) path
   count-greatest path =
       count_by-more (λ q. below path q && lasting.stays q) (λ q. below path q && (greatest st users).stays q) (λ q both.
       let parts = and_parts (below path q) _ both in

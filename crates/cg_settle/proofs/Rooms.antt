@@ -43,13 +43,13 @@ module _ (st : State) (users : List Identity) (user : Identity) (named : Contain
   uncounted path other count gone = ap (λ b. cond b (1 + count) count) (and_right _ _ gone)
 
   lasting_below-after : (op : Op) → bars st user op ≡ [] → (path : Names)
-      → lasting_below (after st user op) users lasting path ≡ lasting_below st users lasting path
-  lasting_below-after op free path = ap (λ s. lasting_below s users lasting path) (after-allowed st user op free) ∙ by_op op free
+      → lasting_below (after st user op) lasting path ≡ lasting_below st lasting path
+  lasting_below-after op free path = ap (λ s. lasting_below s lasting path) (after-allowed st user op free) ∙ by_op op free
     where
       test : Names → Bool
       test q = below path q && lasting.stays q
 
-      by_op : (op : Op) → bars st user op ≡ [] → lasting_below (next st user op) users lasting path ≡ lasting_below st users lasting path
+      by_op : (op : Op) → bars st user op ≡ [] → lasting_below (next st user op) lasting path ≡ lasting_below st lasting path
       by_op (Move pid to) free = refl
       by_op (Control at changes) free =
           ap (count_by test) (paths_of-with_enabled st at (enabled_after (enabled_at st at) changes) user)
@@ -66,7 +66,7 @@ module _ (st : State) (users : List Identity) (user : Identity) (named : Contain
           ∙ row-stays st users user named lasting lasts sound (Rmdir removed) free removed stays))))
       by_op (Set at file value) free = ap (count_by test) (paths_of-with_value st at file value)
       by_op (Fork parent child) free =
-          fork-by (λ s. lasting_below s users lasting path ≡ lasting_below st users lasting path) st child (process_at st parent) refl
+          fork-by (λ s. lasting_below s lasting path ≡ lasting_below st lasting path) st child (process_at st parent) refl
           (λ process. refl)
       by_op (Exit pid) free = refl
       by_op (Chmod at name mode) free = ap (count_by test) (paths_of-with_mode st at name mode)
@@ -87,8 +87,8 @@ module _ (st : State) (users : List Identity) (user : Identity) (named : Contain
   value-kept op free path file core there new unreached = refl
 
   bounds-after : (op : Op) → bars st user op ≡ [] → (path : Names) (file : LimitFile) (most : ℕ) → is_some (controller_of file) ≡ false
-      → has_row st path ≡ true → has_row (after st user op) path ≡ true → Bounds st users lasting path file most
-      → Bounds (after st user op) users lasting path file most
+      → has_row st path ≡ true → has_row (after st user op) path ≡ true → Bounds st users path file most
+      → Bounds (after st user op) users path file most
   bounds-after op free path file most core there new bounds = (
     unreached-after st users user named path (File file) there bounds.0 op free (keeps_file st user op path (File file) core),
     value_at-after st user op path file (value-kept op free path file core there new bounds.0) ∙ bounds.1,

@@ -24,36 +24,36 @@ levels_from st path = longest (paths_of st) + 1 - length path
 abbrev pub any_child : State → Names → (Names → Bool) → Bool
 any_child st path test = list_any (λ child. is_child path child && test child) (paths_of st)
 
-module _ (st : State) (users : List Identity) where
-  -- of so many levels
-  abbrev pub stays_within : ℕ → Names → Bool
-  stays_within zero path = false
-  stays_within (suc levels) path =
-      has_row st path
-      && (is_root path || (not (is_reached st users (parent path) Dir) || any_child st path (stays_within levels)))
+-- whether a cgroup stays, of so many levels
+abbrev pub stays_within : State → List Identity → ℕ → Names → Bool
+stays_within st users zero path = false
+stays_within st users (suc levels) path =
+    has_row st path
+    && (is_root path || (not (is_reached st users (parent path) Dir) || any_child st path (stays_within st users levels)))
 
-  abbrev pub on_within : ℕ → Names → Controller → Bool
-  on_within zero path controller = false
-  on_within (suc levels) path controller =
-      stays_within (suc levels) path
-      && (enables (enabled_at st path) controller
-      && (not (is_reached st users path SubtreeControl) || any_child st path (λ child. on_within levels child controller)))
+-- whether a controller stays on
+abbrev pub on_within : State → List Identity → ℕ → Names → Controller → Bool
+on_within st users zero path controller = false
+on_within st users (suc levels) path controller =
+    stays_within st users (suc levels) path
+    && (enables (enabled_at st path) controller
+    && (not (is_reached st users path SubtreeControl) || any_child st path (λ child. on_within st users levels child controller)))
 
-  abbrev pub is_off : Names → Controller → Bool
-  is_off path controller = stays_within (levels_from st path) path && not (enables (enabled_at st path) controller)
+abbrev pub is_off : State → List Identity → Names → Controller → Bool
+is_off st users path controller = stays_within st users (levels_from st path) path && not (enables (enabled_at st path) controller)
 
-  -- at so many first names of a path
-  abbrev pub off_to : ℕ → Names → Controller → Bool
-  off_to zero path controller =
-      is_off (take 0 path) controller
-      && (not (is_reached st users (take 0 path) SubtreeControl) || not (enables st.controllers controller))
-  off_to (suc len) path controller =
-      is_off (take (suc len) path) controller
-      && (not (is_reached st users (take (suc len) path) SubtreeControl) || off_to len path controller)
+-- whether a controller stays off at so many first names of a path
+abbrev pub off_to : State → List Identity → ℕ → Names → Controller → Bool
+off_to st users zero path controller =
+    is_off st users (take 0 path) controller
+    && (not (is_reached st users (take 0 path) SubtreeControl) || not (enables st.controllers controller))
+off_to st users (suc len) path controller =
+    is_off st users (take (suc len) path) controller
+    && (not (is_reached st users (take (suc len) path) SubtreeControl) || off_to st users len path controller)
 
-  abbrev pub greatest : Lasting
-  greatest = record {
-    stays = λ path. stays_within (levels_from st path) path;
-    on = λ path controller. on_within (levels_from st path) path controller;
-    off = λ path controller. off_to (length path) path controller;
-  }
+abbrev pub greatest : State → List Identity → Lasting
+greatest st users = record {
+  stays = λ path. stays_within st users (levels_from st path) path;
+  on = λ path controller. on_within st users (levels_from st path) path controller;
+  off = λ path controller. off_to st users (length path) path controller;
+}

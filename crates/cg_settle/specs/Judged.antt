@@ -23,49 +23,51 @@ abbrev pub is_at_most : ℕ → Option Limit → Bool
 is_at_most count (Some (At most)) = nat_le most count
 is_at_most count limit = false
 
-module _ (st : State) (users : List Identity) (lasting : Lasting) where
-  abbrev pub is_never_disabled : Names → Controller → Bool
-  is_never_disabled path controller =
-      enables (enabled_at st path) controller
-      && (not (is_reached st users path SubtreeControl) || any_child st path (λ child. lasting.on child controller))
+abbrev pub is_never_disabled : State → List Identity → Lasting → Names → Controller → Bool
+is_never_disabled st users lasting path controller =
+    enables (enabled_at st path) controller
+    && (not (is_reached st users path SubtreeControl) || any_child st path (λ child. lasting.on child controller))
 
-  abbrev pub is_bound : Names → LimitFile → ℕ → Bool
-  is_bound path file count = not (is_reached st users path (File file)) && is_at_most count (value_at st path file)
+abbrev pub is_bound : State → List Identity → Names → LimitFile → ℕ → Bool
+is_bound st users path file count = not (is_reached st users path (File file)) && is_at_most count (value_at st path file)
 
-  -- the cgroup of so many first names leaves no room
-  abbrev pub is_full_by : Names → ℕ → Bool
-  is_full_by path len =
-      is_bound (take len path) MaxDescendants (lasting_below st users lasting (take len path))
-      || is_bound (take len path) MaxDepth (length path - len)
+-- the cgroup of so many first names leaves no room
+abbrev pub is_full_by : State → List Identity → Lasting → Names → ℕ → Bool
+is_full_by st users lasting path len =
+    is_bound st users (take len path) MaxDescendants (lasting_below st lasting (take len path))
+    || is_bound st users (take len path) MaxDepth (length path - len)
 
-  -- one of at most so many
-  abbrev pub is_full_to : Names → ℕ → Bool
-  is_full_to path zero = is_full_by path zero
-  is_full_to path (suc len) = is_full_by path (suc len) || is_full_to path len
+-- one of at most so many
+abbrev pub is_full_to : State → List Identity → Lasting → Names → ℕ → Bool
+is_full_to st users lasting path zero = is_full_by st users lasting path zero
+is_full_to st users lasting path (suc len) = is_full_by st users lasting path (suc len) || is_full_to st users lasting path len
 
-  abbrev pub takes_none : Names → Bool
-  takes_none path = not (is_reached st users path Procs) || (not (is_root path) && is_never_disabled path Memory)
+abbrev pub takes_none : State → List Identity → Lasting → Names → Bool
+takes_none st users lasting path =
+    not (is_reached st users path Procs) || (not (is_root path) && is_never_disabled st users lasting path Memory)
 
-  abbrev pub grows_none : Names → Bool
-  grows_none path = not (is_reached st users path Dir) || is_full_to path (length path)
+abbrev pub grows_none : State → List Identity → Lasting → Names → Bool
+grows_none st users lasting path = not (is_reached st users path Dir) || is_full_to st users lasting path (length path)
 
-  -- what a move past a cgroup above the subtree may lead to takes and grows none
-  abbrev pub is_closed_at : Names → Names → Bool
-  is_closed_at subtree top =
-      not (is_reached st users top Procs)
-      || list_all (λ path. not (inside subtree path || same_path (common subtree path) top) || (takes_none path && grows_none path)) (paths_of st)
+-- whether what a move past a cgroup above the subtree may lead to takes and grows none
+abbrev pub is_closed_at : State → List Identity → Lasting → Names → Names → Bool
+is_closed_at st users lasting subtree top =
+    not (is_reached st users top Procs)
+    || list_all (λ path. not (inside subtree path || same_path (common subtree path) top)
+    || (takes_none st users lasting path && grows_none st users lasting path)) (paths_of st)
 
-  -- at each cgroup of fewer first names
-  abbrev pub is_closed_to : Names → ℕ → Bool
-  is_closed_to subtree zero = true
-  is_closed_to subtree (suc len) = is_closed_at subtree (take len subtree) && is_closed_to subtree len
+-- at each cgroup of fewer first names
+abbrev pub is_closed_to : State → List Identity → Lasting → Names → ℕ → Bool
+is_closed_to st users lasting subtree zero = true
+is_closed_to st users lasting subtree (suc len) =
+    is_closed_at st users lasting subtree (take len subtree) && is_closed_to st users lasting subtree len
 
-  abbrev pub is_held_fast : Names → Bool
-  is_held_fast subtree =
-      lasting.stays subtree
-      && (list_all (λ controller. lasting.on (parent subtree) controller || lasting.off (parent subtree) controller) all_controllers
-      && (list_all (λ file. not (is_reached st users subtree (File file))) all_files
-      && (is_closed_to subtree (length subtree) && (fits_descendants st subtree && fits_depth st subtree))))
+abbrev pub is_held_fast : State → List Identity → Lasting → Names → Bool
+is_held_fast st users lasting subtree =
+    lasting.stays subtree
+    && (list_all (λ controller. lasting.on (parent subtree) controller || lasting.off (parent subtree) controller) all_controllers
+    && (list_all (λ file. not (is_reached st users subtree (File file))) all_files
+    && (is_closed_to st users lasting subtree (length subtree) && (fits_descendants st subtree && fits_depth st subtree))))
 
 abbrev pub second_row : State → List Identity → Names → Bool
 second_row st users subtree = is_held_fast st users (greatest st users) subtree

@@ -26,61 +26,62 @@ pub record Lasting : Type 0 where
   pub on : Names → Controller → Bool
   pub off : Names → Controller → Bool
 
-module _ (st : State) (users : List Identity) (lasting : Lasting) where
-  -- nobody writes the directory where it would be removed, or one of its children stays
-  abbrev pub IsNeverRemoved : Names → Type 0
-  IsNeverRemoved path =
-      (is_root path ≡ true) ⊎ ((is_reached st users (parent path) Dir ≡ false)
-      ⊎ ((child : Names) × (is_child path child ≡ true) × (lasting.stays child ≡ true)))
+-- nobody writes the directory where it would be removed, or one of its children stays
+abbrev pub IsNeverRemoved : State → List Identity → Lasting → Names → Type 0
+IsNeverRemoved st users lasting path =
+    (is_root path ≡ true)
+    ⊎ ((is_reached st users (parent path) Dir ≡ false)
+    ⊎ ((child : Names) × (is_child path child ≡ true) × (lasting.stays child ≡ true)))
 
-  -- nobody disables the controller there, or a child goes on enabling it
-  abbrev pub IsNeverDisabled : Names → Controller → Type 0
-  IsNeverDisabled path controller =
-      (enables (enabled_at st path) controller ≡ true)
-      × ((is_reached st users path SubtreeControl ≡ false)
-      ⊎ ((child : Names) × (is_child path child ≡ true) × (lasting.on child controller ≡ true)))
+-- nobody disables the controller there, or a child goes on enabling it
+abbrev pub IsNeverDisabled : State → List Identity → Lasting → Names → Controller → Type 0
+IsNeverDisabled st users lasting path controller =
+    (enables (enabled_at st path) controller ≡ true)
+    × ((is_reached st users path SubtreeControl ≡ false)
+    ⊎ ((child : Names) × (is_child path child ≡ true) × (lasting.on child controller ≡ true)))
 
-  -- the controller doesn't become available there
-  abbrev pub IsNeverAvailable : Names → Controller → Type 0
-  IsNeverAvailable path controller =
-      ((is_root path ≡ true) × (enables st.controllers controller ≡ false))
-      ⊎ ((is_root path ≡ false) × (lasting.off (parent path) controller ≡ true))
+-- the controller doesn't become available there
+abbrev pub IsNeverAvailable : State → List Identity → Lasting → Names → Controller → Type 0
+IsNeverAvailable st users lasting path controller =
+    ((is_root path ≡ true) × (enables st.controllers controller ≡ false))
+    ⊎ ((is_root path ≡ false) × (lasting.off (parent path) controller ≡ true))
 
-  -- nobody enables the controller there, or it doesn't become available
-  abbrev pub IsNeverEnabled : Names → Controller → Type 0
-  IsNeverEnabled path controller =
-      (enables (enabled_at st path) controller ≡ false)
-      × ((is_reached st users path SubtreeControl ≡ false) ⊎ IsNeverAvailable path controller)
+-- nobody enables the controller there, or it doesn't become available
+abbrev pub IsNeverEnabled : State → List Identity → Lasting → Names → Controller → Type 0
+IsNeverEnabled st users lasting path controller =
+    (enables (enabled_at st path) controller ≡ false)
+    × ((is_reached st users path SubtreeControl ≡ false) ⊎ IsNeverAvailable st users lasting path controller)
 
-  -- The three support one another, so they hold together after each step.
-  pub record IsLasting : Type 0 where
-    pub there : (path : Names) → lasting.stays path ≡ true → has_row st path ≡ true
-    pub removed : (path : Names) → lasting.stays path ≡ true → IsNeverRemoved path
-    pub stays : (path : Names) (controller : Controller) → lasting.on path controller ≡ true → lasting.stays path ≡ true
-    pub disabled : (path : Names) (controller : Controller) → lasting.on path controller ≡ true → IsNeverDisabled path controller
-    pub stays_too : (path : Names) (controller : Controller) → lasting.off path controller ≡ true → lasting.stays path ≡ true
-    pub enabled : (path : Names) (controller : Controller) → lasting.off path controller ≡ true → IsNeverEnabled path controller
+-- The three support one another, so they hold together after each step.
+pub record IsLasting (st : State) (users : List Identity) (lasting : Lasting) : Type 0 where
+  pub there : (path : Names) → lasting.stays path ≡ true → has_row st path ≡ true
+  pub removed : (path : Names) → lasting.stays path ≡ true → IsNeverRemoved st users lasting path
+  pub stays : (path : Names) (controller : Controller) → lasting.on path controller ≡ true → lasting.stays path ≡ true
+  pub disabled : (path : Names) (controller : Controller) → lasting.on path controller ≡ true → IsNeverDisabled st users lasting path controller
+  pub stays_too : (path : Names) (controller : Controller) → lasting.off path controller ≡ true → lasting.stays path ≡ true
+  pub enabled : (path : Names) (controller : Controller) → lasting.off path controller ≡ true → IsNeverEnabled st users lasting path controller
 
-  -- how many cgroups below one are never removed
-  abbrev pub lasting_below : Names → ℕ
-  lasting_below path = count_by (λ other. below path other && lasting.stays other) (paths_of st)
+-- how many cgroups below one are never removed
+abbrev pub lasting_below : State → Lasting → Names → ℕ
+lasting_below st lasting path = count_by (λ other. below path other && lasting.stays other) (paths_of st)
 
-  -- A limit that nobody raises and that leaves no room: so many levels down, or for what is never removed below it.
-  abbrev pub Bounds : Names → LimitFile → ℕ → Type 0
-  Bounds path file most = (is_reached st users path (File file) ≡ false) × (value_at st path file ≡ Some (At most))
+-- A limit that nobody raises and that leaves no room: so many levels down, or for what is never removed below it.
+abbrev pub Bounds : State → List Identity → Names → LimitFile → ℕ → Type 0
+Bounds st users path file most = (is_reached st users path (File file) ≡ false) × (value_at st path file ≡ Some (At most))
 
-  -- a cgroup from here up to the root bars every mkdir here
-  abbrev pub IsFull : Names → Type 0
-  IsFull path =
-      (len : ℕ) × (len ≤ length path) × (most : ℕ)
-      × ((Bounds (take len path) MaxDescendants most × (most ≤ lasting_below (take len path)))
-      ⊎ (Bounds (take len path) MaxDepth most × (most ≤ length path - len)))
+-- a cgroup from here up to the root bars every mkdir here
+abbrev pub IsFull : State → List Identity → Lasting → Names → Type 0
+IsFull st users lasting path =
+    (len : ℕ) × (len ≤ length path) × (most : ℕ)
+    × ((Bounds st users (take len path) MaxDescendants most × (most ≤ lasting_below st lasting (take len path)))
+    ⊎ (Bounds st users (take len path) MaxDepth most × (most ≤ length path - len)))
 
-  -- No user moves a process to a cgroup: nobody writes its cgroup.procs, or it goes on enabling memory. Of all controllers
-  -- memory alone keeps a kernel from taking processes in.
-  abbrev pub TakesNone : Names → Type 0
-  TakesNone path = (is_reached st users path Procs ≡ false) ⊎ ((is_root path ≡ false) × IsNeverDisabled path Memory)
+-- No user moves a process to a cgroup: nobody writes its cgroup.procs, or it goes on enabling memory. Of all controllers memory
+-- alone keeps a kernel from taking processes in.
+abbrev pub TakesNone : State → List Identity → Lasting → Names → Type 0
+TakesNone st users lasting path =
+    (is_reached st users path Procs ≡ false) ⊎ ((is_root path ≡ false) × IsNeverDisabled st users lasting path Memory)
 
-  -- no user makes a cgroup in one
-  abbrev pub GrowsNone : Names → Type 0
-  GrowsNone path = (is_reached st users path Dir ≡ false) ⊎ IsFull path
+-- no user makes a cgroup in one
+abbrev pub GrowsNone : State → List Identity → Lasting → Names → Type 0
+GrowsNone st users lasting path = (is_reached st users path Dir ≡ false) ⊎ IsFull st users lasting path
