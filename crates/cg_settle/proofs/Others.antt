@@ -1,5 +1,5 @@
 -- What is done to processes leaves the second row, whoever does it.
-use Rattle.std.proofs.Common.{◌≡◌, true, List, true≢false, sym, is_some}
+use Rattle.std.proofs.Common.{◌≡◌, true, List, true≢false, sym, is_some, subst}
 use Rattle.std.specs.FinMap as map
 use Rattle.std.specs.FinSet as set
 use Rattle.std.specs.Ordering.{nat_cmp}
@@ -18,7 +18,7 @@ use Rattle.cg_steps.proofs.StepEffects.{fork-by}
 use Rattle.cg_steps.proofs.StepFormed.{after-by}
 use Rattle.cg_laws.proofs.Sound.{sound-after}
 use Rattle.cg_settle.specs.Lasting.{Lasting}
-use Rattle.cg_settle.specs.SecondRow.{IsHeldFast, is_of_processes}
+use Rattle.cg_settle.specs.SecondRow.{IsHeldFast, SecondRowHolds, is_of_processes}
 use Rattle.cg_settle.proofs.HeldFast.{IsFirm}
 
 -- the tree with other processes
@@ -65,3 +65,11 @@ module _ (st : State) (users : List Identity) (subtree : Names) (lasting : Lasti
       let was : Rest st = (firm.is.0, firm.stand, firm.fast) in
       let rest = after-by st user op Rest (λ _. rest-next user op h was) was in
       record { sound = sound-after st user op firm.sound; is = (rest.0, firm.is.1); stand = rest.1; fast = rest.2 }
+
+-- the second row goes by the cgroups and the root's controllers
+pub row-no_process : (st new : State) (users : List Identity) (subtree : Names) → new.rows ≡ st.rows → new.controllers ≡ st.controllers
+    → SecondRowHolds st users subtree → SecondRowHolds new users subtree
+row-no_process st new users subtree rows controllers (lasting, fast) =
+    let same : with_processes st new.live new.used ≡ new = λ i.
+    record { rows = sym rows i; live = new.live; used = new.used; controllers = sym controllers i } in
+    (lasting, subst (λ s. IsHeldFast s users subtree lasting) same (fast-with_processes st users subtree lasting new.live new.used fast))

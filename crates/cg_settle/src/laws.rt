@@ -28,6 +28,13 @@ pub fn second_row_for_several()
         → AreSettled st users subtrees }
 {}
 
+/// The second row asks for no process: it goes by the cgroups and by the root's controllers.
+pub fn second_row_asks_for_no_process()
+    ensures { (st new : State) (users : List Identity) (subtree : Names)
+        → new.rows ≡ st.rows → new.controllers ≡ st.controllers
+        → SecondRowHolds st users subtree → SecondRowHolds new users subtree }
+{}
+
 /// Where the guards of a subtree hold for each of some users, at least one, its second row holds for them together.
 pub fn guards_are_a_case()
     ensures { (st : State) (users : List Identity) (subtree : Names)
