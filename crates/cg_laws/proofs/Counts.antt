@@ -1,7 +1,7 @@
 -- A subtree that is within its own limits of descendants and depth is within them after a step that nothing bars.
 use Rattle.std.proofs.Common.{◌≡◌, ℕ, zero, suc, ◌+◌, ◌-◌, ◌<◌, ◌≤◌, max, Bool, true, false, cond, [], length, take, refl, sym, ap, ◌∙◌, subst, Option, Some, None, option_and_then, ⊎_elim, arith, le-leb, leb-true, ltb-true}
 use Rattle.std.proofs.lemmas.Bool.{cases_lt, and_parts}
-use Rattle.cg_cgroup.specs.Paths.{Names, is_root, inside, below, parent}
+use Rattle.cg_cgroup.specs.Paths.{Names, inside, below, parent}
 use Rattle.cg_cgroup.specs.Identity.{Identity}
 use Rattle.cg_cgroup.specs.Cgroups.{value_in}
 use Rattle.cg_cgroup.specs.declared.files.Limit.{Limit}
@@ -84,16 +84,20 @@ level-asked st path (suc n) h len less =
     ⊎_elim (λ lower. level-asked st path n parts.1 len lower)
     (λ here. let same : n ≡ len = omega arith in subst (λ k. level_bars st path k ≡ []) same parts.0) (cases_lt len n)
 
+-- a mkdir that nothing bars asked the limits of each cgroup above
+pub limits-asked : (st : State) (user : Identity) (path : Names) → mkdir_bars st user path ≡ [] → (len : ℕ) → len < length path
+    → level_bars st path len ≡ []
+limits-asked st user path free =
+    let allowed = allowed_mkdir st user path free in
+    let above = some_value (row_at st (parent path)) allowed.2 in
+    level-asked st path (length path)
+    (no_present (row_above st path) (λ row. limit_bars st path (length path)) (no_parts _ _ free).1 above.0
+    (ap (λ root. cond root None (row_at st (parent path))) allowed.1 ∙ above.1))
+
 module _ (st : State) (user : Identity) (subtree path : Names) (there : has_row st subtree ≡ true) (free : mkdir_bars st user path ≡ [])
   where
-    allowed : (has_row st path ≡ false) × (is_root path ≡ false) × (has_row st (parent path) ≡ true)
-    allowed = allowed_mkdir st user path free
-
-    asked : limit_bars st path (length path) ≡ []
-    asked =
-        let above = some_value (row_at st (parent path)) allowed.2 in
-        no_present (row_above st path) (λ row. limit_bars st path (length path)) (no_parts _ _ free).1 above.0
-        (ap (λ root. cond root None (row_at st (parent path))) allowed.1 ∙ above.1)
+    absent : has_row st path ≡ false
+    absent = (allowed_mkdir st user path free).0
 
     -- the subtree's own limits have room, where the new cgroup is below it
     room : (row : Cgroup) → row_at st subtree ≡ Some row → below subtree path ≡ true
@@ -104,7 +108,7 @@ module _ (st : State) (user : Identity) (subtree path : Names) (there : has_row 
         let at = inside-is subtree path parts.0 in
         let level =
         no_present (row_at st (take (length subtree) path)) _
-        (level-asked st path (length path) asked (length subtree) (ltb-true (length subtree) (length path) parts.1)) row
+        (limits-asked st user path free (length subtree) (ltb-true (length subtree) (length path) parts.1)) row
         (ap (row_at st) at ∙ is) in
         let both =
         no_parts
@@ -118,7 +122,7 @@ module _ (st : State) (user : Identity) (subtree path : Names) (there : has_row 
         let most : limits st subtree MaxDescendants ≡ Some row.0.max_descendants.value =
         ap (option_and_then (λ r. value_in r MaxDescendants)) row.1 in
         let deepest : limits st subtree MaxDepth ≡ Some row.0.max_depth.value = ap (option_and_then (λ r. value_in r MaxDepth)) row.1 in (
-          ap (λ n. fits_in n (limits st subtree MaxDescendants)) (count_below-with_row st path made allowed.0 subtree)
+          ap (λ n. fits_in n (limits st subtree MaxDescendants)) (count_below-with_row st path made absent subtree)
               ∙ elim (below subtree path) as (λ b. below subtree path ≡ b
               → fits_in (cond b (1 + count_below st subtree) (count_below st subtree)) (limits st subtree MaxDescendants) ≡ true) [
                 | true ↦
@@ -126,7 +130,7 @@ module _ (st : State) (user : Identity) (subtree path : Names) (there : has_row 
                     ∙ one_more (count_below st subtree) row.0.max_descendants.value (room row.0 row.1 lower).0
                 | false ↦ λ _. fits.0
               ] refl,
-          ap (λ n. fits_in n (limits st subtree MaxDepth)) (depth_below-with_row st path made allowed.0 subtree)
+          ap (λ n. fits_in n (limits st subtree MaxDepth)) (depth_below-with_row st path made absent subtree)
               ∙ elim (below subtree path) as (λ b. below subtree path ≡ b
               → fits_in (cond b (max (depth_below st subtree) (length path - length subtree)) (depth_below st subtree))
               (limits st subtree MaxDepth) ≡ true) [

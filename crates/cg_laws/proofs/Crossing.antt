@@ -34,7 +34,7 @@ use Rattle.cg_steps.proofs.Edges.{stays-there}
 -- ---- paths
 
 -- of a place inside and one outside the common ancestor is a proper ancestor of the subtree
-common-above : (subtree from to : Names) → inside subtree from ≡ true → inside subtree to ≡ false
+pub common-above : (subtree from to : Names) → inside subtree from ≡ true → inside subtree to ≡ false
     → (length (common from to) < length subtree) × (common from to ≡ take (length (common from to)) subtree)
 common-above subtree from to within without =
     let top = common from to in
@@ -97,61 +97,81 @@ module _ (st : State) (user : Identity) (subtree : Names) where
 
 -- ---- a move
 
-module _ (st : State) (user : Identity) (subtree : Names) (sound : IsSound st) (sub : IsSubtree st subtree) where
-  module _ (unreached : AreUnreached st user subtree (ancestors (length subtree))) where
-    never_passes : {P : Type 0} → (from to : Names) → inside subtree from ≡ true → inside subtree to ≡ false → (at : Names)
-        → at ≡ common from to → elim (row_at st at) [ None ↦ true | Some row ↦ writes user row.procs ] ≡ true → P
-    never_passes from to within without at is can =
-        let above = common-above subtree from to within without in
-        let level = length (common from to) in
-        let row = some_value (row_at st (take level subtree)) (take-there st sound subtree level sub.0) in
-        let same = ap (row_at st) (is ∙ above.1) ∙ row.1 in
-        never_written st user subtree (ancestors (length subtree)) unreached (ancestor level) (ancestors-has (length subtree) level above.0)
-        row.0.procs
-        (ap (option_and_then (λ r. entry_in r Procs)) row.1)
-        (sym (ap (λ r. elim r [ None ↦ true | Some row ↦ writes user row.procs ]) same) ∙ can)
+-- a move, where it is one, to the side of the edge on which the process is
+abbrev pub StaysOnSide : State → Names → Op → Type 0
+StaysOnSide st subtree (Move pid to) = (from : Names) → place_at st pid ≡ Some from → inside subtree from ≡ inside subtree to
+StaysOnSide st subtree op = Unit {0}
 
-    move-inside : (pid : ℕ) (from to : Names) → move_bars st user pid to ≡ [] → place_at st pid ≡ Some from
-        → inside subtree from ≡ inside subtree to
-    move-inside pid from to free is =
-        let asked = (no_parts _ _ (no_parts _ _ free).0).1 in
-        let can =
-        no_unless _ _ (no_present (place_at st pid)
-        (λ place. unless (passes st user place to) (NoAccess (length (common place to)) Procs)) asked from is) in
-        elim (inside subtree from) as (λ b. inside subtree from ≡ b → b ≡ inside subtree to) [
-          | true ↦
-              λ within.
-              sym (true_from_ne_false (inside subtree to) (λ without. never_passes from to within without (common from to) refl can))
-          | false ↦
-              λ without. sym (false_from_ne_true (inside subtree to)
-              (λ within. never_passes to from within without (common from to) (common_comm from to) can))
-        ] refl
+-- what a move asks of the common ancestor
+pub move-passes : (st : State) (user : Identity) (pid : ℕ) (from to : Names) → move_bars st user pid to ≡ [] → place_at st pid ≡ Some from
+    → passes st user from to ≡ true
+move-passes st user pid from to free is =
+    let asked = (no_parts _ _ (no_parts _ _ free).0).1 in
+    no_unless _ _ (no_present (place_at st pid)
+    (λ place. unless (passes st user place to) (NoAccess (length (common place to)) Procs)) asked from is)
 
-    move-crosses : (pid : ℕ) (to : Names) → move_bars st user pid to ≡ [] → (q : ℕ)
-        → is_crossed subtree (place_at st q) (place_at (with_place st pid to) q) ≡ false
-    move-crosses pid to free q =
-        ap (λ process. is_crossed subtree (place_at st q) (option_map (λ p. p.place) process)) (process_at-with_place st pid to q)
-        ∙ elim (nat_eq pid q) as (λ b. nat_eq pid q ≡ b → is_crossed subtree (place_at st q)
-        (option_map (λ p. p.place) (cond b (option_map (placed_at to) (process_at st q)) (process_at st q))) ≡ false) [
-          | true ↦ λ same. ap (is_crossed subtree (place_at st q)) (placed to (process_at st q))
-              ∙ one_side subtree (place_at st q) to (λ from is. move-inside pid from to free (ap (place_at st) (eqb-true pid q same) ∙ is))
-          | false ↦ λ _. stays-there subtree (place_at st q)
-        ] refl
+-- where nothing bars it
+module _ (st : State) (user : Identity) (subtree : Names) (sound : IsSound st) where
+  move-crosses : (pid : ℕ) (to : Names) → StaysOnSide st subtree (Move pid to) → (q : ℕ)
+      → is_crossed subtree (place_at st q) (place_at (with_place st pid to) q) ≡ false
+  move-crosses pid to side q =
+      ap (λ process. is_crossed subtree (place_at st q) (option_map (λ p. p.place) process)) (process_at-with_place st pid to q)
+      ∙ elim (nat_eq pid q) as (λ b. nat_eq pid q ≡ b → is_crossed subtree (place_at st q)
+      (option_map (λ p. p.place) (cond b (option_map (placed_at to) (process_at st q)) (process_at st q))) ≡ false) [
+        | true ↦ λ same. ap (is_crossed subtree (place_at st q)) (placed to (process_at st q))
+            ∙ one_side subtree (place_at st q) to (λ from is. side from (ap (place_at st) (eqb-true pid q same) ∙ is))
+        | false ↦ λ _. stays-there subtree (place_at st q)
+      ] refl
 
-  -- where nothing bars it
-  pub crosses : (op : Op) → AreUnreached st user subtree (ancestors (length subtree)) → bars st user op ≡ [] → (q : ℕ)
+  pub crosses-by : (op : Op) → StaysOnSide st subtree op → bars st user op ≡ [] → (q : ℕ)
       → is_crossed subtree (place_at st q) (place_at (after st user op) q) ≡ false
-  crosses (Move pid to) unreached free q =
+  crosses-by (Move pid to) side free q =
       ap (λ new. is_crossed subtree (place_at st q) (place_at new q)) (after-allowed st user (Move pid to) free)
-      ∙ move-crosses unreached pid to free q
-  crosses (Control at changes) unreached free q = kept st user subtree (Control at changes) q refl
-  crosses (Mkdir path) unreached free q = kept st user subtree (Mkdir path) q refl
-  crosses (Rmdir path) unreached free q = kept st user subtree (Rmdir path) q refl
-  crosses (Set at file value) unreached free q = kept st user subtree (Set at file value) q refl
-  crosses (Fork parent child) unreached free q = fork-crosses st user subtree sound parent child q free
-  crosses (Exit pid) unreached free q =
+      ∙ move-crosses pid to side q
+  crosses-by (Control at changes) side free q = kept st user subtree (Control at changes) q refl
+  crosses-by (Mkdir path) side free q = kept st user subtree (Mkdir path) q refl
+  crosses-by (Rmdir path) side free q = kept st user subtree (Rmdir path) q refl
+  crosses-by (Set at file value) side free q = kept st user subtree (Set at file value) q refl
+  crosses-by (Fork parent child) side free q = fork-crosses st user subtree sound parent child q free
+  crosses-by (Exit pid) side free q =
       ap (λ new. is_crossed subtree (place_at st q) (place_at new q)) (after-allowed st user (Exit pid) free)
       ∙ exit-crosses st user subtree pid q
-  crosses (Chmod at name mode) unreached free q = kept st user subtree (Chmod at name mode) q refl
+  crosses-by (Chmod at name mode) side free q = kept st user subtree (Chmod at name mode) q refl
 
--- ---- what no crossing says
+-- where the user reaches the cgroup.procs of no proper ancestor
+module _ (st : State) (user : Identity) (subtree : Names) (sound : IsSound st) (sub : IsSubtree st subtree)
+    (unreached : AreUnreached st user subtree (ancestors (length subtree))) where
+  never_passes : {P : Type 0} → (from to : Names) → inside subtree from ≡ true → inside subtree to ≡ false → (at : Names)
+      → at ≡ common from to → elim (row_at st at) [ None ↦ true | Some row ↦ writes user row.procs ] ≡ true → P
+  never_passes from to within without at is can =
+      let above = common-above subtree from to within without in
+      let level = length (common from to) in
+      let row = some_value (row_at st (take level subtree)) (take-there st sound subtree level sub.0) in
+      let same = ap (row_at st) (is ∙ above.1) ∙ row.1 in
+      never_written st user subtree (ancestors (length subtree)) unreached (ancestor level) (ancestors-has (length subtree) level above.0)
+      row.0.procs
+      (ap (option_and_then (λ r. entry_in r Procs)) row.1)
+      (sym (ap (λ r. elim r [ None ↦ true | Some row ↦ writes user row.procs ]) same) ∙ can)
+
+  move-inside : (pid : ℕ) (from to : Names) → move_bars st user pid to ≡ [] → place_at st pid ≡ Some from
+      → inside subtree from ≡ inside subtree to
+  move-inside pid from to free is =
+      let can = move-passes st user pid from to free is in
+      elim (inside subtree from) as (λ b. inside subtree from ≡ b → b ≡ inside subtree to) [
+        | true ↦
+            λ within.
+            sym (true_from_ne_false (inside subtree to) (λ without. never_passes from to within without (common from to) refl can))
+        | false ↦
+            λ without. sym (false_from_ne_true (inside subtree to)
+            (λ within. never_passes to from within without (common from to) (common_comm from to) can))
+      ] refl
+
+  on_side : (op : Op) → bars st user op ≡ [] → StaysOnSide st subtree op
+  on_side (Move pid to) free = λ from is. move-inside pid from to free is
+  on_side op free = tt
+
+pub crosses : (st : State) (user : Identity) (subtree : Names) → IsSound st → IsSubtree st subtree → (op : Op)
+    → AreUnreached st user subtree (ancestors (length subtree)) → bars st user op ≡ [] → (q : ℕ)
+    → is_crossed subtree (place_at st q) (place_at (after st user op) q) ≡ false
+crosses st user subtree sound sub op unreached free =
+    crosses-by st user subtree sound op (on_side st user subtree sound sub unreached op free) free

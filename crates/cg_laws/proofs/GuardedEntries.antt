@@ -55,7 +55,7 @@ module _ (subtree : Names) (P : Guarded → Type 0) where
 
 module _ (st : State) (user : Identity) (subtree : Names) (entries : List Guarded) (unreached : AreUnreached st user subtree entries)
     (guarded : Guarded) (listed : Contains entries guarded) (entry : Entry) (is : guarded_entry st subtree guarded ≡ Some entry) where
-  not_reached : reaches user entry ≡ false
+  pub not_reached : reaches user entry ≡ false
   not_reached =
       let holds =
       All-contains (λ g. entry_failures st user subtree g ≡ []) entries guarded

@@ -7,6 +7,7 @@ pub mod Counts
 pub mod Kept
 pub mod Steps
 pub mod OperationLaws
+pub mod Ways
 pub mod RunLaws
 pub mod StrangerLaws
 pub mod ThroughoutLaws

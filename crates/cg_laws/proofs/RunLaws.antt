@@ -1,5 +1,5 @@
 -- Runs of users for whom the guards hold, and of others.
-use Rattle.std.proofs.Common.{◌≡◌, ◌≢◌, ℕ, zero, suc, ◌&&◌, List, [], ◌∷◌, refl, sym, ap, ◌∙◌, subst, arith}
+use Rattle.std.proofs.Common.{◌≡◌, ◌≢◌, zero, suc, ◌&&◌, List, [], ◌∷◌, refl, sym, ◌∙◌, subst, arith}
 use Rattle.std.proofs.lemmas.Bool.{and_parts, and_from}
 use Rattle.std.specs.List.{Contains}
 use Rattle.cg_cgroup.specs.Paths.{Names}
@@ -18,11 +18,10 @@ use Rattle.cg_laws.specs.Guarding.{AreUntouched}
 use Rattle.cg_laws.specs.Sound.{IsSound}
 use Rattle.cg_laws.proofs.Steps.{sound-formed, sound-after, kept-after, untouched-guarded, hold-untouched}
 use Rattle.cg_steps.proofs.Edges.{none-crosses-same}
-use Rattle.cg_model.specs.Verdicts.{or_later, verdict_from}
 use Rattle.cg_model.specs.Held.{IsHeld, by_user, IsContained, AreBy}
 use Rattle.cg_model.specs.Strangers.{GuardsHoldForAll}
-use Rattle.cg_model.specs.declared.verdict.Verdict.TheVariants.{Kept}
-use Rattle.cg_steps.proofs.BrokenLaws.{IsWhole, whole-broken, unless-so}
+use Rattle.cg_steps.proofs.BrokenLaws.{IsWhole, unless-so}
+use Rattle.cg_laws.proofs.Ways.{way-after_all, held-on_way}
 
 -- a state on the way, at which the guards of a subtree hold for each of these users
 pub record IsGuarded (users : List Identity) (start st : State) (subtree : Names) : Type 0 where
@@ -67,11 +66,9 @@ module _ (users : List Identity) (start : State) (subtree : Names) where
   guarded-own st at user named op =
       guarded-on st at user op (untouched-guarded st user subtree op at.sound at.is (at.guards user named)) (whole-own st at user named op)
 
-  pub guarded-after_all : (st : State) → IsGuarded users start st subtree → (deeds : List Deed) → AreBy users deeds
-      → IsGuarded users start (after_all st deeds) subtree
-  guarded-after_all st at [] all = at
-  guarded-after_all st at (deed ∷ deeds) all =
-      guarded-after_all (after st deed.0 deed.1) (guarded-own st at deed.0 all.0 deed.1) deeds all.1
+  pub step-own : (st : State) → IsGuarded users start st subtree → (user : Identity) → Contains users user → (op : Op)
+      → IsGuarded users start (after st user op) subtree × IsWhole (limits start subtree) st (after st user op) subtree
+  step-own st at user named op = (guarded-own st at user named op, whole-own st at user named op)
 
   -- where nothing moves, nothing is broken
   pub whole-still : (st : State) → IsGuarded users start st subtree → (user : Identity) → Contains users user
@@ -80,15 +77,6 @@ module _ (users : List Identity) (start : State) (subtree : Names) where
       let fits =
       and_parts _ _ (no_unless (fits_descendants st subtree && fits_depth st subtree) _ (no_parts _ _ (at.guards user named)).1) in
       record { there = at.is.0; edge = none-crosses-same st subtree; limits = at.limits; descendants = fits.0; depth = fits.1 }
-
-  kept-from : (steps : ℕ) (st : State) → IsGuarded users start st subtree → (deeds : List Deed) → AreBy users deeds
-      → verdict_from start steps st deeds subtree ≡ Kept
-  kept-from steps st at [] all = refl
-  kept-from steps st at (deed ∷ deeds) all =
-      let next = after st deed.0 deed.1 in
-      let none = whole-broken (limits start subtree) st next subtree (whole-own st at deed.0 all.0 deed.1) in
-      ap (λ clauses. or_later clauses (suc steps) (verdict_from start (suc steps) next deeds subtree)) none
-      ∙ kept-from (suc steps) next (guarded-own st at deed.0 all.0 deed.1) deeds all.1
 
 -- ---- runs of these users alone
 
@@ -100,9 +88,8 @@ pub held-by : (users : List Identity) (st : State) (subtree : Names) → users �
     → AreBy users deeds → IsHeld st deeds subtree
 held-by users st subtree some at deeds all =
     let one = a_member users some in
-    ap (λ clauses. or_later clauses 0 (verdict_from st 0 st deeds subtree))
-    (whole-broken (limits st subtree) st st subtree (whole-still users st subtree st at one.0 one.1))
-    ∙ kept-from users st subtree 0 st at deeds all
+    held-on_way users st subtree (λ s. IsGuarded users st s subtree) (step-own users st subtree) at
+    (whole-still users st subtree st at one.0 one.1) deeds all
 
 pub held-guarded : (st : State) (users : List Identity) (subtree : Names) (deeds : List Deed) → IsWellFormed st → IsSubtree st subtree
     → users ≢ [] → GuardsHoldForAll st users subtree → AreBy users deeds → IsHeld st deeds subtree
@@ -113,7 +100,10 @@ pub guarded-again : (st : State) (users : List Identity) (subtree : Names) (deed
     → GuardsHoldForAll st users subtree → AreBy users deeds
     → IsSubtree (after_all st deeds) subtree × GuardsHoldForAll (after_all st deeds) users subtree
 guarded-again st users subtree deeds formed is guards all =
-    let end = guarded-after_all users st subtree st (guarded-start users st subtree formed is guards) deeds all in (end.is, end.guards)
+    let end =
+    way-after_all users st subtree (λ s. IsGuarded users st s subtree) (step-own users st subtree) st
+    (guarded-start users st subtree formed is guards) deeds all in
+    (end.is, end.guards)
 
 -- ---- one user
 
@@ -124,7 +114,7 @@ alone user other (suc i, below, is) = absurd (omega (arith, below))
 some-one : (user : Identity) → user ∷ [] ≢ []
 some-one user h = cc
 
-all-own : (user : Identity) (ops : List Op) → AreBy (user ∷ []) (by_user user ops)
+pub all-own : (user : Identity) (ops : List Op) → AreBy (user ∷ []) (by_user user ops)
 all-own user [] = tt
 all-own user (op ∷ ops) = ((0, omega arith, refl), all-own user ops)
 

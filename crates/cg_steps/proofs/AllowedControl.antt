@@ -20,7 +20,7 @@ use Rattle.cg_model.specs.Bars.{change_bars, changes_bars, control_bars}
 use Rattle.cg_model.specs.declared.changes.Change.{Change}
 use Rattle.cg_steps.proofs.ClauseLaws.{no_parts, no_unless, no_present}
 
-enables-enabled_after : (enabled : ControllerSet) (changes : List Change) (controller : Controller)
+pub enables-enabled_after : (enabled : ControllerSet) (changes : List Change) (controller : Controller)
     → enables (enabled_after enabled changes) controller ≡ unwrap_or (effective changes controller) (enables enabled controller)
 enables-enabled_after enabled changes Cpu = refl
 enables-enabled_after enabled changes Memory = refl
@@ -80,7 +80,7 @@ no_internal_cases false within false false before h held kept = refl
 no_internal_cases false true false true before h held kept = kept refl (held refl)
 no_internal_cases false false false true before h held kept = h
 
-each_change : (st : State) (path : Names) (changes : List Change) (row : Cgroup) → changes_bars st path changes row ≡ []
+pub each_change : (st : State) (path : Names) (changes : List Change) (row : Cgroup) → changes_bars st path changes row ≡ []
     → (controller : Controller) → change_bars st path row controller (effective changes controller) ≡ []
 each_change st path changes row h Cpu = (no_parts _ _ (no_parts _ _ h).0).0
 each_change st path changes row h Memory = (no_parts _ _ (no_parts _ _ (no_parts _ _ h).0).1).0

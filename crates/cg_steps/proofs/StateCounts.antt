@@ -92,10 +92,11 @@ gathered-greater p f (x ∷ xs) =
 
 -- ---- the counts of a tree
 
-count_from_front : (st : State) (q : Names) → gathered (λ e. one_more (below q) e.0) 0 (finite.entries st.rows) ≡ count_below st q
-count_from_front st q =
-    sym (gathered-map (one_more (below q)) 0 (λ e. e.0) (finite.entries st.rows))
-    ∙ is_count_by (gathered (one_more (below q)) 0) (below q) refl (λ x xs. refl) (paths_of st)
+count_from_front : (st : State) (test : Names → Bool)
+    → gathered (λ e. one_more test e.0) 0 (finite.entries st.rows) ≡ count_by test (paths_of st)
+count_from_front st test =
+    sym (gathered-map (one_more test) 0 (λ e. e.0) (finite.entries st.rows))
+    ∙ is_count_by (gathered (one_more test) 0) test refl (λ x xs. refl) (paths_of st)
 
 depth_from_front : (st : State) (q : Names)
     → gathered (λ e. greater (below q) (λ x. length x - length q) e.0) 0 (finite.entries st.rows) ≡ depth_below st q
@@ -106,12 +107,17 @@ depth_from_front st q =
 -- ---- making a cgroup adds one below each cgroup that it is below
 
 module _ (st : State) (p : Names) (row : Cgroup) (absent : has_row st p ≡ false) where
-  pub count_below-with_row : (q : Names) → count_below (with_row st p row) q ≡ cond (below q p) (1 + count_below st q) (count_below st q)
-  count_below-with_row q =
-      sym (count_from_front (with_row st p row) q)
-      ∙ gathered-insert path_cmp_total (λ e. one_more (below q) e.0) 0 (λ x y. one_more-Commutes (below q) x.0 y.0) st.rows p row
+  -- of those that pass a test
+  pub counted-with_row : (test : Names → Bool)
+      → count_by test (paths_of (with_row st p row)) ≡ one_more test p (count_by test (paths_of st))
+  counted-with_row test =
+      sym (count_from_front (with_row st p row) test)
+      ∙ gathered-insert path_cmp_total (λ e. one_more test e.0) 0 (λ x y. one_more-Commutes test x.0 y.0) st.rows p row
       (none_value _ absent)
-      ∙ ap (one_more (below q) p) (count_from_front st q)
+      ∙ ap (one_more test p) (count_from_front st test)
+
+  pub count_below-with_row : (q : Names) → count_below (with_row st p row) q ≡ cond (below q p) (1 + count_below st q) (count_below st q)
+  count_below-with_row q = counted-with_row (below q)
 
   pub depth_below-with_row : (q : Names)
       → depth_below (with_row st p row) q ≡ cond (below q p) (max (depth_below st q) (length p - length q)) (depth_below st q)
@@ -124,13 +130,17 @@ module _ (st : State) (p : Names) (row : Cgroup) (absent : has_row st p ≡ fals
 -- ---- removing one takes it
 
 module _ (st : State) (p : Names) (row : Cgroup) (there : row_at st p ≡ Some row) where
+  pub counted-without_row : (test : Names → Bool)
+      → count_by test (paths_of st) ≡ one_more test p (count_by test (paths_of (without_row st p)))
+  counted-without_row test =
+      sym (count_from_front st test)
+      ∙ gathered-remove path_cmp_total (λ e. one_more test e.0) 0 (λ x y. one_more-Commutes test x.0 y.0) path_cmp-IsAntisymmetric
+      st.rows p row there
+      ∙ ap (one_more test p) (count_from_front (without_row st p) test)
+
   pub count_below-without_row : (q : Names)
       → count_below st q ≡ cond (below q p) (1 + count_below (without_row st p) q) (count_below (without_row st p) q)
-  count_below-without_row q =
-      sym (count_from_front st q)
-      ∙ gathered-remove path_cmp_total (λ e. one_more (below q) e.0) 0 (λ x y. one_more-Commutes (below q) x.0 y.0) path_cmp-IsAntisymmetric
-      st.rows p row there
-      ∙ ap (one_more (below q) p) (count_from_front (without_row st p) q)
+  count_below-without_row q = counted-without_row (below q)
 
   pub depth_below-without_row : (q : Names)
       → depth_below st q

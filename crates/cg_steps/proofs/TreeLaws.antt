@@ -15,7 +15,7 @@ parent-take path n h =
     let shorter : length (take (suc n) path) - 1 ≡ n = omega (arith, length-take-le (suc n) path long) in
     ap (λ k. take k (take (suc n) path)) shorter ∙ take-take n (suc n) path (omega arith)
 
-inside-parts : (top path : Names) → inside top path ≡ true → (n : ℕ) → length top ≤ n → inside top (take n path) ≡ true
+pub inside-parts : (top path : Names) → inside top path ≡ true → (n : ℕ) → length top ≤ n → inside top (take n path) ≡ true
 inside-parts top path h n long =
     let cut = take-take (length top) n path long ∙ inside-is top path h in
     ap (λ t. inside t (take n path)) (sym cut) ∙ inside-take (length top) (take n path)

@@ -1,0 +1,4 @@
+pub mod Lasting
+pub mod SecondRow
+pub mod Greatest
+pub mod Judged

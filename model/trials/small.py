@@ -1,0 +1,79 @@
+"""Small random states for a search: few cgroups and processes, and entries that one or two users reach in each way."""
+from second import rules
+from second.rules import CONTROLLERS, DEPTH, DESCENDANTS, DIR, MAX, Cgroup, Entry, State
+
+USERS = [(1000, (5,)), (1001, ())]
+STRANGER = 0
+PIDS = [1, 2, 3]
+
+
+def random_state(rng, most=6):
+    """A well-formed state of 3 cgroups or more, of which some are about room for new ones alone."""
+    paths = random_paths(rng, rng.randint(3, most))
+    if rng.random() < 0.4:
+        return state_about_room(rng, paths)
+    controllers = frozenset(rng.sample(CONTROLLERS, rng.choice([0, 1, 1, 1, 2])))
+    chances = {name: rng.choice([0.0, 0.1, 0.5, 0.8]) for name in rules.STANDING}
+    often = rng.choice([0.2, 0.5, 0.8])
+    enabled = {(): frozenset(c for c in sorted(controllers) if rng.random() < often)}
+    for path in paths[1:]:
+        enabled[path] = frozenset(c for c in sorted(enabled[path[:-1]]) if rng.random() < often)
+    cgroups = cgroups_of(rng, controllers, enabled, chances)
+    return with_limits(rng, with_processes(rng, controllers, cgroups), rng.choice([0, 0, 0.3, 0.8]))
+
+
+def state_about_room(rng, paths):
+    """Every cgroup with a child enables memory, and processes are moved past one of these into new cgroups alone."""
+    controllers = frozenset(["memory"])
+    inner = {path[:-1] for path in paths if path}
+    chances = {DIR: rng.choice([0.2, 0.5, 0.8]), rules.PROCS: 0, rules.CONTROL: 0}
+    cgroups = cgroups_of(rng, controllers, {path: controllers if path in inner else frozenset() for path in paths}, chances)
+    above = rng.choice([path for path in paths if path in inner and path] or [()])
+    cgroups[above].entries[rules.PROCS] = random_entry(rng, 1)
+    state = with_limits(rng, with_processes(rng, controllers, cgroups), rng.choice([0, 0.4]))
+    if rng.random() < 0.5:
+        cgroups[above].values[DESCENDANTS] = len(rules.below(state, above))
+    return state
+
+
+def cgroups_of(rng, controllers, enabled, chances):
+    cgroups = {}
+    for path, those in enabled.items():
+        entries = {name: random_entry(rng, chances[name], name == DIR) for name in rules.STANDING}
+        cgroups[path] = Cgroup(entries, {}, those)
+        for file in rules.files_at(State(controllers, cgroups, {}, frozenset()), path):
+            cgroups[path].entries[file] = random_entry(rng, 0.15)
+            cgroups[path].values[file] = rules.default_of(file)
+    return cgroups
+
+
+def with_processes(rng, controllers, cgroups):
+    places = [path for path, cgroup in cgroups.items() if not path or not cgroup.enabled]
+    pids = rng.sample(PIDS, rng.choice([0, 1, 1, 2]))
+    live = {pid: (rng.choice([STRANGER, STRANGER, 1000, 1001]), rng.choice(places)) for pid in pids}
+    return State(controllers, cgroups, live, frozenset(live))
+
+
+def random_paths(rng, number):
+    paths = [()]
+    while len(paths) < number:
+        paths.append(rng.choice(paths[-3:] if rng.random() < 0.4 else paths) + (f"c{len(paths)}",))
+    return paths
+
+
+def random_entry(rng, chance, is_dir=False):
+    """Reached with some chance: owned, with or without the owner's bit, or written as one of the group or of all others."""
+    mode = rules.DIR_MODE if is_dir else rules.FILE_MODE
+    if rng.random() >= chance:
+        return Entry(0, 0, mode)
+    uid, _ = rng.choice(USERS[:1] + USERS)
+    return rng.choice([Entry(uid, 0, mode), Entry(uid, 0, mode & ~0o200), Entry(0, 5, mode | 0o020), Entry(0, 0, mode | 0o002)])
+
+
+def with_limits(rng, state, chance):
+    """The state with limits of what is below, near to what is there."""
+    for path, cgroup in state.cgroups.items():
+        for file, there in ((DESCENDANTS, len(rules.below(state, path))), (DEPTH, rules.depth_below(state, path))):
+            limited = rng.random() < chance
+            cgroup.values[file] = max(0, there + rng.choice([0, 0, 0, 1, 2, -1, -2])) if limited else MAX
+    return state
