@@ -81,10 +81,14 @@ def uninterrupted() -> Iterator[None]:
 
 def take_signals(name: str) -> None:
     """Has a signal that ends the helper undo what it hasn't finished, and tell so; what is ignored stays so."""
+    is_ending = False
+
     def end(number: int, _: Optional[FrameType]) -> None:
+        nonlocal is_ending
         _came.append(number)
-        if _starting:
+        if _starting or is_ending:
             return
+        is_ending = True
         for undo in list(_left.values()):
             # whatever can't be undone keeps nothing else
             with contextlib.suppress(Exception):
