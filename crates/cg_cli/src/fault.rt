@@ -3,9 +3,9 @@ ghost use Rattle.std.specs.Prelude.{◌≡◌, ◌≢◌, ◌⊎◌, IfOk, strin
 ghost use Rattle.std.specs.IoError.{error_kind};
 ghost use Rattle.cg_cli.specs.FaultLines.{fault_line, plain_line, tree_fault_line, tree_fault_parts, subtree_words, operation_fault_line, numbered_line};
 ghost use Rattle.cg_cli.specs.Faults.{lifted, lifted_path, lifted_line, lifted_check};
-ghost use Rattle.cg_cli.specs.declared.fault.CliFault.TheVariants.{Write as WriteFault, NoMemory as MemoryFault};
+ghost use Rattle.cg_cli.specs.declared.fault.CliFault.TheVariants.{Read as ReadFault, Write as WriteFault, NoMemory as MemoryFault};
 
-use crate::write::WriteFailed;
+use streams::write::WriteFailed;
 use cg_cgroup::memory::NoMemory;
 use cg_cgroup::path::PathFault;
 use cg_lines::lines::LineFault;
@@ -108,6 +108,20 @@ impl From<CheckFault> for CliFault {
     }
 }
 
+impl From<io::Error> for CliFault {
+    ghost from_gives = { λ error fault. ((fault ≡ ReadFault) × (error_kind error ≢ ErrorKind.OutOfMemory))
+        ⊎ ((fault ≡ MemoryFault) × (error_kind error ≡ ErrorKind.OutOfMemory)) };
+
+    /// Why a file can't be opened or read.
+    fn from(error: io::Error) -> CliFault {
+        if error.kind() == ErrorKind::OutOfMemory {
+            CliFault::NoMemory
+        } else {
+            CliFault::Read
+        }
+    }
+}
+
 impl CliFault {
     /// What a fault of the operation line of that number is to a call.
     pub(crate) fn of_line(number: u32, fault: LineFault) -> CliFault
@@ -116,18 +130,6 @@ impl CliFault {
         match fault {
             LineFault::NoMemory => CliFault::NoMemory,
             fault => CliFault::Line { number, fault },
-        }
-    }
-
-    /// Why a file can't be opened or read.
-    pub fn of_read(error: &io::Error) -> CliFault
-        ensures { ((result ≡ CliFault.Read) × (error_kind error.now ≢ ErrorKind.OutOfMemory))
-            ⊎ ((result ≡ CliFault.NoMemory) × (error_kind error.now ≡ ErrorKind.OutOfMemory)) }
-    {
-        if error.kind() == ErrorKind::OutOfMemory {
-            CliFault::NoMemory
-        } else {
-            CliFault::Read
         }
     }
 }

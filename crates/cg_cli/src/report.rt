@@ -3,7 +3,7 @@ ghost use Rattle.std.specs.Prelude.{Ok};
 ghost use Rattle.cg_cli.specs.Reports.{Reports};
 
 use crate::fault::CliFault;
-use crate::write::write_whole;
+use streams::write::write_whole;
 use std::io::Write;
 
 /// Writes what is said, and gives its status.

@@ -1,3 +1,4 @@
 mod BufferedLaws
 mod FaultLaws
 mod RequestLaws
+mod RunLaws

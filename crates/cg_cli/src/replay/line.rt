@@ -7,7 +7,7 @@ ghost use Rattle.cg_cli.specs.Replaying.{Answered};
 
 use crate::fault::CliFault;
 use crate::replay::course::OnCourse;
-use crate::write::write_whole;
+use streams::write::write_whole;
 use cg_cgroup::user::User;
 use cg_lines::lines::read_op;
 use cg_lines::outcome::outcome_text;

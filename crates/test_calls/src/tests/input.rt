@@ -1,7 +1,7 @@
 //! `read_input` at readers that fail and never end.
 use super::readers::{Endless, FailsAfter};
 use cg_cli::fault::CliFault;
-use cg_cli::input::read_input;
+use streams::read::read_input;
 use std::io::ErrorKind;
 use std::test::Fail;
 
@@ -27,7 +27,7 @@ fn a_failed_read_is_said(rt: HostRuntime) {
     ] {
         for left in 0..3 {
             assert_eq!(rt;
-                read_input(rt.alloc(), FailsAfter { left, kind }).err(),
+                read_input(rt.alloc(), FailsAfter { left, kind }).map_err(CliFault::from).err(),
                 Some(fault)
             );
         }
