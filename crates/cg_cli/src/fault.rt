@@ -1,6 +1,7 @@
 //! Why a call of this crate gives no status, and the line that says so.
 ghost use Rattle.std.specs.Prelude.{◌≡◌, ◌≢◌, ◌⊎◌, IfOk, string_bytes};
 ghost use Rattle.std.specs.IoError.{error_kind};
+ghost use Rattle.std.specs.declared.io.ErrorKind.TheVariants.{OutOfMemory};
 ghost use Rattle.cg_cli.specs.FaultLines.{fault_line, plain_line, tree_fault_line, tree_fault_parts, subtree_words, operation_fault_line, numbered_line};
 ghost use Rattle.cg_cli.specs.Faults.{lifted, lifted_path, lifted_line, lifted_check};
 ghost use Rattle.cg_cli.specs.declared.fault.CliFault.TheVariants.{Read as ReadFault, Write as WriteFault, NoMemory as MemoryFault};
@@ -109,8 +110,8 @@ impl From<CheckFault> for CliFault {
 }
 
 impl From<io::Error> for CliFault {
-    ghost from_gives = { λ error fault. ((fault ≡ ReadFault) × (error_kind error ≢ ErrorKind.OutOfMemory))
-        ⊎ ((fault ≡ MemoryFault) × (error_kind error ≡ ErrorKind.OutOfMemory)) };
+    ghost from_gives = { λ error fault. ((fault ≡ ReadFault) × (error_kind error ≢ OutOfMemory))
+        ⊎ ((fault ≡ MemoryFault) × (error_kind error ≡ OutOfMemory)) };
 
     /// Why a file can't be opened or read.
     fn from(error: io::Error) -> CliFault {

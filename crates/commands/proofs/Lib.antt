@@ -1,4 +1,5 @@
 mod BufferedLaws
 mod FaultLaws
+mod ProgramLaws
 mod RequestLaws
 mod RunLaws

@@ -63,9 +63,9 @@ pub fn run_program<F: Files, I: Read + Drop, W: Write + Drop, E: Write + Drop>(
                 input: None,
                 line: None,
             };
-            tell(alloc, files, fault, unseen, &mut errors);
+            let status = status_told(alloc, files, Err(fault), unseen, &mut errors);
             return Ended {
-                status: FAULT,
+                status,
                 out: Some(out),
                 errors: errors.inner,
             };
@@ -74,18 +74,12 @@ pub fn run_program<F: Files, I: Read + Drop, W: Write + Drop, E: Write + Drop>(
     let mut input = Kept::new(alloc, input);
     let mut line = None;
     let ended = run(alloc, words.as_slice(), files, &mut input, &mut line, out);
-    let status = match ended.answer {
-        Ok(status) => status,
-        Err(fault) => {
-            let seen = Seen {
-                words: Some(words.as_slice()),
-                input: input.whole(),
-                line: line.as_ref().map(Vec::as_slice),
-            };
-            tell(alloc, files, fault, seen, &mut errors);
-            FAULT
-        }
+    let seen = Seen {
+        words: Some(words.as_slice()),
+        input: input.whole(),
+        line: line.as_ref().map(Vec::as_slice),
     };
+    let status = status_told(alloc, files, ended.answer, seen, &mut errors);
     Ended {
         status,
         out: ended.out,
@@ -110,6 +104,26 @@ fn all_of(alloc: Global, args: Args) -> Result<Vec<String>, AllocError>
     ensures { IfOk result (λ all. all.items ≡ into_iter_items args) }
 {
     args.collect(alloc)
+}
+
+/// The status of an answer. Where it is a fault, its line is written, and help below it.
+fn status_told<F: Files, E: Write>(
+    alloc: Global,
+    files: &F,
+    answer: Result<u8, Fault>,
+    seen: Seen<'_>,
+    errors: &mut E,
+) -> u8
+    ensures status { result ≡ exit_status answer }
+    ensures told { Tells answer (E.contents errors.old) (E.contents errors.new) }
+{
+    match answer {
+        Ok(status) => status,
+        Err(fault) => {
+            tell(alloc, files, fault, seen, errors);
+            FAULT
+        }
+    }
 }
 
 /// Writes a fault's line, and below it what a second look finds. Where that fails there is no help.
