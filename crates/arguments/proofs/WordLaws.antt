@@ -16,7 +16,7 @@ use Rattle.clap.specs.declared.parser.matches.ArgMatches.TheViews.{out-ArgMatche
 use Rattle.clap.specs.declared.parser.matches.Found.{Found}
 use Rattle.arguments.specs.CommandLine.{command_line}
 use Rattle.arguments.specs.Given.{IsOf}
-use Rattle.arguments.specs.Words.{IsShown, Makes, IsNone}
+use Rattle.arguments.specs.Words.{IsNoMistake, Makes, IsNone}
 use Rattle.arguments.specs.declared.fault.ArgumentsFault.{ArgumentsFault}
 use Rattle.arguments.specs.declared.fault.ArgumentsFault.TheVariants.{Usage, NoMemory}
 use Rattle.arguments.specs.declared.request.Request.{Request}
@@ -30,13 +30,14 @@ simple_and_free = refl
 
 -- ---- the command that was met, and the rows of its own options
 
-pair_of : {A B : Type 0} (o : Option (A × B)) (a : A) (b : B) → option_map (λ (p : A × B). p.0) o ≡ Some a → option_map (λ (p : A × B). p.1) o ≡ Some b
-    → o ≡ Some (a, b)
+pair_of : {A B : Type 0} (o : Option (A × B)) (a : A) (b : B) → option_map (λ (p : A × B). p.0) o ≡ Some a
+    → option_map (λ (p : A × B). p.1) o ≡ Some b → o ≡ Some (a, b)
 pair_of None a b first second = cc
 pair_of (Some p) a b first second =
     ap₂ (λ x y. Some (x, y)) (ap (λ o. unwrap_or o p.0) first) (ap (λ o. unwrap_or o p.1) second)
 
-no_pair : {A B : Type 0} (o : Option (A × B)) (b : B) → None ≡ option_map (λ (p : A × B). p.0) o → option_map (λ (p : A × B). p.1) o ≡ Some b → ⊥
+no_pair : {A B : Type 0} (o : Option (A × B)) (b : B) → None ≡ option_map (λ (p : A × B). p.0) o
+    → option_map (λ (p : A × B). p.1) o ≡ Some b → ⊥
 no_pair None b first second = cc
 no_pair (Some p) b first second = cc
 
@@ -50,7 +51,8 @@ name_is m = firsts (out-ArgMatches m).subcommand _ _
 
 module _ (words : List Text) (m : ArgMatches) (rows : subcommand_rows_of m ≡ subcommand_of command_line words) where
   met : (name : Text) (found : Found) → Some name ≡ subcommand_name_of m
-      → option_map (λ (p : Text × List Row). p.1) (subcommand_rows_of m) ≡ Some (rows_of found) → subcommand_of command_line words ≡ Some (name, rows_of found)
+      → option_map (λ (p : Text × List Row). p.1) (subcommand_rows_of m) ≡ Some (rows_of found)
+      → subcommand_of command_line words ≡ Some (name, rows_of found)
   met name found is own = sym rows ∙ pair_of (subcommand_rows_of m) name (rows_of found) (name_is m ∙ sym is) own
 
   pub made : (asked : Request) → fault_of command_line words ≡ [] → IsOf m asked → Makes words asked
@@ -62,7 +64,8 @@ module _ (words : List Text) (m : ArgMatches) (rows : subcommand_rows_of m ≡ s
   made (request.Replay replay) fits h = (h.0, fits, met _ h.0 h.1 h.2, h.3)
   made (request.Upgrade upgrade) fits h = (h.0, fits, met _ h.0 h.1 h.2, h.3)
 
-  named : (name : Text) (found : Found) → subcommand_of command_line words ≡ Some (name, rows_of found) → Some name ≡ subcommand_name_of m
+  named : (name : Text) (found : Found) → subcommand_of command_line words ≡ Some (name, rows_of found)
+      → Some name ≡ subcommand_name_of m
   named name found is = sym (ap (λ (o : Option (Text × List Row)). option_map (λ p. p.0) o) (rows ∙ is)) ∙ name_is m
 
   own : (name : Text) (found : Found) → subcommand_of command_line words ≡ Some (name, rows_of found)
@@ -101,10 +104,11 @@ pub mistaken : (words : List Text) (app : App) (error : Error) {kind : ErrorKind
     → kind ≢ DisplayHelp → kind ≢ DisplayVersion → (fault : ArgumentsFault)
     → ((fault ≡ Usage) × (kind_of error ≢ OutOfMemory)) ⊎ ((fault ≡ NoMemory) × (kind_of error ≡ OutOfMemory))
     → HasKind (fault_of app words) error → fault ≢ NoMemory → IsNone words
-mistaken words app error line is help version fault from (inl memory) other = absurd (other (elim from [ inl usage ↦ absurd (usage.1 memory) | inr none ↦ none.0 ]))
+mistaken words app error line is help version fault from (inl memory) other =
+    absurd (other (elim from [ inl usage ↦ absurd (usage.1 memory) | inr none ↦ none.0 ]))
 mistaken words app error line is help version fault from (inr among) other =
     inl (kind_of error, not_shown, subst (λ it. IsAmong (kind_of error) (fault_of it words)) line among)
   where
-    not_shown : IsShown (kind_of error) → ⊥
+    not_shown : IsNoMistake (kind_of error) → ⊥
     not_shown (inl e) = help (is ∙ e)
     not_shown (inr e) = version (is ∙ e)

@@ -14,27 +14,27 @@ use Rattle.arguments.specs.declared.request.Request.{Request}
 use Rattle.arguments.specs.declared.request.Request.TheVariants as request
 
 -- help or the version, which is no mistake
-abbrev pub IsShown : ErrorKind → Type 0
-IsShown kind = (kind ≡ DisplayHelp) ⊎ (kind ≡ DisplayVersion)
+abbrev pub IsNoMistake : ErrorKind → Type 0
+IsNoMistake kind = (kind ≡ DisplayHelp) ⊎ (kind ≡ DisplayVersion)
 
 -- `clap` finds no fault in the words, which name this command, and of its options it finds what is said.
-abbrev pub Names : List Text → Text → (Found → Type 0) → Type 0
-Names words command says =
+abbrev pub NamesCommand : List Text → Text → (Found → Type 0) → Type 0
+NamesCommand words command says =
     (found : Found) × (fault_of command_line words ≡ []) × (subcommand_of command_line words ≡ Some (command, rows_of found)) × says found
 
 -- The request that words make.
 abbrev pub Makes : List Text → Request → Type 0
-Makes words (request.Help help) = IsShown (kind_of help) × IsAmong (kind_of help) (fault_of command_line words)
-Makes words (request.May may) = Names words (codes "may") (λ found. IsMay found may)
-Makes words (request.Check check) = Names words (codes "check") (λ found. IsCheck found check)
-Makes words (request.Audit audit) = Names words (codes "audit") (λ found. IsAudit found audit)
-Makes words (request.Advise advise) = Names words (codes "advise") (λ found. IsCheck found advise)
-Makes words (request.Replay replay) = Names words (codes "replay") (λ found. IsReplay found replay)
-Makes words (request.Upgrade upgrade) = Names words (codes "upgrade") (λ found. IsUpgrade found upgrade)
+Makes words (request.Help help) = IsNoMistake (kind_of help) × IsAmong (kind_of help) (fault_of command_line words)
+Makes words (request.May may) = NamesCommand words (codes "may") (λ found. IsMay found may)
+Makes words (request.Check check) = NamesCommand words (codes "check") (λ found. IsCheck found check)
+Makes words (request.Audit audit) = NamesCommand words (codes "audit") (λ found. IsAudit found audit)
+Makes words (request.Advise advise) = NamesCommand words (codes "advise") (λ found. IsCheck found advise)
+Makes words (request.Replay replay) = NamesCommand words (codes "replay") (λ found. IsReplay found replay)
+Makes words (request.Upgrade upgrade) = NamesCommand words (codes "upgrade") (λ found. IsUpgrade found upgrade)
 
 -- `clap` finds a mistake in the words.
 abbrev pub IsMistaken : List Text → Type 0
-IsMistaken words = (kind : ErrorKind) × (IsShown kind → ⊥) × IsAmong kind (fault_of command_line words)
+IsMistaken words = (kind : ErrorKind) × (IsNoMistake kind → ⊥) × IsAmong kind (fault_of command_line words)
 
 -- Words that are no request: `clap` finds a mistake, or what it finds is of no request.
 abbrev pub IsNone : List Text → Type 0

@@ -6,7 +6,6 @@ ghost use Rattle.cg_cli.specs.FaultLines.{fault_line, plain_line, tree_fault_lin
 ghost use Rattle.cg_cli.specs.Faults.{lifted, lifted_path, lifted_line, lifted_check};
 ghost use Rattle.cg_cli.specs.declared.fault.CliFault.TheVariants.{Read as ReadFault, Write as WriteFault, NoMemory as MemoryFault};
 
-use streams::write::WriteFailed;
 use cg_cgroup::memory::NoMemory;
 use cg_cgroup::path::PathFault;
 use cg_lines::lines::LineFault;
@@ -15,6 +14,7 @@ use cg_text::tree::{Place, TreeFault};
 use std::alloc::{AllocError, AllocFailed, Global};
 use std::io;
 use std::io::ErrorKind;
+use streams::write::WriteFailed;
 use thiserror::Error;
 
 /// Why a call gives no status. Want of memory in whatever part is `NoMemory`, and stands in no other fault.

@@ -1,4 +1,3 @@
--- How it is read and written: nobody has to believe it.
 -- What a fault of the command line is to the program, and what the program writes of a fault. Own.
 use Rattle.std.specs.Prelude.{ℕ, Bool, true, false, List, codes, Option, ◌⊎◌}
 use Rattle.std.specs.Io.KnownBytes.{Appends}

@@ -69,7 +69,14 @@ fn may<F: Files, I: Read + Drop, W: Write>(
         (W.contents out.old) (W.contents out.new) result }
 {
     let tree = tree_text(alloc, files, asked.tree, input)?;
-    may_bytes(alloc, tree.as_slice(), ids(&asked.user), asked.pid, asked.to, out)
+    may_bytes(
+        alloc,
+        tree.as_slice(),
+        ids(&asked.user),
+        asked.pid,
+        asked.to,
+        out,
+    )
 }
 
 fn check<F: Files, I: Read + Drop, W: Write>(

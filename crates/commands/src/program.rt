@@ -127,13 +127,7 @@ fn status_told<F: Files, E: Write>(
 }
 
 /// Writes a fault's line, and below it what a second look finds. Where that fails there is no help.
-fn tell<F: Files, E: Write>(
-    alloc: Global,
-    files: &F,
-    fault: Fault,
-    seen: Seen<'_>,
-    errors: &mut E,
-)
+fn tell<F: Files, E: Write>(alloc: Global, files: &F, fault: Fault, seen: Seen<'_>, errors: &mut E)
     ensures { Tells (Err fault) (E.contents errors.old) (E.contents errors.new) }
 {
     if !fault.print(alloc, errors) {

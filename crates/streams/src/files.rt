@@ -1,11 +1,9 @@
 //! Who opens files by their names.
 ghost use Rattle.std.specs.Prelude.{◌≡◌, ℕ, List, Option, None, IfOk};
 
-use std::fs;
 use std::fs::File;
-use std::io;
 use std::io::Read;
-use std::rt;
+use std::{fs, io, rt};
 
 /// What a name is of.
 #[derive(Clone, Copy, Debug, PartialEq, Eq)]

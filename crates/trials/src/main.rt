@@ -22,13 +22,13 @@ mod words;
 
 use begin::{Begin, Stopped};
 use cg_cli::fault::CliFault;
-use streams::read::read_input;
 use said::Said;
 use std::alloc::Global;
 use std::io::{Read, Write};
 use std::process::ExitCode;
 use std::rt::Env;
 use std::{env, io};
+use streams::read::read_input;
 use trial::{Ended, Trial};
 
 /// The call came to no answer: its words aren't those of a call.

@@ -14,8 +14,7 @@ returns g c =
     ∙ nothing_held (below (writer_inner c.in-Ok.report))
     ∙ ap below c.in-Ok.ensures.inner in
     let held = c.answered.new.report in
-    let lies = lies_below c.answered.result.1 (below (writer_inner held)) (writer_buffer held) c.answered.ensures.whole in
-    (
+    let lies = lies_below c.answered.result.1 (below (writer_inner held)) (writer_buffer held) c.answered.ensures.whole in (
       _,
       subst (λ (known : Option (List ℕ)). LeadsTo _ _ _ known _ _) before c.answered.ensures.leads,
       c.answered.ensures.tells,
