@@ -1,6 +1,6 @@
 -- Who gets in, and by what, gathered one after another.
-use Rattle.std.proofs.Common.{◌≡◌, ℕ, ◌+◌, ◌<◌, ◌≤◌, Bool, true, false, cond, ◌&&◌, ◌||◌, not, Bor, List, [], ◌∷◌, ◌++◌, append_assoc, append-nil, map, length, take, drop, get_or, filter, take-suc, add-one, refl, sym, ap, ◌∙◌, arith, Option, Some, None, option_and_then}
-use Rattle.std.specs.Prelude.{slice_get, unwrap_or}
+use Rattle.std.proofs.Common.{◌≡◌, ℕ, zero, suc, ◌+◌, ◌<◌, ◌≤◌, Bool, true, false, cond, ◌&&◌, ◌||◌, not, Bor, List, [], ◌∷◌, ◌++◌, append_assoc, append-nil, map, length, take, drop, get_or, filter, take-suc, add-one, refl, sym, ap, ◌∙◌, arith, Option, Some, None, option_and_then}
+use Rattle.std.specs.Prelude.{slice_get, unwrap_or, is_some, is_none}
 use Rattle.std.specs.List.{flat_map, list_any, list_all, AllByRecursion}
 use Rattle.std.specs.Ordering.{nat_cmp, is_eq}
 use Rattle.std.specs.Cmp.{both_tied}
@@ -27,14 +27,15 @@ use Rattle.cg_model.specs.declared.guard.GuardedEntry.{GuardedEntry}
 use Rattle.cg_model.specs.Mended.{is_by}
 use Rattle.cg_model.specs.declared.mend.Class.{Class}
 use Rattle.cg_model.specs.declared.mend.Class.TheVariants.{Owner, Group, Others}
-use Rattle.cg_model.specs.Mends.{Pair as Named, Entrant as Entering, if_reached, reached_of, reached, entrant, entrants_of, entrants, is_at, same_place, users_at, users_with}
+use Rattle.cg_model.specs.Mends.{Pair as Named, Entrant as Entering, if_reached, reached_of, reached, entrant, entrants_of, entrants, is_at, same_place, users_at, met, subtrees_of}
 use Rattle.cg_guards.proofs.TableWalk.{walk_turn, drop_all}
-use Rattle.cg_steps.proofs.OnceLaws.{once_more}
+use Rattle.cg_steps.proofs.OnceLaws.{once_more, all-once}
 use Rattle.cg_steps.proofs.Lists.{all-each}
-use Rattle.cg_advice.specs.AdviceLines.{reached_lines, entry_lines}
-use Rattle.cg_advice.specs.Ways.{no_ways, ways_with, ways_of, ways_among, ways_at, AreGathered, Key, key_cmp, is_keyed, lines_by, gathered_lines}
+use Rattle.cg_advice.specs.AdviceLines.{entry_lines, over_lines, pairs_lines}
+use Rattle.cg_advice.specs.Ways.{no_ways, ways_with, ways_of, ways_among, ways_at, AreGathered, Key, key_cmp, is_keyed, pair_of, lines_by, gathered_lines}
 use Rattle.cg_advice.specs.declared.ways.Ways.{Ways}
-use Rattle.cg_advice.proofs.Running.{IsThere, this-there}
+use Rattle.cg_advice.specs.declared.pair.Pair.{Pair}
+use Rattle.cg_advice.proofs.Running.{IsThere, entrants-there, this-there}
 
 pub map-append : {A B : Type 0} (g : A → B) (xs ys : List A) → map g (xs ++ ys) ≡ map g xs ++ map g ys
 map-append g [] ys = refl
@@ -184,6 +185,12 @@ module _ (old new : BTreeMap Key Ways) (all : List Entering) (x : Entering) (key
       ∙ ap (λ b. unwrap_or (cond b (Some ways) (get key_cmp old q)) no_ways) (tied key q x is)
       ∙ by_meeting q (is_keyed q x) refl
 
+-- of whichever of its keys
+pub ways_of_key : (key : Key) (x : Entering) (all : List Entering) → IsKeyOf key x
+    → ways_at key all ≡ ways_at (take x.at.len x.subtree, record { ref_ptr = (0, 0); now = entry_text x.at.name }) all
+ways_of_key key x all is = λ i. ways_among (filter (λ each. same_path (take each.at.len each.subtree) (is.path i)
+    && same_name (entry_text each.at.name) (is.name i)) all)
+
 -- ---- what is written of them
 
 -- of things whose lines are written where they are met first
@@ -246,6 +253,41 @@ module _ {X K : Type 0} (lines_of : X → List ℕ) (same : X → X → Bool) (m
     keys = keys_more;
   }
 
+pub tied_paths : (path other : Names) → is_eq (path_cmp path other) ≡ same_path path other
+tied_paths path other = sym (lists_ties (slice_cmp nat_cmp) texts_ties path other)
+
+-- all that is taken of a list, by something of each
+pub subtrees_all : (pairs : List Pair) → map (λ pair. pair.subtree.now) pairs ≡ map (λ (named : Named). named.subtree) (map pair_of pairs)
+subtrees_all [] = refl
+subtrees_all (pair ∷ pairs) = ap (λ l. pair.subtree.now ∷ l) (subtrees_all pairs)
+
+-- ---- a test of each
+
+pub all_more : {A B : Type 0} (test : B → Bool) (g : A → B) (xs : List A) (i : ℕ) (x : A) → i < length xs → x ≡ get_or xs i x
+    → list_all test (map g (take i xs)) ≡ true → test (g x) ≡ true → list_all test (map g (take (i + 1) xs)) ≡ true
+all_more test g xs i x within is so_far passes =
+    ap (list_all test) (one_more g xs i x within is) ∙ pushed (map g (take i xs)) so_far
+  where
+    pushed : (ys : List _) → list_all test ys ≡ true → list_all test (ys ++ g x ∷ []) ≡ true
+    pushed [] all = and_from (test (g x)) true passes refl
+    pushed (y ∷ ys) all =
+        let parts = and_parts (test y) (list_all test ys) all in and_from (test y) (list_all test (ys ++ g x ∷ [])) parts.0 (pushed ys parts.1)
+
+pub one_fails : {A B : Type 0} (test : B → Bool) (g : A → B) (xs : List A) (i : ℕ) (x : A) → i < length xs → x ≡ get_or xs i x
+    → test (g x) ≡ false → list_all test (map g xs) ≡ false
+one_fails test g [] i x within is fails = absurd (omega (arith, within))
+one_fails test g (y ∷ ys) zero x within is fails = ap (λ z. test (g z) && list_all test (map g ys)) (sym is) ∙ ap (λ b. b && list_all test (map g ys)) fails
+one_fails test g (y ∷ ys) (suc i) x within is fails =
+    ap (λ b. test (g y) && b) (one_fails test g ys i x (omega (arith, within)) is fails) ∙ neither (test (g y))
+  where
+    neither : (b : Bool) → b && false ≡ false
+    neither true = refl
+    neither false = refl
+
+pub none_said : {A : Type 0} (found : Option A) (b : Bool) → b ≡ is_some found → is_none found ≡ not b
+none_said None b is = ap not (sym is)
+none_said (Some x) b is = ap not (sym is)
+
 -- ---- as the definitions say it
 
 any_same : (test : Entry → Identity → Bool) (path : Names) (name : EntryName) (entry : Entry) (es : List Entering)
@@ -281,3 +323,15 @@ module _ (st : State) (all : List Entering) (there : AllByRecursion (IsThere st)
       → flat_map (gathered_lines all) es ≡ flat_map (entry_lines all) es
   all_lines_same [] those = refl
   all_lines_same (each ∷ es) those = λ i. lines_same each those.0 i ++ all_lines_same es those.1 i
+
+-- all parts of the text
+pub all_written : (st : State) (pairs : List Named) (es : List Entering) (start one all : List ℕ) → start ≡ []
+    → es ≡ entrants st pairs
+    → one ≡ start ++ flat_map (gathered_lines es) (once same_place es)
+    → all ≡ one ++ flat_map (over_lines st) (subtrees_of pairs) → all ≡ pairs_lines st pairs
+all_written st pairs es start one all empty are is_one is_all =
+    let there = entrants-there st pairs in
+    is_all
+    ∙ ap (λ t. t ++ flat_map (over_lines st) (subtrees_of pairs)) (is_one
+    ∙ (λ i. empty i ++ flat_map (gathered_lines (are i)) (once same_place (are i)))
+    ∙ all_lines_same st (entrants st pairs) there (met st pairs) (all-once (IsThere st) same_place (entrants st pairs) there))
