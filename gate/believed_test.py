@@ -5,7 +5,7 @@ import unittest
 
 import named_once
 import theorems
-from believed import World, closure, definitions_of
+from believed import World, closure, definitions_of, nearest_first
 
 WORDS = """-- Words of the crate below, which a reader of contracts meets.
 use Rattle.std.specs.Prelude.{◌≡◌, ◌+◌, ℕ, List, Option, Some, None}
@@ -223,6 +223,13 @@ class Definitions(Small):
         self.write("crates/low/specs/Steps.antt", "use Rattle.low.specs.Words.{none}\n\nstepped : none\nstepped = none\n")
         with self.assertRaisesRegex(LookupError, "there is no definition Rattle::low::specs::Words::none"):
             self.reached("low::specs::Words::stepped")
+
+
+class Order(Small):
+    def test_the_nearest_comes_first(self):
+        roots = [World(self.top).named("high::called", ["kept"])]
+        self.assertEqual([it.name for it in nearest_first(roots)], ["stepped", "twice", "Keeps", "◌>>=◌"])
+        self.assertEqual({*nearest_first(roots)}, closure(roots)[0])
 
 
 class Contracts(Small):

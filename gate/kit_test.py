@@ -117,6 +117,12 @@ class GateTest(ToolchainTest):
         self.assertRegex(said, r"called: build low --jobs 1 --incremental \S+/low\n")
         self.assertIn("called: build program --jobs 1\n", said)
 
+    def test_a_toolchain_that_keeps_nothing_of_earlier_runs(self):
+        store = SCRIPT.index("STORE ="), SCRIPT.index("class Crate")
+        self.bring(NEW, SCRIPT[:store[0]] + SCRIPT[store[1]:])
+        ended = self.prove()
+        self.assertEqual((ended.stdout.splitlines()[-1], ended.returncode), ("3 passed, 0 failed", 0), ended.stderr)
+
     def test_what_is_otherwise_is_said_and_fails(self):
         for was, now, told in (
                 ("class Kept", "class Stored", "its script has no `Kept` that takes 1 arguments"),

@@ -1,5 +1,5 @@
 -- What a parse found, as the fields of requests. Own.
-use Rattle.std.specs.Prelude.{◌≡◌, ℕ, Bool, true, false, List, [], map, codes, cond, nat_eq, Option, Some, None, option_and_then}
+use Rattle.std.specs.Prelude.{◌≡◌, ◌≢◌, ℕ, Bool, true, false, List, [], map, codes, cond, nat_eq, Option, Some, None, option_and_then}
 use Rattle.std.specs.Cmp.Lexicographic.{pointwise}
 use Rattle.std.specs.Option.{option_map, option_map_or}
 use Rattle.std.specs.Str.Parse.{without_leading_plus}
@@ -85,11 +85,14 @@ pub record IsCheck (found : Found) (check : Check) : Type 0 where
   pub user : user_given found ≡ Some (ids_of check.user)
   pub subtree : first_value found (codes "subtree") ≡ Some check.subtree.now
 
+-- of one user and one subtree at least
 pub record IsAudit (found : Found) (audit : Audit) : Type 0 where
   pub tree : option_map (λ file. file.now) audit.tree ≡ file_at found (codes "tree")
   pub users : users_given found ≡ Some (map ids_of audit.users.items)
   pub subtrees : words_at found (codes "subtree") ≡ map (λ subtree. subtree.now) audit.subtrees.items
   pub all : IsFlag (one_text found (codes "all")) audit.all
+  pub some_user : words_at found (codes "uid") ≢ []
+  pub some_subtree : words_at found (codes "subtree") ≢ []
 
 pub record IsReplay (found : Found) (replay : Replay) : Type 0 where
   pub tree : tree_file replay.sources ≡ file_at found (codes "tree")

@@ -1,4 +1,9 @@
 //! The command line, as `clap` reads it.
+ghost use Rattle.std.specs.Prelude.{◌≡◌, [], ◌∷◌, IfOk, codes};
+ghost use Rattle.clap.specs.Words.{app_of};
+ghost use Rattle.arguments.specs.Building.{IsOption, IsCommand};
+ghost use Rattle.arguments.specs.CommandLine.{word_option, number_option, needed, program_command, command_with, of_user, may_command, subtree_command, audit_command, replay_command, upgrade_command, command_line};
+
 use clap::{Arg, ArgAction, Command, value_parser};
 use std::alloc::{AllocError, Global};
 
@@ -91,12 +96,10 @@ Example:
   fault: tree no-parent cgroup 2";
 
 /// The command line of the program.
-pub(crate) fn command<'a>(alloc: Global) -> Result<Command<'a>, AllocError> {
-    Command::new(alloc, "zirofen")
-        .about("Checks what a user may do in a tree of cgroups")
-        .version(VERSION)
-        .after_help(HELP)
-        .subcommand_required(true)
+pub(crate) fn command<'a>(alloc: Global) -> Result<Command<'a>, AllocError>
+    ensures { IfOk result (λ command. app_of command ≡ command_line) }
+{
+    program_command(alloc)
         .subcommand(may_command(alloc)?)?
         .subcommand(subtree_command(alloc, "check", CHECK, CHECK_HELP)?)?
         .subcommand(audit_command(alloc)?)?
@@ -105,13 +108,26 @@ pub(crate) fn command<'a>(alloc: Global) -> Result<Command<'a>, AllocError> {
         .subcommand(upgrade_command(alloc)?)
 }
 
+/// The program, without its commands.
+fn program_command<'a>(alloc: Global) -> Command<'a>
+    ensures { IsCommand program_command result }
+{
+    Command::new(alloc, "zirofen")
+        .about("Checks what a user may do in a tree of cgroups")
+        .version(VERSION)
+        .after_help(HELP)
+        .subcommand_required(true)
+}
+
 /// A command that is asked of a tree and a user.
 fn user_command<'a>(
     alloc: Global,
     name: &'a str,
     about: &'a str,
     help: &'a str,
-) -> Result<Command<'a>, AllocError> {
+) -> Result<Command<'a>, AllocError>
+    ensures { IfOk result (IsCommand (command_with name.entry.now of_user)) }
+{
     Command::new(alloc, name)
         .about(about)
         .after_help(help)
@@ -124,7 +140,9 @@ fn user_command<'a>(
         )
 }
 
-fn may_command<'a>(alloc: Global) -> Result<Command<'a>, AllocError> {
+fn may_command<'a>(alloc: Global) -> Result<Command<'a>, AllocError>
+    ensures { IfOk result (IsCommand may_command) }
+{
     let about = "Says whether a user may move a process to a cgroup";
     user_command(alloc, "may", about, MAY_HELP)?
         .arg(needed_number(alloc, "pid", "PID", "The process to be moved"))?
@@ -141,7 +159,9 @@ fn subtree_command<'a>(
     name: &'a str,
     about: &'a str,
     help: &'a str,
-) -> Result<Command<'a>, AllocError> {
+) -> Result<Command<'a>, AllocError>
+    ensures { IfOk result (IsCommand (subtree_command name.entry.now)) }
+{
     user_command(alloc, name, about, help)?.arg(
         subtree_argument(alloc)
             .required(true)
@@ -149,7 +169,9 @@ fn subtree_command<'a>(
     )
 }
 
-fn audit_command<'a>(alloc: Global) -> Result<Command<'a>, AllocError> {
+fn audit_command<'a>(alloc: Global) -> Result<Command<'a>, AllocError>
+    ensures { IfOk result (IsCommand audit_command) }
+{
     Command::new(alloc, "audit")
         .about(
             "Says whether every subtree is contained against every user, whatever they do together",
@@ -176,14 +198,18 @@ fn audit_command<'a>(alloc: Global) -> Result<Command<'a>, AllocError> {
         )
 }
 
-fn upgrade_command<'a>(alloc: Global) -> Result<Command<'a>, AllocError> {
+fn upgrade_command<'a>(alloc: Global) -> Result<Command<'a>, AllocError>
+    ensures { IfOk result (IsCommand upgrade_command) }
+{
     Command::new(alloc, "upgrade")
         .about("Writes the tree again, in format 2 with every key")
         .after_help(UPGRADE_HELP)
         .arg(tree_argument(alloc))
 }
 
-fn replay_command<'a>(alloc: Global) -> Result<Command<'a>, AllocError> {
+fn replay_command<'a>(alloc: Global) -> Result<Command<'a>, AllocError>
+    ensures { IfOk result (IsCommand replay_command) }
+{
     let about = "Says of each of a user's operations whether it is carried out";
     user_command(alloc, "replay", about, REPLAY_HELP)?
         .arg(
@@ -194,26 +220,36 @@ fn replay_command<'a>(alloc: Global) -> Result<Command<'a>, AllocError> {
         .arg(subtree_argument(alloc).help("The top of a subtree, on which a verdict is wanted"))
 }
 
-fn tree_argument<'a>(alloc: Global) -> Arg<'a> {
+fn tree_argument<'a>(alloc: Global) -> Arg<'a>
+    ensures { IsOption (word_option (codes "tree")) result }
+{
     word_argument(alloc, "tree", "FILE").help(
         "The tree's text; standard input where this is left out or is -",
     )
 }
 
-fn subtree_argument<'a>(alloc: Global) -> Arg<'a> {
+fn subtree_argument<'a>(alloc: Global) -> Arg<'a>
+    ensures { IsOption (word_option (codes "subtree")) result }
+{
     word_argument(alloc, "subtree", "PATH")
 }
 
-fn number_argument<'a>(alloc: Global, name: &'a str, value: &'a str) -> Arg<'a> {
+fn number_argument<'a>(alloc: Global, name: &'a str, value: &'a str) -> Arg<'a>
+    ensures { IsOption (number_option name.entry.now) result }
+{
     word_argument(alloc, name, value).value_parser(value_parser!(u32))
 }
 
-fn needed_number<'a>(alloc: Global, name: &'a str, value: &'a str, help: &'a str) -> Arg<'a> {
+fn needed_number<'a>(alloc: Global, name: &'a str, value: &'a str, help: &'a str) -> Arg<'a>
+    ensures { IsOption (needed (number_option name.entry.now)) result }
+{
     number_argument(alloc, name, value)
         .required(true)
         .help(help)
 }
 
-fn word_argument<'a>(alloc: Global, name: &'a str, value: &'a str) -> Arg<'a> {
+fn word_argument<'a>(alloc: Global, name: &'a str, value: &'a str) -> Arg<'a>
+    ensures { IsOption (word_option name.entry.now) result }
+{
     Arg::new(alloc, name).long(name).value_name(value)
 }

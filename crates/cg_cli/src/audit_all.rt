@@ -19,7 +19,6 @@ use crate::arguments::UserIds;
 use crate::check::status;
 use crate::fault::CliFault;
 use crate::named::read_named;
-use crate::write::write_whole;
 use cg_cgroup::path::Path;
 use cg_cgroup::user::User;
 use cg_check::{check, first_fault, from_first_unguarded};
@@ -29,10 +28,11 @@ use cg_report::pair::pair_text;
 use cg_tree::hierarchy::Hierarchy;
 use std::alloc::Global;
 use std::io::Write;
+use streams::write::write_whole;
 
-/// Writes every pair of a user and a subtree that isn't contained, by user and then subtree, as soon as it is found: the
-/// line that names it, and what `check_bytes` writes of it; or `contained` where there is none. The status is 1 where one
-/// escapes, else 2 where one is unsettled, else 0. A user or a subtree that is named again counts once.
+/// Writes every pair of a user and a subtree that isn't contained, by user and then subtree: the line that names it, and
+/// what `check_bytes` writes of it; or `contained` where there is none. The status is 1 where one escapes, else 2 where
+/// one is unsettled, else 0. A user or a subtree that is named again counts once.
 ///
 /// # Errors
 /// The first that holds of `Uid` and `Gids` for each user in turn, `BadPath`, `Tree` and `Subtree`, and then nothing is
