@@ -263,6 +263,16 @@ class Page(Small):
         self.assertIn(files + "| `low/src/named/inner.rt` | 1 | 1 |\n| `low/specs/Steps.antt` | 4 | 4 |\n", text)
         self.assertTrue(text.endswith("| `low/specs/Words.antt` | 7 | 7 |\n\nAll else is here.\n\n| Other | Table |\n|---|---|\n"))
 
+    def test_statements(self):
+        page = "`high::called`, `kept`:\n\n```\nof old\n```\n\n`high::called`:\n\n```\n```\n"
+        right = theorems.mended(page, self.top)
+        kept = "stepped ≡ stepped\nK.held keeper.now ≡ doubled told\n"
+        self.assertTrue(right.startswith(f"`high::called`, `kept`:\n\n```\n{kept}```\n\n"))
+        self.assertIn("```\ntold ≡ 1\nstepped ≡ stepped\nIfOk result", right)
+        self.assertEqual(theorems.faults_of(right, self.top)[1], [])
+        self.assertEqual(theorems.faults_of(right.replace("told ≡ 1", "told ≡ 2"), self.top)[1],
+                         ["by the sources it has 'told ≡ 1': gate/believed --write"])
+
     def test_faults(self):
         right = theorems.mended(PAGE, self.top)
         self.assertEqual(theorems.faults_of(right, self.top), (11, []))

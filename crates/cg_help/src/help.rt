@@ -18,13 +18,13 @@ use streams::files::Files;
 
 /// What was seen of the words, of standard input and of the operations.
 #[derive(Clone, Copy)]
-pub struct Seen<'a> {
+pub struct Seen<'w, 'i, 'l> {
     /// The words of the command line, where all of them are text.
-    pub words: Option<&'a [String]>,
+    pub words: Option<&'w [String]>,
     /// What standard input gave, where all of it was kept.
-    pub input: Option<&'a [u8]>,
+    pub input: Option<&'i [u8]>,
     /// The operation line at which a replay ended, as far as it was read.
-    pub line: Option<&'a [u8]>,
+    pub line: Option<&'l [u8]>,
 }
 
 /// The help below the line of a fault, or nothing; a command line that is none of the program's has no fault of a call.
@@ -34,7 +34,7 @@ pub fn help_text<F: Files>(
     alloc: Global,
     files: &F,
     fault: Option<&CliFault>,
-    seen: Seen<'_>,
+    seen: Seen<'_, '_, '_>,
 ) -> Result<Vec<u8>, NoMemory>
     ensures form { IfOk result (λ help. IsHelp help.items) }
     ensures silent { option_map_or (λ fault. has_help fault.now) fault.entry true ≡ false → IfOk result (λ help. help.items ≡ []) }
@@ -59,7 +59,7 @@ fn said<F: Files>(
     alloc: Global,
     files: &F,
     fault: Option<&CliFault>,
-    seen: Seen<'_>,
+    seen: Seen<'_, '_, '_>,
 ) -> Result<Option<String>, NoMemory> {
     let Some(words) = seen.words else {
         return plainly(alloc, "an argument isn't UTF-8");
@@ -96,7 +96,7 @@ fn fault_said<F: Files>(
     files: &F,
     fault: &CliFault,
     request: &Request<'_>,
-    seen: Seen<'_>,
+    seen: Seen<'_, '_, '_>,
 ) -> Result<Option<String>, NoMemory> {
     match fault {
         CliFault::Uid => plainly(
@@ -141,7 +141,7 @@ fn missing_path<F: Files>(
     alloc: Global,
     files: &F,
     request: &Request<'_>,
-    seen: Seen<'_>,
+    seen: Seen<'_, '_, '_>,
 ) -> Result<Option<String>, NoMemory> {
     let paths = paths_of(alloc, request)?;
     if let [path] = paths.as_slice() {
@@ -161,7 +161,7 @@ fn tree_bytes<F: Files>(
     alloc: Global,
     files: &F,
     request: &Request<'_>,
-    seen: Seen<'_>,
+    seen: Seen<'_, '_, '_>,
 ) -> Result<Option<Vec<u8>>, AllocError> {
     match tree_of(request) {
         Some(name) => Ok(read_again(alloc, files, name)),
@@ -190,7 +190,7 @@ fn unread<F: Files>(
 }
 
 /// The operation line at which the replay ended.
-fn line_said(alloc: Global, seen: Seen<'_>) -> Result<Option<String>, NoMemory> {
+fn line_said(alloc: Global, seen: Seen<'_, '_, '_>) -> Result<Option<String>, NoMemory> {
     let Some(line) = seen.line else {
         return Ok(None);
     };

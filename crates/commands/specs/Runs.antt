@@ -63,4 +63,5 @@ exit_status (Err fault) = 3
 abbrev pub Tells : Result ℕ Fault → Option (List ℕ) → Option (List ℕ) → Type 0
 Tells (Ok status) old new = Keeps old new
 Tells (Err fault) old new =
-    (line : Option (List ℕ)) × (is_told : Bool) × Prints fault old line is_told × ((help : List ℕ) × Appends line new help × (is_told ≡ false → help ≡ []))
+    (line : Option (List ℕ)) × (is_told : Bool) × (help : List ℕ)
+    × Prints fault old line is_told × Appends line new help × (is_told ≡ false → help ≡ [])

@@ -111,7 +111,7 @@ fn status_told<F: Files, E: Write>(
     alloc: Global,
     files: &F,
     answer: Result<u8, Fault>,
-    seen: Seen<'_>,
+    seen: Seen<'_, '_, '_>,
     errors: &mut E,
 ) -> u8
     ensures status { result ≡ exit_status answer }
@@ -127,7 +127,7 @@ fn status_told<F: Files, E: Write>(
 }
 
 /// Writes a fault's line, and below it what a second look finds. Where that fails there is no help.
-fn tell<F: Files, E: Write>(alloc: Global, files: &F, fault: Fault, seen: Seen<'_>, errors: &mut E)
+fn tell<F: Files, E: Write>(alloc: Global, files: &F, fault: Fault, seen: Seen<'_, '_, '_>, errors: &mut E)
     ensures { Tells (Err fault) (E.contents errors.old) (E.contents errors.new) }
 {
     if !fault.print(alloc, errors) {

@@ -1,5 +1,8 @@
 use Rattle.commands.proofs.carried.carried_out.Goals as goal
 
+pub returns-in-Help : goal.returns-in-Help
+returns-in-Help g c = rw c.in-Help.is c.shown.ensures
+
 pub returns-in-May : goal.returns-in-May
 returns-in-May g c = rw c.in-May.is c.may.ensures
 
