@@ -1,17 +1,21 @@
 -- What a run comes to, and what lies below its buffer.
-use Rattle.std.proofs.Common.{◌≡◌, ◌∙◌, ℕ, List, [], ◌++◌, ap, sym, refl, inl, inr, append-nil}
+use Rattle.std.proofs.Common.{◌≡◌, ◌∙◌, ℕ, List, [], ◌++◌, ap, sym, refl, subst, inl, inr, append-nil}
 use Rattle.std.specs.Prelude.{◌≢◌, Option, Some, None, Result, Ok, Err, IfOk, IsOk, IsErr, OnOk}
+use Rattle.std.specs.Io.Buffered.{writer_buffer, writer_inner, writer_contents}
 use Rattle.std.specs.Io.KnownBytes.{Keeps, append_known}
+use Rattle.std.specs.declared.io.buffered.BufWriter.{BufWriter}
 use Rattle.arguments.specs.Words.{Makes, IsNone}
 use Rattle.arguments.specs.declared.fault.ArgumentsFault.{ArgumentsFault}
 use Rattle.arguments.specs.declared.fault.ArgumentsFault.TheVariants as arguments
 use Rattle.arguments.specs.declared.request.Request.{Request}
 use Rattle.cg_cli.specs.declared.fault.CliFault.{CliFault}
 use Rattle.cg_cli.specs.declared.fault.CliFault.TheVariants.{Write}
+use Rattle.streams.specs.declared.again.Again.{Again}
 use Rattle.streams.specs.declared.write.WriteFailed.{WriteFailed}
 use Rattle.commands.specs.Faults.{lifted}
 use Rattle.commands.specs.Requests.{Files}
-use Rattle.commands.specs.Runs.{CarriesOutBuffered, in_program, LeadsTo, TellsWrites, LiesBelow}
+use Rattle.commands.specs.Runs.{CarriesOutBuffered, in_program, LeadsTo, TellsWrites, LiesBelow, RunsTo}
+use Rattle.commands.specs.declared.fault.Fault.{Fault}
 use Rattle.commands.proofs.RequestLaws.{Keeps-refl}
 
 module _ (words : List (List ℕ)) (files : Files) (given old : Option (List ℕ)) where
@@ -39,3 +43,22 @@ lies_below (Err failed) inner held empty = (held, Keeps-refl (append_known inner
 pub nothing_held : (inner : Option (List ℕ)) → append_known inner [] ≡ inner
 nothing_held None = refl
 nothing_held (Some xs) = ap (λ bytes. Some bytes) (append-nil xs)
+
+-- behind a buffer that was empty at first, of which the writer and what it still held are handed back
+pub ran : {W A : Type 0} (contents : W → Option (List ℕ)) (words : List (List ℕ)) (files : Files) (given : Option (List ℕ))
+    (fresh held : BufWriter (Again W) A) (out : W) (answer : Result ℕ Fault) (written : Result (Unit {0}) WriteFailed)
+    → writer_inner fresh ≡ record { inner = out } → writer_buffer fresh ≡ []
+    → LeadsTo words files given (writer_contents (λ (again : Again W). contents again.inner) fresh)
+    (writer_contents (λ (again : Again W). contents again.inner) held) answer
+    → TellsWrites answer written → OnOk written (writer_buffer held ≡ []) → (below : Again W) → below ≡ writer_inner held
+    → RunsTo words files given (contents out) (contents below.inner) answer written
+ran {W} contents words files given fresh held out answer written inner empty leads_to told whole below is =
+    let at : Again W → Option (List ℕ) = λ again. contents again.inner in
+    let before : writer_contents at fresh ≡ contents out =
+    ap (λ (bytes : List ℕ). append_known (at (writer_inner fresh)) bytes) empty ∙ nothing_held (at (writer_inner fresh)) ∙ ap at inner in (
+      writer_contents at held,
+      subst (λ (known : Option (List ℕ)). LeadsTo words files given known (writer_contents at held) answer) before leads_to,
+      told,
+      subst (λ (it : Again W). LiesBelow written (writer_contents at held) (contents it.inner)) (sym is)
+          (lies_below written (at (writer_inner held)) (writer_buffer held) whole),
+    )

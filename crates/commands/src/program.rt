@@ -1,8 +1,7 @@
 //! The whole program: what the host gives it in, its status and its streams out.
-ghost use Rattle.std.specs.Prelude.{◌≡◌, ◌≢◌, ◌⊎◌, ℕ, map, string_bytes, Result, Err, IfOk, MatchOption, MatchResult};
+ghost use Rattle.std.specs.Prelude.{◌≡◌, ◌≢◌, ◌⊎◌, ℕ, map, string_bytes, Result, Err, IsErrAnd, MatchOption, MatchResult};
 ghost use Rattle.std.specs.IoError.{error_kind};
 ghost use Rattle.std.specs.Io.KnownBytes.{Keeps};
-ghost use Rattle.std.specs.Vec.Iter.{into_iter_items};
 ghost use Rattle.commands.specs.Runs.{exit_status, Tells, RunsTo};
 ghost use Rattle.commands.specs.declared.fault.Fault.{Fault};
 ghost use Rattle.commands.specs.declared.fault.Fault.TheVariants.{Cli, Usage as UsageFault};
@@ -12,8 +11,7 @@ ghost use Rattle.cg_cli.specs.declared.fault.CliFault.TheVariants.{NoMemory as M
 use crate::fault::Fault;
 use crate::run::run;
 use cg_help::help::{Seen, help_text};
-use std::alloc::{AllocError, Global};
-use std::env::Args;
+use std::alloc::Global;
 use std::io;
 use std::io::{ErrorKind, Read, Write};
 use streams::again::Again;
@@ -34,12 +32,12 @@ pub struct Ended<W, E> {
     pub errors: E,
 }
 
-/// Runs the program on the words of a command line, with the files that there are and its three streams. The status is the
-/// command's, or 3 where there is a fault; then its line is printed to `errors`, and below it help, from a second look at the words,
-/// the files and the input.
+/// Runs the program on the words of a command line, where they can be had, with the files that there are and its three streams. The
+/// status is the command's, or 3 where there is a fault; then its line is printed to `errors`, and below it help, from a second look
+/// at the words, the files and the input.
 pub fn run_program<F: Files, I: Read + Drop, W: Write + Drop, E: Write + Drop>(
     alloc: Global,
-    words: io::Result<Args>,
+    words: io::Result<Vec<String>>,
     files: &F,
     input: I,
     out: W,
@@ -48,21 +46,22 @@ pub fn run_program<F: Files, I: Read + Drop, W: Write + Drop, E: Write + Drop>(
     ensures { (answer : Result ℕ Fault) × (result.status ≡ exit_status answer)
         × Tells answer (E.contents errors) (E.contents result.errors)
         × MatchOption result.out (answer ≡ Err (Cli MemoryFault)) (λ below. MatchResult words
-        (λ args. (written : Result (Unit {0}) WriteFailed) × RunsTo (map string_bytes (into_iter_items args)) (F.given files.now)
+        (λ words. (written : Result (Unit {0}) WriteFailed) × RunsTo (map string_bytes words.items) (F.given files.now)
         (I.remaining input) (W.contents out) (W.contents below) answer written)
         (λ error. Keeps (W.contents out) (W.contents below)
-        × (((answer ≡ Err UsageFault) × (error_kind error ≢ ErrorKind.OutOfMemory))
-        ⊎ ((answer ≡ Err (Cli MemoryFault)) × (error_kind error ≡ ErrorKind.OutOfMemory))))) }
+        × IsErrAnd answer (λ fault. ((fault ≡ UsageFault) × (error_kind error ≢ ErrorKind.OutOfMemory))
+        ⊎ ((fault ≡ Cli MemoryFault) × (error_kind error ≡ ErrorKind.OutOfMemory))))) }
 {
     let mut errors = Again { inner: errors };
-    let words = match words_of(alloc, words) {
+    let words = match words {
         Ok(words) => words,
-        Err(fault) => {
+        Err(error) => {
             let unseen = Seen {
                 words: None,
                 input: None,
                 line: None,
             };
+            let fault = Fault::of_words(error);
             let status = status_told(alloc, files, Err(fault), unseen, &mut errors);
             return Ended {
                 status,
@@ -87,25 +86,6 @@ pub fn run_program<F: Files, I: Read + Drop, W: Write + Drop, E: Write + Drop>(
     }
 }
 
-/// The words of the command line, one after another.
-fn words_of(alloc: Global, words: io::Result<Args>) -> Result<Vec<String>, Fault>
-    ensures { MatchResult words
-        (λ args. MatchResult result (λ all. all.items ≡ into_iter_items args) (λ fault. fault ≡ Cli MemoryFault))
-        (λ error. ((result ≡ Err UsageFault) × (error_kind error ≢ ErrorKind.OutOfMemory))
-        ⊎ ((result ≡ Err (Cli MemoryFault)) × (error_kind error ≡ ErrorKind.OutOfMemory))) }
-{
-    match words {
-        Ok(args) => Ok(all_of(alloc, args)?),
-        Err(error) => Err(Fault::of_words(error)),
-    }
-}
-
-fn all_of(alloc: Global, args: Args) -> Result<Vec<String>, AllocError>
-    ensures { IfOk result (λ all. all.items ≡ into_iter_items args) }
-{
-    args.collect(alloc)
-}
-
 /// The status of an answer. Where it is a fault, its line is written, and help below it.
 fn status_told<F: Files, E: Write>(
     alloc: Global,
@@ -127,7 +107,13 @@ fn status_told<F: Files, E: Write>(
 }
 
 /// Writes a fault's line, and below it what a second look finds. Where that fails there is no help.
-fn tell<F: Files, E: Write>(alloc: Global, files: &F, fault: Fault, seen: Seen<'_, '_, '_>, errors: &mut E)
+fn tell<F: Files, E: Write>(
+    alloc: Global,
+    files: &F,
+    fault: Fault,
+    seen: Seen<'_, '_, '_>,
+    errors: &mut E,
+)
     ensures { Tells (Err fault) (E.contents errors.old) (E.contents errors.new) }
 {
     if !fault.print(alloc, errors) {

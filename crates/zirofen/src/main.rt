@@ -2,15 +2,15 @@
 #![tactic(auto)]
 
 use commands::program::run_program;
-use std::env;
 use std::process::ExitCode;
+use std::{env, io};
 use streams::files::HostFiles;
 
 fn main(rt: HostRuntime) -> ExitCode {
     ExitCode::from(
         run_program(
             rt.alloc(),
-            env::args(&rt),
+            words(&rt),
             &HostFiles { rt: &rt },
             rt.stdin(),
             rt.stdout(),
@@ -18,4 +18,8 @@ fn main(rt: HostRuntime) -> ExitCode {
         )
         .status,
     )
+}
+
+fn words(rt: &HostRuntime) -> io::Result<Vec<String>> {
+    Ok(env::args(rt)?.collect(rt.alloc())?)
 }
