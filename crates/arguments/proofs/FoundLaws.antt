@@ -7,7 +7,7 @@ use Rattle.clap.specs.Walk.{rows_of, first_of, one_of, all_of, many_of}
 use Rattle.clap.specs.declared.parser.matches.Found.{Found}
 use Rattle.clap.proofs.WalkLemmas.{first_value-rows, one_text-rows, raw_values-rows, typed_values-rows}
 use Rattle.arguments.specs.UserWords.{all_read, user_at}
-use Rattle.arguments.specs.Given.{number_read, words_at, file_named, file_at, number_at, numbers_at, user_given, users_given, IsFlag, IsMay, IsCheck, IsAudit, IsReplay, IsUpgrade, Holds}
+use Rattle.arguments.specs.Given.{number_read, words_at, file_named, file_at, number_at, numbers_at, user_given, users_given, users_beside, advised_given, IsFlag, IsMay, IsCheck, IsAudit, IsAdvise, IsReplay, IsUpgrade, Holds}
 use Rattle.arguments.specs.declared.request.Request.{Request}
 use Rattle.arguments.specs.declared.request.Request.TheVariants as request
 
@@ -50,6 +50,10 @@ module _ (f g : Found) (same : rows_of f ≡ rows_of g) where
   users_same : users_given f ≡ users_given g
   users_same = ap (λ (words : List (List ℕ)). all_read user_at words) (words_same (codes "uid"))
 
+  advised_same : advised_given f ≡ advised_given g
+  advised_same = ap₂ (λ (gids : Option (List ℕ)) (words : List (List ℕ)). option_and_then (users_beside words) gids)
+      (numbers_same (codes "gid")) (words_same (codes "uid"))
+
   pub holds_same : (asked : Request) → Holds f asked → Holds g asked
   holds_same (request.Help help) h = tt
   holds_same (request.May may) h = record {
@@ -71,10 +75,12 @@ module _ (f g : Found) (same : rows_of f ≡ rows_of g) where
     some_user = λ none. h.some_user (words_same (codes "uid") ∙ none);
     some_subtree = λ none. h.some_subtree (words_same (codes "subtree") ∙ none);
   }
-  holds_same (request.Advise check) h = record {
+  holds_same (request.Advise advise) h = record {
     tree = h.tree ∙ file_same (codes "tree");
-    user = sym user_same ∙ h.user;
-    subtree = sym (first_same (codes "subtree")) ∙ h.subtree;
+    users = sym advised_same ∙ h.users;
+    subtrees = sym (words_same (codes "subtree")) ∙ h.subtrees;
+    some_user = λ none. h.some_user (words_same (codes "uid") ∙ none);
+    some_subtree = λ none. h.some_subtree (words_same (codes "subtree") ∙ none);
   }
   holds_same (request.Replay replay) h = record {
     tree = h.tree ∙ file_same (codes "tree");

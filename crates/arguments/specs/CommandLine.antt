@@ -45,6 +45,11 @@ audit_command = command_with (codes "audit")
     (word_option (codes "tree") ∷ repeated (needed (word_option (codes "uid"))) ∷ repeated (needed (word_option (codes "subtree")))
     ∷ flag (codes "all") ∷ [])
 
+abbrev pub advise_command : Shape
+advise_command = command_with (codes "advise")
+    (word_option (codes "tree") ∷ repeated (needed (word_option (codes "uid"))) ∷ repeated (number_option (codes "gid"))
+    ∷ repeated (needed (word_option (codes "subtree"))) ∷ [])
+
 abbrev pub replay_command : Shape
 replay_command = command_with (codes "replay") (of_user ++ needed (word_option (codes "ops")) ∷ word_option (codes "subtree") ∷ [])
 
@@ -58,6 +63,6 @@ program_command = record (new_shape (codes "zirofen")) { has_version = true; sub
 abbrev pub command_line : App
 command_line = record {
   top = record program_command { is_leaf = false };
-  subs = may_command ∷ subtree_command (codes "check") ∷ audit_command ∷ subtree_command (codes "advise") ∷ replay_command
+  subs = may_command ∷ subtree_command (codes "check") ∷ audit_command ∷ advise_command ∷ replay_command
       ∷ upgrade_command ∷ [];
 }

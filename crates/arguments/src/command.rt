@@ -2,7 +2,7 @@
 ghost use Rattle.std.specs.Prelude.{◌≡◌, [], ◌∷◌, IfOk, codes};
 ghost use Rattle.clap.specs.Words.{app_of};
 ghost use Rattle.arguments.specs.Building.{IsOption, IsCommand};
-ghost use Rattle.arguments.specs.CommandLine.{word_option, number_option, needed, program_command, command_with, of_user, may_command, subtree_command, audit_command, replay_command, upgrade_command, command_line};
+ghost use Rattle.arguments.specs.CommandLine.{word_option, number_option, needed, program_command, command_with, of_user, may_command, subtree_command, audit_command, advise_command, replay_command, upgrade_command, command_line};
 
 use clap::{Arg, ArgAction, Command, value_parser};
 use std::alloc::{AllocError, Global};
@@ -67,15 +67,16 @@ Example:
   ok
   ok";
 
-const ADVISE: &str = "Says what to change so that a subtree is contained against a user";
-
 const ADVISE_HELP: &str = "\
 Status: 0 contained, 1 a guard fails, 3 a fault
-`contained` means that the subtree is held whatever the user does. Else each guard that fails for him has a line `fails`
-with where it stands, its owner, its mode and by what he reaches it: `owner`, `group` or `others`. Below it stand the
-changes that mend it, the least that do. With all of them made the subtree is contained, and no advice undoes another's.
-Don't follow it where he is meant to have what is named, since it was handed to him: then the question was the wrong one. An
-owner that a service manager sets comes back with the unit: change the unit.
+`contained` means that every subtree is held whatever all these users do, in whatever order. Else each entry that lets one of
+them in has a line `fails` with the guard, where it stands, its owner, its mode and by what they reach it: `owner`, `group` or
+`others`, a line for each. Below stand the changes that mend it for all of them, and at the end those of limits. With all of
+them made every subtree is contained against every user; ask again after changes that were asked apart.
+Don't follow it where a user is meant to have what is named, since it was handed to them: then the question was the wrong one.
+An owner that a service manager sets comes back with the unit: change the unit.
+A user is UID or UID:GID,GID.. in decimal digits, with up to 32 gids, of which the first is the primary one; of one user alone
+--gid names them too. Users and subtrees that are named again count once.
 `fault: usage` means that the command line isn't as it says above.
 docs/FORMATS.md of the repository has the tree's format, and every line that is written.
 
@@ -103,7 +104,7 @@ pub(crate) fn command<'a>(alloc: Global) -> Result<Command<'a>, AllocError>
         .subcommand(may_command(alloc)?)?
         .subcommand(subtree_command(alloc, "check", CHECK, CHECK_HELP)?)?
         .subcommand(audit_command(alloc)?)?
-        .subcommand(subtree_command(alloc, "advise", ADVISE, ADVISE_HELP)?)?
+        .subcommand(advise_command(alloc)?)?
         .subcommand(replay_command(alloc)?)?
         .subcommand(upgrade_command(alloc)?)
 }
@@ -195,6 +196,32 @@ fn audit_command<'a>(alloc: Global) -> Result<Command<'a>, AllocError>
                 .long("all")
                 .action(ArgAction::SetTrue)
                 .help("Every pair that isn't contained, and not the first alone"),
+        )
+}
+
+fn advise_command<'a>(alloc: Global) -> Result<Command<'a>, AllocError>
+    ensures { IfOk result (IsCommand advise_command) }
+{
+    Command::new(alloc, "advise")
+        .about("Says what to change so that every subtree is contained against every user")
+        .after_help(ADVISE_HELP)
+        .arg(tree_argument(alloc))?
+        .arg(
+            word_argument(alloc, "uid", "UID[:GID,GID..]")
+                .action(ArgAction::Append)
+                .required(true)
+                .help("A user and their groups, once or more"),
+        )?
+        .arg(
+            number_argument(alloc, "gid", "GID")
+                .action(ArgAction::Append)
+                .help("A group of the only user, up to 32 times; the first is the primary one"),
+        )?
+        .arg(
+            subtree_argument(alloc)
+                .required(true)
+                .action(ArgAction::Append)
+                .help("The top of a subtree, once or more"),
         )
 }
 

@@ -3,7 +3,7 @@ ghost use Rattle.std.specs.Prelude.{◌≡◌, ◌≢◌, ◌⊎◌, [], Some, N
 ghost use Rattle.std.specs.Option.{option_map};
 ghost use Rattle.clap.specs.Matches.{found_of, first_value, values_left};
 ghost use Rattle.arguments.specs.UserWords.{all_read, user_at};
-ghost use Rattle.arguments.specs.Given.{number_read, words_at, file_named, file_at, NamesNoFile, number_at, numbers_at, user_given, users_given, ids_of, IsMay, IsCheck, IsAudit, tree_file, ops_file, IsReplay, IsUpgrade, command_of, Holds, IsOf};
+ghost use Rattle.arguments.specs.Given.{number_read, words_at, file_named, file_at, NamesNoFile, number_at, numbers_at, user_given, users_given, plain_number, users_beside, advised_given, ids_of, IsMay, IsCheck, IsAudit, IsAdvise, tree_file, ops_file, IsReplay, IsUpgrade, command_of, Holds, IsOf};
 ghost use Rattle.arguments.specs.Words.{Makes, IsNone};
 ghost use Rattle.arguments.specs.declared.request.Request.{Request};
 
@@ -23,7 +23,7 @@ pub enum Request<'a> {
     May(May<'a>),
     Check(Check<'a>),
     Audit(Audit<'a>),
-    Advise(Check<'a>),
+    Advise(Advise<'a>),
     Replay(Replay<'a>),
     Upgrade(Upgrade<'a>),
 }
@@ -73,7 +73,7 @@ impl<'a> Request<'a> {
             "may" => Ok(Request::May(May::from_matches(alloc, given)?)),
             "check" => Ok(Request::Check(Check::from_matches(alloc, given)?)),
             "audit" => Ok(Request::Audit(Audit::from_matches(alloc, given)?)),
-            "advise" => Ok(Request::Advise(Check::from_matches(alloc, given)?)),
+            "advise" => Ok(Request::Advise(Advise::from_matches(alloc, given)?)),
             "replay" => Ok(Request::Replay(Replay::from_matches(alloc, given)?)),
             "upgrade" => Ok(Request::Upgrade(Upgrade::from_matches(given))),
             _ => Err(ArgumentsFault::Usage),
@@ -107,7 +107,7 @@ impl<'a> May<'a> {
     }
 }
 
-/// A subtree and a user: whether it is contained against him, or what to change so that it is.
+/// A subtree and a user: whether it is contained against him.
 #[derive(Drop)]
 pub struct Check<'a> {
     pub tree: Option<&'a str>,
@@ -153,6 +153,31 @@ impl<'a> Audit<'a> {
             users: users_of(alloc, given(matches, "uid")?)?,
             subtrees: given(matches, "subtree")?.to_vec(alloc)?,
             all: matches.get_flag("all"),
+        })
+    }
+}
+
+/// Subtrees and users: what to change so that every subtree is contained against every user.
+#[derive(Drop)]
+pub struct Advise<'a> {
+    pub tree: Option<&'a str>,
+    pub users: Vec<NamedUser>,
+    pub subtrees: Vec<&'a str>,
+}
+
+impl<'a> Advise<'a> {
+    /// What was given to the command.
+    fn from_matches(alloc: Global, matches: &ArgMatches<'a>) -> Result<Advise<'a>, ArgumentsFault>
+        ensures given { IfOk result (IsAdvise (found_of matches.now)) }
+        ensures fault { IfErr result (λ fault. fault ≢ ArgumentsFault.NoMemory → (advised_given (found_of matches.now) ≡ None)
+            ⊎ (words_at (found_of matches.now) (codes "uid") ≡ [])
+            ⊎ (words_at (found_of matches.now) (codes "subtree") ≡ [])) }
+    {
+        let words = given(matches, "uid")?;
+        Ok(Advise {
+            tree: file_of(matches, "tree"),
+            users: users_beside(alloc, words, numbers(alloc, matches, "gid")?)?,
+            subtrees: given(matches, "subtree")?.to_vec(alloc)?,
         })
     }
 }
@@ -281,6 +306,48 @@ fn users_of(alloc: Global, words: &[&str]) -> Result<Vec<NamedUser>, ArgumentsFa
         users.push(NamedUser::from_word(alloc, word)?)?;
     }
     Ok(users)
+}
+
+/// The users of words, where one plain number has groups beside it.
+fn users_beside(
+    alloc: Global,
+    words: &[&str],
+    gids: Vec<u32>,
+) -> Result<Vec<NamedUser>, ArgumentsFault>
+    ensures { MatchResult result
+        (λ users. users_beside (map (λ word. word.now) words.now) gids.items ≡ Some (map ids_of users.items))
+        (λ fault. fault ≢ ArgumentsFault.NoMemory → users_beside (map (λ word. word.now) words.now) gids.items ≡ None) }
+{
+    let Some(uid) = plain_number(words) else {
+        return if gids.is_empty() {
+            users_of(alloc, words)
+        } else {
+            Err(ArgumentsFault::Usage)
+        };
+    };
+    let mut users = Vec::new(alloc);
+    users.push(NamedUser { uid, gids })?;
+    Ok(users)
+}
+
+/// The plain number of words, where they are one word, before which a plus sign may stand.
+fn plain_number(words: &[&str]) -> Option<u32>
+    ensures { result ≡ plain_number (map (λ word. word.now) words.now) }
+{
+    match words {
+        [word] => number_of(word),
+        _ => None,
+    }
+}
+
+/// The number of a word.
+fn number_of(word: &str) -> Option<u32>
+    ensures { result ≡ number_read word.now }
+{
+    match word.parse() {
+        Ok(number) => Some(number),
+        Err(_) => None,
+    }
 }
 
 /// What an option was given, each time that it stands, which it does once at least.

@@ -11,7 +11,8 @@ ghost use Rattle.cg_model.specs.Listed.{listed_unless_contained, listed_of, list
 ghost use Rattle.cg_format.specs.Readings.{OnText};
 ghost use Rattle.cg_format.specs.TextOf.{IsTextOf};
 ghost use Rattle.cg_cli.specs.Audits.{users_read, paths_read};
-ghost use Rattle.cg_cli.specs.Once.{once, same_user};
+ghost use Rattle.cg_model.specs.Once.{once};
+ghost use Rattle.cg_cli.specs.Once.{same_user};
 ghost use Rattle.cg_cli.specs.AllPairs.{worse, WritesPairs, pairs_found, all_report, ReportsPairs, UnlistedAreContained};
 
 use crate::arguments::UserIds;

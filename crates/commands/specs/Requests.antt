@@ -7,6 +7,7 @@ use Rattle.arguments.specs.Given.{ids_of, tree_file, ops_file}
 use Rattle.arguments.specs.declared.request.May.{May}
 use Rattle.arguments.specs.declared.request.Check.{Check}
 use Rattle.arguments.specs.declared.request.Audit.{Audit}
+use Rattle.arguments.specs.declared.request.Advise.{Advise}
 use Rattle.arguments.specs.declared.request.Replay.{Replay}
 use Rattle.arguments.specs.declared.request.Request.{Request}
 use Rattle.arguments.specs.declared.request.Request.TheVariants as request
@@ -53,8 +54,8 @@ may_said may tree = may_report tree may.user.uid may.user.gids.items may.pid may
 abbrev pub check_said : Check → Reading → Report
 check_said check tree = check_report tree check.user.uid check.user.gids.items check.subtree.now
 
-abbrev pub advise_said : Check → Reading → Report
-advise_said advise tree = advise_report tree advise.user.uid advise.user.gids.items advise.subtree.now
+abbrev pub advise_said : Advise → Reading → Report
+advise_said advise tree = advise_report tree (map ids_of advise.users.items) (map (λ subtree. subtree.now) advise.subtrees.items)
 
 -- the first pair that isn't contained, or each of them
 abbrev pub AuditSays : Audit → Option (List ℕ) → Option (List ℕ) → Result ℕ CliFault → Reading → Type 0

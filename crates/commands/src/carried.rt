@@ -9,7 +9,7 @@ ghost use Rattle.arguments.specs.Given.{ids_of, tree_file, ops_file};
 ghost use Rattle.commands.specs.Requests.{source, name_of, IsTree, may_said, check_said, advise_said, AuditSays, OnTree, ReportsOnTree, replay_said, ReplaysOver, ReplaysOnTree, CarriesOut};
 
 use arguments::named_user::NamedUser;
-use arguments::request::{Audit, Check, May, Replay, Request, Sources, Upgrade};
+use arguments::request::{Advise, Audit, Check, May, Replay, Request, Sources, Upgrade};
 use cg_cli::advise::advise_bytes;
 use cg_cli::arguments::UserIds;
 use cg_cli::audit::audit_bytes;
@@ -95,7 +95,7 @@ fn check<F: Files, I: Read + Drop, W: Write>(
 
 fn advise<F: Files, I: Read + Drop, W: Write>(
     alloc: Global,
-    asked: &Check<'_>,
+    asked: &Advise<'_>,
     files: &F,
     input: I,
     out: &mut W,
@@ -104,7 +104,14 @@ fn advise<F: Files, I: Read + Drop, W: Write>(
         (W.contents out.old) (W.contents out.new) result }
 {
     let tree = tree_text(alloc, files, asked.tree, input)?;
-    advise_bytes(alloc, tree.as_slice(), ids(&asked.user), asked.subtree, out)
+    let users = all_ids(alloc, asked.users.as_slice())?;
+    advise_bytes(
+        alloc,
+        tree.as_slice(),
+        users.as_slice(),
+        asked.subtrees.as_slice(),
+        out,
+    )
 }
 
 fn audit<F: Files, I: Read + Drop, W: Write>(
