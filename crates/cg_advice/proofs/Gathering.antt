@@ -72,26 +72,26 @@ module _ (st : State) (pair : Named) (place : ℕ) (front : List Entering) where
 
   module _ (at : GuardedEntry) (is : Some at ≡ option_and_then (standing st pair.subtree) (slice_get (guarded_entries pair.subtree) place))
     where
-    here : (b : Bool) → reaches pair.user at.entry ≡ b
-        → left place ≡ cond b (at ∷ []) [] ++ left (place + 1)
-    here b gets_in =
-        walk_turn st pair.subtree (if_reached pair.user) (guarded_entries pair.subtree) place (Some at) is
-        ∙ ap (λ l. l ++ left (place + 1)) (by b gets_in)
-      where
-        by : (b : Bool) → reaches pair.user at.entry ≡ b → if_reached pair.user at ≡ cond b (at ∷ []) []
-        by true gets_in = ap (λ r. unless (not r) at) gets_in
-        by false gets_in = ap (λ r. unless (not r) at) gets_in
+      here : (b : Bool) → reaches pair.user at.entry ≡ b
+          → left place ≡ cond b (at ∷ []) [] ++ left (place + 1)
+      here b gets_in =
+          walk_turn st pair.subtree (if_reached pair.user) (guarded_entries pair.subtree) place (Some at) is
+          ∙ ap (λ l. l ++ left (place + 1)) (by b gets_in)
+        where
+          by : (b : Bool) → reaches pair.user at.entry ≡ b → if_reached pair.user at ≡ cond b (at ∷ []) []
+          by true gets_in = ap (λ r. unless (not r) at) gets_in
+          by false gets_in = ap (λ r. unless (not r) at) gets_in
 
-    pub one_met : (new : List Entering) → reaches pair.user at.entry ≡ true → new ≡ front ++ (entrant pair at ∷ [])
-        → new ++ map (entrant pair) (left (place + 1)) ≡ front ++ map (entrant pair) (left place)
-    one_met new gets_in is_new =
-        ap (λ l. l ++ map (entrant pair) (left (place + 1))) is_new
-        ∙ append_assoc front (entrant pair at ∷ []) (map (entrant pair) (left (place + 1)))
-        ∙ ap (λ rest. front ++ map (entrant pair) rest) (sym (here true gets_in))
+      pub one_met : (new : List Entering) → reaches pair.user at.entry ≡ true → new ≡ front ++ (entrant pair at ∷ [])
+          → new ++ map (entrant pair) (left (place + 1)) ≡ front ++ map (entrant pair) (left place)
+      one_met new gets_in is_new =
+          ap (λ l. l ++ map (entrant pair) (left (place + 1))) is_new
+          ∙ append_assoc front (entrant pair at ∷ []) (map (entrant pair) (left (place + 1)))
+          ∙ ap (λ rest. front ++ map (entrant pair) rest) (sym (here true gets_in))
 
-    pub one_kept_off : reaches pair.user at.entry ≡ false
-        → front ++ map (entrant pair) (left (place + 1)) ≡ front ++ map (entrant pair) (left place)
-    one_kept_off off = ap (λ rest. front ++ map (entrant pair) rest) (sym (here false off))
+      pub one_kept_off : reaches pair.user at.entry ≡ false
+          → front ++ map (entrant pair) (left (place + 1)) ≡ front ++ map (entrant pair) (left place)
+      one_kept_off off = ap (λ rest. front ++ map (entrant pair) rest) (sym (here false off))
 
   pub none_left : length (guarded_entries pair.subtree) ≤ place → front ++ map (entrant pair) (left place) ≡ front
   none_left all =

@@ -69,11 +69,7 @@ fn are_guarded<H: Hierarchy>(tree: &H, pairs: &[Pair<'_>]) -> bool
 }
 
 /// The lines of each entry that lets one in, where it is met first, behind a text.
-fn push_entries(
-    alloc: Global,
-    text: &mut Vec<u8>,
-    entrants: &[Entrant<'_>],
-) -> Result<(), NoMemory>
+fn push_entries(alloc: Global, text: &mut Vec<u8>, entrants: &[Entrant<'_>]) -> Result<(), NoMemory>
     ensures { OnOk result (text.new.items ≡ text.old.items
         ++ flat_map (gathered_lines (map entering entrants.now)) (once same_place (map entering entrants.now))) }
 {
