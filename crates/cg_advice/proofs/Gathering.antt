@@ -114,7 +114,8 @@ same_named name other =
     iff_same (same_name (entry_text name) (entry_text other)) (same_entry name other)
     (λ same. ap (same_entry name) (sym (entry_names.distinct name other ((bytes_decides (entry_text name) (entry_text other)).0 same)))
     ∙ same_entry-refl name)
-    (λ same. ap (λ n. same_name (entry_text name) (entry_text n)) (sym (same_entry-true name other same)) ∙ same_name-refl (entry_text name))
+    (λ same. ap (λ n. same_name (entry_text name) (entry_text n)) (sym (same_entry-true name other same))
+        ∙ same_name-refl (entry_text name))
 
 same_entry_comm : (name other : EntryName) → same_entry name other ≡ same_entry other name
 same_entry_comm name other =
@@ -271,12 +272,14 @@ all_more test g xs i x within is so_far passes =
     pushed : (ys : List _) → list_all test ys ≡ true → list_all test (ys ++ g x ∷ []) ≡ true
     pushed [] all = and_from (test (g x)) true passes refl
     pushed (y ∷ ys) all =
-        let parts = and_parts (test y) (list_all test ys) all in and_from (test y) (list_all test (ys ++ g x ∷ [])) parts.0 (pushed ys parts.1)
+        let parts = and_parts (test y) (list_all test ys) all in
+        and_from (test y) (list_all test (ys ++ g x ∷ [])) parts.0 (pushed ys parts.1)
 
 pub one_fails : {A B : Type 0} (test : B → Bool) (g : A → B) (xs : List A) (i : ℕ) (x : A) → i < length xs → x ≡ get_or xs i x
     → test (g x) ≡ false → list_all test (map g xs) ≡ false
 one_fails test g [] i x within is fails = absurd (omega (arith, within))
-one_fails test g (y ∷ ys) zero x within is fails = ap (λ z. test (g z) && list_all test (map g ys)) (sym is) ∙ ap (λ b. b && list_all test (map g ys)) fails
+one_fails test g (y ∷ ys) zero x within is fails = ap (λ z. test (g z) && list_all test (map g ys)) (sym is)
+    ∙ ap (λ b. b && list_all test (map g ys)) fails
 one_fails test g (y ∷ ys) (suc i) x within is fails =
     ap (λ b. test (g y) && b) (one_fails test g ys i x (omega (arith, within)) is fails) ∙ neither (test (g y))
   where

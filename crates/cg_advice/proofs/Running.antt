@@ -251,7 +251,8 @@ all-unless P false r holds = (holds, tt)
 
 module _ (st : State) where
   reached-there : (user : Identity) (subtree : Names) (guarded : Guarded)
-      → AllByRecursion (λ (at : GuardedEntry). entry_at st (take at.len subtree) at.name ≡ Some at.entry) (reached_of st user subtree guarded)
+      → AllByRecursion (λ (at : GuardedEntry). entry_at st (take at.len subtree) at.name ≡ Some at.entry)
+          (reached_of st user subtree guarded)
   reached-there user subtree guarded =
       elim (guarded_entry st subtree guarded) as (λ o. guarded_entry st subtree guarded ≡ o
       → AllByRecursion (λ (at : GuardedEntry). entry_at st (take at.len subtree) at.name ≡ Some at.entry)
@@ -270,7 +271,8 @@ module _ (st : State) where
       (reached-there pair.user pair.subtree)))
 
   -- such an entry at a place is what stands at that place
-  pub this-there : (path : Names) (name : EntryName) (entry : Entry) → entry_at st path name ≡ Some entry → (each : Entrant) → IsThere st each
+  pub this-there : (path : Names) (name : EntryName) (entry : Entry) → entry_at st path name ≡ Some entry
+      → (each : Entrant) → IsThere st each
       → is_at path name each ≡ true → each.at.entry ≡ entry
   this-there path name entry is each there here =
       let parts = and_parts (same_path (take each.at.len each.subtree) path) (same_entry each.at.name name) here in
@@ -282,7 +284,8 @@ module _ (st : State) where
       → run path name (mends st pairs) entry ≡ mended (users_at path name (entrants st pairs)) entry
   all_run pairs path name entry is =
       let all = entrants st pairs in
-      through-append (run_one path name) (flat_map (entry_changes all) (met st pairs)) (flat_map (limit_changes st) (subtrees_of pairs)) entry
+      through-append (run_one path name) (flat_map (entry_changes all) (met st pairs))
+        (flat_map (limit_changes st) (subtrees_of pairs)) entry
       ∙ run-limits path name st (subtrees_of pairs) (run path name (flat_map (entry_changes all) (met st pairs)) entry)
       ∙ walk all path name entry (met st pairs)
       (all-once _ same_place all (all-each (IsThere st) _ (this-there path name entry is) all (entrants-there pairs))) false

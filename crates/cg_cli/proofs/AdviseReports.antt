@@ -99,7 +99,8 @@ module _ (st : State) (subtrees : List Names) where
           length (drop (cond b (1 + prefix_len (is_guarded_of_all st subtrees) xs) 0) (x ∷ xs)) ≡ 0
           → b && list_all (is_guarded_of_all st subtrees) xs ≡ true) [
             | true ↦ λ none.
-                let one : 1 + prefix_len (is_guarded_of_all st subtrees) xs ≡ suc (prefix_len (is_guarded_of_all st subtrees) xs) = omega arith in
+                let one : 1 + prefix_len (is_guarded_of_all st subtrees) xs
+                    ≡ suc (prefix_len (is_guarded_of_all st subtrees) xs) = omega arith in
                 all_front xs (rw one at none)
             | false ↦ λ none. absurd (omega (arith, none))
           ] none
@@ -172,7 +173,8 @@ of_lines : (found : Option (List ℕ)) → takes_memory (lines_report found).end
 of_lines None = refl
 of_lines (Some lines) = refl
 
-pub advice_takes : (st : State) (users : List Identity) (subtrees : List Names) → takes_memory (advice_report st users subtrees).ending ≡ true
+pub advice_takes : (st : State) (users : List Identity) (subtrees : List Names)
+    → takes_memory (advice_report st users subtrees).ending ≡ true
 advice_takes st users subtrees =
     report_takes (in_call (advised st users subtrees)) lines_report of_lines (call_takes (advised st users subtrees))
 
