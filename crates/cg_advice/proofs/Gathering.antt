@@ -115,7 +115,7 @@ same_named name other =
     (λ same. ap (same_entry name) (sym (entry_names.distinct name other ((bytes_decides (entry_text name) (entry_text other)).0 same)))
     ∙ same_entry-refl name)
     (λ same. ap (λ n. same_name (entry_text name) (entry_text n)) (sym (same_entry-true name other same))
-        ∙ same_name-refl (entry_text name))
+    ∙ same_name-refl (entry_text name))
 
 same_entry_comm : (name other : EntryName) → same_entry name other ≡ same_entry other name
 same_entry_comm name other =

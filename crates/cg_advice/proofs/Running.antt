@@ -252,7 +252,7 @@ all-unless P false r holds = (holds, tt)
 module _ (st : State) where
   reached-there : (user : Identity) (subtree : Names) (guarded : Guarded)
       → AllByRecursion (λ (at : GuardedEntry). entry_at st (take at.len subtree) at.name ≡ Some at.entry)
-          (reached_of st user subtree guarded)
+      (reached_of st user subtree guarded)
   reached-there user subtree guarded =
       elim (guarded_entry st subtree guarded) as (λ o. guarded_entry st subtree guarded ≡ o
       → AllByRecursion (λ (at : GuardedEntry). entry_at st (take at.len subtree) at.name ≡ Some at.entry)
@@ -285,7 +285,7 @@ module _ (st : State) where
   all_run pairs path name entry is =
       let all = entrants st pairs in
       through-append (run_one path name) (flat_map (entry_changes all) (met st pairs))
-        (flat_map (limit_changes st) (subtrees_of pairs)) entry
+      (flat_map (limit_changes st) (subtrees_of pairs)) entry
       ∙ run-limits path name st (subtrees_of pairs) (run path name (flat_map (entry_changes all) (met st pairs)) entry)
       ∙ walk all path name entry (met st pairs)
       (all-once _ same_place all (all-each (IsThere st) _ (this-there path name entry is) all (entrants-there pairs))) false

@@ -68,7 +68,7 @@ entry_written ways subtree at text one two three four all is_one is_two is_three
     ∙ append_assoc three (mend_lines subtree (chown_by ways at)) (mend_lines subtree (chmod_by ways at))
     ∙ ap (λ l. three ++ l) (sym (flat_map-append (mend_line subtree) (chown_by ways at) (chmod_by ways at)))
     ∙ ap (λ t. t ++ mend_lines subtree (chown_by ways at ++ chmod_by ways at))
-        (fails ∙ ap (λ l. text ++ l) (told (fails_line subtree at) ways))
+    (fails ∙ ap (λ l. text ++ l) (told (fails_line subtree at) ways))
     ∙ append_assoc text _ (mend_lines subtree (chown_by ways at ++ chmod_by ways at))
 
 -- ---- limits

@@ -100,7 +100,7 @@ module _ (st : State) (subtrees : List Names) where
           → b && list_all (is_guarded_of_all st subtrees) xs ≡ true) [
             | true ↦ λ none.
                 let one : 1 + prefix_len (is_guarded_of_all st subtrees) xs
-                    ≡ suc (prefix_len (is_guarded_of_all st subtrees) xs) = omega arith in
+                ≡ suc (prefix_len (is_guarded_of_all st subtrees) xs) = omega arith in
                 all_front xs (rw one at none)
             | false ↦ λ none. absurd (omega (arith, none))
           ] none

@@ -10,6 +10,6 @@ abbrev pub invariant-loop-place : goal.invariant-loop-place
 invariant-loop-place g l =
     map entering l.found.items ++ map (entrant (pair_of l.pair))
     (flat_map (reached_of (g.H.Hierarchy.state l.tree) l.pair.user.now l.pair.subtree.now)
-        (drop l.place (guarded_entries l.pair.subtree.now)))
+    (drop l.place (guarded_entries l.pair.subtree.now)))
     ≡ map entering l.fn.found.items ++ map (entrant (pair_of l.pair))
     (flat_map (reached_of (g.H.Hierarchy.state l.tree) l.pair.user.now l.pair.subtree.now) (guarded_entries l.pair.subtree.now))
