@@ -2,9 +2,14 @@
 import unittest
 
 from check_test import BY_GROUP, MARK, HostTest, owned
+from zirofen_host.ask.model import Answer, Pair
+from zirofen_host.ask.program import ESCAPES
 from zirofen_host.collect import mount, snapshot
+from zirofen_host.collect.model import OTHERS, OWNER, User
 from zirofen_host.collect.mount import Mounts
 from zirofen_host.fault import Fault
+from zirofen_host.judge.judged import OVER, LetIn, LetsIn, Place
+from zirofen_host.profile import path_of
 from unittest import mock
 
 V1 = "30 25 0:26 / /sys/fs/cgroup/{0} rw - cgroup cgroup rw,{1}\n"
@@ -83,6 +88,13 @@ class OneLineTest(HostTest):
         self.host.cgroup("/open", modes={"dir": 0o777})
         self.host.cgroup("/nobodys", owners=owned(65534))
         self.assertEqual([(row[0], row[3]) for row in self.rows(self.report())], [("65534", "/nobodys"), ("anybody", "/open")])
+
+    def test_whom_no_entry_lets_in(self):
+        subtree, answer = path_of("/a"), Answer(ESCAPES, ("escapes",))
+        over = LetsIn(Place(subtree, OVER), None, Pair(User(65534, ()), subtree), answer)
+        for uid in (65534, 1000):
+            over.add(Pair(User(uid, ()), subtree), answer)
+        self.assertEqual(over.whom(), [LetIn(OTHERS, None, {65534}), LetIn(OWNER, 1000, {1000})])
 
     def test_processes_of_what_is_over_full(self):
         self.host.cgroup("/full", owners=owned(1000), pids=range(10, 30))

@@ -52,7 +52,7 @@ class LetsIn:
 
     def add(self, pair: Pair, answer: Answer) -> None:
         user, entry = pair.user, self.entry
-        by = user.class_of(entry) if entry else OWNER
+        by = user.class_of(entry) if entry else OTHERS if user.uid == ANYBODY else OWNER
         self.uids[by, None if by == OTHERS else entry.gid if entry and by == GROUP else user.uid].add(user.uid)
         if self.last is None or not is_inside(pair.subtree, self.last):
             self.subtrees.add(pair.subtree)
