@@ -24,7 +24,7 @@ case "$*" in
     *--help) exec {program} "$@";;
     --version) echo 'zirofen 1.0'; exit;;
 esac
-echo $$ >'{told}'
+echo $$ >>'{told}'
 exec sleep 60
 """
 
@@ -320,23 +320,33 @@ class HelperTest(HostTest):
         self.assertEqual(os.listdir(self.temporary), [])
 
     def test_nothing_is_left_when_a_signal_ends_it(self):
-        program, told = f"{self.host.folder}/waiting", f"{self.host.folder}/told"
-        write(program, WAITING.format(program=self.program, told=told))
-        os.chmod(program, 0o755)
         for number in ending.SIGNALS:
             with self.subTest(number):
+                program, told = (f"{self.host.folder}/{name}{number}" for name in ("waiting", "told"))
+                write(program, WAITING.format(program=self.program, told=told))
+                os.chmod(program, 0o755)
                 started = subprocess.Popen(self.words(program=program), env={**os.environ, "TMPDIR": self.temporary}, text=True,
                                            stdout=subprocess.PIPE, stderr=subprocess.PIPE,
                                            preexec_fn=lambda: signal.signal(signal.SIGINT, signal.default_int_handler))
                 self.wait_for(lambda: os.path.exists(told) and read(told).endswith("\n"))
                 self.assertEqual(len(os.listdir(self.temporary)), 1)
-                asked = int(read(told))
-                os.remove(told)
                 started.send_signal(number)
                 said, line = started.communicate(timeout=20)
                 self.assertEqual((started.returncode, said, os.listdir(self.temporary)), (-number, "", []))
                 self.assertEqual(line, f"zirofen-host check: ended by {number.name}, and this is no answer\n")
-                self.wait_for(lambda: not os.path.exists(f"/proc/{asked}"))
+                self.wait_for(lambda: not any(os.path.exists(f"/proc/{asked}") for asked in read(told).split()))
+
+    def test_a_program_that_is_just_started_is_not_left(self):
+        code = ("import os, signal, subprocess, sys; sys.path.insert(0, sys.argv[1]);"
+                "from zirofen_host import ending;"
+                "real = subprocess.Popen.__init__;"
+                "signalled = lambda it, *words, **named: (real(it, *words, **named), print(it.pid, flush=True),"
+                " os.kill(os.getpid(), signal.SIGTERM)) and None;"
+                "subprocess.Popen.__init__ = signalled;"
+                "ending.take_signals('it'); ending.run(['sleep', '60'])")
+        ended = subprocess.run([sys.executable, "-c", code, os.path.dirname(COMMAND)], capture_output=True, text=True)
+        self.assertEqual((ended.returncode, ended.stderr), (-signal.SIGTERM, "it: ended by SIGTERM, and this is no answer\n"))
+        self.wait_for(lambda: not os.path.exists(f"/proc/{int(ended.stdout)}"))
 
     def test_what_is_ignored_stays_so(self):
         code = ("import os, signal, sys; signal.signal(signal.SIGHUP, signal.SIG_IGN); sys.path.insert(0, sys.argv[1]);"

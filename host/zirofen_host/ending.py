@@ -3,8 +3,9 @@ import contextlib
 import os
 import signal
 import subprocess
+import time
 from types import FrameType
-from typing import Callable, Dict, Iterator, Optional, Sequence
+from typing import Callable, Dict, Iterator, List, Optional, Sequence, Set
 
 from zirofen_host import progress
 
@@ -12,6 +13,9 @@ SIGNALS = (signal.SIGINT, signal.SIGTERM, signal.SIGHUP)
 STANDARD_ERROR = 2
 
 _left: Dict[object, Callable[[], None]] = {}
+# what is being started, and signals that came meanwhile
+_starting: Set[object] = set()
+_came: List[int] = []
 
 
 @contextlib.contextmanager
@@ -26,11 +30,37 @@ def undone(undo: Callable[[], None]) -> Iterator[None]:
         del _left[key]
 
 
+@contextlib.contextmanager
+def started() -> Iterator[None]:
+    """A signal that comes meanwhile ends the helper behind it, when it is known how to undo what was started. Behind a signal nothing
+    is started."""
+    key = object()
+    _starting.add(key)
+    try:
+        while _came:
+            _starting.discard(key)
+            end_by_what_came()
+            time.sleep(1)
+        yield
+    finally:
+        _starting.discard(key)
+        end_by_what_came()
+
+
+def end_by_what_came() -> None:
+    if _came and not _starting:
+        os.kill(os.getpid(), _came[0])
+
+
 def run(words: Sequence[str], seconds: Optional[float] = None) -> "subprocess.CompletedProcess[str]":
     """Runs a program to its end, or cuts it off where it takes longer. Python ignores SIGXFSZ, and so does the program: a file that
     gets too large is its fault line."""
-    with subprocess.Popen(words, stdin=subprocess.DEVNULL, stdout=subprocess.PIPE, stderr=subprocess.PIPE, text=True,
-                          errors="replace", restore_signals=False) as child, undone(child.terminate):
+    with contextlib.ExitStack() as running:
+        with started():
+            child = running.enter_context(subprocess.Popen(
+                words, stdin=subprocess.DEVNULL, stdout=subprocess.PIPE, stderr=subprocess.PIPE, text=True, errors="replace",
+                restore_signals=False))
+            running.enter_context(undone(child.terminate))
         try:
             stdout, stderr = child.communicate(timeout=seconds)
         except subprocess.TimeoutExpired:
@@ -51,7 +81,14 @@ def uninterrupted() -> Iterator[None]:
 
 def take_signals(name: str) -> None:
     """Has a signal that ends the helper undo what it hasn't finished, and tell so; what is ignored stays so."""
+    is_ending = False
+
     def end(number: int, _: Optional[FrameType]) -> None:
+        nonlocal is_ending
+        _came.append(number)
+        if _starting or is_ending:
+            return
+        is_ending = True
         for undo in list(_left.values()):
             # whatever can't be undone keeps nothing else
             with contextlib.suppress(Exception):
