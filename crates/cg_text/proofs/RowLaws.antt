@@ -6,7 +6,7 @@ use Rattle.std.specs.Option.{ok_or}
 use Rattle.std.specs.Result.{IsErr, IsErrAnd}
 use Rattle.std.specs.List.{list_all}
 use Rattle.std.proofs.lemmas.Bool.{false_from_ne_true}
-use Rattle.cg_cgroup.proofs.AllFiles.{each_passes}
+use Rattle.cg_cgroup.proofs.AllFiles.{each_passes, each_brought, held_as}
 use Rattle.cg_format.proofs.TablesSay.{all_so, each_entry}
 use Rattle.std.proofs.lemmas.List.{length-take-le}
 use Rattle.std.proofs.lemmas.List.Folds.{list_all_at}
@@ -14,14 +14,13 @@ use Rattle.toml.specs.Data.{Members, no_members, as_table}
 use Rattle.toml.specs.View.{view, table_view}
 use Rattle.toml.specs.declared.value.Value.{Value}
 use Rattle.cg_cgroup.specs.Paths.{Names}
-use Rattle.cg_cgroup.specs.Files.{all_files, all_entries, entry_text}
+use Rattle.cg_cgroup.specs.Files.{all_files, brought_files, all_entries, entry_text}
 use Rattle.cg_cgroup.specs.Cgroups.{file_of, entry_in, value_in as value_at}
-use Rattle.cg_cgroup.proofs.Options.{mapped_from, is_some-mapped}
+use Rattle.cg_cgroup.proofs.Options.{some_value, mapped_from, is_some-mapped}
 use Rattle.cg_cgroup.specs.declared.user.Entry.{Entry}
 use Rattle.cg_cgroup.specs.declared.files.ControllerSet.{ControllerSet}
 use Rattle.cg_cgroup.specs.declared.files.LimitFile.{LimitFile}
-use Rattle.cg_cgroup.specs.declared.files.LimitFile.TheVariants.{CpuWeight, MemoryMin, MemoryLow}
-use Rattle.cg_cgroup.specs.declared.files.LimitFile.TheVariants.{MemoryHigh, MemoryMax, PidsMax}
+use Rattle.cg_cgroup.specs.declared.files.LimitFile.TheVariants.{MaxDescendants, MaxDepth}
 use Rattle.cg_cgroup.specs.declared.files.EntryName.{EntryName}
 use Rattle.cg_cgroup.specs.declared.files.EntryName.TheVariants.{Dir, Procs, SubtreeControl, File}
 use Rattle.cg_cgroup.specs.declared.cgroup.LimitEntry.{LimitEntry}
@@ -31,7 +30,7 @@ use Rattle.cg_format.specs.Said.{table_at, path_said, controllers_said, owner_sa
 use Rattle.cg_format.specs.Said.{entry_said, value_said, is_named}
 use Rattle.cg_format.specs.TextFaults.{row_faults}
 use Rattle.cg_text.specs.Faults.{or_fault, Passes}
-use Rattle.cg_text.specs.Rows.{table_in, owner_in, limit_in, entry_with, names, needed_by, entry_faults, IsCgroupOf, IsReadAs, AreReadAs}
+use Rattle.cg_text.specs.Rows.{table_in, owner_in, limit_in, entry_with, names, needed_where, needed_by, read_in, file_read, entry_faults, IsCgroupOf, IsReadAs, AreReadAs}
 use Rattle.cg_format.specs.declared.fault.Place.TheVariants.{Cgroup as AtCgroup}
 use Rattle.cg_format.specs.declared.fault.TreeFault.{TreeFault}
 use Rattle.cg_format.specs.declared.fault.TreeFault.TheVariants.{BadPath, BadController, BadEntry, BadValue, NoMemory}
@@ -143,6 +142,42 @@ module _ (said : Entries) where
         value = from.1 ∙ ap (λ (h : LimitEntry). Some h.value) from.2;
       }
 
+  -- the files that controllers bring, which were all read
+  module _ (cgroup : Cgroup) (read : cgroup.files.entries ≡ map (λ file. file_read (read_in said file)) brought_files)
+      (owned : list_all (λ file. is_some (owner_in said (File file))) brought_files ≡ true)
+      (valued : list_all (λ file. is_some (limit_in said file)) brought_files ≡ true) where
+    has_brought : (file : LimitFile) → file ≢ MaxDescendants → file ≢ MaxDepth → HasFile cgroup file
+    has_brought file other deeper =
+        let owner = some_value (owner_in said (File file)) (each_brought (λ f. is_some (owner_in said (File f))) owned file other deeper) in
+        let value = some_value (limit_in said file) (each_brought (λ f. is_some (limit_in said f)) valued file other deeper) in
+        record {
+          held = entry_with owner.0 value.0;
+          stands = held_as cgroup (λ f. file_read (read_in said f)) read file other deeper ∙ (λ i. file_read (owner.1 i, value.1 i));
+          owner = owner.1;
+          value = value.1;
+        }
+
+    pub has_each : HasFile cgroup MaxDescendants → HasFile cgroup MaxDepth → (file : LimitFile) → HasFile cgroup file
+    has_each descendants depth MaxDescendants = descendants
+    has_each descendants depth MaxDepth = depth
+    has_each descendants depth file = has_brought file (λ is. cc) (λ is. cc)
+
+  -- where an owner or a value isn't so, it isn't so of all
+  pub none_owned : list_all (λ file. is_some (owner_in said (File file))) brought_files ≡ false
+      → first (entry_faults said) ≡ Some (BadEntry said.place)
+  none_owned is =
+      let some = false_from_ne_true (list_all owned all_entries)
+      (λ all. true≢false (sym (all_so (λ file. owned (File file)) (λ file. each_entry owned all (File file)) brought_files) ∙ is)) in
+      ap (λ b. first (unless b (BadEntry said.place) ++ value_faults)) some
+
+  pub none_valued : ((name : EntryName) → is_some (owner_in said name) ≡ true)
+      → list_all (λ file. is_some (limit_in said file)) brought_files ≡ false
+      → first (entry_faults said) ≡ Some (BadValue said.place)
+  none_valued are is =
+      let some = false_from_ne_true (list_all valued all_files)
+      (λ all. true≢false (sym (all_so valued (each_passes valued all) brought_files) ∙ is)) in
+      no_entry_fault are ∙ ap (λ b. first (unless b (BadValue said.place))) some
+
   pub cgroup_read : (controllers : ControllerSet) (cgroup : Cgroup) → cgroup.enabled ≡ controllers
       → HasOwner Dir cgroup.dir → HasOwner Procs cgroup.procs → HasOwner SubtreeControl cgroup.subtree_control
       → ((file : LimitFile) → HasFile cgroup file) → (first (entry_faults said) ≡ None) × IsCgroupOf said controllers cgroup
@@ -211,14 +246,7 @@ module _ (said : Entries) (row : Members) (dir : option_map (λ table. table_vie
     enabled = has_enabled ∙ ap (λ (set : ControllerSet). Some set) (sym is.enabled);
     entries = λ name. sym (entry_is name) ∙ sym (is.entries name);
     values = λ file. sym (value_is file) ∙ sym (is.values file);
-    cpu = ap (λ (set : ControllerSet). set.cpu) needed ∙ named_is CpuWeight;
-    memory =
-        let least = named_is MemoryMin in
-        let low = named_is MemoryLow in
-        let high = named_is MemoryHigh in
-        let most = named_is MemoryMax in
-        ap (λ (set : ControllerSet). set.memory) needed ∙ (λ i. least i || low i || high i || most i);
-    pids = ap (λ (set : ControllerSet). set.pids) needed ∙ named_is PidsMax;
+    needed = needed ∙ (λ i. needed_where (λ file. named_is file i));
     files = is.files;
   }
 

@@ -1,21 +1,24 @@
 //! A cgroup's row, read into what the tree keeps of it.
-ghost use Rattle.std.specs.Prelude.{◌≡◌, ◌≤◌, true, length, map, filter_map, Some, is_some};
+ghost use Rattle.std.specs.Prelude.{◌≡◌, ◌≤◌, true, ◌&&◌, length, map, filter_map, Some, is_some};
 ghost use Rattle.std.specs.Option.{option_map};
-ghost use Rattle.std.specs.List.{list_all};
+ghost use Rattle.std.specs.List.{list_all, list_any};
 ghost use Rattle.toml.specs.Data.{Members, as_table};
 ghost use Rattle.toml.specs.View.{view, table_view};
+ghost use Rattle.cg_cgroup.specs.Files.{all_files, brought_files};
 ghost use Rattle.cg_cgroup.specs.declared.files.EntryName.TheVariants.{File};
 ghost use Rattle.cg_model.specs.Clauses.{first};
 ghost use Rattle.cg_format.specs.declared.fault.Place.TheVariants.{Cgroup as AtCgroup};
 ghost use Rattle.cg_format.specs.declared.fault.TreeFault.TheVariants.{BadEntry, BadValue};
+ghost use Rattle.cg_format.specs.Form.{most_rows};
 ghost use Rattle.cg_format.specs.TextFaults.{each_cgroup, row_faults};
 ghost use Rattle.cg_text.specs.Faults.{Passes, or_fault};
-ghost use Rattle.cg_text.specs.Rows.{table_in, owner_in, limit_in, entry_with, needed_by, entry_faults, IsCgroupOf, IsReadAs, AreReadAs};
+ghost use Rattle.cg_text.specs.Rows.{table_in, owner_in, limit_in, entry_with, is_of, names, needed_by, read_in, file_read, entry_faults, IsCgroupOf, IsReadAs, AreReadAs};
 
 use crate::tree::form::row_number;
 use crate::tree::said::{controllers_at, limit_of, owner_of, path_at, table_at};
+use cg_cgroup::brought::BroughtFiles;
 use cg_cgroup::cgroup::{Cgroup, LimitEntry};
-use cg_cgroup::files::{ControllerSet, EntryName, LimitFile};
+use cg_cgroup::files::{BROUGHT_COUNT, Controller, ControllerSet, EntryName, Limit, LimitFile};
 use cg_cgroup::path::Path;
 use cg_cgroup::user::{Entry, Mode};
 use cg_format::fault::{Place, TreeFault};
@@ -87,50 +90,118 @@ impl<'a> Entries<'a> {
         self.table(EntryName::File(file)).is_some()
     }
 
+    /// Whether a file of a controller is named.
+    fn needs(self, controller: Controller) -> bool
+        ensures { result ≡ list_any (λ file. is_of controller file && names self.entry file) all_files }
+    {
+        LimitFile::ALL
+            .iter()
+            .any(|file| is_of(controller, *file) && self.names(*file))
+    }
+
     /// The controllers whose files are named.
     fn needed(self) -> ControllerSet
         ensures { result ≡ needed_by self.entry }
     {
         ControllerSet {
-            cpu: self.names(LimitFile::CpuWeight),
-            memory: self.names(LimitFile::MemoryMin)
-                || self.names(LimitFile::MemoryLow)
-                || self.names(LimitFile::MemoryHigh)
-                || self.names(LimitFile::MemoryMax),
-            pids: self.names(LimitFile::PidsMax),
+            cpu: self.needs(Controller::Cpu),
+            memory: self.needs(Controller::Memory),
+            pids: self.needs(Controller::Pids),
         }
+    }
+
+    /// The owner and the value of a limit file, each where it is so.
+    fn read(self, file: LimitFile) -> FileRead
+        ensures { result ≡ read_in self.entry file }
+    {
+        (
+            self.file(file).ok(),
+            limit_of(file, self.table(EntryName::File(file))),
+        )
+    }
+
+    /// Those of the files that controllers bring.
+    fn reads(self) -> [FileRead; BROUGHT_COUNT]
+        ensures { result ≡ map (read_in self.entry) brought_files }
+    {
+        LimitFile::BROUGHT.map(|file| self.read(file))
     }
 
     /// The cgroup that has these entries, or the first fault of an entry, and then of a value.
     fn cgroup(self, enabled: ControllerSet) -> Result<Cgroup, TreeFault>
         ensures { Passes (IsCgroupOf self.entry enabled) (first (entry_faults self.entry)) result }
     {
+        let reads = self.reads();
         let dir = self.owner(EntryName::Dir)?;
         let procs = self.owner(EntryName::Procs)?;
         let subtree_control = self.owner(EntryName::SubtreeControl)?;
         let max_descendants = self.file(LimitFile::MaxDescendants)?;
         let max_depth = self.file(LimitFile::MaxDepth)?;
-        let cpu_weight = self.file(LimitFile::CpuWeight)?;
-        let memory_min = self.file(LimitFile::MemoryMin)?;
-        let memory_low = self.file(LimitFile::MemoryLow)?;
-        let memory_high = self.file(LimitFile::MemoryHigh)?;
-        let memory_max = self.file(LimitFile::MemoryMax)?;
-        let pids_max = self.file(LimitFile::PidsMax)?;
+        if !are_owned(&reads) {
+            return Err(TreeFault::BadEntry(self.place));
+        }
+        let max_descendants = self.held(max_descendants, LimitFile::MaxDescendants)?;
+        let max_depth = self.held(max_depth, LimitFile::MaxDepth)?;
+        if !are_valued(&reads) {
+            return Err(TreeFault::BadValue(self.place));
+        }
         Ok(Cgroup {
             dir,
             procs,
             subtree_control,
-            max_descendants: self.held(max_descendants, LimitFile::MaxDescendants)?,
-            max_depth: self.held(max_depth, LimitFile::MaxDepth)?,
-            cpu_weight: Some(self.held(cpu_weight, LimitFile::CpuWeight)?),
-            memory_min: Some(self.held(memory_min, LimitFile::MemoryMin)?),
-            memory_low: Some(self.held(memory_low, LimitFile::MemoryLow)?),
-            memory_high: Some(self.held(memory_high, LimitFile::MemoryHigh)?),
-            memory_max: Some(self.held(memory_max, LimitFile::MemoryMax)?),
-            pids_max: Some(self.held(pids_max, LimitFile::PidsMax)?),
+            max_descendants,
+            max_depth,
+            files: BroughtFiles {
+                entries: files_read(reads),
+            },
             enabled,
         })
     }
+}
+
+/// What a row says of a limit file: its owner and its value.
+type FileRead = (Option<Entry>, Option<Limit>);
+
+/// Whether a controller brings a file.
+fn is_of(controller: Controller, file: LimitFile) -> bool
+    ensures { result ≡ is_of controller file }
+{
+    match file.controller() {
+        None => false,
+        Some(own) => own == controller,
+    }
+}
+
+/// Whether each file has an owner.
+fn are_owned(reads: &[FileRead]) -> bool
+    ensures { result ≡ list_all (λ read. is_some read.0) reads.now }
+{
+    reads.iter().all(|read| read.0.is_some())
+}
+
+/// Whether each file has a value.
+fn are_valued(reads: &[FileRead]) -> bool
+    ensures { result ≡ list_all (λ read. is_some read.1) reads.now }
+{
+    reads.iter().all(|read| read.1.is_some())
+}
+
+/// A file of this owner and value.
+fn file_read(read: FileRead) -> Option<LimitEntry>
+    ensures { result ≡ file_read read }
+{
+    let (entry, value) = read;
+    Some(LimitEntry {
+        entry: entry?,
+        value: value?,
+    })
+}
+
+/// The files of these owners and values.
+fn files_read(reads: [FileRead; BROUGHT_COUNT]) -> [Option<LimitEntry>; BROUGHT_COUNT]
+    ensures { result ≡ map file_read reads }
+{
+    reads.map(file_read)
 }
 
 /// The row of a cgroup's table, or its first fault.
@@ -169,7 +240,7 @@ fn row_in(alloc: Global, format: Format, number: u32, element: Value) -> Result<
 
 /// The rows of cgroups' tables, or the first fault of the first that has one. A table is dropped once it is read.
 pub fn rows_of(alloc: Global, format: Format, elements: Vec<Value>) -> Result<Vec<Row>, TreeFault>
-    requires few { length elements.items ≤ 4096 }
+    requires few { length elements.items ≤ most_rows }
     requires tables { list_all (λ held. is_some (as_table (view held))) elements.items ≡ true }
     ensures { Passes (λ rows. AreReadAs format 1 (filter_map as_table (map view elements.items)) rows.items)
         (first (each_cgroup (λ _. row_faults format) (filter_map as_table (map view elements.items)))) result }
