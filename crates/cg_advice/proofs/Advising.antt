@@ -1,5 +1,5 @@
 -- What the changes of the advice leave of a tree, and of the guards of every user and subtree.
-use Rattle.std.proofs.Common.{◌≡◌, ℕ, ◌≤◌, Bool, true, false, cond, ◌&&◌, ◌||◌, not, List, [], ◌∷◌, ◌++◌, length, take, filter, append_assoc, refl, sym, ap, ◌∙◌, subst, Option, Some, None, option_map, option_and_then, le-leb, arith}
+use Rattle.std.proofs.Common.{◌≡◌, ℕ, ◌≤◌, nat_le, Bool, true, false, cond, ◌&&◌, ◌||◌, not, List, [], ◌∷◌, ◌++◌, length, take, filter, append_assoc, refl, sym, ap, ◌∙◌, subst, Option, Some, None, option_map, option_and_then, le-leb, arith}
 use Rattle.std.specs.List.{flat_map, list_any, AllByRecursion}
 use Rattle.std.proofs.lemmas.Bool.{and_parts, and_from, not-true}
 use Rattle.std.proofs.lemmas.List.Folds.{list_any-append}
@@ -313,6 +313,10 @@ all_unless P false r holds = (holds, tt)
 abbrev HasMode : GuardedEntry → Type 0
 HasMode at = at.entry.mode ≤ 511
 
+-- what the two files of the core take
+is_taken : (value : ℕ) → value ≤ 9223372036854775807 → (nat_le 0 value && nat_le value 9223372036854775807) ≡ true
+is_taken value few = and_from _ _ (le-leb 0 value (omega arith)) (le-leb value 9223372036854775807 few)
+
 module _ (st : State) (user : Identity) (subtree : Names) (formed : IsWellFormed st) where
   entry_mode : (path : Names) (name : EntryName) (entry : Entry) → entry_at st path name ≡ Some entry → entry.mode ≤ 511
   entry_mode path name entry is =
@@ -341,6 +345,6 @@ module _ (st : State) (user : Identity) (subtree : Names) (formed : IsWellFormed
       all_both CanBeMade (chown_of user at) (chmod_of user at) (all_unless CanBeMade _ _ tt)
       (all_unless CanBeMade _ _ (shut-le user at.entry small))) (reached st user subtree) reached_modes)
       (all_both CanBeMade (descendants_of st subtree) (depth_of st subtree)
-      (all_unless CanBeMade _ _ (le-leb (count_below st subtree) 9223372036854775807 few.0))
-      (all_unless CanBeMade _ _ (le-leb (depth_below st subtree) 9223372036854775807 few.1))))
+      (all_unless CanBeMade _ _ (is_taken (count_below st subtree) few.0))
+      (all_unless CanBeMade _ _ (is_taken (depth_below st subtree) few.1))))
       formed

@@ -1,6 +1,6 @@
 -- How it is read and written: nobody has to believe it.
 -- The reader's row of a cgroup, held against what the cgroup's table says.
-use Rattle.std.specs.Prelude.{◌≡◌, ℕ, ◌+◌, Bool, true, false, ◌&&◌, ◌×◌, List, [], ◌∷◌, ◌++◌, String, codes, Option, Some, None, is_some, unwrap_or, option_and_then}
+use Rattle.std.specs.Prelude.{◌≡◌, ℕ, ◌+◌, Bool, true, false, ◌&&◌, List, [], ◌∷◌, ◌++◌, String, codes, Option, Some, None, is_some, unwrap_or, option_and_then}
 use Rattle.std.specs.Option.{option_map}
 use Rattle.std.specs.List.{list_all, list_any}
 use Rattle.std.specs.Borrow.{Bor}
@@ -61,12 +61,9 @@ needed_where named = set_by (λ controller. list_any (λ file. is_of controller 
 abbrev pub needed_by : Entries → ControllerSet
 needed_by entries = needed_where (names entries)
 
--- what is read of a file, and the file where both its owner and its value are so
-abbrev pub read_in : Entries → LimitFile → Option Entry × Option Limit
-read_in entries file = (owner_in entries (File file), limit_in entries file)
-
-abbrev pub file_read : Option Entry × Option Limit → Option LimitEntry
-file_read read = option_and_then (λ entry. option_map (entry_with entry) read.1) read.0
+-- a limit file, where both its owner and its value are so
+abbrev pub file_in : Entries → LimitFile → Option LimitEntry
+file_in entries file = option_and_then (λ entry. option_map (entry_with entry) (limit_in entries file)) (owner_in entries (File file))
 
 -- the clauses on entries and values, which are the last of a row's own
 abbrev pub entry_faults : Entries → List TreeFault

@@ -12,7 +12,7 @@ ghost use Rattle.cg_format.specs.declared.fault.TreeFault.TheVariants.{BadEntry,
 ghost use Rattle.cg_format.specs.Form.{most_rows};
 ghost use Rattle.cg_format.specs.TextFaults.{each_cgroup, row_faults};
 ghost use Rattle.cg_text.specs.Faults.{Passes, or_fault};
-ghost use Rattle.cg_text.specs.Rows.{table_in, owner_in, limit_in, entry_with, is_of, names, needed_by, read_in, file_read, entry_faults, IsCgroupOf, IsReadAs, AreReadAs};
+ghost use Rattle.cg_text.specs.Rows.{table_in, owner_in, limit_in, entry_with, is_of, names, needed_by, file_in, entry_faults, IsCgroupOf, IsReadAs, AreReadAs};
 
 use crate::tree::form::row_number;
 use crate::tree::said::{controllers_at, limit_of, owner_of, path_at, table_at};
@@ -55,17 +55,23 @@ impl<'a> Entries<'a> {
         }
     }
 
-    /// The owner, the group and the mode of an entry.
-    fn owner(self, name: EntryName) -> Result<Entry, TreeFault>
-        ensures { result ≡ or_fault (owner_in self.entry name) (BadEntry self.entry.place) }
+    /// The owner, the group and the mode of an entry, where they are so.
+    fn owner_at(self, name: EntryName) -> Option<Entry>
+        ensures { result ≡ owner_in self.entry name }
     {
         let missing = match name {
             EntryName::Dir => Mode::DIRECTORY,
             _ => Mode::FILE,
         };
-        owner_of(self.format, missing.get(), self.table(name)).ok_or(TreeFault::BadEntry(
-            self.place,
-        ))
+        owner_of(self.format, missing.get(), self.table(name))
+    }
+
+    /// The owner, the group and the mode of an entry.
+    fn owner(self, name: EntryName) -> Result<Entry, TreeFault>
+        ensures { result ≡ or_fault (owner_in self.entry name) (BadEntry self.entry.place) }
+    {
+        self.owner_at(name)
+            .ok_or(TreeFault::BadEntry(self.place))
     }
 
     fn file(self, file: LimitFile) -> Result<Entry, TreeFault>
@@ -74,11 +80,18 @@ impl<'a> Entries<'a> {
         self.owner(EntryName::File(file))
     }
 
+    /// The value of a limit file, where it is so.
+    fn value_at(self, file: LimitFile) -> Option<Limit>
+        ensures { result ≡ limit_in self.entry file }
+    {
+        limit_of(file, self.table(EntryName::File(file)))
+    }
+
     /// A limit file of this owner.
     fn held(self, entry: Entry, file: LimitFile) -> Result<LimitEntry, TreeFault>
         ensures { result ≡ or_fault (option_map (entry_with entry) (limit_in self.entry file)) (BadValue self.entry.place) }
     {
-        match limit_of(file, self.table(EntryName::File(file))) {
+        match self.value_at(file) {
             None => Err(TreeFault::BadValue(self.place)),
             Some(value) => Ok(LimitEntry { entry, value }),
         }
@@ -110,39 +123,57 @@ impl<'a> Entries<'a> {
         }
     }
 
-    /// The owner and the value of a limit file, each where it is so.
-    fn read(self, file: LimitFile) -> FileRead
-        ensures { result ≡ read_in self.entry file }
+    /// A limit file, where its owner and its value are so.
+    fn file_at(self, file: LimitFile) -> Option<LimitEntry>
+        ensures { result ≡ file_in self.entry file }
     {
-        (
-            self.file(file).ok(),
-            limit_of(file, self.table(EntryName::File(file))),
-        )
+        let entry = self.owner_at(EntryName::File(file))?;
+        let value = self.value_at(file)?;
+        Some(LimitEntry { entry, value })
     }
 
-    /// Those of the files that controllers bring.
-    fn reads(self) -> [FileRead; BROUGHT_COUNT]
-        ensures { result ≡ map (read_in self.entry) brought_files }
+    /// The files that controllers bring.
+    fn brought(self) -> [Option<LimitEntry>; BROUGHT_COUNT]
+        ensures { result ≡ map (file_in self.entry) brought_files }
     {
-        LimitFile::BROUGHT.map(|file| self.read(file))
+        LimitFile::BROUGHT.map(|file| self.file_at(file))
+    }
+
+    fn has_owners(self) -> bool
+        ensures { result ≡ list_all (λ file. is_some (owner_in self.entry (File file))) brought_files }
+    {
+        LimitFile::BROUGHT
+            .iter()
+            .all(|file| self.owner_at(EntryName::File(*file)).is_some())
+    }
+
+    /// Whether the owner of each of these files is so; where each file is, nothing is read again.
+    fn are_owned(self, files: &[Option<LimitEntry>]) -> bool
+        requires { files.now ≡ map (file_in self.entry) brought_files }
+        ensures { result ≡ list_all (λ file. is_some (owner_in self.entry (File file))) brought_files }
+    {
+        if are_there(files) {
+            return true;
+        }
+        self.has_owners()
     }
 
     /// The cgroup that has these entries, or the first fault of an entry, and then of a value.
     fn cgroup(self, enabled: ControllerSet) -> Result<Cgroup, TreeFault>
         ensures { Passes (IsCgroupOf self.entry enabled) (first (entry_faults self.entry)) result }
     {
-        let reads = self.reads();
+        let files = self.brought();
         let dir = self.owner(EntryName::Dir)?;
         let procs = self.owner(EntryName::Procs)?;
         let subtree_control = self.owner(EntryName::SubtreeControl)?;
         let max_descendants = self.file(LimitFile::MaxDescendants)?;
         let max_depth = self.file(LimitFile::MaxDepth)?;
-        if !are_owned(&reads) {
+        if !self.are_owned(&files) {
             return Err(TreeFault::BadEntry(self.place));
         }
         let max_descendants = self.held(max_descendants, LimitFile::MaxDescendants)?;
         let max_depth = self.held(max_depth, LimitFile::MaxDepth)?;
-        if !are_valued(&reads) {
+        if !are_there(&files) {
             return Err(TreeFault::BadValue(self.place));
         }
         Ok(Cgroup {
@@ -151,16 +182,11 @@ impl<'a> Entries<'a> {
             subtree_control,
             max_descendants,
             max_depth,
-            files: BroughtFiles {
-                entries: files_read(reads),
-            },
+            files: BroughtFiles { entries: files },
             enabled,
         })
     }
 }
-
-/// What a row says of a limit file: its owner and its value.
-type FileRead = (Option<Entry>, Option<Limit>);
 
 /// Whether a controller brings a file.
 fn is_of(controller: Controller, file: LimitFile) -> bool
@@ -172,36 +198,11 @@ fn is_of(controller: Controller, file: LimitFile) -> bool
     }
 }
 
-/// Whether each file has an owner.
-fn are_owned(reads: &[FileRead]) -> bool
-    ensures { result ≡ list_all (λ read. is_some read.0) reads.now }
+/// Whether each of these files is there.
+fn are_there(files: &[Option<LimitEntry>]) -> bool
+    ensures { result ≡ list_all is_some files.now }
 {
-    reads.iter().all(|read| read.0.is_some())
-}
-
-/// Whether each file has a value.
-fn are_valued(reads: &[FileRead]) -> bool
-    ensures { result ≡ list_all (λ read. is_some read.1) reads.now }
-{
-    reads.iter().all(|read| read.1.is_some())
-}
-
-/// A file of this owner and value.
-fn file_read(read: FileRead) -> Option<LimitEntry>
-    ensures { result ≡ file_read read }
-{
-    let (entry, value) = read;
-    Some(LimitEntry {
-        entry: entry?,
-        value: value?,
-    })
-}
-
-/// The files of these owners and values.
-fn files_read(reads: [FileRead; BROUGHT_COUNT]) -> [Option<LimitEntry>; BROUGHT_COUNT]
-    ensures { result ≡ map file_read reads }
-{
-    reads.map(file_read)
+    files.iter().all(|file| file.is_some())
 }
 
 /// The row of a cgroup's table, or its first fault.
