@@ -149,7 +149,7 @@ impl<'a> Entries<'a> {
 
     /// Whether the owner of each of these files is so; where each file is, nothing is read again.
     fn are_owned(self, files: &[Option<LimitEntry>]) -> bool
-        requires { files.now ≡ map (file_in self.entry) brought_files }
+        requires { files.now ≡ map (file_in self) brought_files }
         ensures { result ≡ list_all (λ file. is_some (owner_in self.entry (File file))) brought_files }
     {
         if are_there(files) {
