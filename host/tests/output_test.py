@@ -25,13 +25,21 @@ case "$*" in
     --version) echo 'zirofen 1.0'; exit;;
 esac
 echo $$ >>'{told}'
-exec sleep 60
+exec sleep 600
 """
 
 
 def read(file):
     with open(file, encoding="utf-8") as text:
         return text.read()
+
+
+def is_running(pid):
+    """Whether a process is there, and not only still to be waited for by whoever has it now."""
+    try:
+        return read(f"/proc/{pid}/stat").rpartition(")")[2].split()[0] != "Z"
+    except (FileNotFoundError, ProcessLookupError):
+        return False
 
 
 def write(file, text=SECRET):
@@ -331,10 +339,10 @@ class HelperTest(HostTest):
                 self.wait_for(lambda: os.path.exists(told) and read(told).endswith("\n"))
                 self.assertEqual(len(os.listdir(self.temporary)), 1)
                 started.send_signal(number)
-                said, line = started.communicate(timeout=20)
+                said, line = started.communicate(timeout=60)
                 self.assertEqual((started.returncode, said, os.listdir(self.temporary)), (-number, "", []))
                 self.assertEqual(line, f"zirofen-host check: ended by {number.name}, and this is no answer\n")
-                self.wait_for(lambda: not any(os.path.exists(f"/proc/{asked}") for asked in read(told).split()))
+                self.wait_for(lambda: not any(map(is_running, read(told).split())))
 
     def test_a_program_that_is_just_started_is_not_left(self):
         code = ("import os, signal, subprocess, sys; sys.path.insert(0, sys.argv[1]);"
@@ -343,10 +351,10 @@ class HelperTest(HostTest):
                 "signalled = lambda it, *words, **named: (real(it, *words, **named), print(it.pid, flush=True),"
                 " os.kill(os.getpid(), signal.SIGTERM)) and None;"
                 "subprocess.Popen.__init__ = signalled;"
-                "ending.take_signals('it'); ending.run(['sleep', '60'])")
+                "ending.take_signals('it'); ending.run(['sleep', '600'])")
         ended = subprocess.run([sys.executable, "-c", code, os.path.dirname(COMMAND)], capture_output=True, text=True)
         self.assertEqual((ended.returncode, ended.stderr), (-signal.SIGTERM, "it: ended by SIGTERM, and this is no answer\n"))
-        self.wait_for(lambda: not os.path.exists(f"/proc/{int(ended.stdout)}"))
+        self.wait_for(lambda: not is_running(ended.stdout.strip()))
 
     def test_what_is_ignored_stays_so(self):
         code = ("import os, signal, sys; signal.signal(signal.SIGHUP, signal.SIG_IGN); sys.path.insert(0, sys.argv[1]);"
@@ -355,7 +363,7 @@ class HelperTest(HostTest):
         self.assertEqual((ended.stdout, ended.stderr), ("on\n", ""))
 
     def wait_for(self, holds):
-        until = time.monotonic() + 20
+        until = time.monotonic() + 60
         while not holds():
             self.assertLess(time.monotonic(), until, "waited in vain")
             time.sleep(0.02)
