@@ -99,28 +99,8 @@ def made(place, count):
 # what the hostile user does; each says when it is ready, and goes on until it is ended
 
 
-def toggles(place, ready, options):
-    """Enables a controller behind the first walk and disables it behind the second, told by inotify."""
-    made(place, 50)
-    inotify = LIBC.inotify_init()
-    watched = f"{place.of(HOSTILE)}/c49/cgroup.subtree_control"
-    LIBC.inotify_add_watch(inotify, watched.encode(), IN_OPEN)
-    ready()
-    turn = 0
-    while True:
-        if not select.select([inotify], [], [], 0.5)[0]:
-            turn = 0
-            continue
-        os.read(inotify, 4096)
-        turn += 1
-        try:
-            write(f"{place.of(HOSTILE)}/cgroup.subtree_control", f"{'+' if turn % 2 else '-'}{place.controller}")
-        except OSError:
-            pass
-
-
-def toggles_once(place, ready, options):
-    """The same, but is quiet from the third walk on."""
+def walks(place, ready):
+    """Each walk over what the hostile user made, told by inotify and counted anew behind half a second without one."""
     made(place, 50)
     inotify = LIBC.inotify_init()
     LIBC.inotify_add_watch(inotify, f"{place.of(HOSTILE)}/c49/cgroup.subtree_control".encode(), IN_OPEN)
@@ -132,6 +112,21 @@ def toggles_once(place, ready, options):
             continue
         os.read(inotify, 4096)
         turn += 1
+        yield turn
+
+
+def toggles(place, ready, options):
+    """Enables a controller behind the first walk and disables it behind the second."""
+    for turn in walks(place, ready):
+        try:
+            write(f"{place.of(HOSTILE)}/cgroup.subtree_control", f"{'+' if turn % 2 else '-'}{place.controller}")
+        except OSError:
+            pass
+
+
+def toggles_once(place, ready, options):
+    """The same, but is quiet from the third walk on."""
+    for turn in walks(place, ready):
         if turn <= 2:
             write(f"{place.of(HOSTILE)}/cgroup.subtree_control", f"{'+' if turn == 1 else '-'}{place.controller}")
 
