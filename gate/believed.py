@@ -256,3 +256,13 @@ def closure(roots):
         found |= new
         ahead += [it for it in new if isinstance(it, Definition)]
     return {it for it in found if isinstance(it, Definition)}, {it for it in found if isinstance(it, Library)}
+
+
+def nearest_first(roots):
+    """Yields what some name, then what that names, and so on, each once: who reads from the front meets the nearest first."""
+    found, level = {*roots}, [*roots]
+    while level:
+        named = {it for one in level for it in one.named if isinstance(it, Definition)} - found
+        level = sorted(named, key=lambda it: (it.file, it.name))
+        found |= named
+        yield from level

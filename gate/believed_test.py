@@ -5,7 +5,7 @@ import unittest
 
 import named_once
 import theorems
-from believed import World, closure, definitions_of
+from believed import World, closure, definitions_of, nearest_first
 
 WORDS = """-- Words of the crate below, which a reader of contracts meets.
 use Rattle.std.specs.Prelude.{◌≡◌, ◌+◌, ℕ, List, Option, Some, None}
@@ -225,6 +225,13 @@ class Definitions(Small):
             self.reached("low::specs::Words::stepped")
 
 
+class Order(Small):
+    def test_the_nearest_comes_first(self):
+        roots = [World(self.top).named("high::called", ["kept"])]
+        self.assertEqual([it.name for it in nearest_first(roots)], ["stepped", "twice", "Keeps", "◌>>=◌"])
+        self.assertEqual({*nearest_first(roots)}, closure(roots)[0])
+
+
 class Contracts(Small):
     def test_clauses_and_the_types_that_they_speak_of(self):
         kinds = {"many": 3, "MOST": 1, **Definitions.KINDS}
@@ -255,6 +262,16 @@ class Page(Small):
         files = "| File | 1 | 2 |\n| --- | --- | --- |\n| `low/src/kinds.rt` | 6 | 7 |\n| `low/src/named.rt` | 1 | 1 |\n"
         self.assertIn(files + "| `low/src/named/inner.rt` | 1 | 1 |\n| `low/specs/Steps.antt` | 4 | 4 |\n", text)
         self.assertTrue(text.endswith("| `low/specs/Words.antt` | 7 | 7 |\n\nAll else is here.\n\n| Other | Table |\n|---|---|\n"))
+
+    def test_statements(self):
+        page = "`high::called`, `kept`:\n\n```\nof old\n```\n\n`high::called`:\n\n```\n```\n"
+        right = theorems.mended(page, self.top)
+        kept = "stepped ≡ stepped\nK.held keeper.now ≡ doubled told\n"
+        self.assertTrue(right.startswith(f"`high::called`, `kept`:\n\n```\n{kept}```\n\n"))
+        self.assertIn("```\ntold ≡ 1\nstepped ≡ stepped\nIfOk result", right)
+        self.assertEqual(theorems.faults_of(right, self.top)[1], [])
+        self.assertEqual(theorems.faults_of(right.replace("told ≡ 1", "told ≡ 2"), self.top)[1],
+                         ["by the sources it has 'told ≡ 1': gate/believed --write"])
 
     def test_faults(self):
         right = theorems.mended(PAGE, self.top)

@@ -110,6 +110,7 @@ ASKED = (
     ("delegation-ancestor-owned", "advise --tree {tree} --uid 1000 --subtree /c0", 1),
     ("delegation-over-limit", "advise --uid 1000 --subtree /c0", 1),
     ("delegation-ancestor-group", "advise --uid 1000 --gid 50 --subtree /c0", 1),
+    ("delegation-second-user", "advise --uid 1000 --uid 1001:1001 --subtree /c0 --subtree /c1", 1),
     ("delegation", "audit --all --uid 1000 --uid 1001 --subtree /c0 --subtree /c1", 0),
     ("delegation-second-user", "audit --all --tree {tree} --uid 1000 --uid 1001 --subtree /c0 --subtree /c1", 1),
     ("delegation-parent-directory", "audit --all --uid 1000 --uid 1001 --subtree /c0 --subtree /c1", 2),

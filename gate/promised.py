@@ -17,6 +17,8 @@ OWNER = re.compile(r"(?:pub )?trait (\w+)|impl(?:<.*?>)? (?:(?:\w+::)*(\w+)(?:<.
 PRIVATE = re.compile(r"^(?:pub\([\w ]+\) )?(?:struct|enum|trait) (\w+)", re.M)
 CLAUSE = re.compile(r"\bensures (?:(\w+) )?\{")
 NAMED = re.compile(r"\b(\w+)::(\w+)::")
+SILENT = re.compile(r"^- `([\w:]+)` promises nothing: \S", re.M)
+UNPROMISED = re.compile(r"test_|trials$|toml_alone$")
 SHOWN = re.compile(r"^pub use (\w+)::(\w+|\{[^}]*\});", re.M)
 
 
@@ -32,6 +34,7 @@ class Call:
         self.module, self.name, self.file, self.lines = module, at["name"], at["file"], range(at["first"], at["last"] + 1)
         self.owners = [it for it in (trait, of, kind) if it]
         self.is_public = is_public and bool("pub fn" in lines[head] or trait or of)
+        self.is_own = self.is_public and "pub fn" in lines[head]
         self.clauses = CLAUSE.findall("\n".join(lines[head : body + 1]))
         self.says = comment_of(lines[at["first"] - 1 : head])
 
@@ -147,6 +150,19 @@ def faults_of_claims(text, sources):
             if not any(clause in it.clauses for it in calls):
                 faults.append(f"no call of `{name}` has a clause {clause}" if calls else f"there is no call, module or type {name}")
     return count, faults
+
+
+def faults_of_silence(text, sources):
+    """Returns how many public functions there are, and what is wrong with those that promise nothing, in words.
+
+    A page names each of them, and none that promises something, in lines that end with "promises nothing" and a reason behind a colon.
+    Crates of tests, and a call that a trait promises, don't count.
+    """
+    own = [it for it in sources.calls if it.is_own and not UNPROMISED.match(it.module[0])]
+    silent = {"::".join(it.paths()[0]) for it in own if not it.clauses}
+    named = {*SILENT.findall(text)}
+    faults = [f"`{it}` has no clause, and no line says why" for it in sorted(silent - named)]
+    return len(own), faults + [f"`{it}` is told to promise nothing, and isn't such a call" for it in sorted(named - silent)]
 
 
 def edits_missing(text, edits):

@@ -3,7 +3,7 @@ import os
 import tempfile
 import unittest
 
-from promised import Sources, edits_missing, faults_of_claims, faults_of_edits, tables_of
+from promised import Sources, edits_missing, faults_of_claims, faults_of_edits, faults_of_silence, tables_of
 
 ROOT = """//! A crate.
 pub mod counts;
@@ -180,6 +180,14 @@ class Pages(Crates):
         page = "`Some::less`: `bound` and `helt`; `inner::shown`: `three`"
         faults = ["no call of `Some::less` has a clause helt", "there is no call, module or type inner::shown"]
         self.assertEqual(faults_of_claims(page, self.sources()), (3, faults))
+
+    def test_functions_that_promise_nothing(self):
+        silent = "- `low::shown` promises nothing: it is shown.\n"
+        self.assertEqual(faults_of_silence("", self.sources())[1], [])
+        self.assertEqual(faults_of_silence(silent, self.sources())[1], ["`low::shown` is told to promise nothing, and isn't such a call"])
+        self.write("src/counts.rt", f"{COUNTS}\npub fn spoken(held: u32) -> u32 {{\n    held\n}}\n")
+        self.assertEqual(faults_of_silence("", self.sources())[1], ["`low::counts::spoken` has no clause, and no line says why"])
+        self.assertEqual(faults_of_silence(silent.replace("shown`", "counts::spoken`"), self.sources())[1], [])
 
     def test_edits_that_a_page_names(self):
         page = "| Rule | Edits |\n|---|---|\n| Less, by `none_*` | `less_*`, `{}` |\n\n| Other |\n|---|\n| `none` |\n"

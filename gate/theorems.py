@@ -1,4 +1,7 @@
-"""The numbers of docs/THEOREMS.md: of each theorem the lines that one has to believe, and of each file how many are its.
+"""docs/THEOREMS.md against the sources: the statements that it shows, the lines that one has to believe of each theorem, and of each
+file how many are its.
+
+A statement stands between ``` below a line with the law or call, and behind a comma the clause, that it is of, and a colon.
 
 A row of the first table names calls in its third column, each with clauses behind a colon or with all; items are told apart by
 semicolons. The table whose first column is File is written from these rows: a column for each theorem, a row for each file.
@@ -12,6 +15,7 @@ from edited import text_of
 MARK = "nobody has to believe it."
 ITEM = re.compile(r"`(\w+(?:::\w+)+)`(?:: (`\w+`(?:(?:, | and )`\w+`)*))?")
 ROW = re.compile(r"\| (\d+) \|")
+STATEMENT = re.compile(r"^(`([\w:]+)`(?:, `(\w+)`)?:\n\n```\n)(.*?)^```$", re.M | re.S)
 
 
 def lines_of(definitions):
@@ -80,9 +84,22 @@ def table_of(world, theorems):
     return [f"| {' | '.join(it)} |" for it in [["File", *theorems], ["---"] * (len(theorems) + 1), *rows]]
 
 
+def statement_of(world, name, clause):
+    """Returns the lines of a contract, or of one clause of it, as they stand in the source but for their brackets and margin."""
+    clauses = world.named(name, [clause] if clause else []).lines[:-1]
+    return "\n".join(re.sub(r"\n *", "\n    ", it.strip("{} ").rstrip()) for it in clauses)
+
+
 def mended(text, top="."):
-    """Returns the text of the page with the numbers that the sources give."""
-    world, theorems, lines, is_within = World(top), {}, [], False
+    """Returns the text of the page with the statements and the numbers that the sources give."""
+    world = World(top)
+    text = STATEMENT.sub(lambda it: f"{it[1]}{statement_of(world, it[2], it[3])}\n```", text)
+    return with_numbers(text, world)
+
+
+def with_numbers(text, world):
+    """Returns it with the numbers of both tables."""
+    theorems, lines, is_within = {}, [], False
     for line in text.split("\n"):
         if ROW.match(line):
             cells = line.strip("| ").split(" | ")

@@ -12,6 +12,8 @@ from .texts import LAST_ID, tree_of
 
 MOST_GIDS, MOST_STEPS, LONGEST_LINE = 32, 65536, 8192
 NUMBER = r"0|[1-9][0-9]*"
+# a number of the command line
+PLAIN = r"\+?[0-9]+"
 # of each command its options: whether one must be there, and whether it may come again
 OPTIONS = {
     "may": {"--tree": "", "--uid": "must", "--gid": "again", "--pid": "must", "--to": "must"},
@@ -19,7 +21,7 @@ OPTIONS = {
     "audit": {"--tree": "", "--uid": "must again", "--subtree": "must again", "--all": "flag"},
     "replay": {"--tree": "", "--uid": "must", "--gid": "again", "--ops": "must", "--subtree": ""},
     "upgrade": {"--tree": ""},
-    "advise": {"--tree": "", "--uid": "must", "--gid": "again", "--subtree": "must"},
+    "advise": {"--tree": "", "--uid": "must again", "--gid": "again", "--subtree": "must again"},
 }
 
 
@@ -131,6 +133,10 @@ class Call:
             return [listed_user(word) for word in self.given["--uid"]]
         if self.command == "upgrade":
             return []
+        if self.command == "advise" and not (len(self.given["--uid"]) == 1 and re.fullmatch(PLAIN, self.given["--uid"][0])):
+            if "--gid" in self.given:
+                raise Fault("usage")
+            return [listed_user(word) for word in self.given["--uid"]]
         return [(plain_number(self.given["--uid"][0]), tuple(map(plain_number, self.given.get("--gid", []))))]
 
     def one(self, option):
@@ -141,7 +147,7 @@ class Call:
 
 
 def plain_number(word):
-    if not re.fullmatch(r"\+?[0-9]+", word) or int(word) > LAST_ID:
+    if not re.fullmatch(PLAIN, word) or int(word) > LAST_ID:
         raise Fault("usage")
     return int(word)
 
@@ -257,9 +263,8 @@ def replay(call, state, tops, files, lines):
 
 
 def advise(call, state, tops, _files, lines):
-    for failure in rules.failures(state, call.users[0], tops[0]):
-        reason, changes = rules.reason_and_changes(state, call.users[0], tops[0], failure)
-        lines += [reason, *changes]
+    pairs = itertools.product(call.users, tops)
+    lines += rules.advice(state, list(dict.fromkeys(pairs)))
     if lines:
         return 1
     lines.append("contained")

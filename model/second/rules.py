@@ -464,26 +464,40 @@ def answer(state, user, top):
     return ("unsettled", failed[0][0], failed[0][1])
 
 
-# Advice: for each guard that fails its reason, and the changes that mend it
+# Advice: for each entry that lets somebody in the reasons, and the changes that mend it for all of them; then the limits
 
 
-def reason_and_changes(state, user, top, failure):
-    guard, path, name = failure
-    if name is None:
-        reason = f"fails already-over {text_of(top)}"
-        return reason, [f"set {text_of(top)} {file} {count}" for file, count in over(state, top).items()]
-    entry = state.cgroups[path].entries[name]
-    where, by = f"{text_of(path)} {name}", class_of(user, entry)
-    reason = f"fails {guard} {where} {entry.uid}:{entry.gid} {entry.mode:03o} {by}"
-    return reason, entry_changes(user, entry, where)
+def advice(state, pairs):
+    """The lines of each entry that lets the user of a pair in, where the pairs meet it first, and of each subtree's limits."""
+    let_in = {}
+    for user, top in pairs:
+        for guard, path, name in guarded(state, top):
+            if reaches(user, state.cgroups[path].entries[name]):
+                let_in.setdefault((path, name), (guard, []))[1].append(user)
+    lines = []
+    for (path, name), (guard, users) in let_in.items():
+        lines += entry_lines(guard, f"{text_of(path)} {name}", state.cgroups[path].entries[name], users)
+    for top in dict.fromkeys(top for _, top in pairs):
+        if over(state, top):
+            lines.append(f"fails already-over {text_of(top)}")
+            lines += [f"set {text_of(top)} {file} {count}" for file, count in over(state, top).items()]
+    return lines
 
 
-def entry_changes(user, entry, where):
+def entry_lines(guard, where, entry, users):
+    classes = {class_of(user, entry) for user in users}
+    told = f"fails {guard} {where} {entry.uid}:{entry.gid} {entry.mode:03o}"
+    return [f"{told} {name}" for name in ("owner", "group", "others") if name in classes] + entry_changes(users, entry, where)
+
+
+def entry_changes(users, entry, where):
     changes = []
-    if owns(user, entry):
+    if any(owns(user, entry) for user in users):
         entry = replace(entry, uid=0)
         changes.append(f"chown {where} {entry.uid}:{entry.gid}")
-    if writes(user, entry):
-        bit = 0o020 if class_of(user, entry) == "group" else 0o002
-        changes.append(f"chmod {where} {entry.mode & ~bit:03o}")
+    mode = entry.mode
+    for user in users:
+        mode &= ~(0o020 if class_of(user, entry) == "group" else 0o002)
+    if mode != entry.mode:
+        changes.append(f"chmod {where} {mode:03o}")
     return changes

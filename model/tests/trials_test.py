@@ -35,11 +35,13 @@ class ModelTest(unittest.TestCase):
         self.assertEqual(self.ask("replay --uid 1000 --subtree /c0 --ops ops", "delegation.toml", b"exit 11\nexit"),
                          (["ok", "fault: line 2 cut"], 3))
 
-    def test_advice_names_the_class_and_the_least_change(self):
+    def test_advice_names_the_class_and_the_change(self):
         entry = rules.Entry(1000, 5, 0o664)
-        self.assertEqual(rules.entry_changes((1000, (5,)), entry, "/ dir"), ["chown / dir 0:5", "chmod / dir 644"])
-        self.assertEqual(rules.entry_changes((1000, ()), entry, "/ dir"), ["chown / dir 0:5"])
-        self.assertEqual(rules.entry_changes((1001, ()), rules.Entry(0, 5, 0o666), "/ dir"), ["chmod / dir 664"])
+        self.assertEqual(rules.entry_changes([(1000, (5,))], entry, "/ dir"), ["chown / dir 0:5", "chmod / dir 644"])
+        self.assertEqual(rules.entry_changes([(1000, ())], entry, "/ dir"), ["chown / dir 0:5"])
+        self.assertEqual(rules.entry_changes([(1001, ())], rules.Entry(0, 5, 0o666), "/ dir"), ["chmod / dir 664"])
+        both = [(1001, ()), (1002, (5,))]
+        self.assertEqual(rules.entry_changes(both, rules.Entry(0, 5, 0o666), "/ dir"), ["chmod / dir 644"])
 
 
 class TrialsTest(unittest.TestCase):

@@ -111,7 +111,14 @@ def check_words(rng, tree, state):
 
 
 def advise_words(rng, tree, state):
-    return ["advise", *check_words(rng, tree, state)[1:]]
+    if rng.random() < 0.5:
+        return ["advise", *check_words(rng, tree, state)[1:]]
+    words = ["advise"]
+    for _ in range(rng.choice([1, 2, 2, 3])):
+        words += ["--uid", listed_user(rng, *rng.choice([tree.user, trees.user_of(rng), other_user(rng, tree)]))]
+    for _ in range(rng.choice([1, 1, 2, 3])):
+        words += ["--subtree", subtree_word(rng, tree, state)]
+    return words + (["--gid", "5"] if rng.random() < 0.05 else [])
 
 
 def audit_words(rng, tree, state):

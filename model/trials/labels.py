@@ -36,7 +36,7 @@ def wanted(known):
     labels += [f"check: unsettled {GUARDS[at]}" for at in (0, 2, 3)]
     if "advise" in known:
         labels += [f"advise: {guard} by {reason}" for guard in GUARDS[:4] for reason in ("owner", "group", "others")]
-        labels += ["advise: already-over"] + [f"advise: change {change}" for change in ("chown", "chmod", "chown chmod", "set")]
+        labels += ["advise: already-over", "advise: two classes of one entry"] + [f"advise: change {change}" for change in ("chown", "chmod", "chown chmod", "set")]
     return labels + [f"fault: {name}" for name in FAULTS]
 
 
@@ -105,7 +105,7 @@ def advise_labels(_case, lines):
             found.add("advise: already-over")
         else:
             found.add(f"advise: {words[1]} by {words[-1]}")
-        found.add("advise: change " + " ".join(dict.fromkeys(changes)))
+        found.add("advise: change " + " ".join(dict.fromkeys(changes)) if changes else "advise: two classes of one entry")
         changes = []
     return sorted(found)
 

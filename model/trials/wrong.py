@@ -93,9 +93,13 @@ OF_RULES = {
     "tries all without the opening first": (
         "        if opened:\n            yield", "    for operations in plain_tries(state, top) if opened else []:\n            yield"),
     "names the last guard that fails": ("failed[0][0], failed[0][1])", "failed[-1][0], failed[-1][1])"),
-    "advises less than the class's bit": ("entry.mode & ~bit:03o", "entry.mode & ~0o022:03o"),
-    "advises no mode behind an owner": (
-        "    if writes(user, entry):\n        bit", "    if writes(user, entry) and not changes:\n        bit"),
+    "advises less than the class's bit": ('mode &= ~(0o020 if', 'mode &= ~(0o022 if'),
+    "advises no mode behind an owner": ("    if mode != entry.mode:", "    if mode != entry.mode and not changes:"),
+    "advises for the last user's class alone": ("        mode &= ~", "        mode = entry.mode & ~"),
+    "advises a chown for the first user alone": (
+        "if any(owns(user, entry) for user in users):", "if any(owns(user, entry) for user in users[:1]):"),
+    "advises the limits of the first subtree alone": (
+        "for top in dict.fromkeys(top for _, top in pairs):", "for top in [top for _, top in pairs][:1]:"),
     "a name of 255 bytes is none": ("1 <= len(name) <= LONGEST_NAME", "1 <= len(name) < LONGEST_NAME"),
     "a path of 4095 bytes is none": ("len(text) > LONGEST_PATH", "len(text) >= LONGEST_PATH"),
 }

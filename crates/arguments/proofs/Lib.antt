@@ -1,2 +1,5 @@
-pub mod GivenLaws
-pub mod UserWordLaws
+mod CommandLaws
+mod FoundLaws
+mod GivenLaws
+mod UserWordLaws
+mod WordLaws

@@ -1,5 +1,5 @@
 -- What a parse found, as the fields of requests. Own.
-use Rattle.std.specs.Prelude.{◌≡◌, ℕ, Bool, true, false, List, [], map, codes, cond, nat_eq, Option, Some, None, option_and_then}
+use Rattle.std.specs.Prelude.{◌≡◌, ◌≢◌, ℕ, Bool, true, false, List, [], ◌∷◌, map, codes, cond, nat_eq, Option, Some, None, option_and_then}
 use Rattle.std.specs.Cmp.Lexicographic.{pointwise}
 use Rattle.std.specs.Option.{option_map, option_map_or}
 use Rattle.std.specs.Str.Parse.{without_leading_plus}
@@ -12,6 +12,7 @@ use Rattle.arguments.specs.declared.named_user.NamedUser.{NamedUser}
 use Rattle.arguments.specs.declared.request.May.{May}
 use Rattle.arguments.specs.declared.request.Check.{Check}
 use Rattle.arguments.specs.declared.request.Audit.{Audit}
+use Rattle.arguments.specs.declared.request.Advise.{Advise}
 use Rattle.arguments.specs.declared.request.Sources.{Sources}
 use Rattle.arguments.specs.declared.request.Sources.TheVariants.{Files, TreeGiven, OpsGiven}
 use Rattle.arguments.specs.declared.request.Replay.{Replay}
@@ -65,6 +66,23 @@ user_given found =
 abbrev pub users_given : Found → Option (List (ℕ × List ℕ))
 users_given found = all_read user_at (words_at found (codes "uid"))
 
+-- the one plain number that an option was given, where that is all
+abbrev pub plain_number : List (List ℕ) → Option ℕ
+plain_number [] = None
+plain_number (word ∷ []) = number_read word
+plain_number (word ∷ other ∷ words) = None
+
+-- the users of some `--uid`, with these groups: of one plain number they are the groups; else there are none beside the words
+abbrev pub users_beside : List (List ℕ) → List ℕ → Option (List (ℕ × List ℕ))
+users_beside words gids = elim (plain_number words) [
+  | Some uid ↦ Some ((uid, gids) ∷ [])
+  | None ↦ elim gids [ [] ↦ all_read user_at words | gid ∷ others ↦ None ]
+]
+
+-- the users of `advise`: one `--uid` with any number of `--gid`, or any number of `--uid`, each a word of its own
+abbrev pub advised_given : Found → Option (List (ℕ × List ℕ))
+advised_given found = option_and_then (users_beside (words_at found (codes "uid"))) (numbers_at found (codes "gid"))
+
 abbrev pub ids_of : NamedUser → ℕ × List ℕ
 ids_of user = (user.uid, user.gids.items)
 
@@ -85,11 +103,22 @@ pub record IsCheck (found : Found) (check : Check) : Type 0 where
   pub user : user_given found ≡ Some (ids_of check.user)
   pub subtree : first_value found (codes "subtree") ≡ Some check.subtree.now
 
+-- of one user and one subtree at least
 pub record IsAudit (found : Found) (audit : Audit) : Type 0 where
   pub tree : option_map (λ file. file.now) audit.tree ≡ file_at found (codes "tree")
   pub users : users_given found ≡ Some (map ids_of audit.users.items)
   pub subtrees : words_at found (codes "subtree") ≡ map (λ subtree. subtree.now) audit.subtrees.items
   pub all : IsFlag (one_text found (codes "all")) audit.all
+  pub some_user : words_at found (codes "uid") ≢ []
+  pub some_subtree : words_at found (codes "subtree") ≢ []
+
+pub record IsAdvise (found : Found) (advise : Advise) : Type 0 where
+  pub tree : option_map (λ file. file.now) advise.tree ≡ file_at found (codes "tree")
+  pub users : advised_given found ≡ Some (map ids_of advise.users.items)
+  pub subtrees : words_at found (codes "subtree") ≡ map (λ subtree. subtree.now) advise.subtrees.items
+  -- and there is one of each
+  pub some_user : words_at found (codes "uid") ≢ []
+  pub some_subtree : words_at found (codes "subtree") ≢ []
 
 pub record IsReplay (found : Found) (replay : Replay) : Type 0 where
   pub tree : tree_file replay.sources ≡ file_at found (codes "tree")
@@ -114,7 +143,7 @@ Holds found (request.Help text) = Unit {0}
 Holds found (request.May may) = IsMay found may
 Holds found (request.Check check) = IsCheck found check
 Holds found (request.Audit audit) = IsAudit found audit
-Holds found (request.Advise advise) = IsCheck found advise
+Holds found (request.Advise advise) = IsAdvise found advise
 Holds found (request.Replay replay) = IsReplay found replay
 Holds found (request.Upgrade upgrade) = IsUpgrade found upgrade
 

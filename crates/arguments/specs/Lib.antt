@@ -1,2 +1,5 @@
+pub mod Building
+pub mod CommandLine
 pub mod Given
 pub mod UserWords
+pub mod Words

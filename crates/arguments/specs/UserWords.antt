@@ -1,4 +1,3 @@
--- How it is read and written: nobody has to believe it.
 -- The words that name users. Own.
 use Rattle.std.specs.Prelude.{ℕ, ◌^◌, Bool, ◌==◌, ◌&&◌, nat_lt, cond, List, [], ◌∷◌, length, Option, Some, None, option_and_then}
 use Rattle.std.specs.Option.{option_map}

@@ -1,4 +1,9 @@
 //! The command line, as `clap` reads it.
+ghost use Rattle.std.specs.Prelude.{◌≡◌, [], ◌∷◌, IfOk, codes};
+ghost use Rattle.clap.specs.Words.{app_of};
+ghost use Rattle.arguments.specs.Building.{IsOption, IsCommand};
+ghost use Rattle.arguments.specs.CommandLine.{word_option, number_option, needed, program_command, command_with, of_user, may_command, subtree_command, audit_command, advise_command, replay_command, upgrade_command, command_line};
+
 use clap::{Arg, ArgAction, Command, value_parser};
 use std::alloc::{AllocError, Global};
 
@@ -62,15 +67,16 @@ Example:
   ok
   ok";
 
-const ADVISE: &str = "Says what to change so that a subtree is contained against a user";
-
 const ADVISE_HELP: &str = "\
 Status: 0 contained, 1 a guard fails, 3 a fault
-`contained` means that the subtree is held whatever the user does. Else each guard that fails for him has a line `fails`
-with where it stands, its owner, its mode and by what he reaches it: `owner`, `group` or `others`. Below it stand the
-changes that mend it, the least that do. With all of them made the subtree is contained, and no advice undoes another's.
-Don't follow it where he is meant to have what is named, since it was handed to him: then the question was the wrong one. An
-owner that a service manager sets comes back with the unit: change the unit.
+`contained` means that every subtree is held whatever all these users do, in whatever order. Else each entry that lets one of
+them in has a line `fails` with the guard, where it stands, its owner, its mode and by what they reach it: `owner`, `group` or
+`others`, a line for each. Below stand the changes that mend it for all of them, and at the end those of limits. With all of
+them made every subtree is contained against every user; ask again after changes that were asked apart.
+Don't follow it where a user is meant to have what is named, since it was handed to them: then the question was the wrong one.
+An owner that a service manager sets comes back with the unit: change the unit.
+A user is UID or UID:GID,GID.. in decimal digits, with up to 32 gids, of which the first is the primary one; of one user alone
+--gid names them too. Users and subtrees that are named again count once.
 `fault: usage` means that the command line isn't as it says above.
 docs/FORMATS.md of the repository has the tree's format, and every line that is written.
 
@@ -91,18 +97,27 @@ Example:
   fault: tree no-parent cgroup 2";
 
 /// The command line of the program.
-pub(crate) fn command<'a>(alloc: Global) -> Result<Command<'a>, AllocError> {
+pub(crate) fn command<'a>(alloc: Global) -> Result<Command<'a>, AllocError>
+    ensures { IfOk result (λ command. app_of command ≡ command_line) }
+{
+    program_command(alloc)
+        .subcommand(may_command(alloc)?)?
+        .subcommand(subtree_command(alloc, "check", CHECK, CHECK_HELP)?)?
+        .subcommand(audit_command(alloc)?)?
+        .subcommand(advise_command(alloc)?)?
+        .subcommand(replay_command(alloc)?)?
+        .subcommand(upgrade_command(alloc)?)
+}
+
+/// The program, without its commands.
+fn program_command<'a>(alloc: Global) -> Command<'a>
+    ensures { IsCommand program_command result }
+{
     Command::new(alloc, "zirofen")
         .about("Checks what a user may do in a tree of cgroups")
         .version(VERSION)
         .after_help(HELP)
         .subcommand_required(true)
-        .subcommand(may_command(alloc)?)?
-        .subcommand(subtree_command(alloc, "check", CHECK, CHECK_HELP)?)?
-        .subcommand(audit_command(alloc)?)?
-        .subcommand(subtree_command(alloc, "advise", ADVISE, ADVISE_HELP)?)?
-        .subcommand(replay_command(alloc)?)?
-        .subcommand(upgrade_command(alloc)?)
 }
 
 /// A command that is asked of a tree and a user.
@@ -111,7 +126,9 @@ fn user_command<'a>(
     name: &'a str,
     about: &'a str,
     help: &'a str,
-) -> Result<Command<'a>, AllocError> {
+) -> Result<Command<'a>, AllocError>
+    ensures { IfOk result (IsCommand (command_with name.entry.now of_user)) }
+{
     Command::new(alloc, name)
         .about(about)
         .after_help(help)
@@ -124,7 +141,9 @@ fn user_command<'a>(
         )
 }
 
-fn may_command<'a>(alloc: Global) -> Result<Command<'a>, AllocError> {
+fn may_command<'a>(alloc: Global) -> Result<Command<'a>, AllocError>
+    ensures { IfOk result (IsCommand may_command) }
+{
     let about = "Says whether a user may move a process to a cgroup";
     user_command(alloc, "may", about, MAY_HELP)?
         .arg(needed_number(alloc, "pid", "PID", "The process to be moved"))?
@@ -141,7 +160,9 @@ fn subtree_command<'a>(
     name: &'a str,
     about: &'a str,
     help: &'a str,
-) -> Result<Command<'a>, AllocError> {
+) -> Result<Command<'a>, AllocError>
+    ensures { IfOk result (IsCommand (subtree_command name.entry.now)) }
+{
     user_command(alloc, name, about, help)?.arg(
         subtree_argument(alloc)
             .required(true)
@@ -149,7 +170,9 @@ fn subtree_command<'a>(
     )
 }
 
-fn audit_command<'a>(alloc: Global) -> Result<Command<'a>, AllocError> {
+fn audit_command<'a>(alloc: Global) -> Result<Command<'a>, AllocError>
+    ensures { IfOk result (IsCommand audit_command) }
+{
     Command::new(alloc, "audit")
         .about(
             "Says whether every subtree is contained against every user, whatever they do together",
@@ -176,14 +199,44 @@ fn audit_command<'a>(alloc: Global) -> Result<Command<'a>, AllocError> {
         )
 }
 
-fn upgrade_command<'a>(alloc: Global) -> Result<Command<'a>, AllocError> {
+fn advise_command<'a>(alloc: Global) -> Result<Command<'a>, AllocError>
+    ensures { IfOk result (IsCommand advise_command) }
+{
+    Command::new(alloc, "advise")
+        .about("Says what to change so that every subtree is contained against every user")
+        .after_help(ADVISE_HELP)
+        .arg(tree_argument(alloc))?
+        .arg(
+            word_argument(alloc, "uid", "UID[:GID,GID..]")
+                .action(ArgAction::Append)
+                .required(true)
+                .help("A user and their groups, once or more"),
+        )?
+        .arg(
+            number_argument(alloc, "gid", "GID")
+                .action(ArgAction::Append)
+                .help("A group of the only user, up to 32 times; the first is the primary one"),
+        )?
+        .arg(
+            subtree_argument(alloc)
+                .required(true)
+                .action(ArgAction::Append)
+                .help("The top of a subtree, once or more"),
+        )
+}
+
+fn upgrade_command<'a>(alloc: Global) -> Result<Command<'a>, AllocError>
+    ensures { IfOk result (IsCommand upgrade_command) }
+{
     Command::new(alloc, "upgrade")
         .about("Writes the tree again, in format 2 with every key")
         .after_help(UPGRADE_HELP)
         .arg(tree_argument(alloc))
 }
 
-fn replay_command<'a>(alloc: Global) -> Result<Command<'a>, AllocError> {
+fn replay_command<'a>(alloc: Global) -> Result<Command<'a>, AllocError>
+    ensures { IfOk result (IsCommand replay_command) }
+{
     let about = "Says of each of a user's operations whether it is carried out";
     user_command(alloc, "replay", about, REPLAY_HELP)?
         .arg(
@@ -194,26 +247,36 @@ fn replay_command<'a>(alloc: Global) -> Result<Command<'a>, AllocError> {
         .arg(subtree_argument(alloc).help("The top of a subtree, on which a verdict is wanted"))
 }
 
-fn tree_argument<'a>(alloc: Global) -> Arg<'a> {
+fn tree_argument<'a>(alloc: Global) -> Arg<'a>
+    ensures { IsOption (word_option (codes "tree")) result }
+{
     word_argument(alloc, "tree", "FILE").help(
         "The tree's text; standard input where this is left out or is -",
     )
 }
 
-fn subtree_argument<'a>(alloc: Global) -> Arg<'a> {
+fn subtree_argument<'a>(alloc: Global) -> Arg<'a>
+    ensures { IsOption (word_option (codes "subtree")) result }
+{
     word_argument(alloc, "subtree", "PATH")
 }
 
-fn number_argument<'a>(alloc: Global, name: &'a str, value: &'a str) -> Arg<'a> {
+fn number_argument<'a>(alloc: Global, name: &'a str, value: &'a str) -> Arg<'a>
+    ensures { IsOption (number_option name.entry.now) result }
+{
     word_argument(alloc, name, value).value_parser(value_parser!(u32))
 }
 
-fn needed_number<'a>(alloc: Global, name: &'a str, value: &'a str, help: &'a str) -> Arg<'a> {
+fn needed_number<'a>(alloc: Global, name: &'a str, value: &'a str, help: &'a str) -> Arg<'a>
+    ensures { IsOption (needed (number_option name.entry.now)) result }
+{
     number_argument(alloc, name, value)
         .required(true)
         .help(help)
 }
 
-fn word_argument<'a>(alloc: Global, name: &'a str, value: &'a str) -> Arg<'a> {
+fn word_argument<'a>(alloc: Global, name: &'a str, value: &'a str) -> Arg<'a>
+    ensures { IsOption (word_option name.entry.now) result }
+{
     Arg::new(alloc, name).long(name).value_name(value)
 }

@@ -1,26 +1,29 @@
 //! What the command line asks for.
-ghost use Rattle.std.specs.Prelude.{◌≡◌, ◌≢◌, ◌⊎◌, Some, None, IfOk, IfErr, MatchResult, codes, map, ok_or};
+ghost use Rattle.std.specs.Prelude.{◌≡◌, ◌≢◌, ◌⊎◌, [], Some, None, IfOk, IfErr, MatchResult, codes, map, ok_or, string_bytes};
 ghost use Rattle.std.specs.Option.{option_map};
 ghost use Rattle.clap.specs.Matches.{found_of, first_value, values_left};
 ghost use Rattle.arguments.specs.UserWords.{all_read, user_at};
-ghost use Rattle.arguments.specs.Given.{number_read, words_at, file_named, file_at, NamesNoFile, number_at, numbers_at, user_given, users_given, ids_of, IsMay, IsCheck, IsAudit, tree_file, ops_file, IsReplay, IsUpgrade, command_of, Holds, IsOf};
+ghost use Rattle.arguments.specs.Given.{number_read, words_at, file_named, file_at, NamesNoFile, number_at, numbers_at, user_given, users_given, plain_number, users_beside, advised_given, ids_of, IsMay, IsCheck, IsAudit, IsAdvise, tree_file, ops_file, IsReplay, IsUpgrade, command_of, Holds, IsOf};
+ghost use Rattle.arguments.specs.Words.{Makes, IsNone};
+ghost use Rattle.arguments.specs.declared.request.Request.{Request};
 
 use crate::command::command;
 use crate::fault::ArgumentsFault;
 use crate::named_user::NamedUser;
 use clap::ArgMatches;
+use clap::error::ErrorKind;
 use clap::parser::ValuesRef;
 use std::alloc::Global;
 
 /// What the words of a command line ask for.
 #[derive(Drop)]
 pub enum Request<'a> {
-    /// A text that is to be shown: help, or the version.
-    Help(String),
+    /// What is to be shown, in clap's own words: help, or the version.
+    Help(clap::Error),
     May(May<'a>),
     Check(Check<'a>),
     Audit(Audit<'a>),
-    Advise(Check<'a>),
+    Advise(Advise<'a>),
     Replay(Replay<'a>),
     Upgrade(Upgrade<'a>),
 }
@@ -30,16 +33,24 @@ impl<'a> Request<'a> {
     ///
     /// # Errors
     /// `Usage` where the words are no request, `NoMemory` where an allocation was refused.
-    pub fn from_words(alloc: Global, words: &'a [String]) -> Result<Request<'a>, ArgumentsFault> {
+    pub fn from_words(alloc: Global, words: &'a [String]) -> Result<Request<'a>, ArgumentsFault>
+        ensures { MatchResult result
+            (Makes (map string_bytes words.now))
+            (λ fault. fault ≢ ArgumentsFault.NoMemory → IsNone (map string_bytes words.now)) }
+    {
         match command(alloc)?.try_get_matches_from(words) {
             Ok(matches) => Request::from_matches(alloc, &matches),
-            Err(error) if error.use_stderr() => Err(ArgumentsFault::from(error)),
-            Err(help) => Ok(Request::Help(format!(in alloc; "{help}")?)),
+            Err(error) => match error.kind() {
+                ErrorKind::DisplayHelp | ErrorKind::DisplayVersion => Ok(Request::Help(error)),
+                _ => Err(ArgumentsFault::from(error)),
+            },
         }
     }
 
     fn from_matches(alloc: Global, matches: &ArgMatches<'a>) -> Result<Request<'a>, ArgumentsFault>
-        ensures { IfOk result (IsOf matches.now) }
+        ensures { MatchResult result
+            (IsOf matches.now)
+            (λ fault. fault ≢ ArgumentsFault.NoMemory → (asked : Request) → IsOf matches.now asked → ⊥) }
     {
         match matches.subcommand() {
             Some((name, given)) => Request::of_command(alloc, name, given),
@@ -55,12 +66,14 @@ impl<'a> Request<'a> {
     ) -> Result<Request<'a>, ArgumentsFault>
         ensures name { IfOk result (λ asked. command_of asked ≡ Some name.now) }
         ensures given { IfOk result (Holds (found_of given.now)) }
+        ensures fault { IfErr result (λ fault. fault ≢ ArgumentsFault.NoMemory
+            → (asked : Request) → command_of asked ≡ Some name.now → Holds (found_of given.now) asked → ⊥) }
     {
         match name {
             "may" => Ok(Request::May(May::from_matches(alloc, given)?)),
             "check" => Ok(Request::Check(Check::from_matches(alloc, given)?)),
             "audit" => Ok(Request::Audit(Audit::from_matches(alloc, given)?)),
-            "advise" => Ok(Request::Advise(Check::from_matches(alloc, given)?)),
+            "advise" => Ok(Request::Advise(Advise::from_matches(alloc, given)?)),
             "replay" => Ok(Request::Replay(Replay::from_matches(alloc, given)?)),
             "upgrade" => Ok(Request::Upgrade(Upgrade::from_matches(given))),
             _ => Err(ArgumentsFault::Usage),
@@ -94,7 +107,7 @@ impl<'a> May<'a> {
     }
 }
 
-/// A subtree and a user: whether it is contained against him, or what to change so that it is.
+/// A subtree and a user: whether it is contained against him.
 #[derive(Drop)]
 pub struct Check<'a> {
     pub tree: Option<&'a str>,
@@ -132,14 +145,39 @@ impl<'a> Audit<'a> {
     fn from_matches(alloc: Global, matches: &ArgMatches<'a>) -> Result<Audit<'a>, ArgumentsFault>
         ensures given { IfOk result (IsAudit (found_of matches.now)) }
         ensures fault { IfErr result (λ fault. fault ≢ ArgumentsFault.NoMemory → (users_given (found_of matches.now) ≡ None)
-            ⊎ (first_value (found_of matches.now) (codes "uid") ≡ None)
-            ⊎ (first_value (found_of matches.now) (codes "subtree") ≡ None)) }
+            ⊎ (words_at (found_of matches.now) (codes "uid") ≡ [])
+            ⊎ (words_at (found_of matches.now) (codes "subtree") ≡ [])) }
     {
         Ok(Audit {
             tree: file_of(matches, "tree"),
             users: users_of(alloc, given(matches, "uid")?)?,
             subtrees: given(matches, "subtree")?.to_vec(alloc)?,
             all: matches.get_flag("all"),
+        })
+    }
+}
+
+/// Subtrees and users: what to change so that every subtree is contained against every user.
+#[derive(Drop)]
+pub struct Advise<'a> {
+    pub tree: Option<&'a str>,
+    pub users: Vec<NamedUser>,
+    pub subtrees: Vec<&'a str>,
+}
+
+impl<'a> Advise<'a> {
+    /// What was given to the command.
+    fn from_matches(alloc: Global, matches: &ArgMatches<'a>) -> Result<Advise<'a>, ArgumentsFault>
+        ensures given { IfOk result (IsAdvise (found_of matches.now)) }
+        ensures fault { IfErr result (λ fault. fault ≢ ArgumentsFault.NoMemory → (advised_given (found_of matches.now) ≡ None)
+            ⊎ (words_at (found_of matches.now) (codes "uid") ≡ [])
+            ⊎ (words_at (found_of matches.now) (codes "subtree") ≡ [])) }
+    {
+        let words = given(matches, "uid")?;
+        Ok(Advise {
+            tree: file_of(matches, "tree"),
+            users: users_beside(alloc, words, numbers(alloc, matches, "gid")?)?,
+            subtrees: given(matches, "subtree")?.to_vec(alloc)?,
         })
     }
 }
@@ -177,11 +215,9 @@ impl<'a> Sources<'a> {
     fn from_matches(matches: &ArgMatches<'a>) -> Result<Sources<'a>, ArgumentsFault>
         ensures tree { IfOk result (λ sources. tree_file sources ≡ file_at (found_of matches.now) (codes "tree")) }
         ensures ops { IfOk result (λ sources. ops_file sources ≡ file_at (found_of matches.now) (codes "ops")) }
-        ensures fault { IfErr result (λ fault. (first_value (found_of matches.now) (codes "ops") ≡ None)
-            ⊎ NamesNoFile (found_of matches.now)) }
+        ensures fault { IfErr result (λ fault. NamesNoFile (found_of matches.now)) }
     {
-        let ops = matches.get_str("ops").ok_or(ArgumentsFault::Usage)?;
-        match (file_of(matches, "tree"), file_named(ops)) {
+        match (file_of(matches, "tree"), file_of(matches, "ops")) {
             (Some(tree), Some(ops)) => Ok(Sources::Files(tree, ops)),
             (None, Some(ops)) => Ok(Sources::TreeGiven(ops)),
             (Some(tree), None) => Ok(Sources::OpsGiven(tree)),
@@ -223,7 +259,6 @@ impl<'a> Replay<'a> {
     fn from_matches(alloc: Global, matches: &ArgMatches<'a>) -> Result<Replay<'a>, ArgumentsFault>
         ensures given { IfOk result (IsReplay (found_of matches.now)) }
         ensures fault { IfErr result (λ fault. fault ≢ ArgumentsFault.NoMemory → (user_given (found_of matches.now) ≡ None)
-            ⊎ (first_value (found_of matches.now) (codes "ops") ≡ None)
             ⊎ NamesNoFile (found_of matches.now)) }
     {
         Ok(Replay {
@@ -273,13 +308,58 @@ fn users_of(alloc: Global, words: &[&str]) -> Result<Vec<NamedUser>, ArgumentsFa
     Ok(users)
 }
 
-/// What an option was given, each time that it stands.
+/// The users of words, where one plain number has groups beside it.
+fn users_beside(
+    alloc: Global,
+    words: &[&str],
+    gids: Vec<u32>,
+) -> Result<Vec<NamedUser>, ArgumentsFault>
+    ensures { MatchResult result
+        (λ users. users_beside (map (λ word. word.now) words.now) gids.items ≡ Some (map ids_of users.items))
+        (λ fault. fault ≢ ArgumentsFault.NoMemory → users_beside (map (λ word. word.now) words.now) gids.items ≡ None) }
+{
+    let Some(uid) = plain_number(words) else {
+        return if gids.is_empty() {
+            users_of(alloc, words)
+        } else {
+            Err(ArgumentsFault::Usage)
+        };
+    };
+    let mut users = Vec::new(alloc);
+    users.push(NamedUser { uid, gids })?;
+    Ok(users)
+}
+
+/// The plain number of words, where they are one word, before which a plus sign may stand.
+fn plain_number(words: &[&str]) -> Option<u32>
+    ensures { result ≡ plain_number (map (λ word. word.now) words.now) }
+{
+    match words {
+        [word] => number_of(word),
+        _ => None,
+    }
+}
+
+/// The number of a word.
+fn number_of(word: &str) -> Option<u32>
+    ensures { result ≡ number_read word.now }
+{
+    match word.parse() {
+        Ok(number) => Some(number),
+        Err(_) => None,
+    }
+}
+
+/// What an option was given, each time that it stands, which it does once at least.
 fn given<'m, 'a>(matches: &'m ArgMatches<'a>, name: &str) -> Result<&'m [&'a str], ArgumentsFault>
     ensures { MatchResult result
-        (λ words. words_at (found_of matches.now) name.now ≡ map (λ word. word.now) words.now)
-        (λ fault. (fault ≡ ArgumentsFault.Usage) × (first_value (found_of matches.now) name.now ≡ None)) }
+        (λ words. (words_at (found_of matches.now) name.now ≡ map (λ word. word.now) words.now) × (words.now ≢ []))
+        (λ fault. words_at (found_of matches.now) name.now ≡ []) }
 {
-    matches.get_strs(name).ok_or(ArgumentsFault::Usage)
+    match matches.get_strs(name) {
+        Some(words) if !words.is_empty() => Ok(words),
+        _ => Err(ArgumentsFault::Usage),
+    }
 }
 
 fn number(matches: &ArgMatches<'_>, name: &str) -> Result<u32, ArgumentsFault>

@@ -3,7 +3,9 @@ use crate::command::command;
 use clap::{ArgMatches, Error};
 use std::alloc::{AllocError, Global};
 
-const USERS: &str = "a user of audit is UID or UID:GID,GID.. in decimal digits, with no spaces";
+const USERS: &str =
+    "a user of audit and advise is UID or UID:GID,GID.. in decimal digits, with no spaces, and --gid
+stands beside one plain --uid of advise alone";
 
 const ONE_INPUT: &str =
     "standard input is read once, and both the tree and the operations are to come from it:

@@ -2,4 +2,5 @@ pub mod OwnerLaws
 pub mod Taken
 pub mod Running
 pub mod Advising
+pub mod Gathering
 pub mod Written

@@ -1,24 +1,24 @@
 -- What is written of the entries and of the limits, one after another.
-use Rattle.std.proofs.Common.{◌≡◌, ℕ, ◌+◌, ◌/◌, ◌%◌, ◌≤◌, Bool, true, not, cond, ◌&&◌, List, [], ◌++◌, append_assoc, length, take, take_all, drop, Some, None, option_and_then, refl, sym, ap, ◌∙◌, arith}
-use Rattle.std.specs.Prelude.{slice_get}
+use Rattle.std.proofs.Common.{◌≡◌, ℕ, ◌/◌, ◌%◌, ◌≤◌, Bool, true, false, not, cond, ◌&&◌, List, [], ◌∷◌, ◌++◌, append_assoc, append-nil, filter, length, take, take_all, drop, Some, None, option_and_then, refl, sym, ap, ◌∙◌, arith}
 use Rattle.std.specs.List.{flat_map}
 use Rattle.std.specs.Fmt.{decimal}
 use Rattle.std.proofs.lemmas.Bool.{not-true}
 use Rattle.std.proofs.lemmas.Fmt.{decimal_digit}
 use Rattle.std.proofs.lemmas.List.Concat.{flat_map-append}
 use Rattle.cg_cgroup.specs.Paths.{Names}
-use Rattle.cg_cgroup.specs.Identity.{Identity}
 use Rattle.cg_cgroup.specs.declared.files.Limit.TheVariants.{At}
 use Rattle.cg_cgroup.specs.declared.files.LimitFile.{LimitFile}
 use Rattle.cg_model.specs.States.{State}
 use Rattle.cg_model.specs.Clauses.{unless}
 use Rattle.cg_lines.specs.OperationLines.{mode_word}
 use Rattle.cg_model.specs.Limits.{fits_descendants, fits_depth}
-use Rattle.cg_model.specs.Guards.{guarded_entries, standing}
 use Rattle.cg_model.specs.declared.guard.GuardedEntry.{GuardedEntry}
-use Rattle.cg_guards.proofs.TableWalk.{walk_turn}
-use Rattle.cg_model.specs.Mends.{if_reached, reached_of, descendants_of, depth_of, limit_mends}
-use Rattle.cg_advice.specs.AdviceLines.{mend_line, mend_lines, reached_lines, over_line, over_lines}
+use Rattle.cg_model.specs.Mends.{descendants_of, depth_of, limit_mends}
+use Rattle.cg_model.specs.declared.mend.Class.{Class}
+use Rattle.cg_model.specs.declared.mend.Class.TheVariants.{Owner, Group, Others}
+use Rattle.cg_advice.specs.AdviceLines.{fails_line, mend_line, mend_lines, over_line, over_lines}
+use Rattle.cg_advice.specs.Ways.{has_way, chown_by, chmod_by, lines_by}
+use Rattle.cg_advice.specs.declared.ways.Ways.{Ways}
 use Rattle.cg_model.specs.declared.mend.Mend.{Mend}
 use Rattle.cg_model.specs.declared.mend.Mend.TheVariants.{Set}
 
@@ -30,29 +30,46 @@ written_digits mode l =
     let others = decimal_digit (mode % 8) (omega arith) in
     rw (owner, group, others) refl
 
--- ---- entries
+-- ---- classes
 
-module _ (st : State) (user : Identity) (subtree : Names) (place : ℕ) where
-  abbrev left : ℕ → List GuardedEntry
-  left n = flat_map (reached_of st user subtree) (drop n (guarded_entries subtree))
+module _ (tell : Class → List ℕ) where
+  told_one : (b : Bool) (class : Class) (rest : List Class)
+      → flat_map tell (cond b (class ∷ rest) rest) ≡ cond b (tell class) [] ++ flat_map tell rest
+  told_one true class rest = refl
+  told_one false class rest = refl
 
-  pub none_turn : (text : List ℕ) → None ≡ option_and_then (standing st subtree) (slice_get (guarded_entries subtree) place)
-      → text ++ flat_map (reached_lines user subtree) (left (place + 1)) ≡ text ++ flat_map (reached_lines user subtree) (left place)
-  none_turn text is =
-      ap (λ rest. text ++ flat_map (reached_lines user subtree) rest)
-      (sym (walk_turn st subtree (if_reached user) (guarded_entries subtree) place None is))
+  told : (ways : Ways) → cond ways.owner (tell Owner) [] ++ (cond ways.group (tell Group) [] ++ cond ways.others (tell Others) [])
+      ≡ flat_map tell (filter (has_way ways) (Owner ∷ Group ∷ Others ∷ []))
+  told ways =
+      let last : List Class = cond ways.others (Others ∷ []) [] in
+      let two : List Class = cond ways.group (Group ∷ last) last in
+      sym (told_one ways.owner Owner two
+      ∙ ap (λ l. cond ways.owner (tell Owner) [] ++ l) (told_one ways.group Group last
+      ∙ ap (λ l. cond ways.group (tell Group) [] ++ l) (told_one ways.others Others []
+      ∙ append-nil (cond ways.others (tell Others) []))))
 
-  pub entry_turn : (at : GuardedEntry) (text new : List ℕ)
-      → Some at ≡ option_and_then (standing st subtree) (slice_get (guarded_entries subtree) place)
-      → new ≡ text ++ flat_map (reached_lines user subtree) (if_reached user at)
-      → new ++ flat_map (reached_lines user subtree) (left (place + 1)) ≡ text ++ flat_map (reached_lines user subtree) (left place)
-  entry_turn at text new is written =
-      ap (λ t. t ++ flat_map (reached_lines user subtree) (left (place + 1))) written
-      ∙ append_assoc text (flat_map (reached_lines user subtree) (if_reached user at))
-      (flat_map (reached_lines user subtree) (left (place + 1)))
-      ∙ ap (λ rest. text ++ rest) (sym (flat_map-append (reached_lines user subtree) (if_reached user at) (left (place + 1))))
-      ∙ ap (λ rest. text ++ flat_map (reached_lines user subtree) rest)
-      (sym (walk_turn st subtree (if_reached user) (guarded_entries subtree) place (Some at) is))
+-- the lines of an entry, part by part
+pub entry_written : (ways : Ways) (subtree : Names) (at : GuardedEntry) (text one two three four all : List ℕ)
+    → one ≡ text ++ cond ways.owner (fails_line subtree at Owner) []
+    → two ≡ one ++ cond ways.group (fails_line subtree at Group) []
+    → three ≡ two ++ cond ways.others (fails_line subtree at Others) []
+    → four ≡ three ++ mend_lines subtree (chown_by ways at) → all ≡ four ++ mend_lines subtree (chmod_by ways at)
+    → all ≡ text ++ lines_by ways subtree at
+entry_written ways subtree at text one two three four all is_one is_two is_three is_four is_all =
+    let owner = cond ways.owner (fails_line subtree at Owner) [] in
+    let group = cond ways.group (fails_line subtree at Group) [] in
+    let others = cond ways.others (fails_line subtree at Others) [] in
+    let fails : three ≡ text ++ (owner ++ (group ++ others)) =
+    is_three ∙ ap (λ t. t ++ others) (is_two ∙ ap (λ t. t ++ group) is_one)
+    ∙ ap (λ t. t ++ others) (append_assoc text owner group)
+    ∙ append_assoc text (owner ++ group) others
+    ∙ ap (λ l. text ++ l) (append_assoc owner group others) in
+    is_all ∙ ap (λ t. t ++ mend_lines subtree (chmod_by ways at)) is_four
+    ∙ append_assoc three (mend_lines subtree (chown_by ways at)) (mend_lines subtree (chmod_by ways at))
+    ∙ ap (λ l. three ++ l) (sym (flat_map-append (mend_line subtree) (chown_by ways at) (chmod_by ways at)))
+    ∙ ap (λ t. t ++ mend_lines subtree (chown_by ways at ++ chmod_by ways at))
+    (fails ∙ ap (λ l. text ++ l) (told (fails_line subtree at) ways))
+    ∙ append_assoc text _ (mend_lines subtree (chown_by ways at ++ chmod_by ways at))
 
 -- ---- limits
 

@@ -1,6 +1,6 @@
 -- The lines of the advice. Own.
-use Rattle.std.specs.Prelude.{ℕ, ◌≤◌, ◌&&◌, cond, List, [], ◌∷◌, ◌++◌, length, take, Option, Some, None, codes}
-use Rattle.std.specs.List.{flat_map, join_with_byte}
+use Rattle.std.specs.Prelude.{ℕ, ◌≤◌, Bool, ◌&&◌, cond, List, [], ◌∷◌, ◌++◌, length, take, Option, Some, None, codes}
+use Rattle.std.specs.List.{flat_map, join_with_byte, list_all}
 use Rattle.std.specs.Fmt.{decimal}
 use Rattle.cg_cgroup.specs.Paths.{Names, path_text}
 use Rattle.cg_cgroup.specs.Identity.{Identity}
@@ -13,8 +13,8 @@ use Rattle.cg_model.specs.Guards.{is_guarded}
 use Rattle.cg_model.specs.Limits.{fits_descendants, fits_depth}
 use Rattle.cg_model.specs.declared.guard.GuardedEntry.{GuardedEntry}
 use Rattle.cg_model.specs.declared.guard.Guard.TheVariants.{AlreadyOver}
-use Rattle.cg_model.specs.Mended.{class_of}
-use Rattle.cg_model.specs.Mends.{reached, entry_mends, limit_mends}
+use Rattle.cg_model.specs.Mended.{classes_of}
+use Rattle.cg_model.specs.Mends.{Pair, Entrant, entrants, met, users_with, subtrees_of, entry_mends, limit_mends}
 use Rattle.cg_model.specs.declared.mend.Class.{Class}
 use Rattle.cg_model.specs.declared.mend.Class.TheVariants.{Owner, Group, Others}
 use Rattle.cg_model.specs.declared.mend.Mend.{Mend}
@@ -41,15 +41,19 @@ mend_line subtree (Set len file value) = spelling (op.Set (take len subtree) fil
 abbrev pub mend_lines : Names → List Mend → List ℕ
 mend_lines subtree mends = flat_map (mend_line subtree) mends
 
--- the guard that fails, the entry with its owner, group and mode, and by what the user reaches it
-abbrev pub fails_line : Identity → Names → GuardedEntry → List ℕ
-fails_line user subtree at =
+-- the guard that fails, the entry with its owner, group and mode, and a class by which it is reached
+abbrev pub fails_line : Names → GuardedEntry → Class → List ℕ
+fails_line subtree at class =
     line (codes "fails" ∷ guard_name at.guard ∷ path_text (take at.len subtree) ∷ entry_text at.name
-    ∷ owner_word at.entry.uid at.entry.gid ∷ mode_word at.entry.mode ∷ class_name (class_of user at.entry) ∷ [])
+    ∷ owner_word at.entry.uid at.entry.gid ∷ mode_word at.entry.mode ∷ class_name class ∷ [])
 
--- that line, and the changes below it
-abbrev pub reached_lines : Identity → Names → GuardedEntry → List ℕ
-reached_lines user subtree at = fails_line user subtree at ++ mend_lines subtree (entry_mends user at)
+-- a line for each class by which one of the users gets in, and below the last the changes
+abbrev pub reached_lines : List Identity → Names → GuardedEntry → List ℕ
+reached_lines users subtree at =
+    flat_map (fails_line subtree at) (classes_of users at.entry) ++ mend_lines subtree (entry_mends users at)
+
+abbrev pub entry_lines : List Entrant → Entrant → List ℕ
+entry_lines all each = reached_lines (users_with all each) each.subtree each.at
 
 -- the same of the limits, where the subtree is over one
 abbrev pub over_line : Names → List ℕ
@@ -59,10 +63,18 @@ abbrev pub over_lines : State → Names → List ℕ
 over_lines st subtree =
     cond (fits_descendants st subtree && fits_depth st subtree) [] (over_line subtree ++ mend_lines subtree (limit_mends st subtree))
 
--- The lines of each guard that fails, in their order, with the changes that mend it; none where no guard fails.
-abbrev pub advice_lines : State → Identity → Names → Option (List ℕ)
-advice_lines st user subtree =
-    cond (is_guarded st subtree user) None (Some (flat_map (reached_lines user subtree) (reached st user subtree) ++ over_lines st subtree))
+-- the lines of each entry where it is met first, and then of the limits of each subtree
+abbrev pub pairs_lines : State → List Pair → List ℕ
+pairs_lines st pairs =
+    flat_map (entry_lines (entrants st pairs)) (met st pairs) ++ flat_map (over_lines st) (subtrees_of pairs)
+
+-- no guard of its subtree fails for the user of a pair
+abbrev pub is_pair_guarded : State → Pair → Bool
+is_pair_guarded st pair = is_guarded st pair.subtree pair.user
+
+-- The lines of each guard that fails, with the changes that mend it; none where no guard fails for a pair.
+abbrev pub advice_lines : State → List Pair → Option (List ℕ)
+advice_lines st pairs = cond (list_all (is_pair_guarded st) pairs) None (Some (pairs_lines st pairs))
 
 -- what a line of a guarded entry needs: a cgroup of the subtree's path, and a mode
 abbrev pub IsShown : Names → GuardedEntry → Type 0

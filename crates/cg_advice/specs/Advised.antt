@@ -1,22 +1,18 @@
 -- How an answer is found: nobody has to believe it.
 -- What the changes of the advice leave of a tree.
-use Rattle.std.specs.Prelude.{Bool, ◌&&◌, not, ◌++◌, filter, take}
-use Rattle.std.specs.List.{flat_map}
+use Rattle.std.specs.Prelude.{◌≡◌, Bool, not, List, ◌++◌, filter, map}
+use Rattle.std.specs.List.{flat_map, AllByRecursion}
 use Rattle.cg_cgroup.specs.Paths.{Names, same_path}
 use Rattle.cg_cgroup.specs.Identity.{Identity}
-use Rattle.cg_cgroup.specs.Files.{same_entry}
 use Rattle.cg_model.specs.States.{State}
-use Rattle.cg_model.specs.declared.guard.GuardedEntry.{GuardedEntry}
-use Rattle.cg_model.specs.Mends.{reached, entry_mends, limit_mends, made}
+use Rattle.cg_model.specs.Mends.{Pair, Entrant, entrants, same_place, met, subtrees_of, entry_changes, limit_changes, made}
 
--- another entry than this
-abbrev pub is_other : Names → GuardedEntry → GuardedEntry → Bool
-is_other subtree at other = not (same_path (take other.len subtree) (take at.len subtree) && same_entry other.name at.name)
-
--- The tree with all changes made but those of this entry.
-abbrev pub all_but : State → Identity → Names → GuardedEntry → State
-all_but st user subtree at = made subtree (flat_map (entry_mends user) (filter (is_other subtree at) (reached st user subtree)) ++ limit_mends st subtree) st
+-- The tree with all changes made but those of the entry that lets one in.
+abbrev pub all_but : State → List Pair → Entrant → State
+all_but st pairs left =
+    made (flat_map (entry_changes (entrants st pairs)) (filter (λ each. not (same_place left each)) (met st pairs))
+    ++ flat_map (limit_changes st) (subtrees_of pairs)) st
 
 -- the tree with all changes made but those of the limits
-abbrev pub all_but_limits : State → Identity → Names → State
-all_but_limits st user subtree = made subtree (flat_map (entry_mends user) (reached st user subtree)) st
+abbrev pub all_but_limits : State → List Pair → State
+all_but_limits st pairs = made (flat_map (entry_changes (entrants st pairs)) (met st pairs)) st

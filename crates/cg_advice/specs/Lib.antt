@@ -1,2 +1,3 @@
 pub mod AdviceLines
 pub mod Advised
+pub mod Ways

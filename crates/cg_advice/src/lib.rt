@@ -1,6 +1,10 @@
-//! What to change where a guard of a subtree fails against a user.
+//! What to change where a guard of a subtree fails against users.
 #![tactic(auto)]
 
+mod entrants;
+mod gathered;
 pub mod laws;
 pub mod mend;
+pub mod pair;
 pub mod text;
+pub mod ways;

@@ -1,25 +1,13 @@
 //! The changes that mend a guard that fails.
 ghost use Rattle.std.specs.Prelude.{◌≡◌, ◌≤◌, option_to_list, IfSome};
-ghost use Rattle.cg_model.specs.Mended.{class_of, shut_mode};
-ghost use Rattle.cg_model.specs.Mends.{chown_of, chmod_of};
+ghost use Rattle.cg_model.specs.Mended.{without_bits};
 ghost use Rattle.cg_advice.specs.AdviceLines.{class_name, len_of};
+ghost use Rattle.cg_advice.specs.Ways.{chown_by, chmod_by};
 
-use cg_cgroup::user::{Entry, Mode, User};
+use crate::ways::Ways;
+use cg_cgroup::user::Mode;
 use cg_model::guard::GuardedEntry;
 use cg_model::mend::{Class, Mend};
-
-/// The class of an entry that a user belongs to.
-pub fn class_of(user: &User, entry: &Entry) -> Class
-    ensures { result ≡ class_of user.now entry.now }
-{
-    if user.owns(entry) {
-        Class::Owner
-    } else if user.in_group(entry.gid) {
-        Class::Group
-    } else {
-        Class::Others
-    }
-}
 
 /// The word of a report.
 pub fn class_name(class: Class) -> &'static str
@@ -32,12 +20,12 @@ pub fn class_name(class: Class) -> &'static str
     }
 }
 
-/// Root in the place of the user, where he owns the entry; the entry's group stays.
-pub fn chown_of(user: &User, at: &GuardedEntry) -> Option<Mend>
-    ensures mend { option_to_list result ≡ chown_of user.now at.now }
+/// Root in the owner's place, where one of the users owns the entry; its group stays.
+pub fn chown_of(ways: Ways, at: &GuardedEntry) -> Option<Mend>
+    ensures mend { option_to_list result ≡ chown_by ways at.now }
     ensures level { IfSome result (λ mend. len_of mend ≡ at.now.len) }
 {
-    if !user.owns(&at.entry) {
+    if !ways.owner {
         return None;
     }
     Some(Mend::Chown {
@@ -48,13 +36,13 @@ pub fn chown_of(user: &User, at: &GuardedEntry) -> Option<Mend>
     })
 }
 
-/// The entry's mode without the bit by which the user's class writes once he isn't the owner, where it has the bit.
-pub fn chmod_of(user: &User, at: &GuardedEntry) -> Option<Mend>
+/// The entry's mode without the bits by which the users write once none of them is the owner, where it has one of them.
+pub fn chmod_of(ways: Ways, at: &GuardedEntry) -> Option<Mend>
     requires { at.now.entry.mode ≤ 511 }
-    ensures mend { option_to_list result ≡ chmod_of user.now at.now }
+    ensures mend { option_to_list result ≡ chmod_by ways at.now }
     ensures level { IfSome result (λ mend. len_of mend ≡ at.now.len) }
 {
-    let mode = shut_mode(user, &at.entry);
+    let mode = shut_mode(ways, at.entry.mode);
     if mode.get() == at.entry.mode {
         return None;
     }
@@ -65,17 +53,14 @@ pub fn chmod_of(user: &User, at: &GuardedEntry) -> Option<Mend>
     })
 }
 
-/// The mode of an entry without the bit by which one who isn't its owner writes it.
-fn shut_mode(user: &User, entry: &Entry) -> Mode
-    requires { entry.now.mode ≤ 511 }
-    ensures { result ≡ shut_mode user.now entry.now }
+/// A mode without the bits by which users write who aren't the owner.
+fn shut_mode(ways: Ways, mode: u16) -> Mode
+    requires { mode ≤ 511 }
+    ensures { result ≡ without_bits ways.inside ways.outside mode }
 {
-    let kept = if user.in_group(entry.gid) {
-        0o757
-    } else {
-        0o775
-    };
-    let Some(mode) = Mode::new(entry.mode & kept) else {
+    let left = if ways.inside { mode & 0o757 } else { mode };
+    let shut = if ways.outside { left & 0o775 } else { left };
+    let Some(mode) = Mode::new(shut) else {
         unreachable!()
     };
     mode

@@ -1,93 +1,146 @@
-//! The advice for a user and a subtree, as text.
-ghost use Rattle.std.specs.Prelude.{◌≡◌, ◌≤◌, ◌++◌, true, false, length, option_to_list, IfOk, OnOk, OnErr, IfSome, string_bytes};
-ghost use Rattle.std.specs.List.{flat_map};
+//! The advice for users and subtrees, as text.
+ghost use Rattle.std.specs.Prelude.{◌≡◌, ◌≤◌, ◌++◌, true, false, cond, [], map, length, option_to_list, IfOk, OnOk, OnErr, IfSome, string_bytes};
+ghost use Rattle.std.specs.List.{All, flat_map, list_all};
 ghost use Rattle.std.specs.Option.{ForSome, option_map};
-ghost use Rattle.cg_cgroup.specs.Paths.{is_root};
 ghost use Rattle.cg_model.specs.WellFormed.{has_row};
-ghost use Rattle.cg_model.specs.Guards.{IsSubtree, is_guarded};
+ghost use Rattle.cg_model.specs.Guards.{IsSubtree};
+ghost use Rattle.cg_model.specs.Once.{once};
 ghost use Rattle.cg_lines.specs.OperationLines.{mode_word};
 ghost use Rattle.cg_cgroup.specs.declared.files.Limit.TheVariants.{At};
 ghost use Rattle.cg_model.specs.Clauses.{unless};
-ghost use Rattle.cg_model.specs.Mends.{if_reached, reached};
+ghost use Rattle.cg_model.specs.Mends.{same_place, subtrees_of};
 ghost use Rattle.cg_model.specs.declared.mend.Mend.TheVariants.{Set};
-ghost use Rattle.cg_advice.specs.AdviceLines.{owner_word, mend_line, mend_lines, fails_line, reached_lines, over_line, over_lines, advice_lines, IsShown, len_of};
+ghost use Rattle.cg_advice.specs.AdviceLines.{owner_word, mend_line, mend_lines, fails_line, over_line, over_lines, is_pair_guarded, advice_lines, IsShown, len_of};
+ghost use Rattle.cg_advice.specs.Ways.{pair_of, entering, has_way, lines_by, gathered_lines};
 
-use crate::mend::{chmod_of, chown_of, class_name, class_of};
+use crate::entrants::entrants;
+use crate::gathered::{Gathered, key_of};
+use crate::mend::{chmod_of, chown_of, class_name};
+use crate::pair::{Entrant, Pair};
+use crate::ways::Ways;
 use cg_cgroup::files::{Limit, LimitFile};
 use cg_cgroup::memory::NoMemory;
 use cg_cgroup::path::Path;
-use cg_cgroup::user::User;
 use cg_guards::failed::{failed_guard, fits_depth, fits_descendants, is_over};
-use cg_guards::table::{guarded_count, guarded_entry};
 use cg_lines::lines::op_text;
 use cg_model::guard::{Guard, GuardedEntry};
-use cg_model::mend::Mend;
+use cg_model::mend::{Class, Mend};
 use cg_model::operation::Op;
 use cg_tree::hierarchy::Hierarchy;
 use std::alloc::{AllocError, Global};
+use std::collections::BTreeSet;
 
-/// What to change where a guard of a subtree fails against a user: for each that does, in their order, a line with the
-/// reason, and below it the changes that mend it. `None` exactly where none fails.
+/// What to change where a guard of its subtree fails against the user of a pair: for each entry that lets one in, where the
+/// pairs meet it first, a line for each class by which one does, and below the last the changes that mend it for all; then
+/// the same of the limits of the subtrees that are over one. `None` exactly where no guard fails.
 ///
 /// # Errors
 /// `NoMemory` where an allocation was refused, which never happens where no guard fails.
 pub fn advice_lines<H: Hierarchy>(
     alloc: Global,
     tree: &H,
-    user: &User,
-    subtree: &Path,
+    pairs: &[Pair<'_>],
 ) -> Result<Option<Vec<u8>>, NoMemory>
-    requires { IsSubtree (H.state tree.now) subtree.now }
-    ensures lines { IfOk result (λ found. option_map (λ text. text.items) found ≡ advice_lines (H.state tree.now) user.now subtree.now) }
-    ensures memory { OnErr result (is_guarded (H.state tree.now) subtree.now user.now ≡ false) }
+    requires { All (λ pair. IsSubtree (H.state tree.now) pair.subtree.now) pairs.now }
+    ensures lines { IfOk result (λ found. option_map (λ text. text.items) found ≡ advice_lines (H.state tree.now) (map pair_of pairs.now)) }
+    ensures memory { OnErr result (list_all (is_pair_guarded (H.state tree.now)) (map pair_of pairs.now) ≡ false) }
 {
-    if failed_guard(tree, user, subtree).is_none() {
+    if are_guarded(tree, pairs) {
         return Ok(None);
     }
     let mut text = Vec::new(alloc);
-    push_entries(alloc, &mut text, tree, user, subtree)?;
-    push_limits(alloc, &mut text, tree, subtree)?;
+    let entrants = entrants(alloc, tree, pairs)?;
+    push_entries(alloc, &mut text, entrants.as_slice())?;
+    push_all_limits(alloc, &mut text, tree, pairs)?;
     Ok(Some(text))
 }
 
-/// The lines of each guarded entry that the user reaches, behind a text.
-fn push_entries<H: Hierarchy>(
-    alloc: Global,
-    text: &mut Vec<u8>,
-    tree: &H,
-    user: &User,
-    subtree: &Path,
-) -> Result<(), NoMemory>
-    requires { is_root subtree.now ≡ false }
-    ensures { OnOk result (text.new.items ≡ text.old.items ++ flat_map (reached_lines user.now subtree.now) (reached (H.state tree.now) user.now subtree.now)) }
+/// Whether no guard of its subtree fails for the user of any pair.
+fn are_guarded<H: Hierarchy>(tree: &H, pairs: &[Pair<'_>]) -> bool
+    requires { All (λ pair. IsSubtree (H.state tree.now) pair.subtree.now) pairs.now }
+    ensures { result ≡ list_all (is_pair_guarded (H.state tree.now)) (map pair_of pairs.now) }
 {
-    for place in 0..guarded_count(subtree) {
-        let Some(at) = guarded_entry(tree, subtree, place) else {
-            continue;
-        };
-        let lines = entry_lines(alloc, user, subtree, at)?;
-        text.extend_from_slice(lines.as_slice())?;
+    for pair in pairs {
+        if failed_guard(tree, pair.user, pair.subtree).is_some() {
+            return false;
+        }
+    }
+    true
+}
+
+/// The lines of each entry that lets one in, where it is met first, behind a text.
+fn push_entries(alloc: Global, text: &mut Vec<u8>, entrants: &[Entrant<'_>]) -> Result<(), NoMemory>
+    ensures { OnOk result (text.new.items ≡ text.old.items
+        ++ flat_map (gathered_lines (map entering entrants.now)) (once same_place (map entering entrants.now))) }
+{
+    let gathered = Gathered::of(alloc, entrants)?;
+    let mut seen = BTreeSet::new(alloc);
+    for each in entrants {
+        let key = key_of(alloc, each)?;
+        let ways = gathered.at(&key);
+        let is_new = seen.insert(key)?;
+        if is_new {
+            push_lines(alloc, text, each, ways)?;
+        }
     }
     Ok(())
 }
 
-/// The lines of an entry, where the user reaches it.
-fn entry_lines(
+/// The lines of an entry, by what users get in there.
+fn push_lines(
     alloc: Global,
-    user: &User,
-    subtree: &Path,
-    at: GuardedEntry,
-) -> Result<Vec<u8>, NoMemory>
-    requires { IsShown subtree.now at }
-    ensures { IfOk result (λ lines. lines.items ≡ flat_map (reached_lines user.now subtree.now) (if_reached user.now at)) }
+    text: &mut Vec<u8>,
+    each: &Entrant<'_>,
+    ways: Ways,
+) -> Result<(), NoMemory>
+    ensures { OnOk result (text.new.items ≡ text.old.items ++ lines_by ways each.now.pair.subtree.now each.now.at) }
 {
-    if !user.reaches(&at.entry) {
-        return Ok(Vec::new(alloc));
+    let subtree = each.pair.subtree;
+    push_class(alloc, text, each, ways, Class::Owner)?;
+    push_class(alloc, text, each, ways, Class::Group)?;
+    push_class(alloc, text, each, ways, Class::Others)?;
+    push_mend(alloc, text, subtree, chown_of(ways, &each.at))?;
+    push_mend(alloc, text, subtree, chmod_of(ways, &each.at))?;
+    Ok(())
+}
+
+/// The line of a class, where a user gets in by it.
+fn push_class(
+    alloc: Global,
+    text: &mut Vec<u8>,
+    each: &Entrant<'_>,
+    ways: Ways,
+    class: Class,
+) -> Result<(), NoMemory>
+    ensures { OnOk result (text.new.items ≡ text.old.items
+        ++ cond (has_way ways class) (fails_line each.now.pair.subtree.now each.now.at class) []) }
+{
+    if ways.has(class) {
+        let line = fails_line(alloc, each.pair.subtree, &each.at, class)?.into_bytes();
+        text.extend_from_slice(line.as_slice())?;
     }
-    let mut lines = fails_line(alloc, user, subtree, &at)?.into_bytes();
-    push_mend(alloc, &mut lines, subtree, chown_of(user, &at))?;
-    push_mend(alloc, &mut lines, subtree, chmod_of(user, &at))?;
-    Ok(lines)
+    Ok(())
+}
+
+/// The lines of the limits of each subtree that is over one, each once, behind a text.
+fn push_all_limits<H: Hierarchy>(
+    alloc: Global,
+    text: &mut Vec<u8>,
+    tree: &H,
+    pairs: &[Pair<'_>],
+) -> Result<(), NoMemory>
+    requires { All (λ pair. IsSubtree (H.state tree.now) pair.subtree.now) pairs.now }
+    ensures { OnOk result (text.new.items ≡ text.old.items
+        ++ flat_map (over_lines (H.state tree.now)) (subtrees_of (map pair_of pairs.now))) }
+{
+    let mut seen = BTreeSet::new(alloc);
+    for pair in pairs {
+        let is_new = seen.insert(pair.subtree)?;
+        if is_new {
+            push_limits(alloc, text, tree, pair.subtree)?;
+        }
+    }
+    Ok(())
 }
 
 /// The lines of the limits of the subtree, where it is over one.
@@ -144,22 +197,22 @@ fn raised(subtree: &Path, file: LimitFile, fits: bool, there: u64) -> Option<Men
     })
 }
 
-/// The line of a guard that fails on an entry: the entry's owner, group and mode, and by what the user reaches it.
+/// The line of a guard that fails on an entry: the entry's owner, group and mode, and a class by which it is reached.
 fn fails_line(
     alloc: Global,
-    user: &User,
     subtree: &Path,
     at: &GuardedEntry,
+    class: Class,
 ) -> Result<String, AllocError>
     requires { IsShown subtree.now at.now }
-    ensures { IfOk result (λ line. string_bytes line ≡ fails_line user.now subtree.now at.now) }
+    ensures { IfOk result (λ line. string_bytes line ≡ fails_line subtree.now at.now class) }
 {
     let guard = at.guard.name();
     let place = subtree.prefix(at.len);
     let name = at.name.name();
     let owner = owner_word(alloc, at.entry.uid, at.entry.gid)?;
     let mode = mode_word(alloc, at.entry.mode)?;
-    let class = class_name(class_of(user, &at.entry));
+    let class = class_name(class);
     format!(in alloc; "fails {guard} {place} {name} {owner} {mode} {class}\n")
 }
 

@@ -161,6 +161,13 @@ module _ (st : State) (users : List Identity) (subtrees : List Names) (none : fi
         (hold_at k d within) opens broken;
   }
 
+-- where all guards hold
+pub guarded-are-contained : (st : State) (users : List Identity) (subtrees : List Names) → (subtrees ≢ [] → IsWellFormed st)
+    → All (IsSubtree st) subtrees
+    → ((user : Identity) → Contains users user → All (GuardsHold st user) subtrees) → users ≢ [] → AreContained st users subtrees
+guarded-are-contained st users subtrees formed subs hold some =
+    are-contained st users subtrees (ap first (faults_none st subtrees subs)) formed (ap first (users_none st 0 users subtrees hold)) some
+
 -- where the check of the first pair has a fault, the pair takes memory
 module _ (st : State) (users : List Identity) (subtrees : List Names) (at : ℕ × ℕ) (user : Identity) (subtree : Names)
     (none : first (flat_map (subtree_faults st) subtrees) ≡ None) (found : IsFirstUnguarded st users subtrees (Some at))

@@ -28,8 +28,9 @@ use Rattle.cg_cli.specs.Faults.{lifted_check}
 use Rattle.cg_cli.specs.Audits.{users_read, paths_read}
 use Rattle.cg_cli.specs.Containment.{in_call, answer_status}
 use Rattle.cg_cli.specs.May.{tree_read}
-use Rattle.cg_cli.specs.Once.{once, same_user}
-use Rattle.cg_cli.specs.Written.{AppendsPart}
+use Rattle.cg_model.specs.Once.{once}
+use Rattle.cg_cli.specs.Once.{same_user}
+use Rattle.streams.specs.Written.{AppendsPart}
 use Rattle.cg_cli.specs.AllPairs.{is_escape, pairs_status, worse, listing_text, WritesPairs, read_then, pairs_found, all_report, ReportsPairs, UnlistedAreContained}
 use Rattle.cg_cli.specs.declared.fault.CliFault.{CliFault}
 use Rattle.cg_cli.specs.declared.fault.CliFault.TheVariants.{Write, NoMemory}

@@ -35,7 +35,8 @@ use Rattle.cg_report.specs.AuditLines.{subtree_at, pair_line, IsPairShown}
 use Rattle.cg_report.proofs.ShownPairs.{audits_are_shown}
 use Rattle.cg_cli.specs.Audits.{audit_status, audit_answer_report, pairs_report}
 use Rattle.cg_cli.specs.Containment.{in_call, answer_status}
-use Rattle.cg_cli.specs.Once.{once, same_user}
+use Rattle.cg_model.specs.Once.{once}
+use Rattle.cg_cli.specs.Once.{same_user}
 use Rattle.cg_cli.specs.Reports.{Report, report_on}
 use Rattle.cg_cli.specs.declared.fault.CliFault.{CliFault}
 use Rattle.cg_cli.proofs.AuditStatus.{IsNamed, named, status_is_contained}

@@ -10,7 +10,8 @@ use Rattle.cg_cli.specs.Asking.{read_in_turn, named_read, IsMet, IsKeptOnce}
 use Rattle.cg_cli.specs.Audits.{users_read, paths_read, audit_answer_report, pairs_report, audit_report}
 use Rattle.cg_cli.specs.Containment.{in_call}
 use Rattle.cg_cli.specs.May.{tree_read}
-use Rattle.cg_cli.specs.Once.{once, same_user}
+use Rattle.cg_model.specs.Once.{once}
+use Rattle.cg_cli.specs.Once.{same_user}
 use Rattle.cg_cli.specs.Reports.{Reports, fault_report, report_on, takes_memory}
 use Rattle.cg_cli.specs.declared.fault.CliFault.{CliFault}
 use Rattle.cg_cli.proofs.AuditOnce.{said_once, contained_once, some_once, same_user-is}

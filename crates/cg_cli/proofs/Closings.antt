@@ -2,7 +2,7 @@
 use Rattle.std.proofs.Common.{◌≡◌, ℕ, true, ◌++◌, List, [], Option, Result, Ok, Err, IsErrAnd, refl, ap, sym, ◌∙◌, subst, append-nil, arith}
 use Rattle.std.specs.Io.KnownBytes.{Appends}
 use Rattle.std.proofs.KnownBytes.{Appends-trans, Appends-kept}
-use Rattle.cg_cli.specs.Written.{AppendsPart}
+use Rattle.streams.specs.Written.{AppendsPart}
 use Rattle.cg_cli.specs.Reports.{Said, Report, Reports, takes_memory}
 use Rattle.cg_cgroup.specs.Identity.{Identity}
 use Rattle.cg_cli.specs.Courses.{Course, Unwatched, Watched, HasMade, closing}

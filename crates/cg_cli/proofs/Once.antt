@@ -11,22 +11,11 @@ use Rattle.cg_cgroup.specs.Identity.{Identity}
 use Rattle.cg_cgroup.specs.Users.{is_user}
 use Rattle.cg_cgroup.specs.Paths.{Names, path_cmp, same_path}
 use Rattle.cg_cli.specs.Arguments.{or_fault, user_read}
-use Rattle.cg_cli.specs.Once.{once, same_user}
+use Rattle.cg_model.specs.Once.{once}
+use Rattle.cg_steps.proofs.OnceLaws.{once_more}
+use Rattle.cg_cli.specs.Once.{same_user}
 use Rattle.cg_cli.specs.declared.fault.CliFault.{CliFault}
 use Rattle.cg_cli.specs.declared.fault.CliFault.TheVariants.{Uid, Gids}
-
--- one more is new where none before is the same
-once_more : {A : Type 0} (same : A → A → Bool) (xs : List A) (x : A)
-    → once same (xs ++ x ∷ []) ≡ once same xs ++ cond (list_any (λ y. same y x) xs) [] (x ∷ [])
-once_more same [] x = refl
-once_more same (y ∷ xs) x =
-    ap (λ l. y ∷ filter (λ z. not (same y z)) l) (once_more same xs x)
-    ∙ ap (λ l. y ∷ l) (filter-append (λ z. not (same y z)) (once same xs) (cond (list_any (λ z. same z x) xs) [] (x ∷ [])))
-    ∙ ap (λ l. y ∷ (filter (λ z. not (same y z)) (once same xs) ++ l)) (kept (list_any (λ z. same z x) xs))
-  where
-    kept : (seen : Bool) → filter (λ z. not (same y z)) (cond seen [] (x ∷ [])) ≡ cond (same y x || seen) [] (x ∷ [])
-    kept true = elim (same y x) as (λ b. [] ≡ cond (b || true) [] (x ∷ [])) [ true ↦ refl | false ↦ refl ]
-    kept false = elim (same y x) as (λ b. cond (not b) (x ∷ []) [] ≡ cond (b || false) [] (x ∷ [])) [ true ↦ refl | false ↦ refl ]
 
 -- what was read of a list so far: all of it, those who count, and of which keys one was read
 pub record ReadOnce {A K : Type 0} (same : A → A → Bool) (meets : A → K → Bool) (given : Result (List A) CliFault) (read : List A)

@@ -9,7 +9,7 @@ use Rattle.std.specs.Io.KnownBytes.{Appends}
 use Rattle.std.proofs.KnownBytes.{Appends-nil, Appends-trans, Appends-kept}
 use Rattle.cg_cli.specs.Courses.{Course, came_to}
 use Rattle.cg_lines.specs.declared.lines.fault.LineFault.TheVariants.{TooLong, Cut}
-use Rattle.cg_cli.specs.Written.{AppendsPart}
+use Rattle.streams.specs.Written.{AppendsPart}
 use Rattle.cg_cli.specs.Reports.{Said}
 use Rattle.cg_cli.specs.Replays.{end_read, end_said, with_front, lines_said}
 use Rattle.cg_cli.specs.Replaying.{Reporting, whole, Replays, Standing, coming, ending, IsWaiting, Leads, Fed}

@@ -8,7 +8,7 @@ use Rattle.cg_cli.specs.Courses.{Course, state_of, on_course}
 use Rattle.cg_model.specs.declared.operation.Op.{Op}
 use Rattle.cg_lines.specs.Outcomes.{outcome_text}
 use Rattle.cg_lines.specs.declared.lines.fault.LineFault.TheVariants.{TooLong}
-use Rattle.cg_cli.specs.Written.{AppendsPart}
+use Rattle.streams.specs.Written.{AppendsPart}
 use Rattle.cg_cli.specs.Reports.{Said, fault_report, report_on}
 use Rattle.cg_cli.specs.Replays.{is_newline, outcome_of, operation_read, with_front, lines_said}
 use Rattle.cg_cli.specs.Replaying.{Reporting, Standing, coming, Leads, Fed, Answered}

@@ -1,15 +1,24 @@
--- The report of the advice for a user and a subtree. Own.
-use Rattle.std.specs.Prelude.{ℕ, List, Option, Some, None, Result, Ok, codes}
-use Rattle.cg_cgroup.specs.Paths.{Names}
+-- The report of the advice for users and subtrees. Own.
+use Rattle.std.specs.Prelude.{ℕ, List, map, Option, Some, None, Result, Ok, codes}
+use Rattle.std.specs.List.{Contains, flat_map}
+use Rattle.cg_cgroup.specs.Paths.{Names, same_path}
 use Rattle.cg_cgroup.specs.Identity.{Identity}
+use Rattle.cg_cgroup.specs.Users.{IsUser}
 use Rattle.cg_model.specs.States.{State}
+use Rattle.cg_model.specs.Guards.{IsSubtree}
+use Rattle.cg_model.specs.Advised.{AreCountable}
 use Rattle.cg_model.specs.Clauses.{first}
+use Rattle.cg_model.specs.Once.{once}
+use Rattle.cg_model.specs.Mends.{Pair}
 use Rattle.cg_model.specs.declared.fault.CheckFault.{CheckFault}
 use Rattle.cg_advice.specs.AdviceLines.{advice_lines}
 use Rattle.cg_model.specs.Checks.{subtree_faults, unless_fault}
 use Rattle.cg_format.specs.Readings.{Reading}
+use Rattle.cg_cli.specs.Audits.{users_read, paths_read}
+use Rattle.cg_cli.specs.May.{tree_read}
+use Rattle.cg_cli.specs.Once.{same_user}
 use Rattle.cg_cli.specs.Reports.{Report, report_on}
-use Rattle.cg_cli.specs.Containment.{in_call, asked_report}
+use Rattle.cg_cli.specs.Containment.{in_call}
 
 abbrev pub contained_line : List ℕ
 contained_line = codes "contained\n"
@@ -19,12 +28,35 @@ abbrev pub lines_report : Option (List ℕ) → Report
 lines_report None = record { text = contained_line; ending = Ok 0 }
 lines_report (Some lines) = record { text = lines; ending = Ok 1 }
 
--- the fault of the subtree, or the advice
-abbrev pub advised : State → Identity → Names → Result (Option (List ℕ)) CheckFault
-advised st user subtree = unless_fault (first (subtree_faults st subtree)) (advice_lines st user subtree)
+abbrev pub pair_with : Identity → Names → Pair
+pair_with user subtree = record { user = user; subtree = subtree }
 
-abbrev pub advice_report : State → Identity → Names → Report
-advice_report st user subtree = report_on (in_call (advised st user subtree)) lines_report
+-- every user with every subtree, by user and then subtree
+abbrev pub all_pairs : List Identity → List Names → List Pair
+all_pairs users subtrees = flat_map (λ user. map (pair_with user) subtrees) users
 
-abbrev pub advise_report : Reading → ℕ → List ℕ → List ℕ → Report
-advise_report tree uid gids subtree = asked_report advice_report tree uid gids subtree
+-- the first fault of the subtrees, in the order of their list, or the advice
+abbrev pub advised : State → List Identity → List Names → Result (Option (List ℕ)) CheckFault
+advised st users subtrees = unless_fault (first (flat_map (subtree_faults st) subtrees)) (advice_lines st (all_pairs users subtrees))
+
+abbrev pub advice_report : State → List Identity → List Names → Report
+advice_report st users subtrees = report_on (in_call (advised st users subtrees)) lines_report
+
+-- All users are looked at first, each with his uid before his gids; then all paths, the tree's text, and whether the
+-- subtrees are ones that can be checked. Who and what is named again counts once.
+abbrev pub advise_report : Reading → List (ℕ × List ℕ) → List (List ℕ) → Report
+advise_report tree given texts =
+    report_on (users_read given) (λ users.
+    report_on (paths_read texts) (λ subtrees.
+    report_on (tree_read tree) (λ st. advice_report st (once same_user users) (once same_path subtrees))))
+
+-- A user who isn't root, and a subtree whose counts are numbers that its limits may have.
+pub record IsAdvisable (st : State) (pair : Pair) : Type 0 where
+  pub user : IsUser pair.user
+  pub subtree : IsSubtree st pair.subtree
+  pub countable : AreCountable st pair.subtree
+
+-- Each of some users is named with each of some subtrees.
+abbrev pub AreNamed : List Pair → List Identity → List Names → Type 0
+AreNamed pairs users subtrees =
+    (user : Identity) (subtree : Names) → Contains users user → Contains subtrees subtree → Contains pairs (pair_with user subtree)

@@ -16,9 +16,10 @@ use Rattle.cg_format.specs.Readings.{Reading}
 use Rattle.cg_cli.specs.Audits.{users_read, paths_read}
 use Rattle.cg_cli.specs.Containment.{in_call}
 use Rattle.cg_cli.specs.May.{tree_read}
-use Rattle.cg_cli.specs.Once.{once, same_user}
+use Rattle.cg_model.specs.Once.{once}
+use Rattle.cg_cli.specs.Once.{same_user}
 use Rattle.cg_cli.specs.Reports.{takes_memory}
-use Rattle.cg_cli.specs.Written.{AppendsPart}
+use Rattle.streams.specs.Written.{AppendsPart}
 use Rattle.cg_cli.specs.declared.fault.CliFault.{CliFault}
 use Rattle.cg_cli.specs.declared.fault.CliFault.TheVariants.{Write, NoMemory}
 

@@ -1,4 +1,3 @@
--- How it is read and written: nobody has to believe it.
 -- The line of a fault: its words, and where in the tree's text or the operation lines it is. Own.
 use Rattle.std.specs.Prelude.{ℕ, List, [], ◌++◌, codes, Option, Some, None}
 use Rattle.std.specs.Fmt.{decimal}

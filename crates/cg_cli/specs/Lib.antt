@@ -1,4 +1,3 @@
-pub mod Written
 pub mod Faults
 pub mod FaultLines
 pub mod Arguments

@@ -1,13 +1,9 @@
--- Lists in which what is named again counts once, where it stands first. Own.
-use Rattle.std.specs.Prelude.{◌≡◌, Bool, not, ◌&&◌, nat_eq, List, [], ◌∷◌, Result, Ok}
-use Rattle.std.specs.List.{filter}
+-- Users who are the same, and lists that are read and of which each element counts once. Own.
+use Rattle.std.specs.Prelude.{◌≡◌, Bool, ◌&&◌, nat_eq, List, Result, Ok}
 use Rattle.std.specs.Cmp.Lexicographic.{pointwise}
 use Rattle.cg_cgroup.specs.Identity.{Identity}
+use Rattle.cg_model.specs.Once.{once}
 use Rattle.cg_cli.specs.declared.fault.CliFault.{CliFault}
-
-abbrev pub once : {A : Type 0} → (A → A → Bool) → List A → List A
-once same [] = []
-once same (x ∷ xs) = x ∷ filter (λ y. not (same x y)) (once same xs)
 
 -- the same uid, and the same gids in the same order
 abbrev pub same_user : Identity → Identity → Bool

@@ -8,7 +8,7 @@ use Rattle.cg_cgroup.specs.Identity.{Identity}
 use Rattle.cg_model.specs.declared.operation.Op.{Op}
 use Rattle.cg_lines.specs.Outcomes.{outcome_text}
 use Rattle.cg_lines.specs.declared.lines.fault.LineFault.TheVariants.{Cut}
-use Rattle.cg_cli.specs.Written.{AppendsPart}
+use Rattle.streams.specs.Written.{AppendsPart}
 use Rattle.cg_cli.specs.Reports.{Said, fault_report}
 use Rattle.cg_cli.specs.Courses.{Course, HasMade, state_of, on_course}
 use Rattle.cg_cli.specs.Replays.{most_operations, longest_line, is_newline, outcome_of, end_read, with_front, lines_said}

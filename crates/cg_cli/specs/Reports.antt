@@ -1,7 +1,7 @@
 -- What a call writes, and how it ends. Own.
 use Rattle.std.specs.Prelude.{◌≡◌, ℕ, Bool, true, false, List, [], Option, Result, Ok, Err}
 use Rattle.std.specs.Io.KnownBytes.{Appends, Keeps}
-use Rattle.cg_cli.specs.Written.{AppendsPart}
+use Rattle.streams.specs.Written.{AppendsPart}
 use Rattle.cg_cli.specs.declared.fault.CliFault.{CliFault}
 use Rattle.cg_cli.specs.declared.fault.CliFault.TheVariants.{Uid, Gids, Pid, Write, NoMemory}
 

@@ -1,72 +1,145 @@
-//! What to change so that a subtree is contained against a user.
-ghost use Rattle.std.specs.Prelude.{◌≡◌, IfOk};
+//! What to change so that every subtree is contained against every user.
+ghost use Rattle.std.specs.Prelude.{◌≡◌, ◌≢◌, ◌++◌, List, [], map, Ok, Err, None, IfOk, OnOk, MatchResult};
+ghost use Rattle.std.specs.List.{flat_map};
+ghost use Rattle.std.specs.Option.{option_map};
+ghost use Rattle.cg_cgroup.specs.Identity.{Identity};
+ghost use Rattle.cg_cgroup.specs.Paths.{Names};
+ghost use Rattle.cg_model.specs.States.{State};
+ghost use Rattle.cg_model.specs.Clauses.{first};
+ghost use Rattle.cg_model.specs.Checks.{subtree_faults};
+ghost use Rattle.cg_model.specs.Several.{AreContained};
 ghost use Rattle.cg_format.specs.Readings.{OnText};
-ghost use Rattle.cg_cli.specs.Advising.{contained_line, advice_report, advise_report};
-ghost use Rattle.cg_cli.specs.Containment.{MeansContained};
+ghost use Rattle.cg_format.specs.TextOf.{IsTextOf};
+ghost use Rattle.cg_advice.specs.AdviceLines.{advice_lines};
+ghost use Rattle.cg_advice.specs.Ways.{pair_of};
+ghost use Rattle.cg_cli.specs.Advising.{contained_line, pair_with, all_pairs, advised, advice_report, advise_report};
+ghost use Rattle.cg_cli.specs.Audits.{users_read, paths_read};
 ghost use Rattle.cg_cli.specs.Reports.{Reports};
 
 use crate::arguments::UserIds;
 use crate::fault::CliFault;
-use crate::question::{Question, ask};
+use crate::named::read_named;
+use crate::report::write_said;
+use cg_advice::pair::Pair;
 use cg_advice::text::advice_lines;
 use cg_cgroup::memory::NoMemory;
 use cg_cgroup::path::Path;
 use cg_cgroup::user::User;
-use cg_check::fault_of;
+use cg_check::{first_fault, from_first_unguarded};
+use cg_guards::identities::Identities;
 use cg_model::fault::CheckFault;
 use cg_tree::hierarchy::Hierarchy;
 use std::alloc::Global;
 use std::io::Write;
 
-/// Writes what to change so that the subtree is contained against the user: `contained` with status 0 where it is; else,
-/// with status 1, a line for each guard that fails, with the reason, and below it the changes that mend it.
+/// Writes what to change so that every subtree is contained against every user: `contained` with status 0 where they are;
+/// else, with status 1, for each entry that lets one in, where it is met first, a line for each class by which one gets in,
+/// and below the last the changes that mend it for all; then the same of the limits of the subtrees. A user or a subtree
+/// that is named again counts once.
 ///
 /// # Errors
-/// The first that holds of `Uid`, `Gids`, `BadPath`, `Tree` and `Subtree`, and then nothing is written; `Write` where a
-/// write failed or took nothing; `NoMemory` where an allocation was refused.
+/// The first that holds of `Uid` and `Gids` for each user in turn, `BadPath`, `Tree` and `Subtree`, and then nothing is
+/// written; `Write` where a write failed or took nothing; `NoMemory` where an allocation was refused.
 pub fn advise_bytes<W: Write>(
     alloc: Global,
     tree: &[u8],
-    user: UserIds<'_>,
-    subtree: &str,
+    users: &[UserIds<'_>],
+    subtrees: &[&str],
     out: &mut W,
 ) -> Result<u8, CliFault>
-    ensures report { OnText tree.now (λ read. Reports (advise_report read user.entry.uid user.entry.gids.now subtree.now)
+    ensures report { OnText tree.now (λ read. Reports
+        (advise_report read (map (λ user. (user.uid, user.gids.now)) users.now) (map (λ subtree. subtree.now) subtrees.now))
         (W.contents out.old) (W.contents out.new) result) }
-    ensures contained { MeansContained tree.now user.entry.uid user.entry.gids.now subtree.now result }
+    ensures contained { result ≡ Ok 0 → (st : State) (who : List Identity) (paths : List Names)
+        → IsTextOf st tree.now → users_read (map (λ user. (user.uid, user.gids.now)) users.now) ≡ Ok who
+        → paths_read (map (λ subtree. subtree.now) subtrees.now) ≡ Ok paths → who ≢ [] → AreContained st who paths }
 {
-    ask(alloc, &Advice, tree, user, subtree, out)
+    let named = read_named(alloc, tree, users, subtrees)?;
+    let said = advised(
+        alloc,
+        &named.tree,
+        named.users.as_slice(),
+        named.subtrees.as_slice(),
+    )?;
+    write_said(out, said)
 }
 
-/// What to change so that the subtree is contained.
-#[derive(Drop)]
-struct Advice;
-
-impl Question for Advice {
-    ghost report = { λ _ st user subtree. advice_report st user subtree };
-
-    fn answer<H: Hierarchy + Drop>(
-        &self,
-        alloc: Global,
-        tree: &H,
-        user: &User,
-        subtree: &Path,
-    ) -> Result<(Vec<u8>, u8), CheckFault> {
-        if let Some(fault) = fault_of(tree, subtree) {
-            return Err(fault);
-        }
-        match advice_lines(alloc, tree, user, subtree) {
+/// What is said of users and subtrees, and the status.
+fn advised<H: Hierarchy + Drop>(
+    alloc: Global,
+    tree: &H,
+    users: &[User],
+    subtrees: &[Path],
+) -> Result<(Vec<u8>, u8), CheckFault>
+    ensures said { MatchResult result
+        (λ said. advice_report (H.state tree.now) users.now subtrees.now ≡ record { text = said.0.items; ending = Ok said.1 })
+        (λ fault. fault ≢ CheckFault.NoMemory → advised (H.state tree.now) users.now subtrees.now ≡ Err fault) }
+    ensures contained { IfOk result (λ said. said.1 ≡ 0 → users.now ≢ []
+        → AreContained (H.state tree.now) users.now subtrees.now) }
+{
+    if let Some(fault) = first_fault(tree, subtrees) {
+        return Err(fault);
+    }
+    match advice(alloc, tree, users, subtrees) {
+        Err(NoMemory) => Err(CheckFault::NoMemory),
+        Ok(Some(lines)) => Ok((lines, 1)),
+        Ok(None) => match contained_line(alloc) {
             Err(NoMemory) => Err(CheckFault::NoMemory),
-            Ok(Some(lines)) => Ok((lines, 1)),
-            Ok(None) => match contained_line(alloc) {
-                Err(NoMemory) => Err(CheckFault::NoMemory),
-                Ok(line) => Ok((line, 0)),
-            },
-        }
+            Ok(line) => Ok((line, 0)),
+        },
     }
 }
 
-/// The line of a subtree that is contained.
+/// The advice for every user with every subtree. Where no guard fails that is asked once of each subtree, for all users.
+fn advice<H: Hierarchy>(
+    alloc: Global,
+    tree: &H,
+    users: &[User],
+    subtrees: &[Path],
+) -> Result<Option<Vec<u8>>, NoMemory>
+    requires { first (flat_map (subtree_faults (H.state tree.now)) subtrees.now) ≡ None }
+    ensures { IfOk result (λ found. option_map (λ text. text.items) found
+        ≡ advice_lines (H.state tree.now) (all_pairs users.now subtrees.now)) }
+{
+    let identities = Identities::of(alloc, users)?;
+    let left = from_first_unguarded(tree, users, Some(&identities), subtrees);
+    if left.is_empty() {
+        return Ok(None);
+    }
+    let pairs = all_pairs(alloc, users, subtrees)?;
+    advice_lines(alloc, tree, pairs.as_slice())
+}
+
+/// Every user with every subtree.
+fn all_pairs<'a>(
+    alloc: Global,
+    users: &'a [User],
+    subtrees: &'a [Path],
+) -> Result<Vec<Pair<'a>>, NoMemory>
+    ensures { IfOk result (λ pairs. map pair_of pairs.items ≡ all_pairs users.now subtrees.now) }
+{
+    let mut pairs = Vec::new(alloc);
+    for user in users {
+        push_pairs(&mut pairs, user, subtrees)?;
+    }
+    Ok(pairs)
+}
+
+/// A user with every subtree, behind some pairs.
+fn push_pairs<'a>(
+    pairs: &mut Vec<Pair<'a>>,
+    user: &'a User,
+    subtrees: &'a [Path],
+) -> Result<(), NoMemory>
+    ensures { OnOk result (map pair_of pairs.new.items ≡ map pair_of pairs.old.items ++ map (pair_with user.now) subtrees.now) }
+{
+    for subtree in subtrees {
+        pairs.push(Pair { user, subtree })?;
+    }
+    Ok(())
+}
+
+/// The line where nothing is to be changed.
 fn contained_line(alloc: Global) -> Result<Vec<u8>, NoMemory>
     ensures { IfOk result (λ line. line.items ≡ contained_line) }
 {

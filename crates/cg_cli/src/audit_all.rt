@@ -11,14 +11,14 @@ ghost use Rattle.cg_model.specs.Listed.{listed_unless_contained, listed_of, list
 ghost use Rattle.cg_format.specs.Readings.{OnText};
 ghost use Rattle.cg_format.specs.TextOf.{IsTextOf};
 ghost use Rattle.cg_cli.specs.Audits.{users_read, paths_read};
-ghost use Rattle.cg_cli.specs.Once.{once, same_user};
+ghost use Rattle.cg_model.specs.Once.{once};
+ghost use Rattle.cg_cli.specs.Once.{same_user};
 ghost use Rattle.cg_cli.specs.AllPairs.{worse, WritesPairs, pairs_found, all_report, ReportsPairs, UnlistedAreContained};
 
 use crate::arguments::UserIds;
 use crate::check::status;
 use crate::fault::CliFault;
 use crate::named::read_named;
-use crate::write::write_whole;
 use cg_cgroup::path::Path;
 use cg_cgroup::user::User;
 use cg_check::{check, first_fault, from_first_unguarded};
@@ -28,10 +28,11 @@ use cg_report::pair::pair_text;
 use cg_tree::hierarchy::Hierarchy;
 use std::alloc::Global;
 use std::io::Write;
+use streams::write::write_whole;
 
-/// Writes every pair of a user and a subtree that isn't contained, by user and then subtree, as soon as it is found: the
-/// line that names it, and what `check_bytes` writes of it; or `contained` where there is none. The status is 1 where one
-/// escapes, else 2 where one is unsettled, else 0. A user or a subtree that is named again counts once.
+/// Writes every pair of a user and a subtree that isn't contained, by user and then subtree: the line that names it, and
+/// what `check_bytes` writes of it; or `contained` where there is none. The status is 1 where one escapes, else 2 where
+/// one is unsettled, else 0. A user or a subtree that is named again counts once.
 ///
 /// # Errors
 /// The first that holds of `Uid` and `Gids` for each user in turn, `BadPath`, `Tree` and `Subtree`, and then nothing is

@@ -1,11 +1,11 @@
 //! Why a call of this crate gives no status, and the line that says so.
 ghost use Rattle.std.specs.Prelude.{◌≡◌, ◌≢◌, ◌⊎◌, IfOk, string_bytes};
 ghost use Rattle.std.specs.IoError.{error_kind};
+ghost use Rattle.std.specs.declared.io.ErrorKind.TheVariants.{OutOfMemory};
 ghost use Rattle.cg_cli.specs.FaultLines.{fault_line, plain_line, tree_fault_line, tree_fault_parts, subtree_words, operation_fault_line, numbered_line};
 ghost use Rattle.cg_cli.specs.Faults.{lifted, lifted_path, lifted_line, lifted_check};
-ghost use Rattle.cg_cli.specs.declared.fault.CliFault.TheVariants.{Write as WriteFault, NoMemory as MemoryFault};
+ghost use Rattle.cg_cli.specs.declared.fault.CliFault.TheVariants.{Read as ReadFault, Write as WriteFault, NoMemory as MemoryFault};
 
-use crate::write::WriteFailed;
 use cg_cgroup::memory::NoMemory;
 use cg_cgroup::path::PathFault;
 use cg_lines::lines::LineFault;
@@ -14,6 +14,7 @@ use cg_text::tree::{Place, TreeFault};
 use std::alloc::{AllocError, AllocFailed, Global};
 use std::io;
 use std::io::ErrorKind;
+use streams::write::WriteFailed;
 use thiserror::Error;
 
 /// Why a call gives no status. Want of memory in whatever part is `NoMemory`, and stands in no other fault.
@@ -108,6 +109,20 @@ impl From<CheckFault> for CliFault {
     }
 }
 
+impl From<io::Error> for CliFault {
+    ghost from_gives = { λ error fault. ((fault ≡ ReadFault) × (error_kind error ≢ OutOfMemory))
+        ⊎ ((fault ≡ MemoryFault) × (error_kind error ≡ OutOfMemory)) };
+
+    /// Why a file can't be opened or read.
+    fn from(error: io::Error) -> CliFault {
+        if error.kind() == ErrorKind::OutOfMemory {
+            CliFault::NoMemory
+        } else {
+            CliFault::Read
+        }
+    }
+}
+
 impl CliFault {
     /// What a fault of the operation line of that number is to a call.
     pub(crate) fn of_line(number: u32, fault: LineFault) -> CliFault
@@ -116,18 +131,6 @@ impl CliFault {
         match fault {
             LineFault::NoMemory => CliFault::NoMemory,
             fault => CliFault::Line { number, fault },
-        }
-    }
-
-    /// Why a file can't be opened or read.
-    pub fn of_read(error: &io::Error) -> CliFault
-        ensures { ((result ≡ CliFault.Read) × (error_kind error.now ≢ ErrorKind.OutOfMemory))
-            ⊎ ((result ≡ CliFault.NoMemory) × (error_kind error.now ≡ ErrorKind.OutOfMemory)) }
-    {
-        if error.kind() == ErrorKind::OutOfMemory {
-            CliFault::NoMemory
-        } else {
-            CliFault::Read
         }
     }
 }

@@ -1,14 +1,13 @@
 //! Laws over the definitions alone, whose functions do nothing, and what is read of a tree that is written.
-ghost use Rattle.std.specs.Prelude.{◌≡◌, ◌≢◌, MatchResult};
+ghost use Rattle.std.specs.Prelude.{◌≡◌, ◌≢◌, List, [], MatchResult};
+ghost use Rattle.std.specs.List.{All};
 ghost use Rattle.cg_cgroup.specs.Paths.{Names};
 ghost use Rattle.cg_cgroup.specs.Identity.{Identity};
-ghost use Rattle.cg_cgroup.specs.Users.{IsUser};
 ghost use Rattle.cg_model.specs.States.{State};
 ghost use Rattle.cg_model.specs.WellFormed.{IsWellFormed};
-ghost use Rattle.cg_model.specs.Guards.{IsSubtree};
-ghost use Rattle.cg_model.specs.Held.{IsContained};
-ghost use Rattle.cg_model.specs.Mends.{advised};
-ghost use Rattle.cg_model.specs.Advised.{AreCountable};
+ghost use Rattle.cg_model.specs.Several.{AreContained};
+ghost use Rattle.cg_model.specs.Mends.{Pair, advised};
+ghost use Rattle.cg_cli.specs.Advising.{IsAdvisable, AreNamed};
 ghost use Rattle.cg_format.specs.declared.fault.TreeFault.TheVariants.{NoMemory as MemoryFault, TooLong};
 ghost use Rattle.cg_print.specs.Carried.{IsCarried, IsTooLong};
 
@@ -20,12 +19,12 @@ use cg_text::tree::{TreeFault, read_tree};
 use cg_tree::hierarchy::Hierarchy;
 use std::alloc::Global;
 
-/// With the changes of the advice made the subtree is contained against the user, where it has no more cgroups and levels
-/// than a limit can say.
-pub fn advised_is_contained()
-    ensures { (st : State) (user : Identity) (subtree : Names)
-        → IsUser user → IsWellFormed st → IsSubtree st subtree → AreCountable st subtree
-        → IsContained (advised st user subtree) user subtree }
+/// With the changes of the advice for pairs made subtrees are contained against users, all of them together, where each of
+/// the users is named with each of the subtrees, and none of those named has more cgroups and levels than a limit can say.
+pub fn advised_are_contained()
+    ensures { (st : State) (pairs : List Pair) (users : List Identity) (subtrees : List Names)
+        → IsWellFormed st → All (IsAdvisable st) pairs → AreNamed pairs users subtrees → users ≢ []
+        → AreContained (advised st pairs) users subtrees }
 {}
 
 /// The tree that `read_tree` reads of what `tree_text` writes of a tree. Where a text can carry the tree it is an equal one,

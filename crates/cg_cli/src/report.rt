@@ -3,8 +3,8 @@ ghost use Rattle.std.specs.Prelude.{Ok};
 ghost use Rattle.cg_cli.specs.Reports.{Reports};
 
 use crate::fault::CliFault;
-use crate::write::write_whole;
 use std::io::Write;
+use streams::write::write_whole;
 
 /// Writes what is said, and gives its status.
 pub fn write_said<W: Write>(out: &mut W, said: (Vec<u8>, u8)) -> Result<u8, CliFault>

@@ -32,7 +32,7 @@ pub(crate) fn paths_of<'a>(
         Request::May(request) => Vec::from_slice(alloc, &[request.to]),
         Request::Check(request) => Vec::from_slice(alloc, &[request.subtree]),
         Request::Audit(request) => Vec::from_slice(alloc, request.subtrees.as_slice()),
-        Request::Advise(request) => Vec::from_slice(alloc, &[request.subtree]),
+        Request::Advise(request) => Vec::from_slice(alloc, request.subtrees.as_slice()),
         Request::Replay(request) => match request.subtree {
             Some(subtree) => Vec::from_slice(alloc, &[subtree]),
             None => Ok(Vec::new(alloc)),

@@ -14,35 +14,37 @@ use cg_cgroup::memory::NoMemory;
 use cg_cli::fault::CliFault;
 use cg_model::fault::CheckFault;
 use std::alloc::{AllocError, Global};
-use std::rt::{Env, Files};
-use std::{env, io};
+use streams::files::Files;
 
-/// What was seen of standard input and of the operations.
-#[derive(Clone, Copy, Debug)]
-pub struct Seen<'a> {
+/// What was seen of the words, of standard input and of the operations.
+#[derive(Clone, Copy)]
+pub struct Seen<'w, 'i, 'l> {
+    /// The words of the command line, where all of them are text.
+    pub words: Option<&'w [String]>,
     /// What standard input gave, where all of it was kept.
-    pub input: Option<&'a [u8]>,
+    pub input: Option<&'i [u8]>,
     /// The operation line at which a replay ended, as far as it was read.
-    pub line: Option<&'a [u8]>,
+    pub line: Option<&'l [u8]>,
 }
 
 /// The help below the line of a fault, or nothing; a command line that is none of the program's has no fault of a call.
 ///
 /// The words and the files are looked at once more.
-pub fn help_text<R: AllocGlobal + Env + Files>(
-    rt: &R,
+pub fn help_text<F: Files>(
+    alloc: Global,
+    files: &F,
     fault: Option<&CliFault>,
-    seen: Seen<'_>,
+    seen: Seen<'_, '_, '_>,
 ) -> Result<Vec<u8>, NoMemory>
     ensures form { IfOk result (λ help. IsHelp help.items) }
     ensures silent { option_map_or (λ fault. has_help fault.now) fault.entry true ≡ false → IfOk result (λ help. help.items ≡ []) }
 {
     if !has_help(fault) {
-        return Ok(Vec::new(rt.alloc()));
+        return Ok(Vec::new(alloc));
     }
-    match said(rt, fault, seen)? {
-        None => Ok(Vec::new(rt.alloc())),
-        Some(text) => Ok(indented(rt.alloc(), text.as_str().trim_end())?),
+    match said(alloc, files, fault, seen)? {
+        None => Ok(Vec::new(alloc)),
+        Some(text) => Ok(indented(alloc, text.as_str().trim_end())?),
     }
 }
 
@@ -53,22 +55,20 @@ fn has_help(fault: Option<&CliFault>) -> bool
     !matches!(fault, Some(CliFault::Write | CliFault::NoMemory))
 }
 
-fn said<R: AllocGlobal + Env + Files>(
-    rt: &R,
+fn said<F: Files>(
+    alloc: Global,
+    files: &F,
     fault: Option<&CliFault>,
-    seen: Seen<'_>,
+    seen: Seen<'_, '_, '_>,
 ) -> Result<Option<String>, NoMemory> {
-    let alloc = rt.alloc();
-    let words: Vec<String> = match env::args(rt) {
-        Ok(words) => words.collect(alloc)?,
-        Err(error) if error.kind() == io::ErrorKind::OutOfMemory => return Ok(None),
-        Err(_) => return plainly(alloc, "an argument isn't UTF-8"),
+    let Some(words) = seen.words else {
+        return plainly(alloc, "an argument isn't UTF-8");
     };
     let Some(fault) = fault else {
-        return usage_said(alloc, words.as_slice());
+        return usage_said(alloc, words);
     };
-    match Request::from_words(alloc, words.as_slice()) {
-        Ok(request) => fault_said(rt, fault, &request, seen),
+    match Request::from_words(alloc, words) {
+        Ok(request) => fault_said(alloc, files, fault, &request, seen),
         Err(_) => Ok(None),
     }
 }
@@ -91,13 +91,13 @@ fn all_quoted(alloc: Global, words: &[String]) -> Result<Vec<String>, NoMemory> 
     Ok(quotes)
 }
 
-fn fault_said<R: AllocGlobal + Files>(
-    rt: &R,
+fn fault_said<F: Files>(
+    alloc: Global,
+    files: &F,
     fault: &CliFault,
     request: &Request<'_>,
-    seen: Seen<'_>,
+    seen: Seen<'_, '_, '_>,
 ) -> Result<Option<String>, NoMemory> {
-    let alloc = rt.alloc();
     match fault {
         CliFault::Uid => plainly(
             alloc,
@@ -115,12 +115,12 @@ fn fault_said<R: AllocGlobal + Files>(
                 "the root is handed to nobody: name a cgroup below it",
             )
         }
-        CliFault::Subtree(_) => missing_path(rt, request, seen),
-        CliFault::Tree(fault) => match tree_bytes(rt, request, seen)? {
+        CliFault::Subtree(_) => missing_path(alloc, files, request, seen),
+        CliFault::Tree(fault) => match tree_bytes(alloc, files, request, seen)? {
             Some(bytes) => Ok(tree_said(alloc, *fault, bytes.as_slice())?),
             None => Ok(None),
         },
-        CliFault::Read => unread(rt, request),
+        CliFault::Read => unread(alloc, files, request),
         CliFault::Line { .. } => line_said(alloc, seen),
         CliFault::TooManySteps => plainly(alloc, "a replay takes at most 65536 operations"),
         _ => Ok(None),
@@ -137,17 +137,17 @@ fn first_bad_path(alloc: Global, request: &Request<'_>) -> Result<Option<String>
 }
 
 /// Which path is missing: the only one, or of several the first that no row has.
-fn missing_path<R: AllocGlobal + Files>(
-    rt: &R,
+fn missing_path<F: Files>(
+    alloc: Global,
+    files: &F,
     request: &Request<'_>,
-    seen: Seen<'_>,
+    seen: Seen<'_, '_, '_>,
 ) -> Result<Option<String>, NoMemory> {
-    let alloc = rt.alloc();
     let paths = paths_of(alloc, request)?;
     if let [path] = paths.as_slice() {
         return Ok(Some(why_missing(alloc, path)?));
     }
-    let Some(tree) = tree_bytes(rt, request, seen)? else {
+    let Some(tree) = tree_bytes(alloc, files, request, seen)? else {
         return Ok(None);
     };
     match first_missing(alloc, tree.as_slice(), paths.as_slice()) {
@@ -157,38 +157,40 @@ fn missing_path<R: AllocGlobal + Files>(
 }
 
 /// The bytes of the tree's text.
-fn tree_bytes<R: AllocGlobal + Files>(
-    rt: &R,
+fn tree_bytes<F: Files>(
+    alloc: Global,
+    files: &F,
     request: &Request<'_>,
-    seen: Seen<'_>,
+    seen: Seen<'_, '_, '_>,
 ) -> Result<Option<Vec<u8>>, AllocError> {
     match tree_of(request) {
-        Some(name) => Ok(read_again(rt, name)),
+        Some(name) => Ok(read_again(alloc, files, name)),
         None => match seen.input {
-            Some(bytes) => Ok(Some(Vec::from_slice(rt.alloc(), bytes)?)),
+            Some(bytes) => Ok(Some(Vec::from_slice(alloc, bytes)?)),
             None => Ok(None),
         },
     }
 }
 
 /// Which file can't be read: the tree's is opened before that of the operations.
-fn unread<R: AllocGlobal + Files>(
-    rt: &R,
+fn unread<F: Files>(
+    alloc: Global,
+    files: &F,
     request: &Request<'_>,
 ) -> Result<Option<String>, NoMemory> {
     if let Some(name) = tree_of(request) {
-        if let Some(why) = why_unread(rt, name)? {
+        if let Some(why) = why_unread(alloc, files, name)? {
             return Ok(Some(why));
         }
     }
     match operations_of(request) {
-        Some(name) => why_unread(rt, name),
+        Some(name) => why_unread(alloc, files, name),
         None => Ok(None),
     }
 }
 
 /// The operation line at which the replay ended.
-fn line_said(alloc: Global, seen: Seen<'_>) -> Result<Option<String>, NoMemory> {
+fn line_said(alloc: Global, seen: Seen<'_, '_, '_>) -> Result<Option<String>, NoMemory> {
     let Some(line) = seen.line else {
         return Ok(None);
     };

@@ -6,7 +6,6 @@
 mod files;
 mod given;
 pub mod help;
-pub mod kept;
 mod paths;
 pub mod shown;
 mod trees;

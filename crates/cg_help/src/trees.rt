@@ -4,13 +4,13 @@ mod rows;
 mod shape;
 mod table;
 
-use crate::kept::MOST_BYTES;
 use crate::paths::why_no_path;
 use cg_text::tree::{Place, TreeFault};
 use entries::{entry_said, value_said};
 use rows::{controller_said, double_said, enabled_said, file_said, parent_said, place_said};
 use shape::shape_said;
 use std::alloc::{AllocError, Global};
+use streams::kept::MOST_BYTES;
 use table::{RowAt, label, paths_of_rows, row, text_at};
 use toml::Table;
 

@@ -1,6 +1,7 @@
 pub mod States
 pub mod WellFormed
 pub mod Clauses
+pub mod Once
 pub mod Changes
 pub mod Limits
 pub mod Bars

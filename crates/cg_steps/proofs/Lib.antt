@@ -18,6 +18,7 @@ pub mod AllowedControl
 pub mod StepFormed
 pub mod StepEffects
 pub mod Lists
+pub mod OnceLaws
 pub mod LimitLaws
 pub mod BrokenLaws
 pub mod Edges

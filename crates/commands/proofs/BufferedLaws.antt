@@ -5,19 +5,19 @@ use Rattle.std.specs.Io.KnownBytes.{Appends, Keeps}
 use Rattle.arguments.specs.declared.request.Audit.{Audit}
 use Rattle.arguments.specs.declared.request.Request.{Request}
 use Rattle.arguments.specs.declared.request.Request.TheVariants as request
-use Rattle.arguments.specs.Given.{ids_of, tree_file}
+use Rattle.arguments.specs.Given.{ids_of}
 use Rattle.cg_model.specs.Listed.{Listed}
 use Rattle.cg_format.specs.Readings.{Reading}
 use Rattle.cg_cli.specs.AllPairs.{all_report, ReportsPairs}
 use Rattle.cg_cli.specs.Audits.{audit_report}
 use Rattle.cg_cli.specs.Upgrades.{Upgrades}
-use Rattle.cg_cli.specs.Written.{AppendsPart}
+use Rattle.streams.specs.Written.{AppendsPart}
 use Rattle.cg_cli.specs.Replays.{closed}
 use Rattle.cg_cli.specs.Replaying.{Reporting, Replays, ReplaysFrom}
 use Rattle.cg_cli.specs.Reports.{Report, Reports}
 use Rattle.cg_cli.specs.declared.fault.CliFault.{CliFault}
 use Rattle.cg_cli.specs.declared.fault.CliFault.TheVariants.{Read, Write, NoMemory}
-use Rattle.commands.specs.Requests.{IsUnread, AuditSays, OnTree, replay_said, ReplaysOver, CarriesOut}
+use Rattle.commands.specs.Requests.{Files, IsUnread, AuditSays, OnTree, replay_said, ReplaysOver, CarriesOut}
 
 Appends-Keeps : (old mid new : Option (List ℕ)) (bs : List ℕ) → Appends old mid bs → Keeps mid new → Appends old new bs
 Appends-Keeps None mid new bs a k = tt
@@ -45,12 +45,11 @@ IsUnread-Keeps : (old mid new : Option (List ℕ)) (result : Result ℕ CliFault
     → IsUnread old new result
 IsUnread-Keeps old mid new result h k = (h.0, Keeps-Keeps old mid new h.1 k)
 
-OnTree-Keeps : {A : Type 0} (file : Option A) (given : Option (List ℕ)) (before after : Reading → Type 0) (old mid new : Option (List ℕ))
-    (result : Result ℕ CliFault) → ((tree : Reading) → before tree → after tree) → OnTree file given before old mid result
-    → Keeps mid new
-    → OnTree file given after old new result
-OnTree-Keeps file given before after old mid new result passed (inl h) k = inl (h.0, h.1, (h.2.0, h.2.1, passed h.2.0 h.2.2))
-OnTree-Keeps file given before after old mid new result passed (inr h) k = inr (IsUnread-Keeps old mid new result h k)
+OnTree-Keeps : (known : Option (List ℕ)) (before after : Reading → Type 0) (old mid new : Option (List ℕ))
+    (result : Result ℕ CliFault) → ((tree : Reading) → before tree → after tree) → OnTree known before old mid result → Keeps mid new
+    → OnTree known after old new result
+OnTree-Keeps known before after old mid new result passed (inl h) k = inl (h.0, h.1, (h.2.0, h.2.1, passed h.2.0 h.2.2))
+OnTree-Keeps known before after old mid new result passed (inr h) k = inr (IsUnread-Keeps old mid new result h k)
 
 ReportsPairs-Keeps : (pairs : Result (List Listed) CliFault) (old mid new : Option (List ℕ)) (result : Result ℕ CliFault)
     → ReportsPairs pairs old mid result → Keeps mid new → ReportsPairs pairs old new result
@@ -97,19 +96,18 @@ ReplaysOver-Keeps : (before : Option (List ℕ)) (said : Reporting) (old mid new
 ReplaysOver-Keeps before said old mid new result (inl h) k = inl (h.0, ReplaysFrom-Keeps said before h.0 old mid new result h.1 k)
 ReplaysOver-Keeps before said old mid new result (inr h) k = inr (IsUnread-Keeps old mid new result h k)
 
-pub CarriesOut-Keeps : (asked : Request) (given old mid new : Option (List ℕ)) (result : Result ℕ CliFault)
-    → CarriesOut asked given old mid result → Keeps mid new → CarriesOut asked given old new result
-CarriesOut-Keeps (request.Help text) given old mid new result h k = Reports-Keeps _ old mid new result h k
-CarriesOut-Keeps (request.May may) given old mid new result h k =
-    OnTree-Keeps may.tree given _ _ old mid new result (λ tree said. Reports-Keeps _ old mid new result said k) h k
-CarriesOut-Keeps (request.Check check) given old mid new result h k =
-    OnTree-Keeps check.tree given _ _ old mid new result (λ tree said. Reports-Keeps _ old mid new result said k) h k
-CarriesOut-Keeps (request.Audit audit) given old mid new result h k =
-    OnTree-Keeps audit.tree given _ _ old mid new result (λ tree said. AuditSays-Keeps audit old mid new result tree said k) h k
-CarriesOut-Keeps (request.Advise advise) given old mid new result h k =
-    OnTree-Keeps advise.tree given _ _ old mid new result (λ tree said. Reports-Keeps _ old mid new result said k) h k
-CarriesOut-Keeps (request.Replay replay) given old mid new result h k =
-    OnTree-Keeps (tree_file replay.sources) given _ _ old mid new result
-    (λ tree said. (said.0, said.1, ReplaysOver-Keeps said.0 (replay_said replay tree) old mid new result said.2 k)) h k
-CarriesOut-Keeps (request.Upgrade upgrade) given old mid new result h k =
-    OnTree-Keeps upgrade.tree given _ _ old mid new result (λ tree said. Upgrades-Keeps tree old mid new result said k) h k
+pub CarriesOut-Keeps : (asked : Request) (files : Files) (given old mid new : Option (List ℕ)) (result : Result ℕ CliFault)
+    → CarriesOut asked files given old mid result → Keeps mid new → CarriesOut asked files given old new result
+CarriesOut-Keeps (request.Help help) files given old mid new result h k = (h.0, Reports-Keeps _ old mid new result h.1 k)
+CarriesOut-Keeps (request.May may) files given old mid new result h k =
+    OnTree-Keeps _ _ _ old mid new result (λ tree said. Reports-Keeps _ old mid new result said k) h k
+CarriesOut-Keeps (request.Check check) files given old mid new result h k =
+    OnTree-Keeps _ _ _ old mid new result (λ tree said. Reports-Keeps _ old mid new result said k) h k
+CarriesOut-Keeps (request.Audit audit) files given old mid new result h k =
+    OnTree-Keeps _ _ _ old mid new result (λ tree said. AuditSays-Keeps audit old mid new result tree said k) h k
+CarriesOut-Keeps (request.Advise advise) files given old mid new result h k =
+    OnTree-Keeps _ _ _ old mid new result (λ tree said. Reports-Keeps _ old mid new result said k) h k
+CarriesOut-Keeps (request.Replay replay) files given old mid new result h k =
+    OnTree-Keeps _ _ _ old mid new result (λ tree said. ReplaysOver-Keeps _ (replay_said replay tree) old mid new result said k) h k
+CarriesOut-Keeps (request.Upgrade upgrade) files given old mid new result h k =
+    OnTree-Keeps _ _ _ old mid new result (λ tree said. Upgrades-Keeps tree old mid new result said k) h k

@@ -1,3 +1,5 @@
 mod BufferedLaws
 mod FaultLaws
+mod ProgramLaws
 mod RequestLaws
+mod RunLaws

@@ -7,7 +7,7 @@ use Rattle.cg_cli.specs.declared.fault.CliFault.{CliFault}
 use Rattle.cg_cli.specs.declared.fault.CliFault.TheVariants.{Read, NoMemory}
 use Rattle.commands.specs.Requests.{IsUnread}
 
-Keeps-refl : (known : Option (List ℕ)) → Keeps known known
+pub Keeps-refl : (known : Option (List ℕ)) → Keeps known known
 Keeps-refl None = tt
 Keeps-refl (Some xs) = refl
 

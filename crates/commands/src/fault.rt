@@ -7,10 +7,10 @@ ghost use Rattle.cg_cli.specs.declared.fault.CliFault.TheVariants.{NoMemory as M
 
 use arguments::fault::ArgumentsFault;
 use cg_cli::fault::{CliFault, fault_text};
-use cg_cli::write::write_whole;
 use std::alloc::{AllocError, Global};
 use std::io;
 use std::io::{ErrorKind, Write};
+use streams::write::write_whole;
 
 /// Why the program ends without a command's status.
 #[derive(Clone, Copy, Debug, PartialEq, Eq)]

@@ -1,7 +1,7 @@
-//! The commands of the program: a request, its tree and its files in, and the byte call that answers.
+//! The program: its words, files and streams in, a status out.
 #![tactic(auto)]
 
-pub mod again;
+mod carried;
 pub mod fault;
-mod line;
+pub mod program;
 pub mod run;

@@ -36,7 +36,7 @@ impl Call<'_> {
         match self {
             Call::May(user, pid, to) => may_bytes(alloc, tree, *user, *pid, to, out),
             Call::Check(user, subtree) => check_bytes(alloc, tree, *user, subtree, out),
-            Call::Advise(user, subtree) => advise_bytes(alloc, tree, *user, subtree, out),
+            Call::Advise(user, subtree) => { advise_bytes(alloc, tree, &[*user], &[*subtree], out) }
             Call::Upgrade => upgrade_bytes(alloc, tree, out),
             Call::AuditAll(users, subtrees) => {
                 audit_all_bytes(alloc, tree, users.as_slice(), subtrees.as_slice(), out)

@@ -21,13 +21,14 @@ mod trial;
 mod words;
 
 use begin::{Begin, Stopped};
-use cg_cli::input::read_input;
+use cg_cli::fault::CliFault;
 use said::Said;
 use std::alloc::Global;
 use std::io::{Read, Write};
 use std::process::ExitCode;
 use std::rt::Env;
 use std::{env, io};
+use streams::read::read_input;
 use trial::{Ended, Trial};
 
 /// The call came to no answer: its words aren't those of a call.
@@ -51,7 +52,7 @@ fn main(rt: HostRuntime) -> ExitCode {
 /// Makes the call that the words tell, on the tree that is read.
 fn tried<R: Read + Drop>(input: R, trial: &mut Trial<'_>) -> Ended {
     trial.begin.start(trial.alloc)?;
-    let tree = read_input(trial.alloc, input)?;
+    let tree = read_input(trial.alloc, input).map_err(CliFault::from)?;
     calls::made(tree.as_slice(), trial)
 }
 

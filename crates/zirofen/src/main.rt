@@ -1,58 +1,25 @@
-//! Zirofen's program: a request of the command line is carried out.
+//! Zirofen's program: the host's words, files and streams are handed over, and the status back.
 #![tactic(auto)]
 
-use cg_cli::write::write_whole;
-use cg_help::help::{Seen, help_text};
-use cg_help::kept::Kept;
-use commands::again::Again;
-use commands::fault::Fault;
-use commands::run::run;
-use std::io::{Read, Write};
+use commands::program::run_program;
 use std::process::ExitCode;
-
-/// The status of a fault.
-const FAULT: u8 = 3;
+use std::{env, io};
+use streams::files::HostFiles;
 
 fn main(rt: HostRuntime) -> ExitCode {
-    let mut input = Kept {
-        inner: rt.stdin(),
-        bytes: Vec::new(rt.alloc()),
-        is_whole: true,
-    };
-    let mut line = None;
-    match run(&rt, &mut input, &mut line, rt.stdout()) {
-        Ok(status) => ExitCode::from(status),
-        Err(fault) => {
-            let mut errors = Again { inner: rt.stderr() };
-            if fault.print(rt.alloc(), &mut errors) {
-                print_help(&rt, fault, &input, line.as_ref(), &mut errors);
-            }
-            ExitCode::from(FAULT)
-        }
-    }
+    ExitCode::from(
+        run_program(
+            rt.alloc(),
+            words(&rt),
+            &HostFiles { rt: &rt },
+            rt.stdin(),
+            rt.stdout(),
+            rt.stderr(),
+        )
+        .status,
+    )
 }
 
-/// Writes what a second look finds, below the fault's line. Where that fails there is none.
-fn print_help<I: Read, W: Write>(
-    rt: &HostRuntime,
-    fault: Fault,
-    input: &Kept<I>,
-    line: Option<&Vec<u8>>,
-    out: &mut W,
-) {
-    let fault = match fault {
-        Fault::Usage => None,
-        Fault::Cli(inner) => Some(inner),
-    };
-    let seen = Seen {
-        input: if input.is_whole {
-            Some(input.bytes.as_slice())
-        } else {
-            None
-        },
-        line: line.map(Vec::as_slice),
-    };
-    if let Ok(help) = help_text(rt, fault.as_ref(), seen) {
-        let _ = write_whole(out, help.as_slice());
-    }
+fn words(rt: &HostRuntime) -> io::Result<Vec<String>> {
+    Ok(env::args(rt)?.collect(rt.alloc())?)
 }

@@ -7,12 +7,12 @@ ghost use Rattle.cg_cli.specs.Replaying.{Answered};
 
 use crate::fault::CliFault;
 use crate::replay::course::OnCourse;
-use crate::write::write_whole;
 use cg_cgroup::user::User;
 use cg_lines::lines::read_op;
 use cg_lines::outcome::outcome_text;
 use std::alloc::Global;
 use std::io::Write;
+use streams::write::write_whole;
 
 /// How many operations a replay has at most.
 pub const MOST_OPERATIONS: u32 = 65_536;

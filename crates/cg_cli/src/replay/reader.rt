@@ -92,7 +92,7 @@ fn read_on<C: OnCourse, R: BufRead, W: Write>(
 {
     let piece = match ops.fill_buf() {
         Ok(piece) => piece,
-        Err(error) => return Err(CliFault::of_read(&error)),
+        Err(error) => return Err(CliFault::from(error)),
     };
     if piece.is_empty() {
         return Ok(0);

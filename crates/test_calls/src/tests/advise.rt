@@ -179,7 +179,8 @@ const OF_LIMITS: [Row; 5] = [
 fn expect_report(rt: &impl Abort, alloc: Global, row: &Row) -> Result<(), Fail> {
     let text = row.text(alloc)?;
     let status = if row.report == "contained\n" { 0 } else { 1 };
-    let call = Call::Advise(user(1000, row.gids), "/a/b");
+    let users = [user(1000, row.gids)];
+    let call = Call::Advise(&users, &["/a/b"]);
     expect(rt, alloc, text.as_bytes(), call, row.report, status);
     Ok(())
 }
@@ -200,13 +201,53 @@ fn what_he_reaches_is_taken_from_him(rt: HostRuntime) -> Result<(), Fail> {
     Ok(())
 }
 
+const OF_SEVERAL: [Row; 4] = [
+    // by two classes of one entry, whose bits go together
+    Row {
+        root: "[cgroup.files]\n\"cgroup.procs\" = { gid = 50, mode = 0o666 }\n",
+        report: "fails common-ancestor / cgroup.procs 0:50 666 group\nfails common-ancestor / cgroup.procs 0:50 666 others\nchmod / cgroup.procs 644\n",
+        ..NO_REASON
+    },
+    // the owner isn't in the group, and writes as one of all others once the entry is root's
+    Row {
+        root: "[cgroup.files]\n\"cgroup.procs\" = { uid = 1000, gid = 50, mode = 0o666 }\n",
+        report: "fails common-ancestor / cgroup.procs 1000:50 666 owner\nfails common-ancestor / cgroup.procs 1000:50 666 group\nchown / cgroup.procs 0:50\nchmod / cgroup.procs 644\n",
+        ..NO_REASON
+    },
+    // an entry where it is met first, by users and then subtrees
+    Row {
+        parent: "dir = { gid = 50, mode = 0o775 }\n",
+        subtree: "dir = { uid = 1000 }\n[cgroup.files]\n\"cgroup.procs\" = { gid = 50, mode = 0o664 }\n",
+        report: "fails parent-dir /a/b dir 1000:0 755 owner\nchown /a/b dir 0:0\nfails parent-dir /a dir 0:50 775 group\nchmod /a dir 755\nfails common-ancestor /a/b cgroup.procs 0:50 664 group\nchmod /a/b cgroup.procs 644\n",
+        ..NO_REASON
+    },
+    // limits at the end, each subtree's once
+    Row {
+        root: "[cgroup.files]\n\"cgroup.procs\" = { uid = 1001 }\n",
+        subtree: "[cgroup.files]\n\"cgroup.max.depth\" = { value = 1 }\n",
+        report: "fails common-ancestor / cgroup.procs 1001:0 644 owner\nchown / cgroup.procs 0:0\nfails already-over /a/b\nset /a/b cgroup.max.depth 2\n",
+        ..NO_REASON
+    },
+];
+
+#[test]
+fn what_several_reach_is_taken_from_all(rt: HostRuntime) -> Result<(), Fail> {
+    let users = [user(1000, &[]), user(1001, &[50]), user(1000, &[])];
+    for row in &OF_SEVERAL {
+        let text = row.text(rt.alloc())?;
+        let call = Call::Advise(&users, &["/a/b", "/a/b/c", "/a/b"]);
+        expect(&rt, rt.alloc(), text.as_bytes(), call, row.report, 1);
+    }
+    Ok(())
+}
+
 #[test]
 fn a_failed_write_leaves_the_front_of_the_report(rt: HostRuntime) -> Result<(), Fail> {
     let row = &OF_ANCESTORS[0];
     let text = row.text(rt.alloc())?;
     let written = Written {
         tree: text.as_bytes(),
-        call: Call::Advise(USER, "/a/b"),
+        call: Call::Advise(&[USER], &["/a/b"]),
         report: row.report.as_bytes(),
         status: 1,
     };

@@ -20,7 +20,7 @@ pub enum Call<'a> {
     Check(UserIds<'a>, &'a str),
     Audit(&'a [UserIds<'a>], &'a [&'a str]),
     AuditAll(&'a [UserIds<'a>], &'a [&'a str]),
-    Advise(UserIds<'a>, &'a str),
+    Advise(&'a [UserIds<'a>], &'a [&'a str]),
     Upgrade,
     Replay(UserIds<'a>, Option<&'a str>, &'a [u8]),
     ReplayFrom(UserIds<'a>, Option<&'a str>, &'a [u8]),
@@ -33,7 +33,7 @@ impl Call<'_> {
             Call::Check(user, subtree) => check_bytes(alloc, tree, user, subtree, out),
             Call::Audit(users, subtrees) => audit_bytes(alloc, tree, users, subtrees, out),
             Call::AuditAll(users, subtrees) => audit_all_bytes(alloc, tree, users, subtrees, out),
-            Call::Advise(user, subtree) => advise_bytes(alloc, tree, user, subtree, out),
+            Call::Advise(users, subtrees) => advise_bytes(alloc, tree, users, subtrees, out),
             Call::Upgrade => upgrade_bytes(alloc, tree, out),
             Call::Replay(user, subtree, ops) => replay_bytes(alloc, tree, user, subtree, ops, out),
             Call::ReplayFrom(user, subtree, ops) => {

@@ -180,7 +180,10 @@ fn the_first_fault_is_said_and_nothing_written(rt: HostRuntime) -> Result<(), Fa
         (1000, most, "/zz", missing, "fault: subtree missing\n"),
     ] {
         let user = user(uid, gids);
-        for call in [Call::Check(user, subtree), Call::Advise(user, subtree)] {
+        for call in [
+            Call::Check(user, subtree),
+            Call::Advise(&[user], &[subtree]),
+        ] {
             expect_line(&rt, rt.alloc(), DELEGATION, call, fault, line)?;
         }
     }

@@ -1,9 +1,9 @@
 //! `read_input` at readers that fail and never end.
 use super::readers::{Endless, FailsAfter};
 use cg_cli::fault::CliFault;
-use cg_cli::input::read_input;
 use std::io::ErrorKind;
 use std::test::Fail;
+use streams::read::read_input;
 
 #[test]
 fn an_input_is_read_whole(rt: HostRuntime) -> Result<(), Fail> {
@@ -27,7 +27,9 @@ fn a_failed_read_is_said(rt: HostRuntime) {
     ] {
         for left in 0..3 {
             assert_eq!(rt;
-                read_input(rt.alloc(), FailsAfter { left, kind }).err(),
+                read_input(rt.alloc(), FailsAfter { left, kind })
+                    .map_err(CliFault::from)
+                    .err(),
                 Some(fault)
             );
         }

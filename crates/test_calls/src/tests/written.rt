@@ -1,7 +1,7 @@
 //! `write_whole` at writers that fail and dawdle.
 use super::writers::{ByteByByte, FailsOnce, TakesNone};
-use cg_cli::write::{WriteFailed, write_whole};
 use std::test::Fail;
+use streams::write::{WriteFailed, write_whole};
 
 const TEXT: &[u8] = b"refused no-access / cgroup.procs\n";
 

@@ -1,14 +1,11 @@
-use Rattle.std.proofs.Common.{◌≡◌, ◌++◌, drop}
-use Rattle.std.specs.List.{flat_map}
-use Rattle.cg_model.specs.Guards.{guarded_entries}
-use Rattle.cg_model.specs.Mends.{reached_of}
-use Rattle.cg_advice.specs.AdviceLines.{reached_lines}
+use Rattle.std.proofs.Common.{map, take}
+use Rattle.std.specs.BTreeSet.{contains}
+use Rattle.cg_model.specs.Mends.{same_place}
+use Rattle.cg_advice.specs.Ways.{entering, key_cmp, is_keyed, gathered_lines}
+use Rattle.cg_advice.proofs.Gathering.{AreWritten}
 use Rattle.cg_advice.proofs.text.push_entries.Given as goal
 
--- with the lines of the entries that are still to come, all
-abbrev pub invariant-loop-place : goal.invariant-loop-place
-invariant-loop-place g l =
-    l.text.items ++ flat_map (reached_lines l.user l.subtree)
-    (flat_map (reached_of (g.H.Hierarchy.state l.tree) l.user l.subtree) (drop l.place (guarded_entries l.subtree)))
-    ≡ l.fn.text.items ++ flat_map (reached_lines l.user l.subtree)
-    (flat_map (reached_of (g.H.Hierarchy.state l.tree) l.user l.subtree) (guarded_entries l.subtree))
+abbrev pub invariant-loop-each : goal.invariant-loop-each
+invariant-loop-each l =
+    AreWritten (gathered_lines (map entering l.entrants)) same_place is_keyed l.text.items l.fn.text.items
+    (map entering (take l.each-index l.entrants)) (contains key_cmp l.seen)

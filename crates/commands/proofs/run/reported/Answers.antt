@@ -4,6 +4,7 @@ use Rattle.commands.proofs.run.reported.Goals as goal
 pub returns-clause-carried : goal.returns-clause-carried
 returns-clause-carried g c = (
   c.carried_out-ended.result,
-  CarriesOut-Keeps c.args.request.now _ _ _ _ c.carried_out-ended.result c.carried_out-ended.ensures c.flushed.ensures.kept,
+  CarriesOut-Keeps c.args.request.now (g.F.Files.given c.args.files.now) _ _ _ _ c.carried_out-ended.result
+      c.carried_out-ended.ensures c.flushed.ensures.kept,
   c.flushed.ensures.ended,
 )

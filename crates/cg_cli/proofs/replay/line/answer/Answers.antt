@@ -14,7 +14,7 @@ use Rattle.cg_cli.specs.Courses.{Course, state_of}
 use Rattle.cg_cli.specs.Faults.{lifted_line}
 use Rattle.cg_cli.specs.Replays.{operation_read, outcome_of}
 use Rattle.cg_cli.specs.Replaying.{Answered}
-use Rattle.cg_cli.specs.Written.{AppendsPart}
+use Rattle.streams.specs.Written.{AppendsPart}
 use Rattle.cg_cli.proofs.ReplayLines.{operation_read_ok, operation_read_bad, operation_read_long, outcome_is}
 use Rattle.cg_lines.proofs.OutcomeLaws.{outcome_shown}
 use Rattle.cg_cli.proofs.replay.line.answer.Goals as goal

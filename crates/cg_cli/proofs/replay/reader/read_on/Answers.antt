@@ -10,9 +10,9 @@ use Rattle.cg_cli.proofs.replay.reader.read_on.Goals as goal
 pub returns-in-Err-clause-read : goal.returns-in-Err-clause-read
 returns-in-Err-clause-read g c =
     let before = coming (standing_of g.C.OnCourse.course c.args.run.now) in
-    let failed : (c.of_read.result ≡ Read) ⊎ (c.of_read.result ≡ NoMemory) = grind arith in
+    let failed : (c.from.result ≡ Read) ⊎ (c.from.result ≡ NoMemory) = grind arith in
     read_failed before before (g.R.Read.remaining c.args.ops.now) (g.R.Read.remaining c.fill_buf.follows.lender-at-none)
-    (g.W.Write.contents c.args.out.now) c.of_read.result
+    (g.W.Write.contents c.args.out.now) c.from.result
     failed c.fill_buf.follows.holds-at-none.0
 
 pub returns-then-is_empty-clause-read : goal.returns-then-is_empty-clause-read

@@ -1,0 +1,91 @@
+-- What a request holds hangs on the rows of what was found alone.
+use Rattle.std.proofs.Common.{◌≡◌, ◌∙◌, ℕ, List, [], ap, ap₂, sym, refl}
+use Rattle.std.specs.Prelude.{Option, Some, None, codes, option_and_then}
+use Rattle.std.specs.Option.{option_map, option_map_or}
+use Rattle.clap.specs.Matches.{matched_of, first_value, one_text, raw_values, typed_values}
+use Rattle.clap.specs.Walk.{rows_of, first_of, one_of, all_of, many_of}
+use Rattle.clap.specs.declared.parser.matches.Found.{Found}
+use Rattle.clap.proofs.WalkLemmas.{first_value-rows, one_text-rows, raw_values-rows, typed_values-rows}
+use Rattle.arguments.specs.UserWords.{all_read, user_at}
+use Rattle.arguments.specs.Given.{number_read, words_at, file_named, file_at, number_at, numbers_at, user_given, users_given, users_beside, advised_given, IsFlag, IsMay, IsCheck, IsAudit, IsAdvise, IsReplay, IsUpgrade, Holds}
+use Rattle.arguments.specs.declared.request.Request.{Request}
+use Rattle.arguments.specs.declared.request.Request.TheVariants as request
+
+or_mapped : {A B C : Type 0} (first : A → B) (then : B → C) (none : C) (o : Option A)
+    → option_map_or (λ x. then (first x)) o none ≡ option_map_or then (option_map first o) none
+or_mapped first then none None = refl
+or_mapped first then none (Some x) = refl
+
+module _ (f g : Found) (same : rows_of f ≡ rows_of g) where
+  first_same : (id : List ℕ) → first_value f id ≡ first_value g id
+  first_same id = first_value-rows f id ∙ ap (first_of id) same ∙ sym (first_value-rows g id)
+
+  text_same : (id : List ℕ) → one_text f id ≡ one_text g id
+  text_same id = one_text-rows f id ∙ ap (one_of id) same ∙ sym (one_text-rows g id)
+
+  words_same : (id : List ℕ) → words_at f id ≡ words_at g id
+  words_same id =
+      or_mapped raw_values (λ (all : List (List ℕ)). all) [] (matched_of f id)
+      ∙ ap (λ (all : Option (List (List ℕ))). option_map_or (λ it. it) all [])
+      (raw_values-rows f id ∙ ap (all_of id) same ∙ sym (raw_values-rows g id))
+      ∙ sym (or_mapped raw_values (λ (all : List (List ℕ)). all) [] (matched_of g id))
+
+  numbers_same : (id : List ℕ) → numbers_at f id ≡ numbers_at g id
+  numbers_same id =
+      or_mapped typed_values (all_read number_read) (Some []) (matched_of f id)
+      ∙ ap (λ (all : Option (List (List ℕ))). option_map_or (all_read number_read) all (Some []))
+      (typed_values-rows f id ∙ ap (many_of id) same ∙ sym (typed_values-rows g id))
+      ∙ sym (or_mapped typed_values (all_read number_read) (Some []) (matched_of g id))
+
+  file_same : (id : List ℕ) → file_at f id ≡ file_at g id
+  file_same id = ap (λ (word : Option (List ℕ)). option_and_then file_named word) (first_same id)
+
+  number_same : (id : List ℕ) → number_at f id ≡ number_at g id
+  number_same id = ap (λ (word : Option (List ℕ)). option_and_then number_read word) (text_same id)
+
+  user_same : user_given f ≡ user_given g
+  user_same = ap₂ (λ (gids : Option (List ℕ)) (number : Option ℕ). option_and_then (λ uid. option_map (λ all. (uid, all)) gids) number)
+      (numbers_same (codes "gid")) (number_same (codes "uid"))
+
+  users_same : users_given f ≡ users_given g
+  users_same = ap (λ (words : List (List ℕ)). all_read user_at words) (words_same (codes "uid"))
+
+  advised_same : advised_given f ≡ advised_given g
+  advised_same = ap₂ (λ (gids : Option (List ℕ)) (words : List (List ℕ)). option_and_then (users_beside words) gids)
+      (numbers_same (codes "gid")) (words_same (codes "uid"))
+
+  pub holds_same : (asked : Request) → Holds f asked → Holds g asked
+  holds_same (request.Help help) h = tt
+  holds_same (request.May may) h = record {
+    tree = h.tree ∙ file_same (codes "tree");
+    user = sym user_same ∙ h.user;
+    pid = sym (number_same (codes "pid")) ∙ h.pid;
+    to = sym (first_same (codes "to")) ∙ h.to;
+  }
+  holds_same (request.Check check) h = record {
+    tree = h.tree ∙ file_same (codes "tree");
+    user = sym user_same ∙ h.user;
+    subtree = sym (first_same (codes "subtree")) ∙ h.subtree;
+  }
+  holds_same (request.Audit audit) h = record {
+    tree = h.tree ∙ file_same (codes "tree");
+    users = sym users_same ∙ h.users;
+    subtrees = sym (words_same (codes "subtree")) ∙ h.subtrees;
+    all = ((λ said. h.all.0 (text_same (codes "all") ∙ said)), (λ said. h.all.1 (text_same (codes "all") ∙ said)));
+    some_user = λ none. h.some_user (words_same (codes "uid") ∙ none);
+    some_subtree = λ none. h.some_subtree (words_same (codes "subtree") ∙ none);
+  }
+  holds_same (request.Advise advise) h = record {
+    tree = h.tree ∙ file_same (codes "tree");
+    users = sym advised_same ∙ h.users;
+    subtrees = sym (words_same (codes "subtree")) ∙ h.subtrees;
+    some_user = λ none. h.some_user (words_same (codes "uid") ∙ none);
+    some_subtree = λ none. h.some_subtree (words_same (codes "subtree") ∙ none);
+  }
+  holds_same (request.Replay replay) h = record {
+    tree = h.tree ∙ file_same (codes "tree");
+    ops = h.ops ∙ file_same (codes "ops");
+    user = sym user_same ∙ h.user;
+    subtree = h.subtree ∙ first_same (codes "subtree");
+  }
+  holds_same (request.Upgrade upgrade) h = record { tree = h.tree ∙ file_same (codes "tree") }

@@ -1,0 +1,7 @@
+use Rattle.std.proofs.Common.{◌≡◌, map, take}
+use Rattle.cg_model.specs.Mends.{entrants}
+use Rattle.cg_advice.specs.Ways.{pair_of, entering}
+use Rattle.cg_advice.proofs.entrants.entrants.Given as goal
+
+abbrev pub invariant-loop-pair : goal.invariant-loop-pair
+invariant-loop-pair g l = map entering l.found.items ≡ entrants (g.H.Hierarchy.state l.tree) (map pair_of (take l.pair-index l.pairs))

@@ -1,0 +1,21 @@
+//! Users and subtrees that are to be contained against them, and who gets in.
+ghost use Rattle.cg_advice.specs.AdviceLines.{IsShown};
+
+use cg_cgroup::path::Path;
+use cg_cgroup::user::User;
+use cg_model::guard::GuardedEntry;
+
+/// A user, and a subtree that is to be contained against them.
+#[derive(Clone, Copy)]
+pub struct Pair<'a> {
+    pub user: &'a User,
+    pub subtree: &'a Path,
+}
+
+/// The user of a pair, and an entry that they reach on which a guard of its subtree stands.
+#[derive(Clone, Copy)]
+pub struct Entrant<'a> {
+    pub pair: Pair<'a>,
+    pub at: GuardedEntry,
+    ghost shown: { IsShown pair.subtree.now at },
+}

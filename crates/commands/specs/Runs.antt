@@ -1,0 +1,67 @@
+-- What the words of a command line lead to, and how the program ends. Own.
+use Rattle.std.specs.Prelude.{◌≡◌, ◌⊎◌, ℕ, Bool, false, List, [], Option, Result, Ok, Err, IfOk, IsOk, IsErr}
+use Rattle.std.specs.Io.KnownBytes.{Appends, Keeps, append_known}
+use Rattle.arguments.specs.Words.{Makes, IsNone}
+use Rattle.arguments.specs.declared.request.Request.{Request}
+use Rattle.cg_cli.specs.declared.fault.CliFault.{CliFault}
+use Rattle.cg_cli.specs.declared.fault.CliFault.TheVariants.{Write, NoMemory}
+use Rattle.streams.specs.declared.write.WriteFailed.{WriteFailed}
+use Rattle.commands.specs.Faults.{Prints}
+use Rattle.commands.specs.Requests.{Files, CarriesOut}
+use Rattle.commands.specs.declared.fault.Fault.{Fault}
+use Rattle.commands.specs.declared.fault.Fault.TheVariants.{Usage, Cli}
+
+-- How a call ended whose report is held in a buffer: its own fault comes before that of the last write.
+abbrev pub IsFlushed : Result ℕ CliFault → Result ℕ CliFault → Type 0
+IsFlushed (Ok status) result = (result ≡ Ok status) ⊎ (result ≡ Err Write)
+IsFlushed (Err fault) result = result ≡ Err fault
+
+-- a request that is carried out through a buffer
+abbrev pub CarriesOutBuffered : Request → Files → Option (List ℕ) → Option (List ℕ) → Option (List ℕ) → Result ℕ CliFault → Type 0
+CarriesOutBuffered asked files given old new result =
+    (ended : Result ℕ CliFault) × CarriesOut asked files given old new ended × IsFlushed ended result
+
+-- what a call came to, to the program
+abbrev pub in_program : Result ℕ CliFault → Result ℕ Fault
+in_program (Ok status) = Ok status
+in_program (Err fault) = Err (Cli fault)
+
+-- The request that the words make is carried out.
+abbrev pub IsCarriedOut : List (List ℕ) → Files → Option (List ℕ) → Option (List ℕ) → Option (List ℕ) → Result ℕ CliFault → Type 0
+IsCarriedOut words files given old new result =
+    (asked : Request) × Makes words asked × CarriesOutBuffered asked files given old new result
+
+-- What the words of a command line lead to: the request that they make is carried out; or they make none, or there is no memory
+-- for it, and nothing is written.
+abbrev pub LeadsTo : List (List ℕ) → Files → Option (List ℕ) → Option (List ℕ) → Option (List ℕ) → Result ℕ Fault → Type 0
+LeadsTo words files given old new (Ok status) = IsCarriedOut words files given old new (Ok status)
+LeadsTo words files given old new (Err (Cli fault)) = IsCarriedOut words files given old new (Err fault) ⊎ ((fault ≡ NoMemory) × Keeps old new)
+LeadsTo words files given old new (Err Usage) = IsNone words × Keeps old new
+
+-- A status comes only where all was written. Where a write of the report failed, not all was.
+abbrev pub TellsWrites : Result ℕ Fault → Result (Unit {0}) WriteFailed → Type 0
+TellsWrites answer written = IfOk answer (λ status. IsOk written) × (answer ≡ Err (Cli Write) → IsErr written)
+
+-- What lies in the writer below the buffer: all that was said, or where a write failed a front of it.
+abbrev pub LiesBelow : Result (Unit {0}) WriteFailed → Option (List ℕ) → Option (List ℕ) → Type 0
+LiesBelow (Ok done) said new = Keeps said new
+LiesBelow (Err failed) said new = (lost : List ℕ) × Keeps said (append_known new lost)
+
+-- What a run answered, and what lies in its writer.
+abbrev pub RunsTo : List (List ℕ) → Files → Option (List ℕ) → Option (List ℕ) → Option (List ℕ) → Result ℕ Fault → Result (Unit {0}) WriteFailed → Type 0
+RunsTo words files given old new answer written =
+    (said : Option (List ℕ)) × LeadsTo words files given old said answer × TellsWrites answer written × LiesBelow written said new
+
+-- ---- the program
+
+-- A fault has the status 3.
+abbrev pub exit_status : Result ℕ Fault → ℕ
+exit_status (Ok status) = status
+exit_status (Err fault) = 3
+
+-- The line of a fault lies in the second writer, and help may stand below it; or a front of the line, where a write failed.
+abbrev pub Tells : Result ℕ Fault → Option (List ℕ) → Option (List ℕ) → Type 0
+Tells (Ok status) old new = Keeps old new
+Tells (Err fault) old new =
+    (line : Option (List ℕ)) × (is_told : Bool) × (help : List ℕ)
+    × Prints fault old line is_told × Appends line new help × (is_told ≡ false → help ≡ [])

@@ -1,0 +1,298 @@
+//! A request is carried out: its tree is read, its files are opened, and one call answers.
+ghost use Rattle.std.specs.Prelude.{◌≡◌, ◌⊎◌, ℕ, List, map, Ok, IfOk, IfErr, MatchBool};
+ghost use Rattle.cg_format.specs.Readings.{OnText};
+ghost use Rattle.cg_cli.specs.AllPairs.{all_report, ReportsPairs};
+ghost use Rattle.cg_cli.specs.Audits.{audit_report};
+ghost use Rattle.cg_cli.specs.Reports.{Reports};
+ghost use Rattle.cg_cli.specs.Upgrades.{Upgrades};
+ghost use Rattle.arguments.specs.Given.{ids_of, tree_file, ops_file};
+ghost use Rattle.commands.specs.Requests.{source, name_of, IsTree, may_said, check_said, advise_said, AuditSays, OnTree, ReportsOnTree, replay_said, ReplaysOver, ReplaysOnTree, CarriesOut};
+
+use arguments::named_user::NamedUser;
+use arguments::request::{Advise, Audit, Check, May, Replay, Request, Sources, Upgrade};
+use cg_cli::advise::advise_bytes;
+use cg_cli::arguments::UserIds;
+use cg_cli::audit::audit_bytes;
+use cg_cli::audit_all::audit_all_bytes;
+use cg_cli::check::check_bytes;
+use cg_cli::fault::CliFault;
+use cg_cli::may::may_bytes;
+use cg_cli::replay::replay_from;
+use cg_cli::upgrade::upgrade_bytes;
+use std::alloc::Global;
+use std::io::{BufReader, Read, Write};
+use streams::again::Again;
+use streams::files::Files;
+use streams::line::{LineKept, line_of};
+use streams::read::read_input;
+use streams::write::write_whole;
+
+/// Carries out a request. What no file is named for is read from `input`, and the report goes to `out`. Where an operation line
+/// ends it, `line` is that line, as far as it was read and kept.
+pub(crate) fn carried_out<F: Files, I: Read + Drop, W: Write>(
+    alloc: Global,
+    request: &Request<'_>,
+    files: &F,
+    input: I,
+    line: &mut Option<Vec<u8>>,
+    out: &mut W,
+) -> Result<u8, CliFault>
+    ensures { CarriesOut request.now (F.given files.now) (I.remaining input) (W.contents out.old) (W.contents out.new) result }
+{
+    match request {
+        Request::Help(help) => shown(alloc, help, out),
+        Request::May(request) => may(alloc, request, files, input, out),
+        Request::Check(request) => check(alloc, request, files, input, out),
+        Request::Audit(request) => audit(alloc, request, files, input, out),
+        Request::Advise(request) => advise(alloc, request, files, input, out),
+        Request::Replay(asked) => replay(alloc, Replaying { asked, line }, files, input, out),
+        Request::Upgrade(request) => upgrade(alloc, request, files, input, out),
+    }
+}
+
+fn shown<W: Write>(alloc: Global, help: &clap::Error, out: &mut W) -> Result<u8, CliFault>
+    ensures { (text : List ℕ) × Reports (record { text = text; ending = Ok 0 }) (W.contents out.old) (W.contents out.new) result }
+{
+    let text = format!(in alloc; "{help}")?;
+    write_whole(out, text.as_bytes())?;
+    Ok(0)
+}
+
+fn may<F: Files, I: Read + Drop, W: Write>(
+    alloc: Global,
+    asked: &May<'_>,
+    files: &F,
+    input: I,
+    out: &mut W,
+) -> Result<u8, CliFault>
+    ensures { ReportsOnTree (source (F.given files.now) (name_of asked.now.tree) (I.remaining input)) (may_said asked.now)
+        (W.contents out.old) (W.contents out.new) result }
+{
+    let tree = tree_text(alloc, files, asked.tree, input)?;
+    may_bytes(
+        alloc,
+        tree.as_slice(),
+        ids(&asked.user),
+        asked.pid,
+        asked.to,
+        out,
+    )
+}
+
+fn check<F: Files, I: Read + Drop, W: Write>(
+    alloc: Global,
+    asked: &Check<'_>,
+    files: &F,
+    input: I,
+    out: &mut W,
+) -> Result<u8, CliFault>
+    ensures { ReportsOnTree (source (F.given files.now) (name_of asked.now.tree) (I.remaining input)) (check_said asked.now)
+        (W.contents out.old) (W.contents out.new) result }
+{
+    let tree = tree_text(alloc, files, asked.tree, input)?;
+    check_bytes(alloc, tree.as_slice(), ids(&asked.user), asked.subtree, out)
+}
+
+fn advise<F: Files, I: Read + Drop, W: Write>(
+    alloc: Global,
+    asked: &Advise<'_>,
+    files: &F,
+    input: I,
+    out: &mut W,
+) -> Result<u8, CliFault>
+    ensures { ReportsOnTree (source (F.given files.now) (name_of asked.now.tree) (I.remaining input)) (advise_said asked.now)
+        (W.contents out.old) (W.contents out.new) result }
+{
+    let tree = tree_text(alloc, files, asked.tree, input)?;
+    let users = all_ids(alloc, asked.users.as_slice())?;
+    advise_bytes(
+        alloc,
+        tree.as_slice(),
+        users.as_slice(),
+        asked.subtrees.as_slice(),
+        out,
+    )
+}
+
+fn audit<F: Files, I: Read + Drop, W: Write>(
+    alloc: Global,
+    asked: &Audit<'_>,
+    files: &F,
+    input: I,
+    out: &mut W,
+) -> Result<u8, CliFault>
+    ensures { OnTree (source (F.given files.now) (name_of asked.now.tree) (I.remaining input))
+        (AuditSays asked.now (W.contents out.old) (W.contents out.new) result)
+        (W.contents out.old) (W.contents out.new) result }
+{
+    let tree = tree_text(alloc, files, asked.tree, input)?;
+    let users = all_ids(alloc, asked.users.as_slice())?;
+    audited(alloc, tree.as_slice(), users.as_slice(), asked, out)
+}
+
+/// Audits a tree, of which the first pair that isn't contained is asked for, or each.
+fn audited<W: Write>(
+    alloc: Global,
+    tree: &[u8],
+    users: &[UserIds<'_>],
+    request: &Audit<'_>,
+    out: &mut W,
+) -> Result<u8, CliFault>
+    ensures { OnText tree.now (λ read. MatchBool request.now.all
+        (ReportsPairs (all_report read (map (λ user. (user.uid, user.gids.now)) users.now) (map (λ subtree. subtree.now) request.now.subtrees.items))
+        (W.contents out.old) (W.contents out.new) result)
+        (Reports (audit_report read (map (λ user. (user.uid, user.gids.now)) users.now) (map (λ subtree. subtree.now) request.now.subtrees.items))
+        (W.contents out.old) (W.contents out.new) result)) }
+{
+    let subtrees = request.subtrees.as_slice();
+    if request.all {
+        audit_all_bytes(alloc, tree, users, subtrees, out)
+    } else {
+        audit_bytes(alloc, tree, users, subtrees, out)
+    }
+}
+
+fn upgrade<F: Files, I: Read + Drop, W: Write>(
+    alloc: Global,
+    asked: &Upgrade<'_>,
+    files: &F,
+    input: I,
+    out: &mut W,
+) -> Result<u8, CliFault>
+    ensures { OnTree (source (F.given files.now) (name_of asked.now.tree) (I.remaining input))
+        (Upgrades (W.contents out.old) (W.contents out.new) result) (W.contents out.old) (W.contents out.new) result }
+{
+    let tree = tree_text(alloc, files, asked.tree, input)?;
+    upgrade_bytes(alloc, tree.as_slice(), out)
+}
+
+/// A replay, and the place of the line that ends it.
+#[derive(Drop)]
+struct Replaying<'r, 'a> {
+    asked: &'r Replay<'a>,
+    line: &'r mut Option<Vec<u8>>,
+}
+
+fn replay<F: Files, I: Read + Drop, W: Write>(
+    alloc: Global,
+    of: Replaying<'_, '_>,
+    files: &F,
+    input: I,
+    out: &mut W,
+) -> Result<u8, CliFault>
+    ensures { ReplaysOnTree (source (F.given files.now) (tree_file of.entry.asked.now.sources) (I.remaining input))
+        (source (F.given files.now) (ops_file of.entry.asked.now.sources) (I.remaining input)) (replay_said of.entry.asked.now)
+        (W.contents out.old) (W.contents out.new) result }
+{
+    match of.asked.sources {
+        Sources::Files(tree, ops) => {
+            let tree = file_text(alloc, files, tree)?;
+            replay_file(alloc, tree.as_slice(), of, files, ops, out)
+        }
+        Sources::TreeGiven(ops) => {
+            let tree = tree_text(alloc, files, None, input)?;
+            replay_file(alloc, tree.as_slice(), of, files, ops, out)
+        }
+        Sources::OpsGiven(tree) => {
+            let tree = file_text(alloc, files, tree)?;
+            replayed(alloc, tree.as_slice(), of, input, out)
+        }
+    }
+}
+
+/// Replays the operations of a file.
+fn replay_file<F: Files, W: Write>(
+    alloc: Global,
+    tree: &[u8],
+    of: Replaying<'_, '_>,
+    files: &F,
+    file: &str,
+    out: &mut W,
+) -> Result<u8, CliFault>
+    ensures { OnText tree.now (λ read. ReplaysOver (F.given files.now file.now) (replay_said of.entry.asked.now read)
+        (W.contents out.old) (W.contents out.new) result) }
+{
+    let ops = opened(files, file)?;
+    replayed(alloc, tree, of, ops, out)
+}
+
+/// Replays what a reader gives, behind a buffer.
+fn replayed<O: Read + Drop, W: Write>(
+    alloc: Global,
+    tree: &[u8],
+    of: Replaying<'_, '_>,
+    ops: O,
+    out: &mut W,
+) -> Result<u8, CliFault>
+    ensures { OnText tree.now (λ read. ReplaysOver (O.remaining ops) (replay_said of.entry.asked.now read)
+        (W.contents out.old) (W.contents out.new) result) }
+{
+    let inner = LineKept {
+        inner: Again { inner: ops },
+        bytes: Vec::new(alloc),
+        is_whole: true,
+    };
+    let Ok(mut ops) = BufReader::new(alloc, inner) else {
+        return Err(CliFault::NoMemory);
+    };
+    let replayer = ids(&of.asked.user);
+    let ended = replay_from(alloc, tree, replayer, of.asked.subtree, &mut ops, out);
+    if let Err(CliFault::Line { .. }) = ended {
+        if let Ok(kept) = line_of(alloc, &ops) {
+            *of.line = kept;
+        }
+    }
+    ended
+}
+
+/// The user as a call takes him.
+fn ids(user: &NamedUser) -> UserIds<'_>
+    ensures uid { result.uid ≡ user.now.uid }
+    ensures gids { result.gids.now ≡ user.now.gids.items }
+{
+    UserIds {
+        uid: user.uid,
+        gids: user.gids.as_slice(),
+    }
+}
+
+fn all_ids<'a>(alloc: Global, users: &'a [NamedUser]) -> Result<Vec<UserIds<'a>>, CliFault>
+    ensures ids { IfOk result (λ all. map (λ user. (user.uid, user.gids.now)) all.items ≡ map ids_of users.now) }
+    ensures fault { IfErr result (λ fault. fault ≡ CliFault.NoMemory) }
+{
+    let mut all = Vec::new(alloc);
+    for user in users {
+        all.push(ids(user))?;
+    }
+    Ok(all)
+}
+
+/// The text of the tree: of the file where one is named, and else of the input.
+fn tree_text<F: Files, I: Read + Drop>(
+    alloc: Global,
+    files: &F,
+    file: Option<&str>,
+    input: I,
+) -> Result<Vec<u8>, CliFault>
+    ensures text { IfOk result (λ text. IsTree (source (F.given files.now) (name_of file.entry) (I.remaining input)) text.items) }
+    ensures fault { IfErr result (λ fault. (fault ≡ CliFault.Read) ⊎ (fault ≡ CliFault.NoMemory)) }
+{
+    match file {
+        None => Ok(read_input(alloc, input)?),
+        Some(name) => file_text(alloc, files, name),
+    }
+}
+
+fn file_text<F: Files>(alloc: Global, files: &F, name: &str) -> Result<Vec<u8>, CliFault>
+    ensures text { IfOk result (λ text. IsTree (F.given files.now name.now) text.items) }
+    ensures fault { IfErr result (λ fault. (fault ≡ CliFault.Read) ⊎ (fault ≡ CliFault.NoMemory)) }
+{
+    Ok(read_input(alloc, opened(files, name)?)?)
+}
+
+fn opened<F: Files>(files: &F, name: &str) -> Result<F::File, CliFault>
+    ensures file { IfOk result (λ file. F.File.remaining file ≡ F.given files.now name.now) }
+    ensures fault { IfErr result (λ fault. (fault ≡ CliFault.Read) ⊎ (fault ≡ CliFault.NoMemory)) }
+{
+    Ok(files.open(name)?)
+}

@@ -1,0 +1,129 @@
+//! The whole program: what the host gives it in, its status and its streams out.
+ghost use Rattle.std.specs.Prelude.{◌≡◌, ◌≢◌, ◌⊎◌, ℕ, map, string_bytes, Result, Err, IsErrAnd, MatchOption, MatchResult};
+ghost use Rattle.std.specs.IoError.{error_kind};
+ghost use Rattle.std.specs.Io.KnownBytes.{Keeps};
+ghost use Rattle.commands.specs.Runs.{exit_status, Tells, RunsTo};
+ghost use Rattle.commands.specs.declared.fault.Fault.{Fault};
+ghost use Rattle.commands.specs.declared.fault.Fault.TheVariants.{Cli, Usage as UsageFault};
+ghost use Rattle.streams.specs.declared.write.WriteFailed.{WriteFailed};
+ghost use Rattle.cg_cli.specs.declared.fault.CliFault.TheVariants.{NoMemory as MemoryFault};
+
+use crate::fault::Fault;
+use crate::run::run;
+use cg_help::help::{Seen, help_text};
+use std::alloc::Global;
+use std::io;
+use std::io::{ErrorKind, Read, Write};
+use streams::again::Again;
+use streams::files::Files;
+use streams::kept::Kept;
+use streams::write::write_whole;
+
+/// The status of a fault.
+const FAULT: u8 = 3;
+
+/// How the program ended.
+#[derive(Drop)]
+pub struct Ended<W, E> {
+    pub status: u8,
+    /// The writer of the report. There is none where there was no memory for the buffer before it.
+    pub out: Option<W>,
+    /// The writer of a fault's line.
+    pub errors: E,
+}
+
+/// Runs the program on the words of a command line, where they can be had, with the files that there are and its three streams. The
+/// status is the command's, or 3 where there is a fault; then its line is printed to `errors`, and below it help, from a second look
+/// at the words, the files and the input.
+pub fn run_program<F: Files, I: Read + Drop, W: Write + Drop, E: Write + Drop>(
+    alloc: Global,
+    words: io::Result<Vec<String>>,
+    files: &F,
+    input: I,
+    out: W,
+    errors: E,
+) -> Ended<W, E>
+    ensures { (answer : Result ℕ Fault) × (result.status ≡ exit_status answer)
+        × Tells answer (E.contents errors) (E.contents result.errors)
+        × MatchOption result.out (answer ≡ Err (Cli MemoryFault)) (λ below. MatchResult words
+        (λ words. (written : Result (Unit {0}) WriteFailed) × RunsTo (map string_bytes words.items) (F.given files.now)
+        (I.remaining input) (W.contents out) (W.contents below) answer written)
+        (λ error. Keeps (W.contents out) (W.contents below)
+        × IsErrAnd answer (λ fault. ((fault ≡ UsageFault) × (error_kind error ≢ ErrorKind.OutOfMemory))
+        ⊎ ((fault ≡ Cli MemoryFault) × (error_kind error ≡ ErrorKind.OutOfMemory))))) }
+{
+    let mut errors = Again { inner: errors };
+    let words = match words {
+        Ok(words) => words,
+        Err(error) => {
+            let unseen = Seen {
+                words: None,
+                input: None,
+                line: None,
+            };
+            let fault = Fault::of_words(error);
+            let status = status_told(alloc, files, Err(fault), unseen, &mut errors);
+            return Ended {
+                status,
+                out: Some(out),
+                errors: errors.inner,
+            };
+        }
+    };
+    let mut input = Kept::new(alloc, input);
+    let mut line = None;
+    let ended = run(alloc, words.as_slice(), files, &mut input, &mut line, out);
+    let seen = Seen {
+        words: Some(words.as_slice()),
+        input: input.whole(),
+        line: line.as_ref().map(Vec::as_slice),
+    };
+    let status = status_told(alloc, files, ended.answer, seen, &mut errors);
+    Ended {
+        status,
+        out: ended.out,
+        errors: errors.inner,
+    }
+}
+
+/// The status of an answer. Where it is a fault, its line is written, and help below it.
+fn status_told<F: Files, E: Write>(
+    alloc: Global,
+    files: &F,
+    answer: Result<u8, Fault>,
+    seen: Seen<'_, '_, '_>,
+    errors: &mut E,
+) -> u8
+    ensures status { result ≡ exit_status answer }
+    ensures told { Tells answer (E.contents errors.old) (E.contents errors.new) }
+{
+    match answer {
+        Ok(status) => status,
+        Err(fault) => {
+            tell(alloc, files, fault, seen, errors);
+            FAULT
+        }
+    }
+}
+
+/// Writes a fault's line, and below it what a second look finds. Where that fails there is no help.
+fn tell<F: Files, E: Write>(
+    alloc: Global,
+    files: &F,
+    fault: Fault,
+    seen: Seen<'_, '_, '_>,
+    errors: &mut E,
+)
+    ensures { Tells (Err fault) (E.contents errors.old) (E.contents errors.new) }
+{
+    if !fault.print(alloc, errors) {
+        return;
+    }
+    let of_call = match fault {
+        Fault::Usage => None,
+        Fault::Cli(inner) => Some(inner),
+    };
+    if let Ok(help) = help_text(alloc, files, of_call.as_ref(), seen) {
+        let _ = write_whole(errors, help.as_slice());
+    }
+}
