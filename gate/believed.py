@@ -32,20 +32,25 @@ Library = collections.namedtuple("Library", "crate name")
 
 
 class Definition:
-    """What stands in a file under a name: its lines, and the things that these name but for what is bound."""
+    """What stands in a file under a name: its lines, and the things that these name but for what is bound. Of a contract the clauses."""
 
-    def __init__(self, file, name, lines, find, bound=()):
-        self.file, self.name, self.lines, self.find, self.bound = file, name, lines, find, {*bound}
+    def __init__(self, file, name, lines, find, bound=(), clauses=()):
+        self.file, self.name, self.lines, self.find, self.bound, self.clauses = file, name, lines, find, {*bound}, clauses
 
     @functools.cached_property
-    def named(self):
+    def words(self):
+        """Its words but for what is bound."""
         text, before, found = "\n".join(self.lines), self.bound, set()
         for part in PARTS.split(text):
             bound, read = before | names_bound(UNREAD.sub("", part)), UNREAD.sub("", part)
-            found |= {it for word in WORD.findall(read) if word.partition(".")[0] not in bound for it in self.find(word)}
+            found |= {word for word in WORD.findall(read) if word.partition(".")[0] not in bound}
             if re.match("(?:pub )?record ", text):
                 before = bound | {*FIELD.findall(part)}
-        return found - {self}
+        return found
+
+    @functools.cached_property
+    def named(self):
+        return {it for word in self.words for it in self.find(word)} - {self}
 
 
 def names_bound(text):
@@ -78,6 +83,10 @@ class File:
             return [self.own[first]]
         module, name = self.imports.get(first, ([], ""))
         return self.world.find([*module, *([name] if name else rest[:1])]) if module else []
+
+    def knows(self, word):
+        """Whether a word is of the file, or brought in."""
+        return bool(self.find(word))
 
 
 class Specs(File):
@@ -120,6 +129,9 @@ class Code(File):
         path = self.uses.get(word.partition(".")[0])
         return super().find(word) or (self.world.type_at(self.absolute(path)) if path else [])
 
+    def knows(self, word):
+        return word.partition(".")[0] in self.uses or super().knows(word)
+
     def find_type(self, word):
         return self.find(word) if word[0].isupper() else []
 
@@ -140,17 +152,18 @@ class Code(File):
                     at = past_braces(self.text, found.end())
                     told.append((found[1], self.text[found.end() : at]))
                 if told and {*clauses} <= {it for it, _ in told}:
-                    asked = [text for it, text in told if not clauses or it in clauses]
+                    asked = [(it, text) for it, text in told if not clauses or it in clauses]
                     return self.spoken_of(name, self.text[head.end() : end.start()], around, asked)
         return None
 
-    def spoken_of(self, name, heads, around, texts):
+    def spoken_of(self, name, heads, around, clauses):
+        texts = [text for _, text in clauses]
         parameters, arrow, answer = heads.rpartition("->")
         typed = dict(re.findall(r"(\w+): ([^:]*)(?=[,>)]|$)", parameters if arrow else heads))
         typed.update({"result": answer if arrow else "", "self": " ".join(around)})
         said = {word.partition(".")[0] for text in texts for word in WORD.findall(text)}
         types = [it for word, text in typed.items() if word in said for it in re.findall(r"\b[A-Z]\w*", text)]
-        return Definition(self.file, name, [*texts, " ".join(types)], self.find, typed)
+        return Definition(self.file, name, [*texts, " ".join(types)], self.find, typed, clauses)
 
 
 def uses_of(text, before=()):

@@ -134,6 +134,7 @@ fn uncalled() {}
 """
 
 PARTS = """//! Parts.
+ghost use Rattle.std.specs.Prelude.{◌≡◌};
 ghost use Rattle.low.specs.Words.{stepped};
 
 pub fn shown()
@@ -155,19 +156,23 @@ FILES = {
 
 PAGE = """# Theorems
 
-| | Theorem | Carried by | Definitions | Types |
-|---|---|---|---|---|
-| 1 | Called | `high::called`: `many`; `high::shown` | 0 | 0 |
-| 2 | Held | `high::called` | 0 | 0 |
+## 1. Called
 
-| File | 1 |
-|---|---|
-| `low/specs/Old.antt` | 3 |
+It is called.
 
-All else is here.
+`high::called`:
 
-| Other | Table |
-|---|---|
+```
+```
+
+Carried by `high::called`: `many`; `high::shown`.
+
+Read: `stepped`, and then
+`Keeps`.
+
+## Trusted
+
+`high::Kind::of` is no theorem's.
 """
 
 
@@ -256,39 +261,47 @@ class Contracts(Small):
 
 
 class Page(Small):
-    def test_numbers_and_files(self):
-        text = theorems.mended(PAGE, self.top)
-        self.assertIn("`high::called`: `many`; `high::shown` | 11 | 8 |\n| 2 | Held | `high::called` | 11 | 9 |", text)
-        files = "| File | 1 | 2 |\n| --- | --- | --- |\n| `low/src/kinds.rt` | 6 | 7 |\n| `low/src/named.rt` | 1 | 1 |\n"
-        self.assertIn(files + "| `low/src/named/inner.rt` | 1 | 1 |\n| `low/specs/Steps.antt` | 4 | 4 |\n", text)
-        self.assertTrue(text.endswith("| `low/specs/Words.antt` | 7 | 7 |\n\nAll else is here.\n\n| Other | Table |\n|---|---|\n"))
-
     def test_statements(self):
         page = "`high::called`, `kept`:\n\n```\nof old\n```\n\n`high::called`:\n\n```\n```\n"
         right = theorems.mended(page, self.top)
-        kept = "stepped ≡ stepped\nK.held keeper.now ≡ doubled told\n"
-        self.assertTrue(right.startswith(f"`high::called`, `kept`:\n\n```\n{kept}```\n\n"))
-        self.assertIn("```\ntold ≡ 1\nstepped ≡ stepped\nIfOk result", right)
+        kept = "stepped ≡ stepped\n-- kept\nK.held keeper.now ≡ doubled told\n"
+        self.assertTrue(right.startswith(f"`high::called`, `kept`:\n\n```\n-- kept\n{kept}```\n\n"))
+        self.assertIn("```\n-- few\ntold ≡ 1\n-- kept\nstepped ≡ stepped\n-- many\nIfOk result", right)
         self.assertEqual(theorems.faults_of(right, self.top)[1], [])
         self.assertEqual(theorems.faults_of(right.replace("told ≡ 1", "told ≡ 2"), self.top)[1],
                          ["by the sources it has 'told ≡ 1': gate/believed --write"])
 
-    def test_faults(self):
+    def test_statement_of_a_record_and_of_lines(self):
+        self.write("crates/high/src/lib.rt", HIGH.replace("{ Plain self.now ≡ Plain self.now }",
+                                                          "{ (n : ℕ)\n        → Plain n ≡ record {\n            text = n;\n        } }"))
+        page = theorems.mended("`high::Kind::of`:\n\n```\n```\n", self.top)
+        self.assertIn("```\n(n : ℕ)\n    → Plain n ≡ record {\n        text = n;\n    }\n```\n", page)
+
+    def test_what_is_read(self):
         right = theorems.mended(PAGE, self.top)
-        self.assertEqual(theorems.faults_of(right, self.top), (11, []))
-        for old, new, fault in (
-            ("| 11 | 8 |", "| 11 | 9 |", "has '| 1 | Called | `high::called`: `many`; `high::shown` | 11 | 8 |'"),
-            ("| 6 | 7 |", "| 6 | 6 |", "has '| `low/src/kinds.rt` | 6 | 7 |'"),
-            ("\n\nAll", "\n| `low/specs/Old.antt` | 1 | 1 |\n\nAll", "has no '| `low/specs/Old.antt` | 1 | 1 |'"),
-        ):
-            faults = theorems.faults_of(right.replace(old, new), self.top)[1]
-            self.assertEqual(faults, [f"by the sources it {fault}: gate/believed --write"])
+        self.assertEqual(theorems.faults_of(right, self.top), (2, []))
+        faults = theorems.faults_of(right.replace("`Keeps`", "`Held`"), self.top)[1]
+        self.assertEqual(faults, ["`Held` is to be read for a theorem that doesn't reach it"])
         nothing = right.replace("`many`", "`none`")
         self.assertEqual(theorems.faults_of(nothing, self.top), (1, ["there is no call high::called with none"]))
 
+    def test_names_of_a_statement(self):
+        self.write("crates/high/src/lib.rt", HIGH.replace("stepped ≡ stepped", "stepped ≡ Far.stepped × (Kind.Lone ≡ Kind.Lone)"))
+        right = theorems.mended(PAGE, self.top)
+        told = "`Far.stepped` of high::called is on no page that gate/believed prints, nor linked to a row of MODEL.md"
+        self.assertEqual(theorems.faults_of(right, self.top)[1], [told])
+        linked = right.replace("It is called.", "It is called, [`Far.stepped`](MODEL.md#steps).")
+        self.assertEqual(theorems.faults_of(linked, self.top)[1], [])
+
+    def test_each_law_stands_there_once(self):
+        self.write("crates/theorems/src/lib.rt", PARTS)
+        right = theorems.mended(PAGE, self.top)
+        self.assertEqual(theorems.faults_of(right, self.top)[1], ["the theorem theorems::shown stands there 0 times"])
+        right = theorems.mended(right.replace("Carried", "`theorems::shown`:\n\n```\n```\n\nCarried"), self.top)
+        self.assertEqual(theorems.faults_of(right, self.top)[1], [])
+
     def test_what_no_theorem_reaches(self):
         self.assertEqual([it.name for it in theorems.unreached(PAGE, World(self.top))], ["other", "bound", "Held", "Course", "told"])
-
 
     def test_marks(self):
         count, faults = theorems.marks_of(PAGE, self.top)

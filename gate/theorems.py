@@ -1,21 +1,24 @@
-"""docs/THEOREMS.md against the sources: the statements that it shows, the lines that one has to believe of each theorem, and of each
-file how many are its.
+"""docs/THEOREMS.md against the sources: the statements that it shows, and what one has to believe of each theorem.
 
-A statement stands between ``` below a line with the law or call, and behind a comma the clause, that it is of, and a colon.
-
-A row of the first table names calls in its third column, each with clauses behind a colon or with all; items are told apart by
-semicolons. The table whose first column is File is written from these rows: a column for each theorem, a row for each file.
+A theorem is a part of the page under a heading `## N. NAME`. A statement stands in it between ``` below a line with the law, and
+behind a comma the clause, that it is of, and a colon. What the part names by a path, each with clauses behind a colon or with all,
+carries the theorem. A line that begins with `Read: ` names definitions in the order in which they are read.
 """
 import re
 
-from believed import World, closure, definitions_of
+from believed import Definition, World, closure, definitions_of
 from crates import read
 from edited import text_of
 
 MARK = "nobody has to believe it."
+LAWS = "theorems"
 ITEM = re.compile(r"`(\w+(?:::\w+)+)`(?:: (`\w+`(?:(?:, | and )`\w+`)*))?")
-ROW = re.compile(r"\| (\d+) \|")
+PART = re.compile(r"^## (\d+)\. (.*?)(?=^## |\Z)", re.M | re.S)
 STATEMENT = re.compile(r"^(`([\w:]+)`(?:, `(\w+)`)?:\n\n```\n)(.*?)^```$", re.M | re.S)
+READ = re.compile(r"^Read: (.*?)\n(?:\n|\Z)", re.M | re.S)
+LINKED = re.compile(r"\[`([^`]+)`\]\(MODEL\.md(?:#[\w-]*)?\)")
+# words of the language, which no file brings in
+BUILT_IN = {":", "→", "λ", "×", "¬", "⊥", "record", "let", "in", "elim", "Type", "Unit"}
 
 
 def lines_of(definitions):
@@ -45,18 +48,21 @@ def place_of(world):
     return place
 
 
-def reached_by(world, cell):
-    """Returns the definitions and types that the calls of a cell reach."""
-    roots = [world.named(name, re.findall(r"\w+", clauses.replace(" and ", " "))) for name, clauses in ITEM.findall(cell)]
-    if not roots:
-        raise LookupError(f"no call is named in '{cell.strip()}'")
-    return closure(roots)[0]
+def parts_of(text):
+    """Returns the text of each theorem, by its number."""
+    return {found[1]: found[0] for found in PART.finditer(text)}
+
+
+def roots_of(world, part):
+    """Returns the contracts that a part names, each once."""
+    named = {(name, clauses): re.findall(r"\w+", clauses.replace(" and ", " ")) for name, clauses in ITEM.findall(part)}
+    return [world.named(name, clauses) for (name, _), clauses in named.items()]
 
 
 def unreached(text, world):
     """Returns the definitions that no theorem of the page reaches, file by file."""
-    reached = [reached_by(world, line.split(" | ")[2]) for line in text.split("\n") if ROW.match(line)]
-    return [it for it in definitions_of(world) if not any(it in found for found in reached)]
+    reached = closure([it for part in parts_of(text).values() for it in roots_of(world, part)])[0]
+    return [it for it in definitions_of(world) if it not in reached]
 
 
 def marks_of(text, top="."):
@@ -77,53 +83,61 @@ def marks_of(text, top="."):
     return len(files), faults
 
 
-def table_of(world, theorems):
-    """Returns the lines of the table of files, for theorems by their numbers."""
-    files = sorted({file for it in theorems.values() for file in it}, key=place_of(world))
-    rows = [[f"`{file[len('crates/'):]}`", *(str(it.get(file, "")) for it in theorems.values())] for file in files]
-    return [f"| {' | '.join(it)} |" for it in [["File", *theorems], ["---"] * (len(theorems) + 1), *rows]]
+def shown(contract):
+    """Returns the clauses of a contract as they stand in the source but for their brackets and margin, each below its name."""
+    texts = [re.sub(r"\n {0,8}", "\n    ", text[1:-1].strip()) for _, text in contract.clauses]
+    names = [f"-- {name}\n" if name and texts[1:] else "" for name, _ in contract.clauses]
+    return "\n".join(name + text for name, text in zip(names, texts))
 
 
 def statement_of(world, name, clause):
-    """Returns the lines of a contract, or of one clause of it, as they stand in the source but for their brackets and margin."""
-    clauses = world.named(name, [clause] if clause else []).lines[:-1]
-    return "\n".join(re.sub(r"\n *", "\n    ", it.strip("{} ").rstrip()) for it in clauses)
+    return shown(world.named(name, [clause] if clause else []))
 
 
 def mended(text, top="."):
-    """Returns the text of the page with the statements and the numbers that the sources give."""
+    """Returns the text of the page with the statements that the sources give."""
     world = World(top)
-    text = STATEMENT.sub(lambda it: f"{it[1]}{statement_of(world, it[2], it[3])}\n```", text)
-    return with_numbers(text, world)
+    return STATEMENT.sub(lambda it: f"{it[1]}{statement_of(world, it[2], it[3])}\n```", text)
 
 
-def with_numbers(text, world):
-    """Returns it with the numbers of both tables."""
-    theorems, lines, is_within = {}, [], False
-    for line in text.split("\n"):
-        if ROW.match(line):
-            cells = line.strip("| ").split(" | ")
-            number, theorem, calls = cells[:3]
-            theorems[number] = lines_of(reached_by(world, calls))
-            line = "| " + " | ".join([number, theorem, calls, *map(str, sums_of(theorems[number]))]) + " |"
-        if line.startswith("| File |"):
-            lines += table_of(world, theorems)
-            is_within = True
-        is_within = is_within and line.startswith("|")
-        lines += [] if is_within else [line]
-    return "\n".join(lines)
+def unknown_in(world, contract, linked):
+    """Returns the words of a statement that no definition, type or library of its page is behind."""
+    knows = world.files[contract.file].knows
+    said = Definition(contract.file, contract.name, [text for _, text in contract.clauses], contract.find, contract.bound)
+    return sorted(it for it in said.words if not it.isdigit() and it not in BUILT_IN | linked and not knows(it))
+
+
+def faults_of_part(world, part, linked):
+    """Yields what is wrong with the names of a theorem's part."""
+    for _, name, clause, _ in STATEMENT.findall(part):
+        for it in unknown_in(world, world.named(name, [clause] if clause else []), linked):
+            yield f"`{it}` of {name} is on no page that gate/believed prints, nor linked to a row of MODEL.md"
+    reached = {it.name for it in closure(roots_of(world, part))[0]}
+    for it in (word for line in READ.findall(part) for word in re.findall(r"`([^`]+)`", line)):
+        if it not in reached:
+            yield f"`{it}` is to be read for a theorem that doesn't reach it"
+
+
+def laws_of(world):
+    """Returns the theorems that stand in the sources."""
+    code = world.code([LAWS])
+    return [f"{LAWS}::{it}" for it in re.findall(r"^pub fn (\w+)", code.text, re.M)] if code else []
 
 
 def faults_of(text, top="."):
     """Returns how many things were looked at, and what is wrong, in words."""
+    world, linked, parts = World(top), {*LINKED.findall(text)}, parts_of(text)
     try:
         right = mended(text, top)
+        faults = [it for part in parts.values() for it in faults_of_part(world, part, linked)]
     except LookupError as error:
         return 1, [str(error)]
+    named = [name for _, name, _, _ in STATEMENT.findall(text)]
+    faults += [f"the theorem {it} stands there {named.count(it)} times" for it in laws_of(world) if named.count(it) != 1]
     old, new = text.split("\n"), right.split("\n")
-    faults = [f"by the sources it has '{shortened(it)}': gate/believed --write" for it in new if it not in old]
-    more = [f"by the sources it has no '{shortened(it)}': gate/believed --write" for it in old if it not in new]
-    return sum(it.startswith("| ") for it in new), faults or more
+    changed = [f"by the sources it has '{shortened(it)}': gate/believed --write" for it in new if it not in old]
+    changed = changed or [f"by the sources it has no '{shortened(it)}': gate/believed --write" for it in old if it not in new]
+    return len(named) + len(parts), faults + changed
 
 
 def shortened(line):

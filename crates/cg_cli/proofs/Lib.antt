@@ -4,11 +4,11 @@ mod ReplayRuns
 mod ReplayEnds
 mod ReplayReads
 pub mod CheckReports
-mod AdviseReports
-mod AdvisedTrees
+pub mod AdviseReports
+pub mod AdvisedTrees
 mod EachRead
-mod AuditStatus
-mod AuditOnce
+pub mod AuditStatus
+pub mod AuditOnce
 mod NamedReads
 mod AuditReports
 mod Once

@@ -69,7 +69,7 @@ all_report tree given texts =
     read_then (paths_read texts) (λ subtrees.
     read_then (tree_read tree) (λ st. pairs_found st (once same_user users) (once same_path subtrees))))
 
--- What a call that writes each pair as it is found answers, and has written by then. A status is that of all pairs, whose
+-- What a call that writes one pair after another answers, and has written by then. A status is that of all pairs, whose
 -- text is written. A failed write leaves a part of the text, and want of memory some of the pairs. Any other fault is the
 -- report's, and leaves nothing written.
 abbrev pub ReportsPairs : Result (List Listed) CliFault → Option (List ℕ) → Option (List ℕ) → Result ℕ CliFault → Type 0

@@ -1,5 +1,5 @@
 -- The lines of an escape are replayed one by one, and break the subtree.
-use Rattle.std.proofs.Common.{◌≡◌, ℕ, ◌+◌, ◌<◌, Bool, true, false, nat_lt, cond, not, List, [], ◌∷◌, ◌++◌, length, Option, Some, None, is_some, Result, Ok, Err, refl, ap, sym, ◌∙◌, subst, append_assoc, append-nil, true≢false, arith, codes, inl, inr}
+use Rattle.std.proofs.Common.{◌≡◌, ℕ, ◌+◌, ◌<◌, ◌≤◌, Bool, true, false, nat_lt, cond, not, List, [], ◌∷◌, ◌++◌, length, Option, Some, None, is_some, Result, Ok, Err, refl, ap, sym, ◌∙◌, subst, append_assoc, append-nil, true≢false, arith, codes, inl, inr}
 use Rattle.std.specs.List.{AllByRecursion}
 use Rattle.std.proofs.lemmas.Bool.{lt-ltb, le-ltb}
 use Rattle.std.proofs.lemmas.List.Elements.{All-nil}
@@ -44,9 +44,9 @@ use Rattle.cg_format.proofs.OneState.{paths_are_paths, pids_are_pids}
 use Rattle.cg_cli.specs.Faults.{lifted}
 use Rattle.cg_cli.specs.Arguments.{user_read, path_read}
 use Rattle.cg_cli.specs.May.{tree_read}
-use Rattle.cg_cli.specs.Reports.{Report, report_on}
+use Rattle.cg_cli.specs.Reports.{Said, Report, report_on}
 use Rattle.cg_cli.specs.Containment.{in_call, answer_status, answer_report, subtree_report, check_report}
-use Rattle.cg_cli.specs.Courses.{Course, Watched, state_of, on_course, course_from, verdict_status}
+use Rattle.cg_cli.specs.Courses.{Course, Unwatched, Watched, state_of, on_course, course_from, verdict_status}
 use Rattle.cg_cli.specs.Replays.{outcome_of, operation_read, with_front, lines_said, closed, course_read, replay_report}
 use Rattle.cg_escapes.specs.EscapeReplays.{AreLines, EndsBroken, IsReplayed}
 use Rattle.cg_cli.specs.declared.fault.CliFault.{CliFault}
@@ -57,9 +57,14 @@ use Rattle.cg_cli.proofs.CheckReports.{report_is, of_bytes}
 -- ---- operations whose lines are replayed
 
 -- where operations lead
-abbrev on_all : Course → Identity → List Op → Course
+abbrev pub on_all : Course → Identity → List Op → Course
 on_all course user [] = course
 on_all course user (op ∷ ops) = on_all (on_course course user op) user ops
+
+-- the lines of their outcomes
+abbrev pub said_of : Course → Identity → List Op → List ℕ
+said_of course user [] = []
+said_of course user (op ∷ ops) = outcome_text op (outcome_of (state_of course) user op) ++ said_of (on_course course user op) user ops
 
 -- a line that can be read
 line_is_read : (done : ℕ) (op : Op) → HasLine op → done < 65536 → operation_read done (spelling op) ≡ Ok op
@@ -78,24 +83,51 @@ line_and_lines : (line text : List ℕ) → (others : List ℕ) × (line ≡ oth
 line_and_lines line text one (inl none) = inr (one.0, ap (λ t. line ++ t) none ∙ append-nil line ∙ one.1)
 line_and_lines line text one (inr rest) = inr (line ++ rest.0, ap (λ t. line ++ t) rest.1 ∙ sym (append_assoc line rest.0 (10 ∷ [])))
 
--- each is answered by a line, and no fault is met
-all_said : (user : Identity) (ops : List Op) (course : Course) (done : ℕ) → AllByRecursion HasLine ops → done + length ops < 65536
-    → (text : List ℕ) × AreLines text
-    × (lines_said course user done (op_lines ops) ≡ record { text = text; ending = Ok (on_all course user ops) })
-all_said user [] course done all few = ([], inl refl, report_of_end course user done [] (All-nil _))
-all_said user (op ∷ ops) course done all few =
-    let rest = all_said user ops (on_course course user op) (done + 1) all.1 (omega (arith, few)) in
-    let outcome = outcome_of (state_of course) user op in
-    let said = outcome_text op outcome in (
-      said ++ rest.0,
-      line_and_lines said rest.0 (outcome_line op outcome) rest.1,
-      ap (lines_said course user done) (append_assoc (spelling op) (10 ∷ []) (op_lines ops))
-          ∙ report_of_line course user done (spelling op) (op_lines ops) (one_line op all.0.0)
-          ∙ ap (λ read. report_on read (λ op. with_front (outcome_text op (outcome_of (state_of course) user op))
-          (lines_said (on_course course user op) user (done + 1) (op_lines ops))))
-          (line_is_read done op all.0 (omega (arith, few)))
-          ∙ ap (with_front said) rest.2,
-    )
+are_lines : (user : Identity) (ops : List Op) (course : Course) → AreLines (said_of course user ops)
+are_lines user [] course = inl refl
+are_lines user (op ∷ ops) course =
+    line_and_lines _ _ (outcome_line op (outcome_of (state_of course) user op)) (are_lines user ops (on_course course user op))
+
+-- each is answered by a line, and behind them what follows is said
+pub said_before : (user : Identity) (ops : List Op) (course : Course) (done : ℕ) (rest : List ℕ) → AllByRecursion HasLine ops
+    → done + length ops ≤ 65536
+    → lines_said course user done (op_lines ops ++ rest)
+    ≡ with_front (said_of course user ops) (lines_said (on_all course user ops) user (done + length ops) rest)
+said_before user [] course done rest all few =
+    let none : done ≡ done + 0 = omega arith in ap (λ n. with_front [] (lines_said course user n rest)) none
+said_before user (op ∷ ops) course done rest all few =
+    let said = outcome_text op (outcome_of (state_of course) user op) in
+    let next = on_course course user op in
+    let more : (done + 1) + length ops ≡ done + length (op ∷ ops) = omega arith in
+    let tail = said_before user ops next (done + 1) rest all.1 (omega (arith, few)) in
+    ap (lines_said course user done)
+    (append_assoc (spelling op ++ 10 ∷ []) (op_lines ops) rest ∙ append_assoc (spelling op) (10 ∷ []) _)
+    ∙ report_of_line course user done (spelling op) (op_lines ops ++ rest) (one_line op all.0.0)
+    ∙ ap (λ read. report_on read (λ op. with_front (outcome_text op (outcome_of (state_of course) user op))
+    (lines_said (on_course course user op) user (done + 1) (op_lines ops ++ rest))))
+    (line_is_read done op all.0 (omega (arith, few)))
+    ∙ ap (with_front said) (tail ∙ ap (λ n. with_front (said_of next user ops) (lines_said (on_all next user ops) user n rest)) more)
+    ∙ fronts said (said_of next user ops) (lines_said (on_all next user ops) user (done + length (op ∷ ops)) rest)
+  where
+    fronts : {A : Type 0} (text other : List ℕ) (report : Said A)
+        → with_front text (with_front other report) ≡ with_front (text ++ other) report
+    fronts text other report = ap (λ all. record { text = all; ending = report.ending }) (sym (append_assoc text other report.text))
+
+-- and where none follows no fault is met
+pub all_said : (user : Identity) (ops : List Op) (course : Course) → HaveLines ops
+    → lines_said course user 0 (op_lines ops) ≡ record { text = said_of course user ops; ending = Ok (on_all course user ops) }
+all_said user ops course lines =
+    ap (lines_said course user 0) (sym (append-nil (op_lines ops)))
+    ∙ said_before user ops course 0 [] lines.0 (omega (arith, lines.1))
+    ∙ ap (with_front (said_of course user ops)) (report_of_end (on_all course user ops) user (0 + length ops) [] (All-nil _))
+    ∙ ap (λ text. record { text = text; ending = Ok (on_all course user ops) }) (append-nil (said_of course user ops))
+
+-- what is said is the same of a course that isn't watched
+said_unwatched : (user : Identity) (ops : List Op) (run : Progress)
+    → said_of (Watched run) user ops ≡ said_of (Unwatched run.state) user ops
+said_unwatched user [] run = refl
+said_unwatched user (op ∷ ops) run =
+    ap (λ rest. outcome_text op (outcome_of run.state user op) ++ rest) (said_unwatched user ops (stepped run user op))
 
 -- ---- the verdict
 
@@ -125,7 +157,7 @@ broken_of (Broken steps clause) never = (steps, clause, refl)
 
 -- ---- what was read
 
-report_ok : {A : Type 0} (read : Result A CliFault) (report : A → Report) (status : ℕ) → (report_on read report).ending ≡ Ok status
+pub report_ok : {A : Type 0} (read : Result A CliFault) (report : A → Report) (status : ℕ) → (report_on read report).ending ≡ Ok status
     → (x : A) × (read ≡ Ok x) × ((report x).ending ≡ Ok status)
 report_ok (Ok x) report status is = (x, refl, is)
 report_ok (Err fault) report status is = cc
@@ -135,12 +167,11 @@ tree_ok : (read : Result State TreeFault) (st : State)
 tree_ok (Ok one) st is = let same : one ≡ st = cc in ap Ok same
 tree_ok (Err fault) st is = cc
 
-found_escapes : (found : Result Answer CheckFault) (one : Answer) (ops : List Op) → in_call found ≡ Ok one → one ≡ Escapes ops
-    → found ≡ Ok (Escapes ops)
-found_escapes (Ok some) one ops is escapes = let same : some ≡ one = cc in ap Ok (same ∙ escapes)
-found_escapes (Err fault) one ops is escapes = cc
+pub found_is : {A : Type 0} (found : Result A CheckFault) (one : A) → in_call found ≡ Ok one → found ≡ Ok one
+found_is (Ok some) one is = cc
+found_is (Err fault) one is = cc
 
-status_is : (status other : ℕ) → ◌≡◌ {A = Result ℕ CliFault} (Ok status) (Ok other) → status ≡ other
+pub status_is : (status other : ℕ) → ◌≡◌ {A = Result ℕ CliFault} (Ok status) (Ok other) → status ≡ other
 status_is status other is = cc
 
 escapes_of : (found : Answer) → answer_status found ≡ 1 → (ops : List Op) × (found ≡ Escapes ops)
@@ -148,7 +179,8 @@ escapes_of Contained is = cc
 escapes_of (Escapes ops) is = (ops, refl)
 escapes_of (Unsettled failed) is = cc
 
-unfaulted : (fault : Option CheckFault) (stated found : Answer) → unless_fault fault stated ≡ Ok found → (fault ≡ None) × (stated ≡ found)
+pub unfaulted : {A : Type 0} (fault : Option CheckFault) (stated found : A) → unless_fault fault stated ≡ Ok found
+    → (fault ≡ None) × (stated ≡ found)
 unfaulted None stated found is = (refl, cc)
 unfaulted (Some fault) stated found is = cc
 
@@ -178,6 +210,46 @@ read_by named tree =
       | Err fault ↦ Err fault
     ]
 
+-- ---- a watched replay
+
+module _ (tree : Reading) (uid : ℕ) (gids : List ℕ) (subtree : List ℕ) (user : Identity) (path : Names) (st : State) (ops : List Op)
+    (of_user : user_read uid gids ≡ Ok user) (of_path : path_read subtree ≡ Ok path) (of_text : tree ≡ Ok st)
+    (sub : IsSubtree st path) (lines : HaveLines ops) where
+  row : (row : Cgroup) × (row_at st path ≡ Some row)
+  row = row_of (row_at st path) sub.0
+
+  abbrev begun : Progress
+  begun = record { subtree = path; original = row.0; state = st; steps = 0; verdict = verdict st [] path }
+
+  begins : course_from st (Some path) ≡ Ok (Watched begun)
+  begins = λ i. course_by st path (sub.1 i) (row.1 i)
+
+  course_is : course_read (Some subtree) tree ≡ Ok (Watched begun)
+  course_is = ap (λ named. read_by named tree) of_path ∙ ap (read_by (Ok path)) of_text ∙ begins
+
+  run : RunsOn begun user ops st []
+  run = runs_on user ops begun st [] (record { original = row.1; state = refl; steps = refl; verdict = refl })
+
+  found : run.to.verdict ≡ verdict st (by_user user ops) path
+  found = run.run_of.verdict ∙ ap (verdict st (by_user user ops)) run.subtree
+
+  -- behind the lines stands the verdict
+  pub watched : replay_report tree uid gids (Some subtree) (op_lines ops) ≡ record {
+    text = said_of (Unwatched st) user ops ++ verdict_text (verdict st (by_user user ops) path);
+    ending = Ok (verdict_status (verdict st (by_user user ops) path));
+  }
+  watched =
+      ap
+      (λ u. closed (report_on u (λ user. report_on (course_read (Some subtree) tree) (λ course. lines_said course user 0 (op_lines ops)))))
+      of_user
+      ∙ ap (λ c. closed (report_on c (λ course. lines_said course user 0 (op_lines ops)))) course_is
+      ∙ ap closed (all_said user ops (Watched begun) lines)
+      ∙ ap (λ (c : Course). closed (record { text = said_of (Watched begun) user ops; ending = Ok c })) run.course
+      ∙ (λ i. record {
+        text = said_unwatched user ops begun i ++ verdict_text (found i);
+        ending = Ok (verdict_status (found i));
+      })
+
 -- ---- the whole
 
 module _ (text : List ℕ) (tree : Reading) (is_read : IsReading text tree) (uid : ℕ) (gids : List ℕ) (subtree : List ℕ)
@@ -203,50 +275,19 @@ module _ (text : List ℕ) (tree : Reading) (is_read : IsReading text tree) (uid
       ap (λ (r : Report). r.text) (report_is tree uid gids subtree user path st of_user of_path of_text)
       ∙ ap (λ found. (report_on (in_call found) (answer_report path)).text) is
 
-  row : (row : Cgroup) × (row_at st path ≡ Some row)
-  row = row_of (row_at st path) sub.0
-
-  abbrev begun : Progress
-  begun = record { subtree = path; original = row.0; state = st; steps = 0; verdict = verdict st [] path }
-
-  begins : course_from st (Some path) ≡ Ok (Watched begun)
-  begins = λ i. course_by st path (sub.1 i) (row.1 i)
-
-  course_is : course_read (Some subtree) tree ≡ Ok (Watched begun)
-  course_is = ap (λ named. read_by named tree) of_path ∙ ap (read_by (Ok path)) of_text ∙ begins
-
-  said : (lines : List ℕ) × AreLines lines
-      × (lines_said (Watched begun) user 0 (op_lines ops) ≡ record { text = lines; ending = Ok (on_all (Watched begun) user ops) })
-  said = all_said user ops (Watched begun) 0 lines.0 (omega (arith, lines.1))
-
-  run : RunsOn begun user ops st []
-  run = runs_on user ops begun st [] (record { original = row.1; state = refl; steps = refl; verdict = refl })
-
-  found : run.to.verdict ≡ verdict st (by_user user ops) path
-  found = run.run_of.verdict ∙ ap (verdict st (by_user user ops)) run.subtree
-
-  broken : (steps : ℕ) × (clause : Clause) × (run.to.verdict ≡ Broken steps clause)
-  broken = broken_of run.to.verdict (λ kept. escape-broken st user path ops stated.1 (sym found ∙ kept))
-
-  report : replay_report tree uid gids (Some subtree) (op_lines ops)
-      ≡ record { text = said.0 ++ verdict_text run.to.verdict; ending = Ok (verdict_status run.to.verdict) }
-  report =
-      ap
-      (λ u. closed (report_on u (λ user. report_on (course_read (Some subtree) tree) (λ course. lines_said course user 0 (op_lines ops)))))
-      of_user
-      ∙ ap (λ c. closed (report_on c (λ course. lines_said course user 0 (op_lines ops)))) course_is
-      ∙ ap closed said.2
-      ∙ ap (λ (c : Course). closed (record { text = said.0; ending = Ok c })) run.course
+  broken : (steps : ℕ) × (clause : Clause) × (verdict st (by_user user ops) path ≡ Broken steps clause)
+  broken = broken_of (verdict st (by_user user ops) path) (λ kept. escape-broken st user path ops stated.1 kept)
 
   replayed : EndsBroken (replay_report tree uid gids (Some subtree) (op_lines ops))
-  replayed = record {
-    front = said.0;
-    before = said.1;
-    steps = broken.0;
-    clause = broken.1;
-    text = ap (λ (r : Report). r.text) report ∙ ap (λ v. said.0 ++ verdict_text v) broken.2;
-    ending = ap (λ (r : Report). r.ending) report ∙ ap (λ v. Ok (verdict_status v)) broken.2;
-  }
+  replayed =
+      let report = watched tree uid gids subtree user path st ops of_user of_path of_text sub lines in record {
+        front = said_of (Unwatched st) user ops;
+        before = are_lines user ops (Unwatched st);
+        steps = broken.0;
+        clause = broken.1;
+        text = ap (λ (r : Report). r.text) report ∙ ap (λ v. said_of (Unwatched st) user ops ++ verdict_text v) broken.2;
+        ending = ap (λ (r : Report). r.ending) report ∙ ap (λ v. Ok (verdict_status v)) broken.2;
+      }
 
   pub replays_broken : IsReplayed tree uid gids subtree ops
   replays_broken = record {
@@ -269,5 +310,5 @@ escapes_replayed text tree uid gids subtree is_read is =
     let ops = escapes_of one.0 status in (
       ops.0,
       replays_broken text tree is_read uid gids subtree user.0 path.0 state.0 ops.0 user.1 path.1 (tree_ok tree state.0 state.1)
-          (found_escapes (checked state.0 user.0 path.0) one.0 ops.0 one.1 ops.1),
+          (found_is (checked state.0 user.0 path.0) one.0 one.1 ∙ ap Ok ops.1),
     )

@@ -6,4 +6,4 @@ pub mod ReadCarried
 pub mod FormBack
 pub mod SaidBack
 pub mod DocumentBack
-mod Spelling
+pub mod Spelling

@@ -19,7 +19,7 @@ use Rattle.cg_cli.specs.declared.fault.CliFault.{CliFault}
 use Rattle.cg_cli.specs.declared.fault.CliFault.TheVariants.{Read, Write, NoMemory}
 use Rattle.commands.specs.Requests.{Files, IsUnread, AuditSays, OnTree, replay_said, ReplaysOver, CarriesOut}
 
-Appends-Keeps : (old mid new : Option (List ℕ)) (bs : List ℕ) → Appends old mid bs → Keeps mid new → Appends old new bs
+pub Appends-Keeps : (old mid new : Option (List ℕ)) (bs : List ℕ) → Appends old mid bs → Keeps mid new → Appends old new bs
 Appends-Keeps None mid new bs a k = tt
 Appends-Keeps (Some xs) None new bs a k = absurd a
 Appends-Keeps (Some xs) (Some ys) None bs a k = absurd k

@@ -1,4 +1,4 @@
-mod BufferedLaws
+pub mod BufferedLaws
 mod FaultLaws
 mod ProgramLaws
 mod RequestLaws

@@ -1,0 +1,5 @@
+mod StatusLaws
+mod ListedLaws
+mod ReplayedLaws
+mod MayLaws
+mod ProgramLaws

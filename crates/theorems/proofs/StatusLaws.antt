@@ -1,0 +1,139 @@
+-- What the status of a report says of what was asked.
+use Rattle.std.proofs.Common.{◌≡◌, ◌≢◌, ℕ, List, [], ◌∷◌, Option, Some, None, Ok, refl, ap, sym, ◌∙◌}
+use Rattle.std.specs.Prelude.{unwrap_or}
+use Rattle.std.specs.List.{AllByRecursion, flat_map}
+use Rattle.cg_cgroup.specs.Paths.{Names, path_at, same_path}
+use Rattle.cg_cgroup.specs.Users.{user_of}
+use Rattle.cg_cgroup.specs.Identity.{Identity}
+use Rattle.cg_model.specs.States.{State}
+use Rattle.cg_model.specs.WellFormed.{IsWellFormed}
+use Rattle.cg_model.specs.Clauses.{first}
+use Rattle.cg_model.specs.Held.{by_user, IsContained}
+use Rattle.cg_model.specs.Throughout.{IsHeldThroughout}
+use Rattle.cg_model.specs.Answers.{answer}
+use Rattle.cg_model.specs.AllAnswers.{pairs_from, all_answers}
+use Rattle.cg_model.specs.Checks.{subtree_faults, checked, all_checked}
+use Rattle.cg_model.specs.Several.{AreContained}
+use Rattle.cg_model.specs.Listed.{Listed, listed}
+use Rattle.cg_model.specs.Once.{once}
+use Rattle.cg_model.specs.declared.operation.Op.{Op}
+use Rattle.cg_model.specs.declared.answer.Answer.{Answer}
+use Rattle.cg_model.specs.declared.answer.Answer.TheVariants.{Contained, Escapes, Unsettled}
+use Rattle.cg_model.specs.declared.answer.AllAnswer.{AllAnswer}
+use Rattle.cg_model.specs.declared.answer.AllAnswer.TheVariants as all
+use Rattle.cg_laws.proofs.RunLaws.{contained-guarded}
+use Rattle.cg_laws.proofs.ThroughoutLaws.{contained-is_throughout}
+use Rattle.cg_check.proofs.Checking.{no_fault, answer-guarded}
+use Rattle.cg_check.proofs.AllContained.{are-contained}
+use Rattle.cg_check.proofs.ListedLaws.{all-unlisted}
+use Rattle.cg_cli.specs.Reports.{Report, report_on}
+use Rattle.cg_cli.specs.Arguments.{user_read, path_read}
+use Rattle.cg_cli.specs.May.{tree_read}
+use Rattle.cg_cli.specs.Containment.{in_call, answer_status, answer_report, subtree_report, check_report}
+use Rattle.cg_cli.specs.Audits.{users_read, paths_read, audit_status, audit_answer_report, pairs_report, audit_report}
+use Rattle.cg_cli.specs.Once.{same_user}
+use Rattle.cg_cli.specs.AllPairs.{read_then, pairs_found, all_report, UnlistedAreContained}
+use Rattle.cg_cli.specs.Advising.{lines_report, all_pairs, advised as advice_of, advice_report, advise_report}
+use Rattle.cg_advice.specs.AdviceLines.{advice_lines}
+use Rattle.cg_cli.proofs.AdviseReports.{contained-unadvised}
+use Rattle.cg_cli.proofs.AuditStatus.{IsNamed, named, status_is_contained}
+use Rattle.cg_cli.proofs.AuditOnce.{same_user-is, some_once, contained_once}
+use Rattle.cg_cli.proofs.CheckReports.{of_bytes}
+use Rattle.cg_escapes.proofs.EscapeReplays.{report_ok, found_is, status_is, unfaulted}
+
+-- ---- one user
+
+zero_status : (found : Answer) → answer_status found ≡ 0 → found ≡ Contained
+zero_status Contained is = refl
+zero_status (Escapes ops) is = cc
+zero_status (Unsettled failed) is = cc
+
+module _ (st : State) (uid : ℕ) (gids : List ℕ) (user : Identity) (word : List ℕ) (subtree : Names) (formed : IsWellFormed st)
+    (of_user : user_of uid gids ≡ Some user) (of_path : path_at word ≡ Some subtree)
+    (is : (check_report (Ok st) uid gids word).ending ≡ Ok 0) where
+  pub contained_by_status : IsContained st user subtree
+  contained_by_status =
+      let who =
+      report_ok (user_read uid gids)
+      (λ user. report_on (path_read word) (λ path. report_on (tree_read (Ok st)) (λ st. subtree_report st user path))) 0 is in
+      let path = report_ok (path_read word) (λ path. report_on (tree_read (Ok st)) (λ st. subtree_report st who.0 path)) 0 who.2 in
+      let one = report_ok (in_call (checked st who.0 path.0)) (answer_report path.0) 0 path.2 in
+      let contained = zero_status one.0 (status_is (answer_status one.0) 0 one.2) in
+      let stated =
+      unfaulted (first (subtree_faults st path.0)) (answer st who.0 path.0) Contained
+      (found_is (checked st who.0 path.0) one.0 one.1 ∙ ap Ok contained) in
+      of_bytes (Ok st) uid gids word who.0 path.0 st who.1 path.1 refl IsContained
+      (contained-guarded st who.0 path.0 formed (no_fault st path.0 (sym stated.0)) (answer-guarded st who.0 path.0 stated.1))
+      st user subtree refl of_user of_path
+
+  pub throughout_by_status : (ops : List Op) → IsHeldThroughout st (by_user user ops) subtree
+  throughout_by_status = (contained-is_throughout st user subtree).0 contained_by_status
+
+-- ---- several users
+
+-- no pair is told as contained
+no_pairs : (pairs : List AllAnswer) → AllByRecursion IsNamed pairs → unwrap_or (first pairs) all.Contained ≡ all.Contained
+    → first pairs ≡ None
+no_pairs [] each none = refl
+no_pairs (pair ∷ pairs) each none = absurd (each.0 (ap audit_status none))
+
+module _ (st : State) (given : List (ℕ × List ℕ)) (words : List (List ℕ)) (users : List Identity) (subtrees : List Names)
+    (formed : IsWellFormed st) (of_users : users_read given ≡ Ok users) (of_paths : paths_read words ≡ Ok subtrees) where
+  audit_is : audit_report (Ok st) given words ≡ pairs_report st users subtrees
+  audit_is =
+      ap (λ u. report_on u (λ users. report_on (paths_read words) (λ subtrees. pairs_report st users subtrees))) of_users
+      ∙ ap (λ p. report_on p (λ subtrees. pairs_report st users subtrees)) of_paths
+
+  pub all_contained_by_status : users ≢ [] → (audit_report (Ok st) given words).ending ≡ Ok 0 → AreContained st users subtrees
+  all_contained_by_status some is =
+      let one =
+      report_ok (in_call (all_checked st users subtrees)) (audit_answer_report users subtrees) 0
+      (ap (λ (r : Report). r.ending) (sym audit_is) ∙ is) in
+      let found = found_is (all_checked st users subtrees) one.0 one.1 in
+      let contained = status_is_contained st users subtrees one.0 found (status_is (audit_status one.0) 0 one.2) in
+      let stated =
+      unfaulted (first (flat_map (subtree_faults st) subtrees)) (all_answers st users subtrees) all.Contained
+      (found ∙ ap Ok contained) in
+      are-contained st users subtrees stated.0 (λ _. formed)
+      (no_pairs (pairs_from st 0 users subtrees) (named st 0 users subtrees) stated.1) some
+
+  listing_is : all_report (Ok st) given words ≡ pairs_found st (once same_user users) (once same_path subtrees)
+  listing_is =
+      ap (λ u. read_then u (λ users. read_then (paths_read words)
+      (λ subtrees. pairs_found st (once same_user users) (once same_path subtrees))))
+      of_users
+      ∙ ap (λ p. read_then p (λ subtrees. pairs_found st (once same_user users) (once same_path subtrees))) of_paths
+
+  pub pairs_by_report : (pairs : List Listed) → all_report (Ok st) given words ≡ Ok pairs
+      → (pairs ≡ listed st (once same_user users) (once same_path subtrees))
+      × UnlistedAreContained st (once same_user users) (once same_path subtrees)
+  pairs_by_report pairs is =
+      let stated =
+      unfaulted (first (flat_map (subtree_faults st) (once same_path subtrees)))
+      (listed st (once same_user users) (once same_path subtrees)) pairs
+      (found_is _ pairs (sym listing_is ∙ is)) in
+      (sym stated.1, all-unlisted st (once same_user users) (once same_path subtrees) stated.0 (λ _. formed))
+
+  advice_is : advise_report (Ok st) given words ≡ advice_report st (once same_user users) (once same_path subtrees)
+  advice_is =
+      ap (λ u. report_on u (λ users. report_on (paths_read words)
+      (λ subtrees. advice_report st (once same_user users) (once same_path subtrees))))
+      of_users
+      ∙ ap (λ p. report_on p (λ subtrees. advice_report st (once same_user users) (once same_path subtrees))) of_paths
+
+  pub all_contained_by_advice : users ≢ [] → (advise_report (Ok st) given words).ending ≡ Ok 0 → AreContained st users subtrees
+  all_contained_by_advice some is =
+      let us = once same_user users in
+      let ss = once same_path subtrees in
+      let one =
+      report_ok (in_call (advice_of st us ss)) lines_report 0 (ap (λ (r : Report). r.ending) (sym advice_is) ∙ is) in
+      let stated =
+      unfaulted (first (flat_map (subtree_faults st) ss)) (advice_lines st (all_pairs us ss)) one.0
+      (found_is (advice_of st us ss) one.0 one.1) in
+      contained_once users subtrees st
+      (contained-unadvised st ss stated.0 us (λ _. formed) (sym (stated.1 ∙ no_lines one.0 one.2))
+      (some_once same_user same_user-is users some))
+    where
+      no_lines : (found : Option (List ℕ)) → (lines_report found).ending ≡ Ok 0 → found ≡ None
+      no_lines None is = refl
+      no_lines (Some lines) is = cc

@@ -1,0 +1,13 @@
+use Rattle.cg_advice.proofs.Advising.{is_advised, opens-nothing}
+use Rattle.cg_cli.proofs.AdvisedTrees.{contained-advised}
+use Rattle.theorems.proofs.StatusLaws.{all_contained_by_advice}
+use Rattle.theorems.proofs.advice.Goals as goal
+
+pub returns : goal.returns
+returns c = record {
+  contained = contained-advised;
+  opens_nothing = opens-nothing;
+  no_more = is_advised;
+  bytes = λ text st given words users subtrees of_text of_users of_paths.
+      all_contained_by_advice st given words users subtrees of_text.says.formed of_users of_paths;
+}

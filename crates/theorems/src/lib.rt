@@ -1,0 +1,210 @@
+//! The theorems of docs/THEOREMS.md, in the words of the model and of the formats. The contract of each function is a theorem; none
+//! does anything. Those of a tree say first what holds of a state, and then, as `bytes`, what a report on a text says of it.
+#![tactic(auto)]
+
+ghost use Rattle.std.specs.Prelude.{◌≡◌, ◌≢◌, ◌↔◌, ◌≤◌, ℕ, ◌+◌, false, List, [], ◌∷◌, ◌++◌, length, codes, Option, Some, None, Result, Ok, Err};
+ghost use Rattle.std.specs.List.{All, Contains};
+ghost use Rattle.std.specs.Io.KnownBytes.{Appends};
+ghost use Rattle.cg_cgroup.specs.Paths.{Names, path_at, same_path};
+ghost use Rattle.cg_cgroup.specs.Users.{IsUser, user_of};
+ghost use Rattle.cg_cgroup.specs.Identity.{Identity};
+ghost use Rattle.cg_model.specs.States.{State};
+ghost use Rattle.cg_model.specs.WellFormed.{IsWellFormed};
+ghost use Rattle.cg_model.specs.Bars.{bars};
+ghost use Rattle.cg_model.specs.Steps.{Deed, after_all};
+ghost use Rattle.cg_model.specs.Verdicts.{verdict};
+ghost use Rattle.cg_model.specs.Held.{IsHeld, by_user, IsContained, AreBy};
+ghost use Rattle.cg_model.specs.Throughout.{IsHeldThroughout};
+ghost use Rattle.cg_model.specs.Guards.{GuardsHold, IsSubtree};
+ghost use Rattle.cg_model.specs.Strangers.{GuardsHoldForAll, OnlyTheseOpen, IsOfStranger};
+ghost use Rattle.cg_model.specs.Several.{AreContained};
+ghost use Rattle.cg_model.specs.Tries.{tries};
+ghost use Rattle.cg_model.specs.Answers.{answer};
+ghost use Rattle.cg_model.specs.Once.{once};
+ghost use Rattle.cg_model.specs.Listed.{Listed, listed, unlisted};
+ghost use Rattle.cg_model.specs.Mends.{Pair, advised};
+ghost use Rattle.cg_model.specs.Advised.{IsAdvised, AreCountable};
+ghost use Rattle.cg_model.specs.declared.answer.Answer.TheVariants.{Contained, Escapes};
+ghost use Rattle.cg_model.specs.declared.operation.Op.{Op};
+ghost use Rattle.cg_model.specs.declared.operation.Op.TheVariants.{Move};
+ghost use Rattle.cg_model.specs.declared.outcome.Outcome.TheVariants.{Refused};
+ghost use Rattle.cg_model.specs.declared.outcome.Refusal.{Refusal};
+ghost use Rattle.cg_model.specs.declared.verdict.Clause.{Clause};
+ghost use Rattle.cg_model.specs.declared.verdict.Verdict.TheVariants.{Broken};
+ghost use Rattle.cg_lines.specs.LineReading.{operation_at};
+ghost use Rattle.cg_lines.specs.Outcomes.{outcome_text};
+ghost use Rattle.cg_report.specs.AnswerLines.{op_lines};
+ghost use Rattle.cg_report.specs.VerdictLines.{verdict_text};
+ghost use Rattle.cg_format.specs.TreeTexts.{longest_text, document_of};
+ghost use Rattle.cg_format.specs.TextOf.{IsTextOf};
+ghost use Rattle.cg_format.specs.TextFaults.{text_faults};
+ghost use Rattle.cg_format.specs.Readings.{Reading, IsReading};
+ghost use Rattle.cg_print.specs.Documents.{tree_document, IsSpelled};
+ghost use Rattle.cg_print.specs.Carried.{IsKept, IsCarried};
+ghost use Rattle.cg_cli.specs.Reports.{Report};
+ghost use Rattle.cg_cli.specs.Arguments.{user_read, pid_read, path_read};
+ghost use Rattle.cg_cli.specs.May.{may_report};
+ghost use Rattle.cg_cli.specs.Courses.{verdict_status};
+ghost use Rattle.cg_cli.specs.Replays.{is_newline, longest_line, outcome_of, replay_report};
+ghost use Rattle.cg_cli.specs.Containment.{check_report};
+ghost use Rattle.cg_cli.specs.Audits.{users_read, paths_read, audit_report};
+ghost use Rattle.cg_cli.specs.Once.{same_user};
+ghost use Rattle.cg_cli.specs.AllPairs.{all_report, UnlistedAreContained};
+ghost use Rattle.cg_cli.specs.Advising.{all_pairs, advise_report, IsAdvisable, AreNamed};
+ghost use Rattle.cg_cli.specs.declared.fault.CliFault.{CliFault};
+ghost use Rattle.cg_cli.specs.declared.fault.CliFault.TheVariants.{Line};
+ghost use Rattle.cg_lines.specs.declared.lines.fault.LineFault.TheVariants.{BadWord};
+ghost use Rattle.cg_escapes.specs.EscapeLines.{HaveLines};
+ghost use Rattle.cg_escapes.specs.EscapeReplays.{IsReplayed};
+ghost use Rattle.arguments.specs.Words.{Makes};
+ghost use Rattle.arguments.specs.declared.request.Check.{Check};
+ghost use Rattle.arguments.specs.declared.request.Request.{Request};
+ghost use Rattle.arguments.specs.declared.request.Request.TheVariants as request;
+ghost use Rattle.commands.specs.Requests.{Files, source, name_of};
+ghost use Rattle.commands.specs.Runs.{RunsTo};
+ghost use Rattle.streams.specs.declared.write.WriteFailed.{WriteFailed};
+
+/// Where the guards of a subtree hold for a user it is contained against them: whatever they do, in whatever order, nothing breaks it.
+/// Where `check` ends with status 0 on a text, the subtree is contained in the state that the text has.
+pub fn one_user()
+    ensures states { (st : State) (user : Identity) (subtree : Names)
+        → IsWellFormed st → IsSubtree st subtree → GuardsHold st user subtree → IsContained st user subtree }
+    ensures bytes { (text : List ℕ) (st : State) (uid : ℕ) (gids : List ℕ) (user : Identity) (word : List ℕ) (subtree : Names)
+        → IsTextOf st text → user_of uid gids ≡ Some user → path_at word ≡ Some subtree
+        → (check_report (Ok st) uid gids word).ending ≡ Ok 0 → IsContained st user subtree }
+{}
+
+/// That a subtree is held over a run is the same said of the run's states and steps one by one, and so it is contained against a
+/// user exactly where this is so over every list of their operations.
+pub fn held_is_every_state_and_step()
+    ensures held { (st : State) (deeds : List Deed) (subtree : Names)
+        → IsHeld st deeds subtree ↔ IsHeldThroughout st deeds subtree }
+    ensures contained { (st : State) (user : Identity) (subtree : Names)
+        → IsContained st user subtree ↔ ((ops : List Op) → IsHeldThroughout st (by_user user ops) subtree) }
+    ensures bytes { (text : List ℕ) (st : State) (uid : ℕ) (gids : List ℕ) (user : Identity) (word : List ℕ) (subtree : Names) (ops : List Op)
+        → IsTextOf st text → user_of uid gids ≡ Some user → path_at word ≡ Some subtree
+        → (check_report (Ok st) uid gids word).ending ≡ Ok 0 → IsHeldThroughout st (by_user user ops) subtree }
+{}
+
+/// Where the guards of a subtree hold for each of some users it is held over every run of theirs, and they hold in every state on the
+/// way; and where others act too, none of these users is the first to break it. Where `audit` ends with status 0 on a text, this is so
+/// of all its subtrees.
+pub fn several_users()
+    ensures held { (st : State) (users : List Identity) (subtree : Names) (deeds : List Deed)
+        → IsWellFormed st → IsSubtree st subtree → users ≢ [] → GuardsHoldForAll st users subtree → AreBy users deeds
+        → IsHeld st deeds subtree }
+    ensures again { (st : State) (users : List Identity) (subtree : Names) (deeds : List Deed)
+        → IsWellFormed st → IsSubtree st subtree → GuardsHoldForAll st users subtree → AreBy users deeds
+        → IsSubtree (after_all st deeds) subtree × GuardsHoldForAll (after_all st deeds) users subtree }
+    ensures strangers { (st : State) (users : List Identity) (subtree : Names) (deeds : List Deed) (steps : ℕ) (clause : Clause)
+        → IsWellFormed st → IsSubtree st subtree → users ≢ [] → GuardsHoldForAll st users subtree
+        → OnlyTheseOpen users st deeds subtree → verdict st deeds subtree ≡ Broken steps clause
+        → IsOfStranger users deeds steps }
+    ensures bytes { (text : List ℕ) (st : State) (given : List (ℕ × List ℕ)) (words : List (List ℕ)) (users : List Identity) (subtrees : List Names)
+        → IsTextOf st text → users_read given ≡ Ok users → paths_read words ≡ Ok subtrees → users ≢ []
+        → (audit_report (Ok st) given words).ending ≡ Ok 0 → AreContained st users subtrees }
+{}
+
+/// The pairs of some users and subtrees that are listed are those that aren't contained, and a subtree is contained against the users
+/// with whom it isn't listed, all of them together. What `audit --all` writes are these pairs.
+pub fn all_pairs()
+    ensures listed { (st : State) (users : List Identity) (subtrees : List Names) (pair : Listed)
+        → Contains (listed st users subtrees) pair ↔ (Contains users pair.user × Contains subtrees pair.subtree
+        × (pair.found ≡ answer st pair.user pair.subtree) × (pair.found ≢ Contained)) }
+    ensures unlisted { (st : State) (users : List Identity) (subtree : Names)
+        → IsWellFormed st → IsSubtree st subtree → unlisted st users subtree ≢ []
+        → AreContained st (unlisted st users subtree) (subtree ∷ []) }
+    ensures bytes { (text : List ℕ) (st : State) (given : List (ℕ × List ℕ)) (words : List (List ℕ)) (users : List Identity) (subtrees : List Names) (pairs : List Listed)
+        → IsTextOf st text → users_read given ≡ Ok users → paths_read words ≡ Ok subtrees → all_report (Ok st) given words ≡ Ok pairs
+        → (pairs ≡ listed st (once same_user users) (once same_path subtrees))
+        × UnlistedAreContained st (once same_user users) (once same_path subtrees) }
+{}
+
+/// An escape is one of the tries and breaks the subtree. Where `check` ends with status 1 on a text, so do the lines that it prints,
+/// when they are replayed.
+pub fn escapes_are_replayed()
+    ensures tried { (st : State) (user : Identity) (subtree : Names) (ops : List Op)
+        → answer st user subtree ≡ Escapes ops → Contains (tries st user subtree) ops }
+    ensures broken { (st : State) (user : Identity) (subtree : Names) (ops : List Op)
+        → answer st user subtree ≡ Escapes ops → ¬ (IsHeld st (by_user user ops) subtree) }
+    ensures bytes { (text : List ℕ) (tree : Reading) (uid : ℕ) (gids : List ℕ) (subtree : List ℕ)
+        → IsReading text tree → (check_report tree uid gids subtree).ending ≡ Ok 1
+        → (ops : List Op) × IsReplayed tree uid gids subtree ops }
+{}
+
+/// With the changes of the advice made the subtrees are contained against the users, all of them together; nobody gets in by them, and
+/// nothing else differs. Where `advise` ends with status 0 on a text they are contained as they are.
+pub fn advice()
+    ensures contained { (st : State) (pairs : List Pair) (users : List Identity) (subtrees : List Names)
+        → IsWellFormed st → All (IsAdvisable st) pairs → AreNamed pairs users subtrees → users ≢ []
+        → AreContained (advised st pairs) users subtrees }
+    ensures opens_nothing { (st : State) (pairs : List Pair) (other : Identity) (path : Names)
+        → IsUser other → GuardsHold st other path → GuardsHold (advised st pairs) other path }
+    ensures no_more { (st : State) (pairs : List Pair) → IsAdvised st (advised st pairs) pairs }
+    ensures bytes { (text : List ℕ) (st : State) (given : List (ℕ × List ℕ)) (words : List (List ℕ)) (users : List Identity) (subtrees : List Names)
+        → IsTextOf st text → users_read given ≡ Ok users → paths_read words ≡ Ok subtrees → users ≢ []
+        → (advise_report (Ok st) given words).ending ≡ Ok 0
+        → AreContained st users subtrees }
+{}
+
+/// A text has a state exactly where it has no fault, and one at most. What is written of a state is one text, and it has that state
+/// where a text can carry it and this one isn't too long.
+pub fn texts()
+    ensures faultless { (bytes : List ℕ) (st : State) → IsTextOf st bytes → text_faults bytes ≡ [] }
+    ensures state { (bytes : List ℕ) → text_faults bytes ≡ [] → (st : State) × IsTextOf st bytes }
+    ensures one_state { (bytes : List ℕ) (st other : State) → IsTextOf st bytes → IsTextOf other bytes → st ≡ other }
+    ensures one_text { (st : State) (text other : List ℕ) → IsSpelled st text → IsSpelled st other → text ≡ other }
+    ensures read_again { (text : List ℕ) (st : State) → document_of text ≡ Some (tree_document st) → IsKept st → IsCarried st
+        → length text ≤ longest_text → IsTextOf st text }
+{}
+
+/// The outcome of each operation is written, each tried in the tree that those before it leave, up to the first line that is no
+/// operation; and behind all of them the verdict on the subtree that is watched.
+pub fn replay()
+    ensures none { (st : State) (uid : ℕ) (gids : List ℕ) (user : Identity)
+        → user_read uid gids ≡ Ok user → replay_report (Ok st) uid gids None [] ≡ record { text = []; ending = Ok 0 } }
+    ensures one_more { (st : State) (uid : ℕ) (gids : List ℕ) (user : Identity) (ops : List Op) (op : Op)
+        → user_read uid gids ≡ Ok user → HaveLines (ops ++ op ∷ [])
+        → replay_report (Ok st) uid gids None (op_lines (ops ++ op ∷ [])) ≡ record {
+          text = (replay_report (Ok st) uid gids None (op_lines ops)).text
+              ++ outcome_text op (outcome_of (after_all st (by_user user ops)) user op);
+          ending = Ok 0;
+        } }
+    ensures fault { (st : State) (uid : ℕ) (gids : List ℕ) (user : Identity) (ops : List Op) (line rest : List ℕ)
+        → user_read uid gids ≡ Ok user → HaveLines ops → All (λ b. is_newline b ≡ false) line → length line ≤ longest_line
+        → operation_at line ≡ None → replay_report (Ok st) uid gids None (op_lines ops ++ line ++ 10 ∷ rest) ≡ record {
+          text = (replay_report (Ok st) uid gids None (op_lines ops)).text;
+          ending = Err (Line (length ops + 1) BadWord);
+        } }
+    ensures watched { (st : State) (uid : ℕ) (gids : List ℕ) (user : Identity) (word : List ℕ) (subtree : Names) (ops : List Op)
+        → user_read uid gids ≡ Ok user → path_read word ≡ Ok subtree → IsSubtree st subtree → HaveLines ops
+        → replay_report (Ok st) uid gids (Some word) (op_lines ops) ≡ record {
+          text = (replay_report (Ok st) uid gids None (op_lines ops)).text ++ verdict_text (verdict st (by_user user ops) subtree);
+          ending = Ok (verdict_status (verdict st (by_user user ops) subtree));
+        } }
+{}
+
+/// `granted` is written exactly where no rule refuses the move, and else the first that does. Where there is a fault nothing is written.
+pub fn may()
+    ensures granted { (st : State) (uid : ℕ) (gids : List ℕ) (user : Identity) (number pid : ℕ) (word : List ℕ) (to : Names)
+        → user_read uid gids ≡ Ok user → pid_read number ≡ Ok pid → path_read word ≡ Ok to → bars st user (Move pid to) ≡ []
+        → may_report (Ok st) uid gids number word ≡ record { text = codes "granted\n"; ending = Ok 0 } }
+    ensures refused { (st : State) (uid : ℕ) (gids : List ℕ) (user : Identity) (number pid : ℕ) (word : List ℕ) (to : Names) (bar : Refusal) (others : List Refusal)
+        → user_read uid gids ≡ Ok user → pid_read number ≡ Ok pid → path_read word ≡ Ok to → bars st user (Move pid to) ≡ bar ∷ others
+        → may_report (Ok st) uid gids number word ≡ record { text = outcome_text (Move pid to) (Refused bar); ending = Ok 1 } }
+    ensures fault { (tree : Reading) (uid : ℕ) (gids : List ℕ) (number : ℕ) (word : List ℕ) (fault : CliFault)
+        → (may_report tree uid gids number word).ending ≡ Err fault → (may_report tree uid gids number word).text ≡ [] }
+{}
+
+/// Where the program ends with a command's status, its words make a request. Where that is a `check` of a text, the status and what
+/// lies in the first writer are those of the report on the state of the text; so with status 0 the subtree is contained.
+pub fn the_program()
+    ensures check { (words : List (List ℕ)) (files : Files) (given old new : Option (List ℕ)) (status : ℕ) (written : Result (Unit {0}) WriteFailed)
+        → RunsTo words files given old new (Ok status) written → (asked : Request) × Makes words asked
+        × ((check : Check) (text : List ℕ) (st : State) (user : Identity) (subtree : Names) → asked ≡ request.Check check
+        → source files (name_of check.tree) given ≡ Some text → IsTextOf st text
+        → user_of check.user.uid check.user.gids.items ≡ Some user → path_at check.subtree.now ≡ Some subtree
+        → ((check_report (Ok st) check.user.uid check.user.gids.items check.subtree.now).ending ≡ Ok status)
+        × Appends old new (check_report (Ok st) check.user.uid check.user.gids.items check.subtree.now).text
+        × (status ≡ 0 → IsContained st user subtree)) }
+{}
