@@ -1,5 +1,6 @@
 mod StatusLaws
 mod ListedLaws
+mod AdviceLaws
 mod ReplayedLaws
 mod MayLaws
 mod ProgramLaws

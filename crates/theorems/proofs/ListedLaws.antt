@@ -10,10 +10,10 @@ use Rattle.cg_model.specs.Listed.{Listed, listed_unless_contained, listed_of, li
 use Rattle.cg_model.specs.declared.answer.Answer.{Answer}
 use Rattle.cg_model.specs.declared.answer.Answer.TheVariants.{Contained, Escapes, Unsettled}
 
-none : {A P : Type 0} (x : A) → Contains [] x → P
+pub none : {A P : Type 0} (x : A) → Contains [] x → P
 none x among = absurd (omega (arith, among.1))
 
-single : {A : Type 0} (z x : A) → Contains (z ∷ []) x → z ≡ x
+pub single : {A : Type 0} (z x : A) → Contains (z ∷ []) x → z ≡ x
 single z x among =
     let at : among.0 ≡ 0 = omega (arith, among.1) in
     sym (ap (λ (k : ℕ). slice_index_or (z ∷ []) k x) at) ∙ among.2
@@ -28,7 +28,7 @@ one_of f (x ∷ xs) y among =
     (rest.0, Contains-append_right (x ∷ []) xs rest.0 rest.1, rest.2))
     (Contains-append_cases (f x) (flat_map f xs) y among)
 
-of_one : {A B : Type 0} (f : A → List B) (xs : List A) (x : A) (y : B) → Contains xs x → Contains (f x) y → Contains (flat_map f xs) y
+pub of_one : {A B : Type 0} (f : A → List B) (xs : List A) (x : A) (y : B) → Contains xs x → Contains (f x) y → Contains (flat_map f xs) y
 of_one f [] x y among holds = none x among
 of_one f (z ∷ xs) x y among holds =
     ⊎_elim (λ here. Contains-append_left (f z) (flat_map f xs) y (subst (λ w. Contains (f w) y) (sym (single z x here)) holds))

@@ -121,18 +121,30 @@ module _ (st : State) (given : List (ℕ × List ℕ)) (words : List (List ℕ))
       of_users
       ∙ ap (λ p. report_on p (λ subtrees. advice_report st (once same_user users) (once same_path subtrees))) of_paths
 
-  pub all_contained_by_advice : users ≢ [] → (advise_report (Ok st) given words).ending ≡ Ok 0 → AreContained st users subtrees
-  all_contained_by_advice some is =
+  -- what is found, where no subtree has a fault, and what is said of it
+  pub advice_found : (status : ℕ) → (advise_report (Ok st) given words).ending ≡ Ok status
+      → (found : Option (List ℕ)) × (first (flat_map (subtree_faults st) (once same_path subtrees)) ≡ None)
+      × (advice_lines st (all_pairs (once same_user users) (once same_path subtrees)) ≡ found)
+      × ((advise_report (Ok st) given words).text ≡ (lines_report found).text) × ((lines_report found).ending ≡ Ok status)
+  advice_found status is =
       let us = once same_user users in
       let ss = once same_path subtrees in
-      let one =
-      report_ok (in_call (advice_of st us ss)) lines_report 0 (ap (λ (r : Report). r.ending) (sym advice_is) ∙ is) in
-      let stated =
-      unfaulted (first (flat_map (subtree_faults st) ss)) (advice_lines st (all_pairs us ss)) one.0
-      (found_is (advice_of st us ss) one.0 one.1) in
+      let one = report_ok (in_call (advice_of st us ss)) lines_report status (ap (λ (r : Report). r.ending) (sym advice_is) ∙ is) in
+      let found = found_is (advice_of st us ss) one.0 one.1 in
+      let stated = unfaulted (first (flat_map (subtree_faults st) ss)) (advice_lines st (all_pairs us ss)) one.0 found in (
+        one.0,
+        stated.0,
+        stated.1,
+        ap (λ (r : Report). r.text) (advice_is ∙ ap (λ answer. report_on (in_call answer) lines_report) found),
+        one.2,
+      )
+
+  pub all_contained_by_advice : users ≢ [] → (advise_report (Ok st) given words).ending ≡ Ok 0 → AreContained st users subtrees
+  all_contained_by_advice some is =
+      let found = advice_found 0 is in
       contained_once users subtrees st
-      (contained-unadvised st ss stated.0 us (λ _. formed) (sym (stated.1 ∙ no_lines one.0 one.2))
-      (some_once same_user same_user-is users some))
+      (contained-unadvised st (once same_path subtrees) found.1 (once same_user users) (λ _. formed)
+      (sym (found.2 ∙ no_lines found.0 found.4)) (some_once same_user same_user-is users some))
     where
       no_lines : (found : Option (List ℕ)) → (lines_report found).ending ≡ Ok 0 → found ≡ None
       no_lines None is = refl

@@ -2,7 +2,7 @@
 //! does anything. Those of a tree say first what holds of a state, and then, as `bytes`, what a report on a text says of it.
 #![tactic(auto)]
 
-ghost use Rattle.std.specs.Prelude.{◌≡◌, ◌≢◌, ◌↔◌, ◌≤◌, ℕ, ◌+◌, false, List, [], ◌∷◌, ◌++◌, length, codes, Option, Some, None, Result, Ok, Err};
+ghost use Rattle.std.specs.Prelude.{◌≡◌, ◌≢◌, ◌↔◌, ◌≤◌, ℕ, ◌+◌, false, List, [], ◌∷◌, ◌++◌, length, map, codes, Option, Some, None, Result, Ok, Err};
 ghost use Rattle.std.specs.List.{All, Contains};
 ghost use Rattle.std.specs.Io.KnownBytes.{Appends};
 ghost use Rattle.cg_cgroup.specs.Paths.{Names, path_at, same_path};
@@ -35,6 +35,7 @@ ghost use Rattle.cg_lines.specs.LineReading.{operation_at};
 ghost use Rattle.cg_lines.specs.Outcomes.{outcome_text};
 ghost use Rattle.cg_report.specs.AnswerLines.{op_lines};
 ghost use Rattle.cg_report.specs.VerdictLines.{verdict_text};
+ghost use Rattle.cg_advice.specs.AdviceLines.{pairs_lines};
 ghost use Rattle.cg_format.specs.TreeTexts.{longest_text, document_of};
 ghost use Rattle.cg_format.specs.TextOf.{IsTextOf};
 ghost use Rattle.cg_format.specs.TextFaults.{text_faults};
@@ -57,6 +58,8 @@ ghost use Rattle.cg_lines.specs.declared.lines.fault.LineFault.TheVariants.{BadW
 ghost use Rattle.cg_escapes.specs.EscapeLines.{HaveLines};
 ghost use Rattle.cg_escapes.specs.EscapeReplays.{IsReplayed};
 ghost use Rattle.arguments.specs.Words.{Makes};
+ghost use Rattle.arguments.specs.Given.{ids_of};
+ghost use Rattle.arguments.specs.declared.request.Audit.{Audit};
 ghost use Rattle.arguments.specs.declared.request.Check.{Check};
 ghost use Rattle.arguments.specs.declared.request.Request.{Request};
 ghost use Rattle.arguments.specs.declared.request.Request.TheVariants as request;
@@ -133,7 +136,8 @@ pub fn escapes_are_replayed()
 {}
 
 /// With the changes of the advice made the subtrees are contained against the users, all of them together; nobody gets in by them, and
-/// nothing else differs. Where `advise` ends with status 0 on a text they are contained as they are.
+/// nothing else differs. Where `advise` ends with status 0 on a text they are contained as they are, and with status 1 it prints these
+/// changes.
 pub fn advice()
     ensures contained { (st : State) (pairs : List Pair) (users : List Identity) (subtrees : List Names)
         → IsWellFormed st → All (IsAdvisable st) pairs → AreNamed pairs users subtrees → users ≢ []
@@ -145,6 +149,11 @@ pub fn advice()
         → IsTextOf st text → users_read given ≡ Ok users → paths_read words ≡ Ok subtrees → users ≢ []
         → (advise_report (Ok st) given words).ending ≡ Ok 0
         → AreContained st users subtrees }
+    ensures changed { (text : List ℕ) (st : State) (given : List (ℕ × List ℕ)) (words : List (List ℕ)) (users : List Identity) (subtrees : List Names)
+        → IsTextOf st text → users_read given ≡ Ok users → paths_read words ≡ Ok subtrees → users ≢ []
+        → (advise_report (Ok st) given words).ending ≡ Ok 1 → All (AreCountable st) subtrees
+        → ((advise_report (Ok st) given words).text ≡ pairs_lines st (all_pairs (once same_user users) (once same_path subtrees)))
+        × AreContained (advised st (all_pairs (once same_user users) (once same_path subtrees))) users subtrees }
 {}
 
 /// A text has a state exactly where it has no fault, and one at most. What is written of a state is one text, and it has that state
@@ -197,7 +206,8 @@ pub fn may()
 {}
 
 /// Where the program ends with a command's status, its words make a request. Where that is a `check` of a text, the status and what
-/// lies in the first writer are those of the report on the state of the text; so with status 0 the subtree is contained.
+/// lies in the first writer are those of the report on the state of the text; so with status 0 the subtree is contained. So with an
+/// `audit`, of all its users together.
 pub fn the_program()
     ensures check { (words : List (List ℕ)) (files : Files) (given old new : Option (List ℕ)) (status : ℕ) (written : Result (Unit {0}) WriteFailed)
         → RunsTo words files given old new (Ok status) written → (asked : Request) × Makes words asked
@@ -207,4 +217,10 @@ pub fn the_program()
         → ((check_report (Ok st) check.user.uid check.user.gids.items check.subtree.now).ending ≡ Ok status)
         × Appends old new (check_report (Ok st) check.user.uid check.user.gids.items check.subtree.now).text
         × (status ≡ 0 → IsContained st user subtree)) }
+    ensures audit { (words : List (List ℕ)) (files : Files) (given old new : Option (List ℕ)) (status : ℕ) (written : Result (Unit {0}) WriteFailed)
+        → RunsTo words files given old new (Ok status) written → (asked : Request) × Makes words asked
+        × ((audit : Audit) (text : List ℕ) (st : State) (users : List Identity) (subtrees : List Names) → asked ≡ request.Audit audit
+        → audit.all ≡ false → source files (name_of audit.tree) given ≡ Some text → IsTextOf st text
+        → users_read (map ids_of audit.users.items) ≡ Ok users → paths_read (map (λ subtree. subtree.now) audit.subtrees.items) ≡ Ok subtrees
+        → users ≢ [] → status ≡ 0 → AreContained st users subtrees) }
 {}

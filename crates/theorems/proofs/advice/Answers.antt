@@ -1,5 +1,6 @@
 use Rattle.cg_advice.proofs.Advising.{is_advised, opens-nothing}
 use Rattle.cg_cli.proofs.AdvisedTrees.{contained-advised}
+use Rattle.theorems.proofs.AdviceLaws.{changed_are_contained}
 use Rattle.theorems.proofs.StatusLaws.{all_contained_by_advice}
 use Rattle.theorems.proofs.advice.Goals as goal
 
@@ -10,4 +11,6 @@ returns c = record {
   no_more = is_advised;
   bytes = λ text st given words users subtrees of_text of_users of_paths.
       all_contained_by_advice st given words users subtrees of_text.says.formed of_users of_paths;
+  changed = λ text st given words users subtrees of_text.
+      changed_are_contained st given words users subtrees of_text.says.formed;
 }
