@@ -7,7 +7,7 @@ from zirofen_host.ask.model import Holders
 from zirofen_host.ask.questions import Questions
 from zirofen_host.collect.accounts import Accounts
 from zirofen_host.collect.model import Row, Snapshot
-from zirofen_host.profile import ANYBODY, CgroupPath, ancestors, path_of, text_of
+from zirofen_host.profile import ANYBODY, CgroupPath, ancestors
 
 # of what is inside of a subtree an answer rests on nothing but how many cgroups and levels it has, where it has such a limit
 COUNTED = ("cgroup.max.descendants", "cgroup.max.depth")
@@ -22,12 +22,11 @@ class Changed:
 
 def changed_in(snapshot: Snapshot, accounts: Accounts) -> Changed:
     inside: DefaultDict[CgroupPath, Set[int]] = defaultdict(set)
-    places = frozenset(path_of(text_of(place)) for place in snapshot.changing)
-    for place in places:
+    for place in snapshot.changing:
         maker = maker_of(snapshot, accounts, place)
         for above in ancestors(place):
             inside[above].add(maker)
-    return Changed(places, inside)
+    return Changed(frozenset(snapshot.changing), inside)
 
 
 def maker_of(snapshot: Snapshot, accounts: Accounts, place: CgroupPath) -> int:

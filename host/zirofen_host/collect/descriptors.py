@@ -8,6 +8,7 @@ from typing import Dict, Iterable, Iterator, List, Mapping, NamedTuple, Optional
 from zirofen_host.collect import bounded
 from zirofen_host.collect.bounded import Budget, Payer, Spent
 from zirofen_host.collect.processes import Fields, names_in, status_fields
+from zirofen_host.profile import CgroupPath
 
 WRITES = os.O_WRONLY | os.O_RDWR
 CGROUPS = b"cgroup2"
@@ -170,6 +171,6 @@ def inode_of(link: str, kinds: Kinds) -> int:
         os.close(opened)
 
 
-def inodes_of(places: Mapping[Tuple[int, int], Tuple[bytes, str]]) -> Mapping[int, Tuple[bytes, str]]:
+def inodes_of(places: Mapping[Tuple[int, int], Tuple[CgroupPath, str]]) -> Mapping[int, Tuple[CgroupPath, str]]:
     """Files by their inodes alone; all are of one hierarchy."""
     return {inode: place for (_, inode), place in places.items()}

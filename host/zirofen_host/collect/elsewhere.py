@@ -4,7 +4,6 @@ A comment of a text that begins with `#= ` is a value in JSON, with one key: wha
 what a check on the host itself would have looked at, but for open descriptors and the settings of units.
 """
 import json
-import os
 import re
 from dataclasses import dataclass, replace
 from typing import Callable, Dict, Iterable, Iterator, List, Mapping, Optional, Tuple
@@ -91,11 +90,13 @@ class Gathered:
 
     def take_note(self, value: object) -> None:
         kind, place, detail = map(str, parts_in(value))
+        # a place is a path, or one as it is shown
+        path_of(place)
         self.notes.append(Note(kind, place, detail))
 
     def take_changing(self, value: object) -> None:
         path, why = parts_in(value)
-        self.changing[CgroupPath(os.fsencode(text_in(path)))] = str(why)
+        self.changing[path_of(text_in(path))] = str(why)
 
     def kind(self, path: CgroupPath) -> str:
         """What a cgroup's type is, where a note tells that it isn't in domain mode."""

@@ -14,8 +14,8 @@ from zirofen_host.collect.processes import Reader, lacking_notes
 from zirofen_host.collect.tree import tree_text as text_of_tree
 from zirofen_host.fault import Fault
 from zirofen_host.options import PROC, Options
-from zirofen_host.profile import (CONTROL_FILES, CONTROLLERS, KERNEL_LIST, LIMIT_FILES, MOST_ROWS, CgroupPath, accepts,
-                                  is_root, parent_of, path_of, shown, text_of, topmost)
+from zirofen_host.profile import (CONTROL_FILES, CONTROLLERS, KERNEL_LIST, LIMIT_FILES, MOST_ROWS, ROOT, CgroupPath, accepts,
+                                  is_root, parent_of, shown, text_of, topmost)
 
 ANY_MODE = 0o777
 LARGEST_PID = 4194303
@@ -147,8 +147,8 @@ def about_this_host() -> About:
 def snapshot_of(settled: walk.Settled, reader: Reader, options: Options, mounts: Mounts) -> Snapshot:
     """What was found of this host, as a snapshot."""
     walked, processes = settled.walk, reader.found
-    cgroups = {path_of(path): found for path, found in walked.found.items()}
-    root = cgroups[path_of("/")]
+    cgroups: Cgroups = walked.found
+    root = cgroups[ROOT]
     bending = Bending(cgroups)
     bending.notes += [*changing_notes(settled.changing), *name_notes(walked), *controller_notes(cgroups), *process_notes(reader)]
     looks = Looks()
@@ -162,9 +162,9 @@ def snapshot_of(settled: walk.Settled, reader: Reader, options: Options, mounts:
                     tree=tree, processes=processes, kernel_threads=threads, places=walked.places,
                     kernel_list=kernel_list,
                     notes=(*bending.notes, *version_1_notes(mounts), *lacking, *reader.failed, *looks.failed), changing=settled.changing,
-                    spoiled={path_of(path): why for path, why in settled.spoiled.items()},
+                    spoiled=settled.spoiled,
                     version_1=mounts.limits_of_version_1(),
-                    makers={path_of(path): walked.holds[path].uid for path in settled.changing if path in walked.holds},
+                    makers={path: walked.holds[path].uid for path in settled.changing if path in walked.holds},
                     over=reader.over())
 
 
@@ -188,7 +188,7 @@ def take(options: Options, subtrees_of: SubtreesOf) -> Snapshot:
         if not running:
             running.append(look_at_processes(options, payer))
         found = snapshot_of(walk.Settled(walked, {}, {}), running[0], options, mounts)
-        return [CgroupPath(os.fsencode(path)) for path in subtrees_of(found, changing)]
+        return subtrees_of(found, changing)
 
     settled = walk.settled(options.mount, options.only, subtrees_in, payer)
     return snapshot_of(settled, look_at_processes(options, payer), options, mounts)
@@ -212,7 +212,7 @@ def value_of(snapshot: Snapshot, path: CgroupPath, name: str) -> Optional[str]:
     if snapshot.source.file is not None:
         carried = snapshot.source.carried
         return carried.values.get((path, name)) if carried else None
-    folder = b"" if is_root(path) else os.fsencode(path)
+    folder = b"" if is_root(path) else path
     return walk.value_of(os.fsencode(snapshot.mount) + folder, name)
 
 

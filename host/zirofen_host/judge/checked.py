@@ -41,11 +41,6 @@ class Checked:
         """What stands open and no answer speaks of."""
         return list(find_openings(self.snapshot, self.questions))
 
-    @cached_property
-    def changing(self) -> FrozenSet[CgroupPath]:
-        """What was left out since it changed all the time, can't be read or is too much."""
-        return frozenset(map(path_of, self.snapshot.changing))
-
     @property
     def is_asked(self) -> bool:
         """Whether anything was found to ask."""

@@ -17,7 +17,7 @@ from zirofen_host.judge.model import (ABSENT, AboveFinding, Absent, DiffersFindi
 from zirofen_host.judge.names import Names
 from zirofen_host.judge.opened import GROUP_WRITES, OTHERS_WRITE, WHO_IS_FIRST, what_differs
 from zirofen_host.judge.shell import closing_commands
-from zirofen_host.profile import CgroupPath, ancestors, path_of, shown, text_of, topmost
+from zirofen_host.profile import CgroupPath, ancestors, shown, text_of, topmost
 
 NO_CLOSING: Mapping[CgroupPath, Tuple[str, ...]] = {}
 
@@ -114,7 +114,7 @@ def fault_findings(checked: Checked, advised: Advised) -> Iterable[FaultFinding]
     by_why: Dict[Tuple[str, Optional[str]], List[str]] = defaultdict(list)
     below = makers_below(checked)
     for path, why in sorted(checked.answers.refused.items()):
-        by_why[why, makers_of(checked, below, path, why)].append(shown(path))
+        by_why[why, makers_of(checked, below, path, why)].append(shown(text_of(path)))
     yield from (FaultFinding("everybody", None, (), why, tuple(paths), made_by) for (why, made_by), paths in by_why.items())
     yield from faults_of_pairs(checked.names, advised)
     yield from faults_of_budgets(checked)
@@ -133,8 +133,7 @@ def faults_of_budgets(checked: Checked) -> Iterable[FaultFinding]:
 def makers_below(checked: Checked) -> Mapping[CgroupPath, Set[Optional[str]]]:
     """By whose making something is left out at a cgroup or inside of it; None stands for what is of nobody's."""
     found: DefaultDict[CgroupPath, Set[Optional[str]]] = defaultdict(set)
-    for changing, why in checked.snapshot.changing.items():
-        place = path_of(changing)
+    for place, why in checked.snapshot.changing.items():
         maker = holder_at(checked, place) if is_by_somebody(why) else None
         for above in (place, *ancestors(place)):
             found[above].add(maker)
@@ -144,7 +143,7 @@ def makers_below(checked: Checked) -> Mapping[CgroupPath, Set[Optional[str]]]:
 def makers_of(checked: Checked, below: Mapping[CgroupPath, Set[Optional[str]]], path: CgroupPath, why: str) -> Optional[str]:
     """Those by whose own making alone a subtree goes without an answer: it is too large, or what they hold inside of it changes
     all the time. What is above it, or what root alone has, is of nobody's making, and so is what can't be read."""
-    if why.startswith("fault:") or not checked.changing.isdisjoint(ancestors(path)):
+    if why.startswith("fault:") or not checked.snapshot.changing.keys().isdisjoint(ancestors(path)):
         return None
     makers = below.get(path) or {holder_at(checked, path)}
     return None if None in makers else some(sorted(filter(None, makers)))

@@ -1,5 +1,4 @@
 """What no answer looks at, as far as a host tells of it: a line each, of a user, a cgroup or the host."""
-import os
 from bisect import bisect_left
 from collections import Counter, defaultdict
 from dataclasses import dataclass
@@ -22,7 +21,7 @@ from zirofen_host.judge.model import Told, within_of
 from zirofen_host.judge.names import Names
 from zirofen_host.judge.opened import unknown_files
 from zirofen_host.judge.settings import Settings
-from zirofen_host.profile import ANYBODY, CgroupPath, ancestors, is_inside, path_of, text_of
+from zirofen_host.profile import ANYBODY, CgroupPath, ancestors, is_inside, text_of
 
 
 @dataclass(frozen=True)
@@ -97,11 +96,11 @@ def descriptors(host: Host) -> Iterator[Told]:
         yield host.of_user("descriptor", uid, why)
 
 
-def entry_at(snapshot: Snapshot, found: Tuple[bytes, str]) -> Tuple[Optional[Entry], str, str]:
+def entry_at(snapshot: Snapshot, found: Tuple[CgroupPath, str]) -> Tuple[Optional[Entry], str, str]:
     """The entry of a file that a walk found, with its place; none where it isn't there any more."""
     place, name = found
-    cgroup = snapshot.cgroups.get(path_of(place))
-    return cgroup.files.get(name) if cgroup else None, os.fsdecode(place), name
+    cgroup = snapshot.cgroups.get(place)
+    return cgroup.files.get(name) if cgroup else None, text_of(place), name
 
 
 def numbers(found: Iterable[int]) -> str:
