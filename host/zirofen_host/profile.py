@@ -1,7 +1,7 @@
 """What a tree text can carry: paths, names, files, values and their defaults."""
 import os
 import re
-from typing import Dict, FrozenSet, Iterable, Iterator, List, NewType, Optional, Tuple, TypeVar, Union, overload
+from typing import Dict, FrozenSet, Iterable, Iterator, List, NewType, Optional, Tuple, TypeVar, Union
 
 from zirofen_host import files
 
@@ -108,15 +108,9 @@ def is_root(path: AnyPath) -> bool:
     return path in ("/", ROOT)
 
 
-@overload
-def parts_of(path: str) -> List[str]: ...
-@overload
-def parts_of(path: CgroupPath) -> List[bytes]: ...
-
-
-def parts_of(path: Union[str, CgroupPath]) -> Union[List[str], List[bytes]]:
+def parts_of(path: CgroupPath) -> List[bytes]:
     """The names on the way to a cgroup, by which paths are in the order of their tree."""
-    return path.split("/") if isinstance(path, str) else path.split(b"/")
+    return path.split(b"/")
 
 
 def text_of(path: CgroupPath) -> str:

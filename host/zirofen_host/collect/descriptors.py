@@ -34,7 +34,7 @@ class Stopped(Exception):
     """A user has more than is looked at."""
 
 
-class Mounts:
+class MountKinds:
     """The mounts of each namespace that processes are in; each namespace is read once."""
 
     def __init__(self, proc: str, payer: Payer) -> None:
@@ -77,7 +77,7 @@ class Descriptors:
         self.proc, self.inodes = proc, inodes
         self.links, self.infos, self.long = (
             Spent(budget, payer) for budget in (bounded.LINKS, bounded.DESCRIPTORS, bounded.LONG_DESCRIPTORS))
-        self.mounts = Mounts(proc, payer)
+        self.mounts = MountKinds(proc, payer)
         self.unlooked: List[Unlooked] = []
 
     def held(self, processes: Mapping[int, int]) -> Iterator[Held]:

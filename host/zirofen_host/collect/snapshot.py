@@ -22,12 +22,11 @@ LARGEST_PID = 4194303
 RESERVED = {name.encode() for name in (*CONTROL_FILES, *LIMIT_FILES)}
 
 Cgroups = Mapping[CgroupPath, Cgroup]
-Changing = Mapping[CgroupPath, str]
 # the subtrees that are asked of, by a snapshot that may have changed while it was taken, and by what changed
-SubtreesOf = Callable[[Snapshot, Changing], Iterable[CgroupPath]]
+SubtreesOf = Callable[[Snapshot, walk.Whys], Iterable[CgroupPath]]
 
 
-def changing_notes(changing: Changing) -> Iterator[Note]:
+def changing_notes(changing: walk.Whys) -> Iterator[Note]:
     for path in sorted(topmost(changing)):
         yield Note("changing", shown(path), f"left out, with all inside: {changing[path]}")
 
@@ -152,7 +151,9 @@ def snapshot_of(settled: walk.Settled, reader: Reader, options: Options, mounts:
     bending = Bending(cgroups)
     bending.notes += [*changing_notes(settled.changing), *name_notes(walked), *controller_notes(cgroups), *process_notes(reader)]
     looks = Looks()
-    rows = whole_rows({row.path: row for row in looks.each("cgroups", cgroups, lambda path: bending.row(path, cgroups[path]))})
+    rows = {row.path: row for row in looks.each("cgroups", cgroups, lambda path: bending.row(path, cgroups[path]))}
+    kept = walk.whole(rows)
+    rows = kept if len(kept) < len(rows) else rows
     cgroups = {path: cgroups[path] for path in rows}
     placed, threads = bending.placed(rows, processes)
     tree = Tree(tuple(name for name in CONTROLLERS if name in root.available), rows, placed)
@@ -168,23 +169,13 @@ def snapshot_of(settled: walk.Settled, reader: Reader, options: Options, mounts:
                     over=reader.over())
 
 
-def whole_rows(rows: Mapping[CgroupPath, Row]) -> Mapping[CgroupPath, Row]:
-    """The rows that have all of theirs above."""
-    kept: Dict[CgroupPath, Row] = {}
-    for path in sorted(rows, key=len):
-        parent = parent_of(path)
-        if parent is None or parent in kept:
-            kept[path] = rows[path]
-    return rows if len(kept) == len(rows) else kept
-
-
 def take(options: Options, subtrees_of: SubtreesOf) -> Snapshot:
     """A snapshot of this host."""
     mounts = Mounts("") if options.plain_folder else refuse_what_is_no_host(options.mount)
     payer = payer_of(options.accounts)
     running: List[Reader] = []
 
-    def subtrees_in(walked: walk.Walk, changing: Changing) -> Iterable[CgroupPath]:
+    def subtrees_in(walked: walk.Walk, changing: walk.Whys) -> Iterable[CgroupPath]:
         if not running:
             running.append(look_at_processes(options, payer))
         found = snapshot_of(walk.Settled(walked, {}, {}), running[0], options, mounts)
@@ -202,7 +193,7 @@ def look_at_processes(options: Options, payer: Payer) -> Reader:
     return reader
 
 
-def all_that_changes(_: Snapshot, changing: Changing) -> Iterable[CgroupPath]:
+def all_that_changes(_: Snapshot, changing: walk.Whys) -> Iterable[CgroupPath]:
     """What is asked of where nothing is known of it yet: everything that changes is walked over again."""
     return topmost(changing)
 

@@ -13,7 +13,7 @@ from zirofen_host.judge.finding_lines import some
 from zirofen_host.collect.looks import Looks
 from zirofen_host.judge.judged import LetIn, LetsIn, Place
 from zirofen_host.judge.model import (ABSENT, AboveFinding, Absent, DiffersFinding, EntryFinding, Example, FaultFinding, OpenedFinding,
-                                      Owner, Whom, within_of)
+                                      Owner, Whom)
 from zirofen_host.judge.names import Names
 from zirofen_host.judge.opened import GROUP_WRITES, OTHERS_WRITE, WHO_IS_FIRST, what_differs
 from zirofen_host.judge.shell import closing_commands
@@ -57,9 +57,9 @@ def entry_finding(checked: Checked, advised: Advised, found: LetsIn, closing: Tu
     example = None if is_own else Example(checked.names.who(user), user.uid, user.gids, text_of(subtree), lines)
     changes = checked.commands(advised.changes_of(found))
     return EntryFinding(path, place.name, owner_of(found.entry) if found.entry else None, lines[0].split(" ")[0],
-                        whom_of(checked.names, found.whom()), texts_of(in_order(topmost(found.subtrees))), example,
-                        (*changes, *(() if place.name == "dir" else closing)), None, within_of(checked.holds.within(place.path)),
-                        is_own_affair(checked, place, found.whom(), found.subtrees))
+                        whom_of(checked.names, found.whom), texts_of(found.subtrees), example,
+                        (*changes, *(() if place.name == "dir" else closing)), None, checked.within(place.path),
+                        is_own_affair(checked, place, found.whom, found.subtrees))
 
 
 def is_own_affair(checked: Checked, place: Place, let_in: Iterable[LetIn], subtrees: Iterable[CgroupPath]) -> Union[bool, Absent]:
@@ -98,7 +98,7 @@ def opened_findings(checked: Checked) -> Iterable[Tuple[Place, OpenedFinding]]:
             yield place, OpenedFinding(
                 text_of(place.path), place.name, owner_of(entry), whom_of(checked.names, let_in),
                 (*changes, *(() if is_directory else closing.get(place.path, ()))), None, WHO_IS_FIRST if is_directory else None,
-                within_of(checked.holds.within(place.path)), is_own_affair(checked, place, let_in, ()))
+                checked.within(place.path), is_own_affair(checked, place, let_in, ()))
 
 
 def is_shown(checked: Checked, place: Place, let_in: Iterable[LetIn]) -> bool:
@@ -106,7 +106,7 @@ def is_shown(checked: Checked, place: Place, let_in: Iterable[LetIn]) -> bool:
     shown_by = checked.judged.entries.get(place)
     if shown_by is None or place.name != "dir":
         return shown_by is not None
-    return shown_by.answer.status == ESCAPES and {(each.by, each.id) for each in let_in} <= set(shown_by.uids)
+    return shown_by.answer.status == ESCAPES and {(each.by, each.id) for each in let_in} <= {(each.by, each.id) for each in shown_by.whom}
 
 
 def fault_findings(checked: Checked, advised: Advised) -> Iterable[FaultFinding]:
