@@ -42,6 +42,9 @@ class MountKinds:
         self.spent = Spent(bounded.MOUNT_BYTES, payer)
         self.namespaces: Set[str] = set()
         self.kinds: Kinds = {}
+
+    def read_own(self) -> None:
+        """Reads the mounts that this process sees."""
         self.read("self", 0, bounded.HOST_MOUNTS)
 
     def read_of(self, pid: int, uid: int) -> None:
@@ -83,6 +86,7 @@ class Descriptors:
     def held(self, processes: Mapping[int, int]) -> Iterator[Held]:
         """What processes hold, which are given with their users: one of these after another."""
         by_user: Dict[int, List[int]] = {}
+        self.mounts.read_own()
         for pid, uid in sorted(processes.items()):
             by_user.setdefault(uid, []).append(pid)
             # a descriptor may be of a mount in another's namespace, so these are all known first

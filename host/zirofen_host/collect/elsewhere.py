@@ -15,7 +15,7 @@ from zirofen_host.collect.holds import Holds
 from zirofen_host.collect.model import (About, Account, AccountLists, Carried, Cgroup, Entry, Group, Note, Process, Range, Row, Snapshot,
                                         Source, Tree, User)
 from zirofen_host.collect.mount import read_kernel_list
-from zirofen_host.collect.tree import number_in, table_in, text_in, texts_in
+from zirofen_host.collect.tree import number_in, parts_in, table_in, text_in, texts_in
 from zirofen_host.fault import Fault
 from zirofen_host.files import OF_LIMITS, is_known
 from zirofen_host.profile import CONTROL_FILES, LIMIT_FILES, LONGEST_TEXT, CgroupPath, is_other_limit, is_root, path_of, text_of
@@ -173,12 +173,6 @@ def told_unseen(snapshot: Snapshot) -> str:
         return "this is judged by a text: open descriptors and the settings of units aren't told by it"
     return ("this is judged by a text that carries nothing of its host: open descriptors, settings of units, marks, other files, "
             "capabilities and the groups of processes aren't told; zirofen-host snapshot --with-host carries all but the first two")
-
-
-def parts_in(value: object) -> List[object]:
-    if not isinstance(value, list):
-        raise TypeError
-    return value
 
 
 def entry_of(word: object) -> Entry:
