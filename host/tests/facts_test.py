@@ -8,7 +8,7 @@ from zirofen_host.collect import mount, snapshot
 from zirofen_host.collect.model import OTHERS, OWNER, User
 from zirofen_host.collect.mount import Mounts
 from zirofen_host.fault import Fault
-from zirofen_host.judge.judged import OVER, LetIn, LetsIn, Place
+from zirofen_host.judge.judged import OVER, LetIn, Place, Uncontained, lets_in
 from zirofen_host.profile import path_of
 from unittest import mock
 
@@ -91,10 +91,9 @@ class OneLineTest(HostTest):
 
     def test_whom_no_entry_lets_in(self):
         subtree, answer = path_of("/a"), Answer(ESCAPES, ("escapes",))
-        over = LetsIn(Place(subtree, OVER), None, Pair(User(65534, ()), subtree), answer)
-        for uid in (65534, 1000):
-            over.add(Pair(User(uid, ()), subtree), answer)
-        self.assertEqual(over.whom(), [LetIn(OTHERS, None, {65534}), LetIn(OWNER, 1000, {1000})])
+        found = [Uncontained(Pair(User(uid, ()), subtree), answer, None) for uid in (65534, 1000)]
+        over = lets_in(mock.Mock(), Place(subtree, OVER), found)
+        self.assertEqual(over.whom, (LetIn(OTHERS, None, {65534}), LetIn(OWNER, 1000, {1000})))
 
     def test_processes_of_what_is_over_full(self):
         self.host.cgroup("/full", owners=owned(1000), pids=range(10, 30))

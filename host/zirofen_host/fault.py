@@ -95,26 +95,20 @@ def write_lines(lines: Iterable[str]) -> None:
 def run(name: str, main: Callable[[], int]) -> NoReturn:
     """Runs a command's main; a fault is one line on standard error, with status 3."""
     ending.take_signals(name)
+    status = FAULT
     try:
         status = main()
-    except Fault as fault:
-        warn(f"{name}: {fault}")
-        for line in fault.help_lines:
-            warn(line)
-        status = FAULT
-    except OutOfTime as over:
-        warn(f"{name}: {over}")
-        status = FAULT
     except SystemExit as ended:
         # argparse ends with 2 where the options are wrong, and this is another answer's status
         status = FAULT if ended.code else 0
-    except OSError as error:
+    except Fault as fault:
+        for line in (f"{name}: {fault}", *fault.help_lines):
+            warn(line)
+    except (OutOfTime, OSError) as error:
         warn(f"{name}: {error}")
-        status = FAULT
     except Exception as error:
         # a traceback would end with 1, which is another answer's status
         warn(f"{name}: a fault of this helper: {error!r}")
-        status = FAULT
     end(status)
 
 

@@ -1,7 +1,7 @@
 """What a tree text can carry: paths, names, files, values and their defaults."""
 import os
 import re
-from typing import Dict, FrozenSet, Iterable, Iterator, List, NewType, Optional, Tuple, TypeVar, Union, cast, overload
+from typing import Dict, FrozenSet, Iterable, Iterator, List, NewType, Optional, Tuple, TypeVar, Union
 
 from zirofen_host import files
 
@@ -98,9 +98,9 @@ def is_number(word: str) -> bool:
     return word.isascii() and word.isdigit() and (word == "0" or word[0] != "0")
 
 
-def path_of(text: Union[str, bytes]) -> CgroupPath:
-    """A path by its text, or by the bytes that a kernel gives."""
-    return cast(CgroupPath, os.fsdecode(text))
+def path_of(text: str) -> CgroupPath:
+    """A path by its text; a text that stands for no bytes is a ValueError."""
+    return CgroupPath(os.fsencode(text))
 
 
 def is_root(path: AnyPath) -> bool:
@@ -108,19 +108,13 @@ def is_root(path: AnyPath) -> bool:
     return path in ("/", ROOT)
 
 
-@overload
-def parts_of(path: str) -> List[str]: ...
-@overload
-def parts_of(path: CgroupPath) -> List[bytes]: ...
-
-
-def parts_of(path: Union[str, CgroupPath]) -> Union[List[str], List[bytes]]:
+def parts_of(path: CgroupPath) -> List[bytes]:
     """The names on the way to a cgroup, by which paths are in the order of their tree."""
-    return path.split("/") if isinstance(path, str) else path.split(b"/")
+    return path.split(b"/")
 
 
-def text_of(path: AnyPath) -> str:
-    """A path as a text that stands for its bytes."""
+def text_of(path: CgroupPath) -> str:
+    """A path as a text that stands for its bytes, as it is shown."""
     return os.fsdecode(path)
 
 

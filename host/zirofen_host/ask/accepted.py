@@ -15,7 +15,7 @@ from zirofen_host.collect.tree import read_tree
 from zirofen_host.collect.walk import spoiled_of
 from zirofen_host.fault import Fault
 from zirofen_host.options import Options
-from zirofen_host.profile import LONGEST_TEXT, CgroupPath, path_of
+from zirofen_host.profile import LONGEST_TEXT
 
 
 def take(options: Options, subtrees_of: SubtreesOf) -> Snapshot:
@@ -26,8 +26,7 @@ def take(options: Options, subtrees_of: SubtreesOf) -> Snapshot:
         raise Fault("--only and --keep go with a host, and not with --tree")
     found = elsewhere.read(accept(options.tree, options.program), options.mount)
     subtrees = subtrees_of(found, found.changing) if found.changing else ()
-    spoiled = spoiled_of(found.changing, [CgroupPath(os.fsencode(path)) for path in subtrees])
-    return replace(found, spoiled={path_of(path): why for path, why in spoiled.items()})
+    return replace(found, spoiled=spoiled_of(found.changing, subtrees))
 
 
 def accept(file: str, program: str) -> Accepted:

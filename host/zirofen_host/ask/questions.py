@@ -4,8 +4,8 @@ import re
 from collections import Counter, defaultdict
 from dataclasses import dataclass, replace
 from functools import cached_property
-from typing import (AbstractSet, Callable, Collection, Container, DefaultDict, Dict, FrozenSet, Iterable, List, Mapping, Optional,
-                    Set, Tuple)
+from typing import (AbstractSet, Callable, Collection, Container, DefaultDict, Dict, FrozenSet, Iterable, Iterator, List, Mapping,
+                    Optional, Set, Tuple)
 
 from zirofen_host.ask.delegations import Delegations
 from zirofen_host.ask.model import Answer, Cut, Guarded, Holders, Pair, Plan, Question
@@ -132,16 +132,15 @@ class Questions:
         owner = self.tree.rows[path].directory.uid
         return owner != 0 and self.is_handed_over(path) and not self.accounts.roots(owner).isdisjoint(self.accounts.roots(uid))
 
-    def expected_above(self, plan: Plan) -> Dict[Tuple[int, CgroupPath], Set[CgroupPath]]:
-        """Who has something above subtrees of which their pairs weren't asked: by uid and the topmost place that is theirs."""
-        found: Dict[Tuple[int, CgroupPath], Set[CgroupPath]] = defaultdict(set)
+    def expected_above(self, plan: Plan) -> Iterator[Tuple[int, CgroupPath, CgroupPath]]:
+        """Who has something above subtrees of which their pairs weren't asked: the uid, the topmost place that is theirs, and the
+        subtree."""
         for owners, paths in plan.expected_of.items():
             for path in topmost(paths):
                 for uid in owners:
                     handed = next((place for place in reversed(list(ancestors(path))) if self.is_of(place, uid)), None)
                     if handed is not None:
-                        found[uid, handed].add(path)
-        return found
+                        yield uid, handed, path
 
     def is_inside_his(self, user: User, path: CgroupPath) -> bool:
         """Whether a cgroup lies properly inside one that was handed to that person."""

@@ -6,8 +6,8 @@ from typing import DefaultDict, Dict, FrozenSet, Mapping, Optional, Set
 from zirofen_host.ask.model import Holders
 from zirofen_host.ask.questions import Questions
 from zirofen_host.collect.accounts import Accounts
-from zirofen_host.collect.model import Row, Snapshot
-from zirofen_host.profile import ANYBODY, CgroupPath, ancestors, path_of, text_of
+from zirofen_host.collect.model import Snapshot
+from zirofen_host.profile import ANYBODY, CgroupPath, ancestors
 
 # of what is inside of a subtree an answer rests on nothing but how many cgroups and levels it has, where it has such a limit
 COUNTED = ("cgroup.max.descendants", "cgroup.max.depth")
@@ -22,12 +22,11 @@ class Changed:
 
 def changed_in(snapshot: Snapshot, accounts: Accounts) -> Changed:
     inside: DefaultDict[CgroupPath, Set[int]] = defaultdict(set)
-    places = frozenset(path_of(text_of(place)) for place in snapshot.changing)
-    for place in places:
+    for place in snapshot.changing:
         maker = maker_of(snapshot, accounts, place)
         for above in ancestors(place):
             inside[above].add(maker)
-    return Changed(places, inside)
+    return Changed(frozenset(snapshot.changing), inside)
 
 
 def maker_of(snapshot: Snapshot, accounts: Accounts, place: CgroupPath) -> int:
@@ -48,13 +47,9 @@ def spoiled(snapshot: Snapshot, questions: Questions) -> Dict[CgroupPath, str]:
 def is_spared(snapshot: Snapshot, accounts: Accounts, changed: Changed, holders: Optional[Holders], path: CgroupPath) -> bool:
     """Whether a subtree is answered without what changed inside of it: all of that was made by others than who holds it."""
     row = snapshot.tree.rows.get(path)
-    if row is None or holders is None or ANYBODY in holders.uids or has_counts(row):
+    if row is None or holders is None or ANYBODY in holders.uids or any(isinstance(row.values.get(name), int) for name in COUNTED):
         return False
     if not changed.places.isdisjoint((path, *ancestors(path))):
         return False
     inside = changed.inside.get(path, set())
     return bool(inside) and inside.isdisjoint({0, *map(accounts.payer, holders.uids)})
-
-
-def has_counts(row: Row) -> bool:
-    return any(isinstance(row.values.get(name), int) for name in COUNTED)

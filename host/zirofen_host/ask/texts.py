@@ -50,9 +50,6 @@ class Layout:
         number = self.numbers[path]
         return self.sizes[number + 1] - self.sizes[number]
 
-    def processes_in(self, start: int, end: int) -> Sequence[Placed]:
-        return self.processes[bisect_left(self.places, start):bisect_left(self.places, end)]
-
 
 def layout_of(tree: Tree) -> Layout:
     order = in_order(tree.rows)
@@ -110,7 +107,7 @@ class Text:
             return False
         self.rows.update(above, layout.order[start:end])
         if inside:
-            self.processes += layout.processes_in(start, end)
+            self.processes += layout.processes[bisect_left(layout.places, start):bisect_left(layout.places, end)]
         self.bytes += size
         self.subtrees.append(subtree)
         self.end = max(self.end, end)

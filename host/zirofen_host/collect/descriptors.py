@@ -8,6 +8,7 @@ from typing import Dict, Iterable, Iterator, List, Mapping, NamedTuple, Optional
 from zirofen_host.collect import bounded
 from zirofen_host.collect.bounded import Budget, Payer, Spent
 from zirofen_host.collect.processes import Fields, names_in, status_fields
+from zirofen_host.profile import CgroupPath
 
 WRITES = os.O_WRONLY | os.O_RDWR
 CGROUPS = b"cgroup2"
@@ -33,7 +34,7 @@ class Stopped(Exception):
     """A user has more than is looked at."""
 
 
-class Mounts:
+class MountKinds:
     """The mounts of each namespace that processes are in; each namespace is read once."""
 
     def __init__(self, proc: str, payer: Payer) -> None:
@@ -41,6 +42,9 @@ class Mounts:
         self.spent = Spent(bounded.MOUNT_BYTES, payer)
         self.namespaces: Set[str] = set()
         self.kinds: Kinds = {}
+
+    def read_own(self) -> None:
+        """Reads the mounts that this process sees."""
         self.read("self", 0, bounded.HOST_MOUNTS)
 
     def read_of(self, pid: int, uid: int) -> None:
@@ -76,12 +80,13 @@ class Descriptors:
         self.proc, self.inodes = proc, inodes
         self.links, self.infos, self.long = (
             Spent(budget, payer) for budget in (bounded.LINKS, bounded.DESCRIPTORS, bounded.LONG_DESCRIPTORS))
-        self.mounts = Mounts(proc, payer)
+        self.mounts = MountKinds(proc, payer)
         self.unlooked: List[Unlooked] = []
 
     def held(self, processes: Mapping[int, int]) -> Iterator[Held]:
         """What processes hold, which are given with their users: one of these after another."""
         by_user: Dict[int, List[int]] = {}
+        self.mounts.read_own()
         for pid, uid in sorted(processes.items()):
             by_user.setdefault(uid, []).append(pid)
             # a descriptor may be of a mount in another's namespace, so these are all known first
@@ -170,6 +175,6 @@ def inode_of(link: str, kinds: Kinds) -> int:
         os.close(opened)
 
 
-def inodes_of(places: Mapping[Tuple[int, int], Tuple[bytes, str]]) -> Mapping[int, Tuple[bytes, str]]:
+def inodes_of(places: Mapping[Tuple[int, int], Tuple[CgroupPath, str]]) -> Mapping[int, Tuple[CgroupPath, str]]:
     """Files by their inodes alone; all are of one hierarchy."""
     return {inode: place for (_, inode), place in places.items()}

@@ -4,7 +4,6 @@ A comment of a text that begins with `#= ` is a value in JSON, with one key: wha
 what a check on the host itself would have looked at, but for open descriptors and the settings of units.
 """
 import json
-import os
 import re
 from dataclasses import dataclass, replace
 from typing import Callable, Dict, Iterable, Iterator, List, Mapping, Optional, Tuple
@@ -16,7 +15,7 @@ from zirofen_host.collect.holds import Holds
 from zirofen_host.collect.model import (About, Account, AccountLists, Carried, Cgroup, Entry, Group, Note, Process, Range, Row, Snapshot,
                                         Source, Tree, User)
 from zirofen_host.collect.mount import read_kernel_list
-from zirofen_host.collect.tree import number_in, table_in, text_in, texts_in
+from zirofen_host.collect.tree import number_in, parts_in, table_in, text_in, texts_in
 from zirofen_host.fault import Fault
 from zirofen_host.files import OF_LIMITS, is_known
 from zirofen_host.profile import CONTROL_FILES, LIMIT_FILES, LONGEST_TEXT, CgroupPath, is_other_limit, is_root, path_of, text_of
@@ -91,11 +90,13 @@ class Gathered:
 
     def take_note(self, value: object) -> None:
         kind, place, detail = map(str, parts_in(value))
+        # a place is a path, or one as it is shown
+        path_of(place)
         self.notes.append(Note(kind, place, detail))
 
     def take_changing(self, value: object) -> None:
         path, why = parts_in(value)
-        self.changing[CgroupPath(os.fsencode(text_in(path)))] = str(why)
+        self.changing[path_of(text_in(path))] = str(why)
 
     def kind(self, path: CgroupPath) -> str:
         """What a cgroup's type is, where a note tells that it isn't in domain mode."""
@@ -172,12 +173,6 @@ def told_unseen(snapshot: Snapshot) -> str:
         return "this is judged by a text: open descriptors and the settings of units aren't told by it"
     return ("this is judged by a text that carries nothing of its host: open descriptors, settings of units, marks, other files, "
             "capabilities and the groups of processes aren't told; zirofen-host snapshot --with-host carries all but the first two")
-
-
-def parts_in(value: object) -> List[object]:
-    if not isinstance(value, list):
-        raise TypeError
-    return value
 
 
 def entry_of(word: object) -> Entry:

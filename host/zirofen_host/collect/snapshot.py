@@ -14,20 +14,19 @@ from zirofen_host.collect.processes import Reader, lacking_notes
 from zirofen_host.collect.tree import tree_text as text_of_tree
 from zirofen_host.fault import Fault
 from zirofen_host.options import PROC, Options
-from zirofen_host.profile import (CONTROL_FILES, CONTROLLERS, KERNEL_LIST, LIMIT_FILES, MOST_ROWS, CgroupPath, accepts,
-                                  is_root, parent_of, path_of, shown, text_of, topmost)
+from zirofen_host.profile import (CONTROL_FILES, CONTROLLERS, KERNEL_LIST, LIMIT_FILES, MOST_ROWS, ROOT, CgroupPath, accepts,
+                                  is_root, parent_of, shown, text_of, topmost)
 
 ANY_MODE = 0o777
 LARGEST_PID = 4194303
 RESERVED = {name.encode() for name in (*CONTROL_FILES, *LIMIT_FILES)}
 
 Cgroups = Mapping[CgroupPath, Cgroup]
-Changing = Mapping[CgroupPath, str]
 # the subtrees that are asked of, by a snapshot that may have changed while it was taken, and by what changed
-SubtreesOf = Callable[[Snapshot, Changing], Iterable[CgroupPath]]
+SubtreesOf = Callable[[Snapshot, walk.Whys], Iterable[CgroupPath]]
 
 
-def changing_notes(changing: Changing) -> Iterator[Note]:
+def changing_notes(changing: walk.Whys) -> Iterator[Note]:
     for path in sorted(topmost(changing)):
         yield Note("changing", shown(path), f"left out, with all inside: {changing[path]}")
 
@@ -147,12 +146,14 @@ def about_this_host() -> About:
 def snapshot_of(settled: walk.Settled, reader: Reader, options: Options, mounts: Mounts) -> Snapshot:
     """What was found of this host, as a snapshot."""
     walked, processes = settled.walk, reader.found
-    cgroups = {path_of(path): found for path, found in walked.found.items()}
-    root = cgroups[path_of("/")]
+    cgroups: Cgroups = walked.found
+    root = cgroups[ROOT]
     bending = Bending(cgroups)
     bending.notes += [*changing_notes(settled.changing), *name_notes(walked), *controller_notes(cgroups), *process_notes(reader)]
     looks = Looks()
-    rows = whole_rows({row.path: row for row in looks.each("cgroups", cgroups, lambda path: bending.row(path, cgroups[path]))})
+    rows = {row.path: row for row in looks.each("cgroups", cgroups, lambda path: bending.row(path, cgroups[path]))}
+    kept = walk.whole(rows)
+    rows = kept if len(kept) < len(rows) else rows
     cgroups = {path: cgroups[path] for path in rows}
     placed, threads = bending.placed(rows, processes)
     tree = Tree(tuple(name for name in CONTROLLERS if name in root.available), rows, placed)
@@ -162,20 +163,10 @@ def snapshot_of(settled: walk.Settled, reader: Reader, options: Options, mounts:
                     tree=tree, processes=processes, kernel_threads=threads, places=walked.places,
                     kernel_list=kernel_list,
                     notes=(*bending.notes, *version_1_notes(mounts), *lacking, *reader.failed, *looks.failed), changing=settled.changing,
-                    spoiled={path_of(path): why for path, why in settled.spoiled.items()},
+                    spoiled=settled.spoiled,
                     version_1=mounts.limits_of_version_1(),
-                    makers={path_of(path): walked.holds[path].uid for path in settled.changing if path in walked.holds},
+                    makers={path: walked.holds[path].uid for path in settled.changing if path in walked.holds},
                     over=reader.over())
-
-
-def whole_rows(rows: Mapping[CgroupPath, Row]) -> Mapping[CgroupPath, Row]:
-    """The rows that have all of theirs above."""
-    kept: Dict[CgroupPath, Row] = {}
-    for path in sorted(rows, key=len):
-        parent = parent_of(path)
-        if parent is None or parent in kept:
-            kept[path] = rows[path]
-    return rows if len(kept) == len(rows) else kept
 
 
 def take(options: Options, subtrees_of: SubtreesOf) -> Snapshot:
@@ -184,11 +175,11 @@ def take(options: Options, subtrees_of: SubtreesOf) -> Snapshot:
     payer = payer_of(options.accounts)
     running: List[Reader] = []
 
-    def subtrees_in(walked: walk.Walk, changing: Changing) -> Iterable[CgroupPath]:
+    def subtrees_in(walked: walk.Walk, changing: walk.Whys) -> Iterable[CgroupPath]:
         if not running:
             running.append(look_at_processes(options, payer))
         found = snapshot_of(walk.Settled(walked, {}, {}), running[0], options, mounts)
-        return [CgroupPath(os.fsencode(path)) for path in subtrees_of(found, changing)]
+        return subtrees_of(found, changing)
 
     settled = walk.settled(options.mount, options.only, subtrees_in, payer)
     return snapshot_of(settled, look_at_processes(options, payer), options, mounts)
@@ -202,7 +193,7 @@ def look_at_processes(options: Options, payer: Payer) -> Reader:
     return reader
 
 
-def all_that_changes(_: Snapshot, changing: Changing) -> Iterable[CgroupPath]:
+def all_that_changes(_: Snapshot, changing: walk.Whys) -> Iterable[CgroupPath]:
     """What is asked of where nothing is known of it yet: everything that changes is walked over again."""
     return topmost(changing)
 
@@ -212,7 +203,7 @@ def value_of(snapshot: Snapshot, path: CgroupPath, name: str) -> Optional[str]:
     if snapshot.source.file is not None:
         carried = snapshot.source.carried
         return carried.values.get((path, name)) if carried else None
-    folder = b"" if is_root(path) else os.fsencode(path)
+    folder = b"" if is_root(path) else path
     return walk.value_of(os.fsencode(snapshot.mount) + folder, name)
 
 

@@ -1,6 +1,6 @@
 """A tree text of format 2: what is in it, and its spelling."""
 import sys
-from typing import Callable, Iterable, List, Mapping, Sequence, Tuple
+from typing import Callable, Iterable, List, Mapping, Sequence, Tuple, Type, TypeVar
 
 from zirofen_host.collect.model import Entry, Placed, Row, Tree, Value
 from zirofen_host.fault import Fault
@@ -8,6 +8,7 @@ from zirofen_host.profile import (CONTROL_FILES, CONTROLLERS, DIRECTORY_MODE, FI
                                   parts_of, path_of, text_of)
 
 Table = Mapping[str, object]
+Kind = TypeVar("Kind")
 
 
 def literal(text: str) -> str:
@@ -71,34 +72,31 @@ def tree_text(tree: Tree, head: Iterable[str]) -> str:
                     *map(process_text, sorted(tree.processes))])
 
 
-def table_in(value: object) -> Table:
-    if not isinstance(value, dict):
+def typed(kind: Type[Kind], value: object) -> Kind:
+    """A value that is of a type; another is a TypeError."""
+    if not isinstance(value, kind):
         raise TypeError
     return value
 
 
-def tables_in(value: object) -> Sequence[Table]:
-    if not isinstance(value, list):
-        raise TypeError
-    return [table_in(each) for each in value]
+def table_in(value: object) -> Table:
+    return typed(dict, value)
+
+
+def parts_in(value: object) -> Sequence[object]:
+    return typed(list, value)
 
 
 def number_in(value: object) -> int:
-    if not isinstance(value, int):
-        raise TypeError
-    return value
+    return typed(int, value)
 
 
 def text_in(value: object) -> str:
-    if not isinstance(value, str):
-        raise TypeError
-    return value
+    return typed(str, value)
 
 
 def texts_in(value: object) -> Tuple[str, ...]:
-    if not isinstance(value, list):
-        raise TypeError
-    return tuple(map(text_in, value))
+    return tuple(map(text_in, parts_in(value)))
 
 
 def value_in(value: object) -> Value:
@@ -109,7 +107,8 @@ def read_entry(table: Table, usual_mode: int) -> Entry:
     return Entry(number_in(table.get("uid", 0)), number_in(table.get("gid", 0)), number_in(table.get("mode", usual_mode)))
 
 
-def read_row(table: Table) -> Row:
+def read_row(value: object) -> Row:
+    table = table_in(value)
     files = {name: table_in(entry) for name, entry in table_in(table.get("files", {})).items()}
     return Row(path=path_of(text_in(table["path"])),
                directory=read_entry(table_in(table.get("dir", {})), DIRECTORY_MODE),
@@ -136,9 +135,9 @@ def read_tree(text: str) -> Tree:
     reader = toml_reader()
     try:
         document = reader(text)
-        rows = {row.path: row for row in map(read_row, tables_in(document.get("cgroup", [])))}
+        rows = {row.path: row for row in map(read_row, parts_in(document.get("cgroup", [])))}
         processes = [Placed(number_in(each["pid"]), number_in(each["uid"]), path_of(text_in(each["at"])))
-                     for each in tables_in(document.get("process", []))]
+                     for each in map(table_in, parts_in(document.get("process", [])))]
         tree = Tree(texts_in(document["controllers"]), rows, processes)
     except (AttributeError, KeyError, TypeError, ValueError, RecursionError):
         raise Fault("this is no tree text that this helper reads, which is TOML 1.0") from None

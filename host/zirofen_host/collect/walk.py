@@ -268,11 +268,7 @@ class Walk:
 
     def without(self, paths: Collection[CgroupPath]) -> None:
         """Leaves out some cgroups, with what is inside, and what is inside of none."""
-        kept: Dict[CgroupPath, Cgroup] = {}
-        for path in sorted(self.found, key=len):
-            if path not in paths and (path == ROOT or parent_of(path) in kept):
-                kept[path] = self.found[path]
-        self.found = kept
+        self.found = whole(self.found, paths)
 
 
 class Settled(NamedTuple):
@@ -289,6 +285,15 @@ def walk_over(mount: str, tops: Optional[Iterable[CgroupPath]] = None, before: O
         walk.once = before.once
     walk.walk()
     return walk
+
+
+def whole(found: Mapping[CgroupPath, Of], without: Collection[CgroupPath] = ()) -> Dict[CgroupPath, Of]:
+    """What of some cgroups isn't left out and has all of theirs above."""
+    kept: Dict[CgroupPath, Of] = {}
+    for path in sorted(found, key=len):
+        if path not in without and (path == ROOT or parent_of(path) in kept):
+            kept[path] = found[path]
+    return kept
 
 
 def put_in_place(mine: Dict[CgroupPath, Of], its: Mapping[CgroupPath, Of], later: Walk) -> None:

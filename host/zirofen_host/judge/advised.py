@@ -29,7 +29,7 @@ class Advised:
     """What to change of entries that are alike, the pairs of which no advice was given, by why, and how many entries weren't
     asked about."""
     changes: Mapping[Alike, Sequence[Change]]
-    faults: Mapping[Tuple[User, str], List[CgroupPath]]
+    faults: Mapping[Tuple[User, str], Sequence[CgroupPath]]
     unasked: int = 0
 
     def changes_of(self, found: LetsIn) -> List[Change]:

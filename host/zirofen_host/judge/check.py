@@ -21,7 +21,7 @@ from zirofen_host.judge.findings import above_findings, differs_findings, entry_
 from zirofen_host.judge.gravity import gravity_of
 from zirofen_host.judge.judged import Own, judge
 from zirofen_host.judge.lists import shown_lists
-from zirofen_host.judge.model import VERSION, HeldBy, HolderAnswer, Report, Subtree, Told, within_of
+from zirofen_host.judge.model import VERSION, HeldBy, HolderAnswer, Report, Subtree, Told
 from zirofen_host.judge.names import names_of
 from zirofen_host.judge.settings import Settings
 from zirofen_host.options import Options
@@ -53,7 +53,7 @@ def ask(snapshot: Snapshot, options: Options, folder: str, settings: Settings) -
 def subtree_of(checked: Checked, path: CgroupPath) -> Subtree:
     holders = checked.questions.holders[path]
     return Subtree(text_of(path), checked.questions.meant.get(path), unit_of(path), HeldBy(holders.by, holders.ids),
-                   answers_of(checked, path), within_of(checked.holds.within(path)))
+                   answers_of(checked, path), checked.within(path))
 
 
 def answers_of(checked: Checked, subtree: CgroupPath) -> Tuple[HolderAnswer, ...]:
@@ -117,7 +117,7 @@ def report_of(checked: Checked, is_whole: bool) -> Report:
 def noted(checked: Checked, note: Note) -> Told:
     # a name that isn't shown as it is stands quoted, as what is told of alone
     place = note.place[2:] if note.place[:2] in ("b'", 'b"') else note.place
-    return Told(note.kind, note.place, note.detail, within_of(checked.holds.within(path_of(place))))
+    return Told(note.kind, note.place, note.detail, checked.within(path_of(place)))
 
 
 def report(snapshot: Snapshot, options: Options, is_whole: bool, settings: Settings = NO_SETTINGS) -> Report:

@@ -1,7 +1,8 @@
 """A host that was asked, on its way to a report: who was asked of what, and what the answers come to."""
+from collections import defaultdict
 from dataclasses import dataclass
 from functools import cached_property
-from typing import FrozenSet, Iterable, List, Mapping, Tuple
+from typing import DefaultDict, FrozenSet, Iterable, List, Mapping, Sequence, Tuple
 
 from zirofen_host.ask.model import Answers
 from zirofen_host.ask.questions import Questions
@@ -9,12 +10,13 @@ from zirofen_host.ask.texts import Programs
 from zirofen_host.collect.holds import Holds
 from zirofen_host.collect.model import Entry, Snapshot, User
 from zirofen_host.judge.judged import Judged, LetIn, Place
+from zirofen_host.judge.model import ABSENT, Within
 from zirofen_host.judge.names import Names
 from zirofen_host.judge.opened import find_openings
 from zirofen_host.judge.settings import Settings
 from zirofen_host.judge.shell import Change, change_commands
 from zirofen_host.options import Options
-from zirofen_host.profile import CgroupPath, path_of
+from zirofen_host.profile import ANYBODY, CgroupPath, path_of
 
 
 @dataclass(frozen=True)
@@ -42,9 +44,18 @@ class Checked:
         return list(find_openings(self.snapshot, self.questions))
 
     @cached_property
-    def changing(self) -> FrozenSet[CgroupPath]:
-        """What was left out since it changed all the time, can't be read or is too much."""
-        return frozenset(map(path_of, self.snapshot.changing))
+    def held(self) -> Mapping[int, Sequence[CgroupPath]]:
+        """What each uid holds."""
+        held: DefaultDict[int, List[CgroupPath]] = defaultdict(list)
+        for path in self.questions.subtrees:
+            for uid in self.questions.holders[path].uids - {ANYBODY}:
+                held[uid].append(path)
+        return held
+
+    def within(self, path: CgroupPath) -> Within:
+        """Whose own making a cgroup is."""
+        person = self.holds.within(path)
+        return ABSENT if person is None else person
 
     @property
     def is_asked(self) -> bool:

@@ -13,11 +13,11 @@ from zirofen_host.judge.finding_lines import some
 from zirofen_host.collect.looks import Looks
 from zirofen_host.judge.judged import LetIn, LetsIn, Place
 from zirofen_host.judge.model import (ABSENT, AboveFinding, Absent, DiffersFinding, EntryFinding, Example, FaultFinding, OpenedFinding,
-                                      Owner, Whom, within_of)
+                                      Owner, Whom)
 from zirofen_host.judge.names import Names
 from zirofen_host.judge.opened import GROUP_WRITES, OTHERS_WRITE, WHO_IS_FIRST, what_differs
 from zirofen_host.judge.shell import closing_commands
-from zirofen_host.profile import CgroupPath, ancestors, path_of, shown, text_of, topmost
+from zirofen_host.profile import CgroupPath, ancestors, shown, text_of, topmost
 
 NO_CLOSING: Mapping[CgroupPath, Tuple[str, ...]] = {}
 
@@ -57,9 +57,9 @@ def entry_finding(checked: Checked, advised: Advised, found: LetsIn, closing: Tu
     example = None if is_own else Example(checked.names.who(user), user.uid, user.gids, text_of(subtree), lines)
     changes = checked.commands(advised.changes_of(found))
     return EntryFinding(path, place.name, owner_of(found.entry) if found.entry else None, lines[0].split(" ")[0],
-                        whom_of(checked.names, found.whom()), texts_of(in_order(topmost(found.subtrees))), example,
-                        (*changes, *(() if place.name == "dir" else closing)), None, within_of(checked.holds.within(place.path)),
-                        is_own_affair(checked, place, found.whom(), found.subtrees))
+                        whom_of(checked.names, found.whom), texts_of(found.subtrees), example,
+                        (*changes, *(() if place.name == "dir" else closing)), None, checked.within(place.path),
+                        is_own_affair(checked, place, found.whom, found.subtrees))
 
 
 def is_own_affair(checked: Checked, place: Place, let_in: Iterable[LetIn], subtrees: Iterable[CgroupPath]) -> Union[bool, Absent]:
@@ -98,7 +98,7 @@ def opened_findings(checked: Checked) -> Iterable[Tuple[Place, OpenedFinding]]:
             yield place, OpenedFinding(
                 text_of(place.path), place.name, owner_of(entry), whom_of(checked.names, let_in),
                 (*changes, *(() if is_directory else closing.get(place.path, ()))), None, WHO_IS_FIRST if is_directory else None,
-                within_of(checked.holds.within(place.path)), is_own_affair(checked, place, let_in, ()))
+                checked.within(place.path), is_own_affair(checked, place, let_in, ()))
 
 
 def is_shown(checked: Checked, place: Place, let_in: Iterable[LetIn]) -> bool:
@@ -106,7 +106,7 @@ def is_shown(checked: Checked, place: Place, let_in: Iterable[LetIn]) -> bool:
     shown_by = checked.judged.entries.get(place)
     if shown_by is None or place.name != "dir":
         return shown_by is not None
-    return shown_by.answer.status == ESCAPES and {(each.by, each.id) for each in let_in} <= set(shown_by.uids)
+    return shown_by.answer.status == ESCAPES and {(each.by, each.id) for each in let_in} <= {(each.by, each.id) for each in shown_by.whom}
 
 
 def fault_findings(checked: Checked, advised: Advised) -> Iterable[FaultFinding]:
@@ -114,7 +114,7 @@ def fault_findings(checked: Checked, advised: Advised) -> Iterable[FaultFinding]
     by_why: Dict[Tuple[str, Optional[str]], List[str]] = defaultdict(list)
     below = makers_below(checked)
     for path, why in sorted(checked.answers.refused.items()):
-        by_why[why, makers_of(checked, below, path, why)].append(shown(path))
+        by_why[why, makers_of(checked, below, path, why)].append(shown(text_of(path)))
     yield from (FaultFinding("everybody", None, (), why, tuple(paths), made_by) for (why, made_by), paths in by_why.items())
     yield from faults_of_pairs(checked.names, advised)
     yield from faults_of_budgets(checked)
@@ -133,8 +133,7 @@ def faults_of_budgets(checked: Checked) -> Iterable[FaultFinding]:
 def makers_below(checked: Checked) -> Mapping[CgroupPath, Set[Optional[str]]]:
     """By whose making something is left out at a cgroup or inside of it; None stands for what is of nobody's."""
     found: DefaultDict[CgroupPath, Set[Optional[str]]] = defaultdict(set)
-    for changing, why in checked.snapshot.changing.items():
-        place = path_of(changing)
+    for place, why in checked.snapshot.changing.items():
         maker = holder_at(checked, place) if is_by_somebody(why) else None
         for above in (place, *ancestors(place)):
             found[above].add(maker)
@@ -144,7 +143,7 @@ def makers_below(checked: Checked) -> Mapping[CgroupPath, Set[Optional[str]]]:
 def makers_of(checked: Checked, below: Mapping[CgroupPath, Set[Optional[str]]], path: CgroupPath, why: str) -> Optional[str]:
     """Those by whose own making alone a subtree goes without an answer: it is too large, or what they hold inside of it changes
     all the time. What is above it, or what root alone has, is of nobody's making, and so is what can't be read."""
-    if why.startswith("fault:") or not checked.changing.isdisjoint(ancestors(path)):
+    if why.startswith("fault:") or not checked.snapshot.changing.keys().isdisjoint(ancestors(path)):
         return None
     makers = below.get(path) or {holder_at(checked, path)}
     return None if None in makers else some(sorted(filter(None, makers)))

@@ -1,7 +1,7 @@
 """What the answers come to: the holders' own, what is expected of whoever is above, and the entries that let somebody in."""
 from collections import defaultdict
-from dataclasses import dataclass, field
-from typing import DefaultDict, Dict, List, NamedTuple, Optional, Sequence, Set, Tuple
+from dataclasses import dataclass
+from typing import DefaultDict, Dict, FrozenSet, Iterable, List, Mapping, NamedTuple, Optional, Sequence, Set, Tuple
 
 from zirofen_host.ask.model import Answer, Answers, Pair
 from zirofen_host.ask.program import worst
@@ -24,7 +24,7 @@ class LetIn(NamedTuple):
     """Somebody that an entry lets in: by its owner, by its group or with everybody, and the uids that were found so."""
     by: str
     id: Optional[int]
-    uids: Set[int]
+    uids: FrozenSet[int]
 
 
 class Own(NamedTuple):
@@ -34,7 +34,14 @@ class Own(NamedTuple):
     is_above: bool
 
 
-@dataclass
+class Uncontained(NamedTuple):
+    """A pair that isn't contained, and the topmost place that is theirs above it, where that explains the answer."""
+    pair: Pair
+    answer: Answer
+    handed: Optional[CgroupPath]
+
+
+@dataclass(frozen=True)
 class LetsIn:
     """What lets somebody in, with all whom it does and to what."""
     place: Place
@@ -43,74 +50,112 @@ class LetsIn:
     # the worst answer, and whose it is
     worst: Pair
     answer: Answer
-    uids: DefaultDict[Tuple[str, Optional[int]], Set[int]] = field(default_factory=lambda: defaultdict(set))
-    # of those inside one another the outermost, where they come in the order of their tree
-    subtrees: Set[CgroupPath] = field(default_factory=set)
-    last: Optional[CgroupPath] = None
+    whom: Tuple[LetIn, ...]
+    # of those inside one another the outermost, in the order of their tree
+    subtrees: Tuple[CgroupPath, ...]
     # a pair of each class that it lets in, to be advised of
-    pairs: Dict[str, Pair] = field(default_factory=dict)
-
-    def add(self, pair: Pair, answer: Answer) -> None:
-        user, entry = pair.user, self.entry
-        by = user.class_of(entry) if entry else OTHERS if user.uid == ANYBODY else OWNER
-        self.uids[by, None if by == OTHERS else entry.gid if entry and by == GROUP else user.uid].add(user.uid)
-        if self.last is None or not is_inside(pair.subtree, self.last):
-            self.subtrees.add(pair.subtree)
-            self.last = pair.subtree
-        self.pairs.setdefault(by, pair)
-        if worst({answer.status, self.answer.status}) != self.answer.status:
-            self.worst, self.answer = pair, answer
-
-    def whom(self) -> List[LetIn]:
-        return sorted(LetIn(by, number, uids) for (by, number), uids in self.uids.items())
+    pairs: Mapping[str, Pair]
 
 
 @dataclass(frozen=True)
 class Judged:
     """The pairs that aren't contained, each where it belongs."""
-    entries: Dict[Place, LetsIn]
-    faults: Dict[Tuple[User, str], List[CgroupPath]]
+    entries: Mapping[Place, LetsIn]
+    faults: Mapping[Tuple[User, str], Sequence[CgroupPath]]
     # by uid and the topmost place that is theirs
-    above: Dict[Tuple[int, CgroupPath], Set[CgroupPath]]
-    own: Dict[Tuple[int, CgroupPath], Own]
+    above: Mapping[Tuple[int, CgroupPath], Set[CgroupPath]]
+    own: Mapping[Tuple[int, CgroupPath], Own]
 
 
 def judge(questions: Questions, answers: Answers) -> Judged:
-    judged = Judged({}, {}, questions.expected_above(answers.plan), {})
+    found = uncontained(questions, answers)
+    return Judged(entries_of(questions, found), faults_of(found), above_of(questions, answers, found), own_of(questions, found))
+
+
+def uncontained(questions: Questions, answers: Answers) -> List[Uncontained]:
+    """Every pair that isn't contained, those that weren't asked first, and the others in the order of the tree."""
+    found = []
     for each in answers.plan.cut:
         line = f"{each.count} of his groups matter here, and the program takes 32: nothing was asked"
-        add(judged, questions, Pair(each.user, each.subtree), Answer(FAULT, (line,)))
-    for pair, answer in sorted(answers.found.items(), key=lambda each: in_turn(each[0])):
-        add(judged, questions, pair, answer)
-    return judged
+        found.append(Uncontained(Pair(each.user, each.subtree), Answer(FAULT, (line,)), None))
+    for pair in sorted(answers.found, key=in_turn):
+        answer = answers.found[pair]
+        found.append(Uncontained(pair, answer, None if answer.status == FAULT else questions.handed_above(*pair)))
+    return found
 
 
 def in_turn(pair: Pair) -> Tuple[Sequence[bytes], bool, User]:
     return parts_of(pair.subtree), pair.user.uid != ANYBODY, pair.user
 
 
-def add(judged: Judged, questions: Questions, pair: Pair, answer: Answer) -> None:
-    """Puts a pair where it belongs."""
-    handed = None
-    if answer.status == FAULT:
-        judged.faults.setdefault((pair.user, answer.lines[0]), []).append(pair.subtree)
-    elif handed := questions.handed_above(*pair):
-        judged.above.setdefault((pair.user.uid, handed), set()).add(pair.subtree)
-    else:
-        for place, entry in failing(questions, pair):
-            judged.entries.setdefault(place, LetsIn(place, entry, pair, answer)).add(pair, answer)
-    if questions.holds(*pair):
-        add_own(judged, (pair.user.uid, pair.subtree), Own(pair.user, answer, handed is not None))
+def faults_of(found: Iterable[Uncontained]) -> Mapping[Tuple[User, str], Sequence[CgroupPath]]:
+    faults: DefaultDict[Tuple[User, str], List[CgroupPath]] = defaultdict(list)
+    for pair, answer, _ in found:
+        if answer.status == FAULT:
+            faults[pair.user, answer.lines[0]].append(pair.subtree)
+    return faults
 
 
-def add_own(judged: Judged, key: Tuple[int, CgroupPath], own: Own) -> None:
-    """The worst of a uid's answers; what counts goes before what is expected."""
-    before = judged.own.get(key)
-    if before is None:
-        judged.own[key] = own
-    elif before.is_above if own.is_above != before.is_above else (
-            worst({before.answer.status, own.answer.status}) != before.answer.status):
-        judged.own[key] = own
+def above_of(questions: Questions, answers: Answers, found: Iterable[Uncontained]) -> Mapping[Tuple[int, CgroupPath], Set[CgroupPath]]:
+    """What is expected of whoever has something above: of what was asked, and of what wasn't since it is."""
+    above: DefaultDict[Tuple[int, CgroupPath], Set[CgroupPath]] = defaultdict(set)
+    for uid, place, subtree in questions.expected_above(answers.plan):
+        above[uid, place].add(subtree)
+    for pair, _, handed in found:
+        if handed:
+            above[pair.user.uid, handed].add(pair.subtree)
+    return above
+
+
+def entries_of(questions: Questions, found: Iterable[Uncontained]) -> Mapping[Place, LetsIn]:
+    """What each answer that counts rests on."""
+    by_place: DefaultDict[Place, List[Uncontained]] = defaultdict(list)
+    for each in found:
+        if each.answer.status != FAULT and not each.handed:
+            for place, _ in failing(questions, each.pair):
+                by_place[place].append(each)
+    return {place: lets_in(questions, place, some) for place, some in by_place.items()}
+
+
+def lets_in(questions: Questions, place: Place, found: Sequence[Uncontained]) -> LetsIn:
+    """What lets somebody in by the answers that rest on it, which come in the order of the tree."""
+    entry = None if place.name in (OVER, UNKNOWN) else questions.delegations.entry(*place)
+    uids: DefaultDict[Tuple[str, Optional[int]], Set[int]] = defaultdict(set)
+    pairs: Dict[str, Pair] = {}
+    subtrees: List[CgroupPath] = []
+    for pair, _, _ in found:
+        by, number = class_of(pair.user, entry)
+        uids[by, number].add(pair.user.uid)
+        pairs.setdefault(by, pair)
+        if not subtrees or not is_inside(pair.subtree, subtrees[-1]):
+            subtrees.append(pair.subtree)
+    status = worst({answer.status for _, answer, _ in found})
+    gravest = next(each for each in found if each.answer.status == status)
+    whom = sorted(LetIn(by, number, frozenset(of)) for (by, number), of in uids.items())
+    return LetsIn(place, entry, gravest.pair, gravest.answer, tuple(whom), tuple(subtrees), pairs)
+
+
+def class_of(user: User, entry: Optional[Entry]) -> Tuple[str, Optional[int]]:
+    """By which class somebody is let in, and the uid or the gid that it is; what is no entry lets in each by themselves."""
+    by = user.class_of(entry) if entry else OTHERS if user.uid == ANYBODY else OWNER
+    return by, None if by == OTHERS else entry.gid if entry and by == GROUP else user.uid
+
+
+def own_of(questions: Questions, found: Iterable[Uncontained]) -> Mapping[Tuple[int, CgroupPath], Own]:
+    """The worst answer of each uid that holds a subtree."""
+    own: Dict[Tuple[int, CgroupPath], Own] = {}
+    for pair, answer, handed in found:
+        if questions.holds(*pair):
+            key, of_pair = (pair.user.uid, pair.subtree), Own(pair.user, answer, handed is not None)
+            own[key] = worse_of(own[key], of_pair) if key in own else of_pair
+    return own
+
+
+def worse_of(before: Own, own: Own) -> Own:
+    """The worse of two answers of a uid, else the first; what counts goes before what is expected."""
+    if own.is_above != before.is_above:
+        return own if before.is_above else before
+    return before if worst({before.answer.status, own.answer.status}) == before.answer.status else own
 
 
 def failing(questions: Questions, pair: Pair) -> List[Tuple[Place, Optional[Entry]]]:

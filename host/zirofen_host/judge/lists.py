@@ -83,10 +83,11 @@ def shown_lists(checked: Checked, subtrees: Iterable[Subtree], entries: Iterable
     """The lists of a report that aren't shown as the program has them, of so many at most."""
     seen: Set[Tuple[str, Tuple[str, ...]]] = set()
     for user, path, lines in escapes_in(checked, subtrees, entries):
-        if (path, lines) in seen or len(seen) == REPLAYS or path_of(path) not in checked.programs.of:
+        subtree = path_of(path)
+        if (path, lines) in seen or len(seen) == REPLAYS or subtree not in checked.programs.of:
             continue
         seen.add((path, lines))
-        found = tried(checked.snapshot, checked.programs.of[path_of(path)], user, path_of(path), lines[1:])
+        found = tried(checked.snapshot, checked.programs.of[subtree], user, subtree, lines[1:])
         if found.told:
             yield ShownList(path, lines, (lines[0], *found.lines), found.told)
 

@@ -22,10 +22,6 @@ FileValue = Union[int, str, None, Absent]
 Within = Union[int, Absent]
 
 
-def within_of(person: Optional[int]) -> Within:
-    return ABSENT if person is None else person
-
-
 @dataclass(frozen=True)
 class Matching:
     """A text that a pattern matches."""

@@ -6,7 +6,7 @@ is set is looked at here.
 """
 from collections import Counter, defaultdict
 from dataclasses import dataclass, replace
-from typing import AbstractSet, DefaultDict, Dict, Iterable, Iterator, List, Mapping, Set, Tuple
+from typing import AbstractSet, DefaultDict, Dict, FrozenSet, Iterable, Iterator, List, Mapping, Tuple
 
 from zirofen_host.ask.questions import Questions
 from zirofen_host.collect.model import GROUP, OTHERS, OWNER, Entry, Snapshot, User
@@ -80,8 +80,8 @@ def find_openings(snapshot: Snapshot, questions: Questions) -> Iterator[Tuple[Pl
 
 def whom_of(snapshot: Snapshot, questions: Questions, place: Place, entry: Entry) -> List[LetIn]:
     """Whom an entry lets in, but for those whose it is."""
-    def others(users: Iterable[User]) -> Set[int]:
-        return {user.uid for user in users if not is_theirs(snapshot, questions, user, place)}
+    def others(users: Iterable[User]) -> FrozenSet[int]:
+        return frozenset(user.uid for user in users if not is_theirs(snapshot, questions, user, place))
 
     of, whom = questions.delegations.users, []
     if entry.uid:
@@ -89,7 +89,7 @@ def whom_of(snapshot: Snapshot, questions: Questions, place: Place, entry: Entry
     if entry.mode & GROUP_WRITES:
         whom.append(LetIn(GROUP, entry.gid, others(user for user in of("gid", entry.gid) if user.uid != entry.uid)))
     if entry.mode & OTHERS_WRITE:
-        whom.append(LetIn(OTHERS, None, {ANYBODY}))
+        whom.append(LetIn(OTHERS, None, frozenset({ANYBODY})))
     return [each for each in whom if each.uids]
 
 

@@ -11,7 +11,7 @@ from zirofen_host.fault import Fault
 from zirofen_host.judge import one, shell
 from zirofen_host.judge.lists import Tried, pids_in, tried
 from zirofen_host.options import AskOptions, CommandsOptions
-from zirofen_host.profile import CgroupPath, path_of
+from zirofen_host.profile import path_of
 
 # behind which `ask` writes the subtree
 SUBTREE = "# subtree "
@@ -44,6 +44,6 @@ def looked_for(options: CommandsOptions, user: User, subtree: Optional[str], ope
         with output.temporary_folder() as folder:
             delegations = Delegations(snapshot.tree, accounts_of(asked.accounts, snapshot))
             programs = one.program_for(snapshot, asked, folder, delegations, {user.uid})
-            return tried(snapshot, programs.of[path], user, CgroupPath(path), operations)
+            return tried(snapshot, programs.of[path], user, path, operations)
     except (Fault, OSError) as error:
         return Tried(tuple(operations), f"these are the program's own processes, since the host couldn't be looked at: {error}")

@@ -25,50 +25,58 @@ def is_path(word: str) -> bool:
     return is_root(word) or word.startswith("/") and all(word[1:].split("/")) and not {".", ".."} & set(word.split("/"))
 
 
-def move(mount: str, pid: str, path: str) -> Optional[str]:
+def move(mount: str, words: Sequence[str]) -> Optional[str]:
+    pid, path = words
     return f"echo {pid} >{place(mount, path, 'cgroup.procs')}" if is_number(pid) and is_path(path) else None
 
 
-def control(mount: str, path: str, *changes: str) -> Optional[str]:
+def control(mount: str, words: Sequence[str]) -> Optional[str]:
+    path, *changes = words
     known = all(each[:1] in ("+", "-") and each[1:] in CONTROLLERS for each in changes)
     return f"echo '{' '.join(changes)}' >{place(mount, path, 'cgroup.subtree_control')}" if known and is_path(path) else None
 
 
-def make(mount: str, path: str) -> Optional[str]:
+def make(mount: str, words: Sequence[str]) -> Optional[str]:
+    path, = words
     return f"mkdir {place(mount, path)}" if is_path(path) else None
 
 
-def remove(mount: str, path: str) -> Optional[str]:
+def remove(mount: str, words: Sequence[str]) -> Optional[str]:
+    path, = words
     return f"rmdir {place(mount, path)}" if is_path(path) else None
 
 
-def set_limit(mount: str, path: str, file: str, value: str) -> Optional[str]:
+def set_limit(mount: str, words: Sequence[str]) -> Optional[str]:
+    path, file, value = words
     known = file in LIMIT_FILES and (value == "max" or is_number(value))
     return f"echo {value} >{place(mount, path, file)}" if known and is_path(path) else None
 
 
-def set_mode(mount: str, path: str, entry: str, mode: str) -> Optional[str]:
+def set_mode(mount: str, words: Sequence[str]) -> Optional[str]:
+    path, entry, mode = words
     known = entry in ENTRIES and len(mode) == 3 and not mode.strip("01234567")
     return f"chmod {mode} {place(mount, path, entry)}" if known and is_path(path) else None
 
 
-def fork(_: str, parent: str, child: str) -> Optional[str]:
+def fork(_: str, words: Sequence[str]) -> Optional[str]:
+    parent, child = words
     return f"# fork {parent} {child}" if is_number(parent) and is_number(child) else None
 
 
-def leave(_: str, pid: str) -> Optional[str]:
+def leave(_: str, words: Sequence[str]) -> Optional[str]:
+    pid, = words
     return f"# exit {pid}" if is_number(pid) else None
 
 
-OPERATIONS: Dict[str, Callable[..., Optional[str]]] = {
+OPERATIONS: Mapping[str, Callable[[str, Sequence[str]], Optional[str]]] = {
     "move": move, "control": control, "mkdir": make, "rmdir": remove, "set": set_limit, "chmod": set_mode, "fork": fork, "exit": leave}
 
 
 def operation_command(mount: str, words: Sequence[str]) -> Optional[str]:
     """The command of an operation, a comment where a shell has none, or None where the words are no operation."""
     try:
-        return OPERATIONS[words[0]](mount, *words[1:])
-    except (KeyError, TypeError):
+        return OPERATIONS[words[0]](mount, words[1:])
+    except (KeyError, ValueError):
         return None
 
 

@@ -1,6 +1,6 @@
 """An escape told in words: its operations one by one, as far as what they say needs it carried out, and what it breaks."""
 from dataclasses import dataclass
-from typing import Callable, Dict, List, NamedTuple, Optional, Sequence, Tuple, Union
+from typing import Callable, Dict, List, Mapping, NamedTuple, Optional, Sequence, Tuple, Union
 
 from zirofen_host.collect.model import Value
 from zirofen_host.profile import LIMIT_FILES, is_inside, parent_of
@@ -58,15 +58,17 @@ class Teller:
         """One operation; what is none stands as it is."""
         tell = TELLS.get(words[0])
         try:
-            return tell(self, *words[1:]) if tell else [("code", " ".join(words))]
-        except (TypeError, ValueError, IndexError):
+            return tell(self, words[1:]) if tell else [("code", " ".join(words))]
+        except (ValueError, IndexError):
             return [("code", " ".join(words))]
 
-    def chmod(self, path: str, entry: str, mode: str) -> Sentence:
+    def chmod(self, words: Sequence[str]) -> Sentence:
+        path, entry, mode = words
         name: Word = "the directory" if entry == "dir" else ("code", entry)
         return ["give ", name, " of ", ("code", path), f" the mode {mode}, which lets its owner write it"]
 
-    def move(self, pid: str, path: str) -> Sentence:
+    def move(self, words: Sequence[str]) -> Sentence:
+        pid, path = words
         process = self.host.processes.get(int(pid))
         before = self.at.get(int(pid), process.at if process else None)
         self.at[int(pid)] = path
@@ -78,14 +80,16 @@ class Teller:
             told.append(f": it goes {'into' if is_inside(path, self.subtree) else 'out of'} the subtree")
         return told
 
-    def set(self, path: str, file: str, value: str) -> Sentence:
+    def set(self, words: Sequence[str]) -> Sentence:
+        path, file, value = words
         before = self.host.value(path, file)
         if path == self.subtree:
             self.breaks = Breaks(LIMITS, changes=(Change(file, before, value),))
         is_now = [f" from {size(file, before)}"] if before is not None else []
         return ["set ", ("code", file), " of ", ("code", path), *is_now, f" to {size(file, value)}"]
 
-    def control(self, path: str, *changes: str) -> Sentence:
+    def control(self, words: Sequence[str]) -> Sentence:
+        path, *changes = words
         names = {each[1:] for each in changes}
         if path == parent_of(self.subtree):
             self.breaks = Breaks(LIMITS, changes=tuple(
@@ -96,22 +100,26 @@ class Teller:
         told = listed([*([f"enable {on}"] if on else []), *([f"disable {off}"] if off else [])])
         return [told, " in ", ("code", path), ": limits of what is below come or go"]
 
-    def make(self, path: str) -> Sentence:
+    def make(self, words: Sequence[str]) -> Sentence:
+        path, = words
         return ["make the cgroup ", ("code", path)]
 
-    def remove(self, path: str) -> Sentence:
+    def remove(self, words: Sequence[str]) -> Sentence:
+        path, = words
         if path == self.subtree:
             self.breaks = Breaks(GONE)
         return ["remove the cgroup ", ("code", path)]
 
-    def fork(self, parent: str, child: str) -> Sentence:
+    def fork(self, words: Sequence[str]) -> Sentence:
+        parent, child = words
         return [f"have process {parent} start another, {child}"]
 
-    def exit(self, pid: str) -> Sentence:
+    def exit(self, words: Sequence[str]) -> Sentence:
+        pid, = words
         return [f"end process {pid}"]
 
 
-TELLS: Dict[str, Callable[..., Sentence]] = {
+TELLS: Mapping[str, Callable[[Teller, Sequence[str]], Sentence]] = {
     "chmod": Teller.chmod, "move": Teller.move, "set": Teller.set, "control": Teller.control, "mkdir": Teller.make,
     "rmdir": Teller.remove, "fork": Teller.fork, "exit": Teller.exit}
 
