@@ -96,8 +96,8 @@ def add_host(parser: argparse.ArgumentParser) -> None:
 
 
 def add_text(parser: argparse.ArgumentParser) -> None:
-    parser.add_argument("--tree", metavar="FILE", help=f"a text of {NAME} snapshot in place of this host, - for standard input; with "
-                        f"the accounts of the host that it is of by --accounts, or in the text by {NAME} snapshot --with-host")
+    parser.add_argument("--tree", metavar="FILE", help=f"a tree text in place of this host, as {NAME} snapshot writes it, - for standard "
+                        f"input; by number alone, but for accounts by --accounts, or in the text by {NAME} snapshot --with-host")
 
 
 def add_accounts(parser: argparse.ArgumentParser) -> None:

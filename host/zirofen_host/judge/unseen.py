@@ -35,6 +35,8 @@ class Host:
     held: Mapping[int, Sequence[CgroupPath]]
     holds: Holds
     proc: Optional[str]
+    # whether the accounts of a text's host stand in a folder
+    has_accounts: bool
     systemctl: Optional[str]
     # of units, before the host was looked at
     settings: Settings
@@ -69,7 +71,7 @@ def host_of(checked: Checked) -> Host:
         for uid in questions.holders[path].uids - {ANYBODY}:
             held[uid].append(path)
     return Host(snapshot, questions, checked.answers, checked.names, held, checked.holds, None if is_text else options.proc,
-                settings.systemctl_of(options), checked.settings)
+                options.accounts is not None, settings.systemctl_of(options), checked.settings)
 
 
 def descriptors(host: Host) -> Iterator[Told]:
@@ -227,7 +229,7 @@ def restarts(host: Host) -> Iterator[Told]:
 def about_the_mount(host: Host) -> Iterator[Told]:
     """What is different about a text, and about how the hierarchy is mounted."""
     if host.snapshot.source.file is not None:
-        yield Told("elsewhere", "", told_unseen(host.snapshot))
+        yield Told("elsewhere", "", told_unseen(host.snapshot, host.has_accounts))
     if "nsdelegate" in host.snapshot.mount_options:
         yield Told("nsdelegate", "", "the mount has it: what runs in a cgroup namespace is kept in there, safer than the answers")
 
