@@ -6,6 +6,7 @@ from zirofen_host.judge.model import AboveFinding, DiffersFinding, EntryFinding,
 
 # names in a line; where there are more, it tells how many
 SHOWN = 8
+NOTHING_ASKED = "nothing was found to ask: no subtree and user of which containment could be asked"
 
 
 def some(names: Sequence[str]) -> str:

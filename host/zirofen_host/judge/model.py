@@ -119,6 +119,8 @@ class EntryFinding:
     within: Within = ABSENT
     # nobody but that person is let in, and to nothing that isn't theirs
     is_own: Union[bool, Absent] = ABSENT
+    # why it isn't counted, where somebody accepted it
+    accepted: Union[str, Absent] = ABSENT
 
 
 @dataclass(frozen=True)
@@ -134,6 +136,7 @@ class OpenedFinding:
     why: Optional[str]
     within: Within = ABSENT
     is_own: Union[bool, Absent] = ABSENT
+    accepted: Union[str, Absent] = ABSENT
 
 
 @dataclass(frozen=True)

@@ -6,7 +6,7 @@ from typing import Callable, Dict, Iterable, Iterator, List, Optional, Sequence,
 from zirofen_host.fault import FAULT
 from zirofen_host.installed import MANUAL
 from zirofen_host.judge.baseline import KINDS
-from zirofen_host.judge.finding_lines import (SHOWN, above_line, differs_line, entry_line, fault_line, opened_line,
+from zirofen_host.judge.finding_lines import (NOTHING_ASKED, SHOWN, above_line, differs_line, entry_line, fault_line, opened_line,
                                               version_1_line, whom_text)
 from zirofen_host.judge.model import (ABSENT, AboveFinding, Absent, Comparison, Difference, DiffersFinding, EntryFinding,
                                       OpenedFinding, Report, Subtree, Told)
@@ -208,7 +208,7 @@ def lines_of(report: Report, is_each: bool = False) -> Iterator[str]:
     if report.subtrees:
         yield from table(report, is_each)
     if not report.asked:
-        yield "nothing was found to ask: no subtree and user of which containment could be asked"
+        yield NOTHING_ASKED
     found = list(finding_lines(report, is_each))
     if found:
         yield ""
