@@ -140,6 +140,8 @@ def add_check(parser: argparse.ArgumentParser) -> None:
                         "a file; once or more. Where none goes to standard output, the text does")
     parser.add_argument("--json", action="store_true", help="what --format json is: all of it, with the host's cgroups and processes")
     parser.add_argument("--html", metavar="FILE", help="one page of it to look at, into a file; what is printed stays as it is")
+    parser.add_argument("--accept", metavar="FILE", help="findings that are accepted, each by itself, for a reason and until a day: told, "
+                        "and not counted")
     parser.add_argument("--baseline", metavar="FILE",
                         help="tells what is new, worse, changed or gone since FILE, an earlier --json; the status is that of new and worse")
     parser.add_argument("--baseline-update", metavar="FILE", help="leaves the report of now as a baseline in FILE")

@@ -1,10 +1,11 @@
 """The command `zirofen-host`: what each subcommand does with what it was asked for."""
 import argparse
 import dataclasses
+import datetime
 import functools
 import sys
 import time
-from typing import Callable, Dict, Iterable, Iterator, List, Mapping, NoReturn, Tuple
+from typing import Callable, Dict, Iterable, Iterator, List, Mapping, NoReturn, Optional, Tuple
 
 from zirofen_host import ending, fault, installed
 from zirofen_host.arguments import ARGUMENTS, DESCRIPTIONS, NAME, parser_of
@@ -18,7 +19,7 @@ from zirofen_host.collect.holds import holds_of
 from zirofen_host.collect.model import Snapshot, User
 from zirofen_host.collect.processes import read_processes
 from zirofen_host.collect.looks import why_of
-from zirofen_host.judge import baseline, check, one, replayed, saved, settings, shell
+from zirofen_host.judge import acceptances, baseline, check, one, replayed, saved, settings, shell
 from zirofen_host.judge.model import Report
 from zirofen_host.options import (PROC, AskOptions, CheckOptions, CommandsOptions, DelegationsOptions, PageOptions,
                                   SnapshotOptions, TreeOptions, Way)
@@ -47,17 +48,30 @@ def check_host(given: argparse.Namespace) -> int:
     ways = formats.ways_of(options)
     options = dataclasses.replace(options, program=program_at(options.program))
     before = baseline.read(options.baseline) if options.baseline else None
+    granted = acceptances_of(options)
     is_first = bool(options.baseline) and before is None
     is_whole = bool(formats.is_whole(ways) or options.html or options.baseline_update or is_first)
     before_the_walk = settings.read(settings.systemctl_of(options))
     taken = accepted.take(options, subtrees_by(options))
     report = check.report(taken, options, is_whole, before_the_walk)
+    if granted is not None:
+        report = acceptances.applied(report, granted, datetime.datetime.now(datetime.timezone.utc).date())
     comparison = baseline.compared(report, before, options.baseline) if before and options.baseline else None
     if comparison:
         report = dataclasses.replace(report, baseline=comparison)
     status = comparison.status if comparison else report.status
     run = Run(report, status, options.tree, taken.source.file, time.monotonic() - began, time.time())
     return status if write_all(options, ways, run, is_first) else fault.FAULT
+
+
+def acceptances_of(options: CheckOptions) -> Optional[Tuple[acceptances.Given, ...]]:
+    """What somebody accepts one by one; where the file isn't there a line says that this is nothing."""
+    if options.accept is None:
+        return None
+    given = acceptances.read(options.accept)
+    if given is None:
+        fault.warn(f"{NAME} check: {shown(options.accept)} isn't there, and so nothing is accepted by it")
+    return given
 
 
 def write_all(options: CheckOptions, ways: Iterable[Way], run: Run, is_first: bool) -> bool:

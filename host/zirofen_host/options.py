@@ -43,6 +43,8 @@ class CheckOptions(Options):
     html: Optional[str] = None
     baseline: Optional[str] = None
     baseline_update: Optional[str] = None
+    # what somebody accepts one by one
+    accept: Optional[str] = None
 
 
 @dataclass(frozen=True)

@@ -254,6 +254,20 @@ class Comparison:
 
 
 @dataclass(frozen=True)
+class Acceptance:
+    """What somebody accepts, and how that stands: accepted, over, worse or unmet."""
+    what: str
+    path: str
+    entry: str
+    whom: Tuple[str, ...]
+    reason: str
+    until: str
+    state: str
+    # of the finding that stands there
+    line: Optional[str]
+
+
+@dataclass(frozen=True)
 class Report:
     version: int
     program: Optional[str]
@@ -283,3 +297,5 @@ class Report:
     baseline: Union[Comparison, Absent] = ABSENT
     # of a baseline, whether what it tells of is accepted
     accepted: Union[bool, Absent] = ABSENT
+    # what somebody accepts one by one, where they do
+    acceptances: Union[Tuple[Acceptance, ...], Absent] = ABSENT

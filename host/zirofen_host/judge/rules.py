@@ -4,8 +4,8 @@ from typing import Dict, Iterator, Optional, Tuple, Union
 
 from zirofen_host.collect.looks import FAILED
 from zirofen_host.judge.finding_lines import NOTHING_ASKED as NOTHING_ASKED_LINE
-from zirofen_host.judge.finding_lines import differs_line, entry_line, fault_line, opened_line, version_1_line
-from zirofen_host.judge.gravity import Gravity, of_answer, of_fault
+from zirofen_host.judge.finding_lines import acceptance_line, differs_line, entry_line, fault_line, opened_line, version_1_line
+from zirofen_host.judge.gravity import ACCEPTED, Gravity, of_answer, of_fault
 from zirofen_host.judge.judged import OVER, UNKNOWN
 from zirofen_host.judge.model import (ABSENT, Absent, DiffersFinding, EntryFinding, OpenedFinding, Report, Whom)
 from zirofen_host.profile import LIMIT_FILES
@@ -48,6 +48,7 @@ def made_rules() -> Iterator[Rule]:
     yield Rule("fault/own", Gravity.OWN_FAULT, "There is no answer for a subtree, which is the making of those alone who hold it.")
     yield Rule(FAILED, Gravity.FAULT, "A look at the host failed; all else stands.")
     yield Rule(VERSION_1, Gravity.NOT_LOOKED_AT, "Limits are in the hands of cgroup v1, and weren't looked at.")
+    yield Rule("acceptance", Gravity.STALE, "An acceptance is over, meets nothing, or what it is of got worse.")
     yield Rule(NOTHING_ASKED, Gravity.NOTHING_ASKED, "Nothing was found to ask.")
 
 
@@ -110,5 +111,8 @@ def findings_of(report: Report) -> Iterator[Finding]:
     if report.version_1:
         yield Finding(RULES[VERSION_1], "", "", version_1_line(report.version_1))
     yield from map(of_differs, report.differs)
+    if not isinstance(report.acceptances, Absent):
+        yield from (Finding(RULES["acceptance"], each.path, each.entry, acceptance_line(each)) for each in report.acceptances
+                    if each.state != ACCEPTED)
     if not report.asked:
         yield Finding(RULES[NOTHING_ASKED], "", "", NOTHING_ASKED_LINE)

@@ -15,6 +15,7 @@ from zirofen_host.show.run import Run
 
 PASSED, SKIPPED, FAILURE, ERROR = "passed", "skipped", "failure", "error"
 OF_GRAVITY: Dict[Gravity, str] = {Gravity.ESCAPES: FAILURE, Gravity.UNSETTLED: FAILURE, Gravity.NOT_LOOKED_AT: FAILURE,
+                                  Gravity.STALE: FAILURE,
                                   Gravity.CONTAINED: PASSED}
 HOST = "the host"
 # what is told of the host as a whole has a case in each report
@@ -93,6 +94,8 @@ def place_of(found: Finding) -> Tuple[str, str]:
         return HOST, OF_HOST[found.rule.id]
     if found.rule.id in (OPENED, OPENED_DIRECTORY):
         return found.path, f"opened {found.entry}"
+    if found.rule.gravity is Gravity.STALE:
+        return found.path, f"acceptance {found.entry}".rstrip()
     return found.path or HOST, DIFFERS if found.rule.id == DIFFERS else "answered"
 
 

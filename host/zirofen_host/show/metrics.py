@@ -12,7 +12,8 @@ from zirofen_host.show.run import Run
 # what isn't a finding of an entry is a fault, or told by the status
 FAULTS: Dict[str, str] = {"fault": "anybody", "fault/own": "holders", "failed": "look"}
 NAMES: Dict[Gravity, str] = {Gravity.ESCAPES: "escapes", Gravity.UNSETTLED: "unsettled", Gravity.CONTAINED: "contained",
-                             Gravity.NOT_LOOKED_AT: "not_looked_at", Gravity.NOTHING_ASKED: "nothing_asked"}
+                             Gravity.NOT_LOOKED_AT: "not_looked_at", Gravity.NOTHING_ASKED: "nothing_asked",
+                             Gravity.STALE: "stale"}
 Values = Mapping[Tuple[Tuple[str, str], ...], float]
 ALONE: Tuple[Tuple[str, str], ...] = ()
 
