@@ -110,7 +110,7 @@ class PackageTest(unittest.TestCase):
         environment = {**os.environ, "ZIROFEN": f"{folder}/zirofen"}
         said = run(f"{folder}/zirofen-host", "--version", env=environment)
         self.assertEqual((said.stdout, said.stderr), (f"zirofen-host {self.program.version}\n", ""))
-        checked = run(f"{folder}/zirofen-host", "check", "--json", "--tree", tree, "--accounts", "/etc", env=environment)
+        checked = run(f"{folder}/zirofen-host", "check", "--json", "--tree", tree, env=environment)
         self.assertEqual((json.loads(checked.stdout)["program"], checked.stderr), (f"zirofen {self.program.version}", ""))
         with open(f"{self.folder.name}/report.json", "w", encoding="ascii") as out:
             out.write(checked.stdout)

@@ -5,11 +5,13 @@ from typing import Callable, Dict, Type
 
 from zirofen_host.fault import Parser
 from zirofen_host.installed import MANUAL, TOLD_PROGRAM, default_program
-from zirofen_host.options import MOUNT, PROC
+from zirofen_host.options import MOUNT, PROC, Way
 from zirofen_host.profile import is_number
 
 NAME = "zirofen-host"
 LARGEST_ID = 4294967295
+# what a check writes
+FORMATS = ("text", "json", "sarif", "junit", "metrics")
 # columns that a tree is drawn in at least
 LEAST_WIDTH = 20
 
@@ -82,6 +84,15 @@ def width(word: str) -> int:
     return int(word)
 
 
+def way(word: str) -> Way:
+    kind, is_named, file = word.partition("=")
+    if kind not in FORMATS:
+        raise argparse.ArgumentTypeError(f"{kind!a} is none of {', '.join(FORMATS)}")
+    if is_named and not file:
+        raise argparse.ArgumentTypeError("there is no file behind =")
+    return Way(kind, file or "-")
+
+
 def add_host(parser: argparse.ArgumentParser) -> None:
     """The options of whoever looks at a host."""
     parser.add_argument("--mount", metavar="FOLDER", default=MOUNT, help=f"the cgroup v2 mount ({MOUNT})")
@@ -96,8 +107,8 @@ def add_host(parser: argparse.ArgumentParser) -> None:
 
 
 def add_text(parser: argparse.ArgumentParser) -> None:
-    parser.add_argument("--tree", metavar="FILE", help=f"a text of {NAME} snapshot in place of this host, - for standard input; with "
-                        f"the accounts of the host that it is of by --accounts, or in the text by {NAME} snapshot --with-host")
+    parser.add_argument("--tree", metavar="FILE", help=f"a tree text in place of this host, as {NAME} snapshot writes it, - for standard "
+                        f"input; by number alone, but for accounts by --accounts, or in the text by {NAME} snapshot --with-host")
 
 
 def add_accounts(parser: argparse.ArgumentParser) -> None:
@@ -125,8 +136,12 @@ def add_check(parser: argparse.ArgumentParser) -> None:
     for add in (add_host, add_text, add_accounts, add_keep, add_program):
         add(parser)
     parser.add_argument("--each", action="store_true", help="each finding by itself, also those that are alike in one holder's own part")
-    parser.add_argument("--json", action="store_true", help="all of it as JSON, with the host's cgroups and processes")
+    parser.add_argument("--format", metavar="KIND", type=way, action="append", default=[], help=f"{', '.join(FORMATS)}, or KIND=FILE into "
+                        "a file; once or more. Where none goes to standard output, the text does")
+    parser.add_argument("--json", action="store_true", help="what --format json is: all of it, with the host's cgroups and processes")
     parser.add_argument("--html", metavar="FILE", help="one page of it to look at, into a file; what is printed stays as it is")
+    parser.add_argument("--accept", metavar="FILE", help="findings that are accepted, each by itself, for a reason and until a day: told, "
+                        "and not counted")
     parser.add_argument("--baseline", metavar="FILE",
                         help="tells what is new, worse, changed or gone since FILE, an earlier --json; the status is that of new and worse")
     parser.add_argument("--baseline-update", metavar="FILE", help="leaves the report of now as a baseline in FILE")

@@ -1,8 +1,11 @@
 """The command `zirofen-host`: what each subcommand does with what it was asked for."""
 import argparse
 import dataclasses
+import datetime
+import functools
 import sys
-from typing import Callable, Dict, Iterator, List, Mapping, NoReturn, Optional, Tuple
+import time
+from typing import Callable, Dict, Iterable, Iterator, List, Mapping, NoReturn, Optional, Tuple
 
 from zirofen_host import ending, fault, installed
 from zirofen_host.arguments import ARGUMENTS, DESCRIPTIONS, NAME, parser_of
@@ -16,12 +19,13 @@ from zirofen_host.collect.holds import holds_of
 from zirofen_host.collect.model import Snapshot, User
 from zirofen_host.collect.processes import read_processes
 from zirofen_host.collect.looks import why_of
-from zirofen_host.judge import as_json, baseline, check, one, replayed, saved, settings, shell
-from zirofen_host.judge.model import Comparison, Report
+from zirofen_host.judge import acceptances, baseline, check, one, replayed, saved, settings, shell
+from zirofen_host.judge.model import Report
 from zirofen_host.options import (PROC, AskOptions, CheckOptions, CommandsOptions, DelegationsOptions, PageOptions,
-                                  SnapshotOptions, TreeOptions)
+                                  SnapshotOptions, TreeOptions, Way)
 from zirofen_host.profile import path_of, shown
-from zirofen_host.show import lines, listing, page, tree_view
+from zirofen_host.show import formats, listing, page, tree_view
+from zirofen_host.show.run import Run
 
 ABOUT = f"""The helpers of zirofen for a running host: from its cgroups to answers. They are no part of what is proved.
 
@@ -39,37 +43,49 @@ def ask(given: argparse.Namespace) -> int:
 
 
 def check_host(given: argparse.Namespace) -> int:
-    options = CheckOptions(**vars(given))
+    given.format = tuple(given.format)
+    options, began = CheckOptions(**vars(given)), time.monotonic()
+    ways = formats.ways_of(options)
     options = dataclasses.replace(options, program=program_at(options.program))
     before = baseline.read(options.baseline) if options.baseline else None
+    granted = acceptances_of(options)
     is_first = bool(options.baseline) and before is None
-    is_whole = bool(options.json or options.html or options.baseline_update or is_first)
+    is_whole = bool(formats.is_whole(ways) or options.html or options.baseline_update or is_first)
     before_the_walk = settings.read(settings.systemctl_of(options))
-    report = check.report(accepted.take(options, subtrees_by(options)), options, is_whole, before_the_walk)
+    taken = accepted.take(options, subtrees_by(options))
+    report = check.report(taken, options, is_whole, before_the_walk)
+    if granted is not None:
+        report = acceptances.applied(report, granted, datetime.datetime.now(datetime.timezone.utc).date())
     comparison = baseline.compared(report, before, options.baseline) if before and options.baseline else None
     if comparison:
         report = dataclasses.replace(report, baseline=comparison)
     status = comparison.status if comparison else report.status
-    return status if write_all(options, report, comparison, is_first) else fault.FAULT
+    run = Run(report, status, options.tree, taken.source.file, time.monotonic() - began, time.time())
+    return status if write_all(options, ways, run, is_first) else fault.FAULT
 
 
-def write_all(options: CheckOptions, report: Report, comparison: Optional[Comparison], is_first: bool) -> bool:
+def acceptances_of(options: CheckOptions) -> Optional[Tuple[acceptances.Given, ...]]:
+    """What somebody accepts one by one; where the file isn't there a line says that this is nothing."""
+    if options.accept is None:
+        return None
+    given = acceptances.read(options.accept)
+    if given is None:
+        fault.warn(f"{NAME} check: {shown(options.accept)} isn't there, and so nothing is accepted by it")
+    return given
+
+
+def write_all(options: CheckOptions, ways: Iterable[Way], run: Run, is_first: bool) -> bool:
     """Writes a report in each way that was asked for. Where one fails a line says which, and the others are written; whether all
     were."""
-    def written() -> None:
-        if options.json:
-            fault.write(as_json.parts_of(report))
-            fault.write("\n")
-        else:
-            fault.write_lines(lines.comparison_lines(report, comparison, options.each) if comparison else
-                              lines.lines_of(report, options.each))
-    ways: List[Tuple[str, Callable[[], None]]] = [("the JSON" if options.json else "the lines", written)]
+    written: List[Tuple[str, Callable[[], None]]] = [
+        ("the lines" if way.kind == "text" else f"the {way.kind}", functools.partial(formats.write, way, run, options.each))
+        for way in ways]
     if options.html:
-        ways.append(("the page", lambda: page.write(str(options.html), [report])))
+        written.append(("the page", lambda: page.write(str(options.html), [run.report])))
     if options.baseline or options.baseline_update:
-        ways.append(("the baseline", lambda: keep_baseline(options, report, is_first)))
+        written.append(("the baseline", lambda: keep_baseline(options, ways, run.report, is_first)))
     failed = 0
-    for what, write in ways:
+    for what, write in written:
         try:
             write()
         except Exception as error:
@@ -78,14 +94,14 @@ def write_all(options: CheckOptions, report: Report, comparison: Optional[Compar
     return not failed
 
 
-def keep_baseline(options: CheckOptions, report: Report, is_first: bool) -> None:
+def keep_baseline(options: CheckOptions, ways: Iterable[Way], report: Report, is_first: bool) -> None:
     """Leaves what was found as a baseline: that of a first run accepts nothing, and one that was asked for all of it."""
     if options.baseline and is_first and options.baseline != options.baseline_update:
         baseline.write(options.baseline, report, False)
         fault.warn(f"{NAME} check: {shown(options.baseline)} is a baseline from now on, which accepts nothing")
     if options.baseline_update:
         baseline.write(options.baseline_update, report, True)
-        if not options.json:
+        if Way("text") in ways:
             fault.write_lines(baseline.accepted_lines(report))
 
 

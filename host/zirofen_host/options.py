@@ -1,6 +1,6 @@
 """What each subcommand was asked for, made of its command line once."""
 from dataclasses import dataclass
-from typing import Optional, Tuple
+from typing import NamedTuple, Optional, Tuple
 
 from zirofen_host.profile import CgroupPath
 
@@ -28,14 +28,23 @@ class Options:
     seconds: Optional[int] = None
 
 
+class Way(NamedTuple):
+    """A kind of report, and the file that it goes to; - is standard output."""
+    kind: str
+    file: str = "-"
+
+
 @dataclass(frozen=True)
 class CheckOptions(Options):
     json: bool = False
+    format: Tuple[Way, ...] = ()
     # every finding by itself
     each: bool = False
     html: Optional[str] = None
     baseline: Optional[str] = None
     baseline_update: Optional[str] = None
+    # what somebody accepts one by one
+    accept: Optional[str] = None
 
 
 @dataclass(frozen=True)

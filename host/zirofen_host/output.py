@@ -23,6 +23,8 @@ _DESCRIPTOR = re.compile(r"/dev/(?:stdout|stderr|fd/([0-9]+))\Z|/proc/self/fd/([
 # devices that take all that is written to them, or refuse it: null, zero and full
 HARMLESS = {os.makedev(1, 3), os.makedev(1, 5), os.makedev(1, 7)}
 MOST_LINKS = 40
+# the mode of a file that everybody may read
+PUBLIC = 0o644
 
 
 def refused(why: str) -> OSError:
@@ -43,12 +45,14 @@ def refuse_anothers(folder: int, path: str) -> None:
 
 
 @contextlib.contextmanager
-def opened_folder(path: str) -> Iterator[int]:
-    """A folder's descriptor. On the way to it no folder and no link is somebody else's, where root writes."""
+def opened_folder(path: str, is_public: bool = False) -> Iterator[int]:
+    """A folder's descriptor. On the way to it no folder and no link is somebody else's, where root writes; for what is public no
+    link is, and neither is the folder itself."""
     folder = os.open("/" if path.startswith("/") else ".", FOLDER)
     try:
         here, links = "/" if path.startswith("/") else ".", 0
-        refuse_anothers(folder, here)
+        if not is_public:
+            refuse_anothers(folder, here)
         left = path.split("/")[::-1]
         while left:
             name = left.pop()
@@ -67,15 +71,19 @@ def opened_folder(path: str) -> Iterator[int]:
             below = os.open(name, FOLDER | os.O_NOFOLLOW, dir_fd=folder)
             os.close(folder)
             folder, here = below, place
+            if not is_public:
+                refuse_anothers(folder, here)
+        if is_public:
             refuse_anothers(folder, here)
         yield folder
     finally:
         os.close(folder)
 
 
-def write(file: str, parts: Iterable[str], what: str) -> None:
+def write(file: str, parts: Iterable[str], what: str, is_public: bool = False) -> None:
     """Writes a text to where it was asked for; `what` it is stands in the line of a fault. A file, or a link, is put in the place
-    of what has its name; a pipe, a terminal and /dev/null are written as they are."""
+    of what has its name; a pipe, a terminal and /dev/null are written as they are. What is public names nobody: everybody may read
+    it, and the folders above its own may be somebody else's."""
     try:
         descriptor = _DESCRIPTOR.match(file)
         if descriptor:
@@ -85,10 +93,10 @@ def write(file: str, parts: Iterable[str], what: str) -> None:
         above, name = os.path.split(file)
         if name in ("", ".", ".."):
             raise IsADirectoryError(errno.EISDIR, os.strerror(errno.EISDIR))
-        with opened_folder(above) as folder:
+        with opened_folder(above, is_public) as folder:
             there = status_of(name, folder)
             if there is None or stat.S_ISREG(there.st_mode) or stat.S_ISLNK(there.st_mode):
-                replace(folder, name, mode_of(there), parts)
+                replace(folder, name, PUBLIC if is_public else mode_of(there), parts)
             else:
                 fill(open_as_it_is(folder, name, there), parts)
     except OSError as error:

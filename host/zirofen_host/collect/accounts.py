@@ -216,10 +216,10 @@ def payer_of(folder: Optional[str]) -> Payer:
 
 
 def accounts_of(folder: Optional[str], snapshot: Snapshot) -> Accounts:
-    """The accounts of a folder, those that a text carries, or else this host's."""
+    """The accounts of a folder, those that a text carries, or else this host's. A text without any is judged by number: a uid is in
+    no group, a group has no members, and no ids are subordinate."""
     source = snapshot.source
     if folder or source.file is None:
         return accounts_here(folder, snapshot.processes_told)
-    if source.carried is None:
-        raise Fault("a text of another host takes its accounts: --accounts FOLDER, or zirofen-host snapshot --with-host there")
-    return Accounts(source.carried.accounts, {process.user for process in snapshot.processes_told})
+    lists = source.carried.accounts if source.carried else AccountLists()
+    return Accounts(lists, {process.user for process in snapshot.processes_told})

@@ -18,6 +18,8 @@ PROC_FILE = 1 << 30
 ACCOUNT_FILE = 1 << 30
 # bytes of a report, which has each cgroup of a host
 REPORT_FILE = 1 << 32
+# bytes of what somebody accepts
+ACCEPTANCES = 1 << 20
 # bytes of all operations that are turned into commands
 OPERATIONS = 1 << 30
 # bytes that are kept of one extended attribute: a mark has one digit

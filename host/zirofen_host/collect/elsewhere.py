@@ -167,12 +167,15 @@ def version_1_in(notes: Iterable[Note]) -> Tuple[str, ...]:
     return tuple(sorted(words & OF_LIMITS))
 
 
-def told_unseen(snapshot: Snapshot) -> str:
-    """What a text doesn't tell."""
+def told_unseen(snapshot: Snapshot, has_accounts: bool) -> str:
+    """What a text doesn't tell, where the accounts of its host may have been named beside it."""
     if snapshot.source.carried:
         return "this is judged by a text: open descriptors and the settings of units aren't told by it"
+    by_number = "" if has_accounts else (", and so it is judged by number: names, who is in which group and whose ids are subordinate "
+                                         "aren't known, which --accounts FOLDER tells too")
     return ("this is judged by a text that carries nothing of its host: open descriptors, settings of units, marks, other files, "
-            "capabilities and the groups of processes aren't told; zirofen-host snapshot --with-host carries all but the first two")
+            "capabilities and the groups of processes aren't told; zirofen-host snapshot --with-host carries all but the first two"
+            f"{by_number}")
 
 
 def entry_of(word: object) -> Entry:

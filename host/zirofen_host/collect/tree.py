@@ -117,15 +117,15 @@ def read_row(value: object) -> Row:
                enabled=texts_in(table.get("enabled", [])))
 
 
-def toml_reader() -> Callable[[str], Table]:
-    """What reads TOML here."""
+def toml_reader(what: str = "a tree text") -> Callable[[str], Table]:
+    """What reads TOML here; `what` is read stands in the line of a fault."""
     if sys.version_info >= (3, 11):
         from tomllib import loads
     else:
         try:
             from tomli import loads
         except ImportError:
-            raise Fault("reading a tree text takes Python 3.11 or newer, or the package tomli") from None
+            raise Fault(f"reading {what} takes Python 3.11 or newer, or the package tomli") from None
     reader: Callable[[str], Table] = loads
     return reader
 

@@ -9,10 +9,12 @@ from zirofen_host.ask.program import CONTAINED
 from zirofen_host.collect.bounded import REPORT_FILE, read_file
 from zirofen_host.fault import Fault
 from zirofen_host.judge import as_json
+from zirofen_host.judge.acceptances import accepted_subtrees
 from zirofen_host.judge.finding_lines import above_line, differs_line, entry_line, fault_line, opened_line, version_1_line
+from zirofen_host.judge.gravity import ACCEPTED as HOLDS
 from zirofen_host.judge.gravity import Gravity, of_answer, of_fault, worst
 from zirofen_host.collect.looks import FAILED
-from zirofen_host.judge.model import (ABSENT, VERSION, Comparison, Difference, DiffersFinding, EntryFinding,
+from zirofen_host.judge.model import (ABSENT, VERSION, Absent, Comparison, Difference, DiffersFinding, EntryFinding,
                                       OpenedFinding, Report, Subtree, Whom, Within)
 from zirofen_host.judge.saved import LACKING
 from zirofen_host.profile import shown
@@ -32,6 +34,8 @@ class Found(NamedTuple):
     mended: Union[EntryFinding, OpenedFinding, DiffersFinding, None] = None
     # whose own making it is
     within: Within = ABSENT
+    # it is accepted by itself, and told so
+    is_accepted: bool = False
 
 
 def read(file: str) -> Optional[Report]:
@@ -74,13 +78,15 @@ def write(file: str, report: Report, is_accepted: bool) -> None:
 
 def found_in(report: Report) -> Dict[Key, Found]:
     """All that a report tells of, by what it is and where it stands."""
-    found = {("subtree", each.path, ""): subtree_found(each) for each in report.subtrees}
+    accepted = accepted_subtrees(report)
+    found = {("subtree", each.path, ""): subtree_found(each, each.path in accepted) for each in report.subtrees}
     for entry in report.entries:
         found["entry", entry.path, entry.entry] = Found(
-            of_answer(entry.answer), entry_line([entry]), let_in(entry.whom, entry.subtrees), entry, entry.within)
+            of_answer(entry.answer), entry_line([entry]), let_in(entry.whom, entry.subtrees), entry, entry.within,
+            entry.accepted is not ABSENT)
     for opened in report.opened:
         found["opened", opened.path, opened.file] = Found(Gravity.ESCAPES, opened_line(opened), let_in(opened.whom, ()), opened,
-                                                          opened.within)
+                                                          opened.within, opened.accepted is not ABSENT)
     for fault in report.faults:
         for path in fault.subtrees:
             found["fault", path, fault.fault] = Found(of_fault(fault), fault_line(fault, [path]))
@@ -97,13 +103,13 @@ def found_in(report: Report) -> Dict[Key, Found]:
     return found
 
 
-def subtree_found(subtree: Subtree) -> Found:
+def subtree_found(subtree: Subtree, is_accepted: bool) -> Found:
     """What those who hold a subtree were answered."""
     if not subtree.answers:
         return Found(Gravity.CONTAINED, f"{subtree.path}: held by root alone", within=subtree.within)
     gravities = [Gravity.CONTAINED if each.is_above else of_answer(each.lines[0].split(" ")[0]) for each in subtree.answers]
     told = "; ".join(f"{each.lines[0]}, by {each.who} who holds it" for each in subtree.answers)
-    return Found(worst(gravities), f"{subtree.path}: {told}", within=subtree.within)
+    return Found(worst(gravities), f"{subtree.path}: {told}", within=subtree.within, is_accepted=is_accepted)
 
 
 def let_in(whom: Iterable[Whom], subtrees: Iterable[str]) -> FrozenSet[Tuple[object, ...]]:
@@ -118,6 +124,8 @@ def compared(report: Report, before: Report, file: str) -> Comparison:
     differing: Dict[str, List[Difference]] = {kind: [] for kind in KINDS}
     gravities = []
     for key in sorted({*now, *then}):
+        if key in now and now[key].is_accepted:
+            continue
         kind = kind_of(now.get(key), then.get(key))
         if kind in ("new", "worse"):
             gravities.append(now[key].gravity)
@@ -127,6 +135,8 @@ def compared(report: Report, before: Report, file: str) -> Comparison:
         if kind:
             differing[kind].append(difference(key, now.get(key), then.get(key)))
     differing["changed"] += changes_of_host(report, before)
+    if not isinstance(report.acceptances, Absent):
+        gravities += [Gravity.STALE for each in report.acceptances if each.state != HOLDS]
     if not report.asked and before.asked:
         gravities.append(Gravity.NOTHING_ASKED)
     new, worse, stand, changed, gone = (tuple(differing[kind]) for kind in KINDS)
@@ -136,7 +146,7 @@ def compared(report: Report, before: Report, file: str) -> Comparison:
 def is_standing(key: Key, now: Found, is_accepted: bool) -> bool:
     """Whether a finding that was there already counts: a fault always does, and others where nobody accepted them. A subtree's
     row is told by the entries that it rests on."""
-    if now.gravity is Gravity.CONTAINED or key[0] == "subtree":
+    if now.is_accepted or now.gravity is Gravity.CONTAINED or key[0] == "subtree":
         return False
     return not is_accepted or key[0] in ("fault", FAILED)
 

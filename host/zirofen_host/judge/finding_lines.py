@@ -2,10 +2,11 @@
 from typing import Iterable, Sequence
 
 from zirofen_host.collect.model import GROUP, OTHERS
-from zirofen_host.judge.model import AboveFinding, DiffersFinding, EntryFinding, FaultFinding, OpenedFinding, Owner, Whom
+from zirofen_host.judge.model import AboveFinding, Acceptance, DiffersFinding, EntryFinding, FaultFinding, OpenedFinding, Owner, Whom
 
 # names in a line; where there are more, it tells how many
 SHOWN = 8
+NOTHING_ASKED = "nothing was found to ask: no subtree and user of which containment could be asked"
 
 
 def some(names: Sequence[str]) -> str:
@@ -46,6 +47,15 @@ def differs_line(each: DiffersFinding) -> str:
 
 def above_line(each: AboveFinding) -> str:
     return f"above: {each.who}, below {each.handed}: {some(each.subtrees)}"
+
+
+def acceptance_line(each: Acceptance) -> str:
+    """The line of what somebody accepts: of what is so, and of what isn't so any more and counts."""
+    if each.state == "accepted":
+        return f"accepted: {each.line}: {each.reason}, until {each.until}"
+    what = " ".join(filter(None, (each.what, each.path, each.entry))) + f" by {', '.join(each.whom)}: {each.reason}, until {each.until}"
+    told = {"over": "is over", "worse": "doesn't hold, it got worse", "unmet": "meets nothing"}[each.state]
+    return f"an acceptance {told}: {what}" + (f"; now: {each.line}" if each.line else "")
 
 
 def version_1_line(controllers: Iterable[str]) -> str:

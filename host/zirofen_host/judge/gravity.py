@@ -5,7 +5,10 @@ from typing import Iterable, Iterator
 from zirofen_host.ask.program import CONTAINED, ESCAPES, UNSETTLED, WORDS
 from zirofen_host.fault import FAULT
 from zirofen_host.collect.looks import FAILED
-from zirofen_host.judge.model import NOTHING_ASKED, FaultFinding, Report
+from zirofen_host.judge.model import ABSENT, NOTHING_ASKED, Absent, FaultFinding, Report
+
+# how an acceptance stands that holds
+ACCEPTED = "accepted"
 
 
 class Gravity(Enum):
@@ -17,6 +20,8 @@ class Gravity(Enum):
     NOTHING_ASKED = "nothing asked"
     # the limits of version 1
     NOT_LOOKED_AT = "not looked at"
+    # an acceptance that is over, meets nothing or got worse
+    STALE = "stale"
     CONTAINED = "contained"
 
     @property
@@ -30,7 +35,8 @@ class Gravity(Enum):
 
 ORDER = tuple(Gravity)
 STATUSES = {Gravity.FAULT: FAULT, Gravity.ESCAPES: ESCAPES, Gravity.UNSETTLED: UNSETTLED, Gravity.OWN_FAULT: FAULT,
-            Gravity.NOTHING_ASKED: NOTHING_ASKED, Gravity.NOT_LOOKED_AT: UNSETTLED, Gravity.CONTAINED: CONTAINED}
+            Gravity.NOTHING_ASKED: NOTHING_ASKED, Gravity.NOT_LOOKED_AT: UNSETTLED, Gravity.STALE: UNSETTLED,
+            Gravity.CONTAINED: CONTAINED}
 ANSWERS = {ESCAPES: Gravity.ESCAPES, UNSETTLED: Gravity.UNSETTLED, CONTAINED: Gravity.CONTAINED}
 
 
@@ -49,14 +55,16 @@ def worst(found: Iterable[Gravity]) -> Gravity:
 
 def gravities_in(report: Report) -> Iterator[Gravity]:
     """Of each thing that a report tells of."""
-    yield from (of_answer(each.answer) for each in report.entries)
-    yield from (Gravity.ESCAPES for _ in report.opened)
+    yield from (of_answer(each.answer) for each in report.entries if each.accepted is ABSENT)
+    yield from (Gravity.ESCAPES for each in report.opened if each.accepted is ABSENT)
     yield from map(of_fault, report.faults)
     yield from (Gravity.FAULT for each in (*report.unseen, *report.snapshot) if each.kind == FAILED)
     if not report.asked:
         yield Gravity.NOTHING_ASKED
     if report.version_1:
         yield Gravity.NOT_LOOKED_AT
+    if not isinstance(report.acceptances, Absent):
+        yield from (Gravity.STALE for each in report.acceptances if each.state != ACCEPTED)
 
 
 def gravity_of(report: Report) -> Gravity:

@@ -115,6 +115,8 @@ class EntryFinding:
     within: Within = ABSENT
     # nobody but that person is let in, and to nothing that isn't theirs
     is_own: Union[bool, Absent] = ABSENT
+    # why it isn't counted, where somebody accepted it
+    accepted: Union[str, Absent] = ABSENT
 
 
 @dataclass(frozen=True)
@@ -130,6 +132,7 @@ class OpenedFinding:
     why: Optional[str]
     within: Within = ABSENT
     is_own: Union[bool, Absent] = ABSENT
+    accepted: Union[str, Absent] = ABSENT
 
 
 @dataclass(frozen=True)
@@ -247,6 +250,20 @@ class Comparison:
 
 
 @dataclass(frozen=True)
+class Acceptance:
+    """What somebody accepts, and how that stands: accepted, over, worse or unmet."""
+    what: str
+    path: str
+    entry: str
+    whom: Tuple[str, ...]
+    reason: str
+    until: str
+    state: str
+    # of the finding that stands there
+    line: Optional[str]
+
+
+@dataclass(frozen=True)
 class Report:
     version: int
     program: Optional[str]
@@ -276,3 +293,5 @@ class Report:
     baseline: Union[Comparison, Absent] = ABSENT
     # of a baseline, whether what it tells of is accepted
     accepted: Union[bool, Absent] = ABSENT
+    # what somebody accepts one by one, where they do
+    acceptances: Union[Tuple[Acceptance, ...], Absent] = ABSENT

@@ -191,7 +191,7 @@ def restarts(checked: Checked) -> Iterator[Told]:
 def about_the_mount(checked: Checked) -> Iterator[Told]:
     """What is different about a text, and about how the hierarchy is mounted."""
     if checked.snapshot.source.file is not None:
-        yield Told("elsewhere", "", told_unseen(checked.snapshot))
+        yield Told("elsewhere", "", told_unseen(checked.snapshot, checked.options.accounts is not None))
     if "nsdelegate" in checked.snapshot.mount_options:
         yield Told("nsdelegate", "", "the mount has it: what runs in a cgroup namespace is kept in there, safer than the answers")
 

@@ -6,7 +6,7 @@ from typing import Dict, Hashable, Iterable, Iterator, List, Optional, Sequence,
 from zirofen_host.collect.bounded import LINES
 
 # the gravest first
-GRAVITY = ("fault", "escapes", "opened", "unsettled", "contained", "above")
+GRAVITY = ("fault", "escapes", "opened", "unsettled", "accepted", "contained", "above")
 
 
 @dataclass(frozen=True)

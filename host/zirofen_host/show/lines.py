@@ -5,9 +5,10 @@ from typing import Callable, Dict, Iterable, Iterator, List, Optional, Sequence,
 
 from zirofen_host.fault import FAULT
 from zirofen_host.installed import MANUAL
+from zirofen_host.judge.acceptances import accepted_subtrees
 from zirofen_host.judge.baseline import KINDS
-from zirofen_host.judge.finding_lines import (SHOWN, above_line, differs_line, entry_line, fault_line, opened_line,
-                                              version_1_line, whom_text)
+from zirofen_host.judge.finding_lines import (NOTHING_ASKED, SHOWN, above_line, acceptance_line, differs_line, entry_line, fault_line,
+                                              opened_line, version_1_line, whom_text)
 from zirofen_host.judge.model import (ABSENT, AboveFinding, Absent, Comparison, Difference, DiffersFinding, EntryFinding,
                                       OpenedFinding, Report, Subtree, Told)
 from zirofen_host.show.folded import GRAVITY, Part, counted, folded
@@ -109,8 +110,8 @@ def opened_lines(opened: Sequence[OpenedFinding]) -> Iterator[str]:
 
 def finding_lines(report: Report, is_each: bool = False) -> Iterator[str]:
     """Everything that counts, and then what doesn't; at last what somebody made below their own delegation."""
-    entries = [(found[0].within, found) for found in alike(report.entries, entry_in_common)]
-    opened = [(each[0].within, each) for each in alike(report.opened, opened_in_common)]
+    entries = [(found[0].within, found) for found in alike((each for each in report.entries if each.accepted is ABSENT), entry_in_common)]
+    opened = [(each[0].within, each) for each in alike((each for each in report.opened if each.accepted is ABSENT), opened_in_common)]
     yield from (line for within, found in entries if within is ABSENT for line in entry_lines(found))
     yield from (line for within, each in opened if within is ABSENT for line in opened_lines(each))
     for fault in report.faults:
@@ -188,11 +189,12 @@ def sum_line(report: Report) -> str:
 
 def standings(report: Report) -> Dict[str, str]:
     """How each subtree stands, by the gravest that is told of it."""
-    told = {(each.path, standing(each)) for each in report.subtrees}
-    told |= {(path, entry.answer) for entry in report.entries for path in entry.subtrees}
+    accepted = accepted_subtrees(report)
+    told = {(each.path, "accepted" if each.path in accepted else standing(each)) for each in report.subtrees}
+    told |= {(path, "accepted" if entry.accepted is not ABSENT else entry.answer) for entry in report.entries for path in entry.subtrees}
     told |= {(path, "fault") for fault in report.faults for path in fault.subtrees}
     paths = {path for path, _ in told}
-    told |= {(each.path, "opened") for each in report.opened if each.path in paths}
+    told |= {(each.path, "opened") for each in report.opened if each.path in paths and each.accepted is ABSENT}
     return {path: word for path, word in sorted(told, key=lambda each: (each[0], -GRAVITY.index(each[1])))}
 
 
@@ -208,12 +210,16 @@ def lines_of(report: Report, is_each: bool = False) -> Iterator[str]:
     if report.subtrees:
         yield from table(report, is_each)
     if not report.asked:
-        yield "nothing was found to ask: no subtree and user of which containment could be asked"
+        yield NOTHING_ASKED
     found = list(finding_lines(report, is_each))
     if found:
         yield ""
         yield "What lets somebody in, each once; opened and differs were seen by this helper and aren't proved:"
         yield from found
+    if not isinstance(report.acceptances, Absent) and report.acceptances:
+        yield ""
+        yield "What was accepted, each for a reason and until a day; what isn't so any more is counted:"
+        yield from map(acceptance_line, report.acceptances)
     if report.above:
         yield ""
         yield "What lies below what was handed to somebody is open to him, and isn't counted:"
@@ -254,6 +260,8 @@ def comparison_lines(report: Report, compared: Comparison, is_each: bool = False
         yield from what_to_change([each for each in compared.stand if each.within is ABSENT])
         yield from folded((Part(each.within, (each.what, each.status), each.what, None, list(what_to_change([each])))
                            for each in compared.stand if not isinstance(each.within, Absent) and each.changes), is_each)
+    if not isinstance(report.acceptances, Absent):
+        yield from map(acceptance_line, report.acceptances)
     if not any(found for _, found in by_kind(compared)):
         yield f"nothing is new, worse, changed or gone since {compared.time or compared.file}"
     first = said_first(report, compared.status)

@@ -1,0 +1,195 @@
+"""Findings that somebody accepted by a file of theirs: each by its place and whom it lets in, with a reason and an end."""
+import datetime
+import errno
+import os
+import re
+import stat
+from dataclasses import dataclass, replace
+from typing import Dict, FrozenSet, Iterable, List, Mapping, NamedTuple, NoReturn, Optional, Tuple
+
+from zirofen_host.collect import bounded
+from zirofen_host.collect.model import GROUP, OTHERS, OWNER
+from zirofen_host.collect.tree import tables_in, text_in, texts_in, toml_reader
+from zirofen_host.fault import Fault
+from zirofen_host.judge.gravity import ACCEPTED, gravity_of
+from zirofen_host.judge.model import ABSENT, Acceptance, EntryFinding, OpenedFinding, Report, Whom
+from zirofen_host.judge.rules import ACCEPTABLE, Finding, findings_of
+from zirofen_host.output import opened_folder, refused
+from zirofen_host.profile import ANYBODY, ancestors, shown
+
+KEYS = ("what", "path", "entry", "whom", "reason", "until")
+OVER, UNMET, WORSE = "over", "unmet", "worse"
+# somebody as a line tells of them
+_GROUP = re.compile(r"group (?:.+\(([0-9]+)\)|([0-9]+))\Z")
+_USER = re.compile(r"(?:.+\(([0-9]+)\)|uid ([0-9]+)|([0-9]+))\Z")
+_MEMBER = re.compile(r"\(([0-9]+)\)(?= |\Z)|(?:(?<= )|^)uid ([0-9]+)|members (unknown)")
+_AND_MORE = re.compile(r" and [0-9]+ more\Z")
+
+
+class Named(NamedTuple):
+    """Somebody that an entry may let in; of a group its members, or None for whoever is in it."""
+    by: str
+    id: Optional[int]
+    members: Optional[FrozenSet[int]]
+
+    def covers(self, whom: Whom) -> bool:
+        return (self.by, self.id) == (whom.by, whom.id) and (self.members is None or members_in(" ".join(whom.users)) <= self.members)
+
+
+@dataclass(frozen=True)
+class Given:
+    """What a file accepts."""
+    what: str
+    path: str
+    entry: str
+    whom: Tuple[str, ...]
+    named: Tuple[Named, ...]
+    reason: str
+    until: datetime.date
+
+    def is_met_by(self, found: Finding) -> bool:
+        """Whether a finding is what was accepted: at the same entry, no graver, and letting in nobody else."""
+        answer, _, guard = self.what.partition("/")
+        of, _, at = found.rule.id.partition("/")
+        is_graver = answer == "unsettled" and of == "escapes"
+        same = (found.path, found.entry, at) == (self.path, self.entry, guard) and (of == "opened") == (answer == "opened")
+        return same and not is_graver and all(any(each.covers(whom) for each in self.named) for whom in found.whom)
+
+
+def members_in(text: str) -> FrozenSet[int]:
+    return frozenset(ANYBODY if unknown else int(one or other) for one, other, unknown in _MEMBER.findall(text))
+
+
+def somebody_in(word: str) -> Named:
+    """Somebody, as a line tells of them: NAME(UID), uid N, group NAME(N) with or without its members, or everybody."""
+    if word == "everybody":
+        return Named(OTHERS, None, None)
+    name, _, members = word.partition(": ")
+    group, user = _GROUP.match(name), _USER.match(word)
+    if group and not _AND_MORE.search(members):
+        return Named(GROUP, int(group[1] or group[2]), members_in(members) if members else None)
+    if group:
+        raise ValueError("names all members of a group, or none of them")
+    if user is None:
+        raise ValueError(f"{word!a} is nobody as a line tells: NAME(UID), uid N, group N, everybody")
+    return Named(OWNER, int(user[1] or user[2] or user[3]), None)
+
+
+def read(file: str) -> Optional[Tuple[Given, ...]]:
+    """What a file accepts, or None where there is no such file. Root reads one that root alone can have written."""
+    told = f"the acceptances {shown(file)}"
+    try:
+        text = bytes_of(file).text()
+    except FileNotFoundError:
+        return None
+    except OSError as error:
+        raise Fault(f"can't read {told}: {error.strerror}") from None
+    except UnicodeDecodeError:
+        raise Fault(f"{told} aren't UTF-8") from None
+    reader = toml_reader("a file of acceptances")
+    try:
+        document = reader(text)
+        rows = tables_in(document.get("accept", []))
+        if set(document) - {"accept"}:
+            raise ValueError
+    except (AttributeError, TypeError, ValueError, RecursionError):
+        raise Fault(f"{told} are no TOML with tables [[accept]] alone") from None
+    return tuple(given_in(row, f"{told}: [[accept]] {number}") for number, row in enumerate(rows, 1))
+
+
+def bytes_of(file: str) -> bounded.Read:
+    above, name = os.path.split(file)
+    with opened_folder(above) as folder:
+        opened = os.open(name, bounded.FILE, dir_fd=folder)
+        try:
+            status = os.fstat(opened)
+            if not stat.S_ISREG(status.st_mode):
+                raise refused("it is no file")
+            if os.geteuid() == 0 and (status.st_uid or status.st_mode & 0o022):
+                raise refused("somebody else owns or writes it, and root takes nobody else's word")
+            found = bounded.read_opened(opened, bounded.ACCEPTANCES)
+        finally:
+            os.close(opened)
+    if found.is_cut:
+        raise OSError(errno.EFBIG, f"it is longer than {bounded.ACCEPTANCES} bytes")
+    return found
+
+
+def given_in(row: Mapping[str, object], place: str) -> Given:
+    """One acceptance, or the fault of its first key that is wrong."""
+    def wrong(why: str) -> NoReturn:
+        raise Fault(f"{place}: {why}") from None
+    missing, unknown = [key for key in KEYS if key not in row], sorted(set(row) - set(KEYS))
+    if missing or unknown:
+        wrong(f"{missing[0]} isn't there" if missing else f"{unknown[0]!a} isn't known")
+    try:
+        what, path, entry, reason = (text_in(row[key]) for key in ("what", "path", "entry", "reason"))
+        whom = texts_of(row["whom"])
+        until = day_in(row["until"])
+    except (TypeError, ValueError):
+        wrong("until is a day, as 2027-01-31, whom a text or a list of texts, and each other a text")
+    if what not in ACCEPTABLE:
+        wrong(f"{what!a} is nothing that can be accepted: {', '.join(ACCEPTABLE)}")
+    if not reason.strip():
+        wrong("reason is empty")
+    try:
+        return Given(what, path, entry, whom, tuple(map(somebody_in, whom)), reason, until)
+    except ValueError as error:
+        wrong(f"whom {error}")
+
+
+def texts_of(value: object) -> Tuple[str, ...]:
+    """Texts of a list, or the parts of one text as a line has them."""
+    return tuple(value.split(", ")) if isinstance(value, str) else texts_in(value)
+
+
+def day_in(value: object) -> datetime.date:
+    if isinstance(value, datetime.datetime) or not isinstance(value, (str, datetime.date)):
+        raise TypeError
+    return datetime.date.fromisoformat(value) if isinstance(value, str) else value
+
+
+def applied(report: Report, given: Iterable[Given], today: datetime.date) -> Report:
+    """A report with what was accepted, which isn't counted, and with each acceptance as it stands."""
+    by_path: Dict[str, List[Finding]] = {}
+    for found in findings_of(report):
+        if found.rule.id in ACCEPTABLE:
+            by_path.setdefault(found.path, []).append(found)
+    met = [(each, next((found for found in by_path.get(each.path, ()) if each.is_met_by(found)), None)) for each in given]
+    why = {(found.path, found.entry, found.rule.id.startswith("opened")): f"{each.reason}, until {each.until}"
+           for each, found in met if found and today <= each.until}
+    report = replace(report, entries=tuple(accepted_entry(each, why) for each in report.entries),
+                     opened=tuple(accepted_opened(each, why) for each in report.opened),
+                     acceptances=tuple(standing(each, found, by_path.get(each.path, ()), why, today) for each, found in met))
+    return replace(report, status=gravity_of(report).status)
+
+
+Why = Mapping[Tuple[str, str, bool], str]
+
+
+def accepted_entry(each: EntryFinding, why: Why) -> EntryFinding:
+    return replace(each, accepted=why.get((each.path, each.entry, False), ABSENT))
+
+
+def accepted_opened(each: OpenedFinding, why: Why) -> OpenedFinding:
+    return replace(each, accepted=why.get((each.path, each.file, True), ABSENT))
+
+
+def standing(each: Given, found: Optional[Finding], beside: Iterable[Finding], why: Why, today: datetime.date) -> Acceptance:
+    """How an acceptance stands: where nothing is what was accepted, what stands there and nobody accepted is what got worse."""
+    others = [other for other in beside if (other.path, other.entry, other.rule.id.startswith("opened")) not in why]
+    # the same entry first
+    others.sort(key=lambda other: other.entry != each.entry)
+    state = OVER if today > each.until else ACCEPTED if found else WORSE if others else UNMET
+    told = found or (others[0] if others else None)
+    return Acceptance(each.what, each.path, each.entry, each.whom, each.reason, str(each.until), state, told.line if told else None)
+
+
+def accepted_subtrees(report: Report) -> FrozenSet[str]:
+    """The subtrees of which nothing but what was accepted lets somebody in."""
+    accepted = {path for each in report.entries if each.accepted is not ABSENT for path in each.subtrees}
+    if not accepted:
+        return frozenset()
+    others = {path for each in report.entries if each.accepted is ABSENT for path in each.subtrees}
+    places = {each.path: {each.path, *ancestors(each.path)} for each in report.subtrees}
+    return frozenset(path for path, above in places.items() if above & accepted and not above & others)

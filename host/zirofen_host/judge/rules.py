@@ -1,0 +1,118 @@
+"""What a finding can be: each kind by its id, in one table, and the findings of a report one by one."""
+from dataclasses import dataclass
+from typing import Dict, Iterator, Optional, Tuple, Union
+
+from zirofen_host.collect.looks import FAILED
+from zirofen_host.judge.finding_lines import NOTHING_ASKED as NOTHING_ASKED_LINE
+from zirofen_host.judge.finding_lines import acceptance_line, differs_line, entry_line, fault_line, opened_line, version_1_line
+from zirofen_host.judge.gravity import ACCEPTED, Gravity, of_answer, of_fault
+from zirofen_host.judge.judged import OVER, UNKNOWN
+from zirofen_host.judge.model import (ABSENT, Absent, DiffersFinding, EntryFinding, OpenedFinding, Report, Whom)
+from zirofen_host.profile import LIMIT_FILES
+
+NOTHING_ASKED, VERSION_1, DIFFERS = "nothing-asked", "version-1", "differs"
+OPENED, OPENED_DIRECTORY = "opened", "opened/dir"
+# the guard that stands on an entry, by the entry's name; what is no entry has its own word
+GUARDS: Dict[str, str] = {"cgroup.procs": "common-ancestor", "cgroup.subtree_control": "parent-control", "dir": "parent-dir",
+                          **{name: "limit-file" for name in LIMIT_FILES}, OVER: OVER, UNKNOWN: UNKNOWN}
+# what each guard that fails lets happen
+LETS: Dict[str, str] = {
+    "common-ancestor": "somebody writes cgroup.procs above a subtree, and so moves processes over its edge",
+    "limit-file": "somebody writes a limit file of a subtree, and so lifts the limit",
+    "parent-control": "somebody writes cgroup.subtree_control above a subtree, and so takes its limit files away",
+    "parent-dir": "somebody writes the directory above a subtree, and so removes it or makes others beside it",
+    OVER: "a subtree has more cgroups or levels than its own limits let it have",
+    UNKNOWN: "the program tells it, and this helper finds no entry that it rests on"}
+PROVED = {Gravity.ESCAPES: ("escapes", "Proved: there are operations of theirs that break the subtree"),
+          Gravity.UNSETTLED: ("unsettled", "Nothing that was tried breaks the subtree, and nothing shows that it holds")}
+
+
+@dataclass(frozen=True)
+class Rule:
+    """A kind of finding, how grave each of it is, and what it is in a sentence."""
+    id: str
+    gravity: Gravity
+    told: str
+
+
+def made_rules() -> Iterator[Rule]:
+    for gravity, (word, proof) in PROVED.items():
+        for guard, lets in LETS.items():
+            yield Rule(f"{word}/{guard}", gravity, f"{lets[0].upper()}{lets[1:]}. {proof}.")
+    yield Rule(OPENED, Gravity.ESCAPES, "Somebody writes a limit that they shouldn't, or an entry that the service manager keeps for "
+               "itself. Seen by the helper, and not proved.")
+    yield Rule(OPENED_DIRECTORY, Gravity.ESCAPES, "Somebody writes a directory in which a service manager will make what others run in. "
+               "Seen by the helper, and not proved.")
+    yield Rule(DIFFERS, Gravity.CONTAINED, "What was handed over isn't as a service manager leaves it. It isn't counted.")
+    yield Rule("fault", Gravity.FAULT, "There is no answer for a subtree or for somebody.")
+    yield Rule("fault/own", Gravity.OWN_FAULT, "There is no answer for a subtree, which is the making of those alone who hold it.")
+    yield Rule(FAILED, Gravity.FAULT, "A look at the host failed; all else stands.")
+    yield Rule(VERSION_1, Gravity.NOT_LOOKED_AT, "Limits are in the hands of cgroup v1, and weren't looked at.")
+    yield Rule("acceptance", Gravity.STALE, "An acceptance is over, meets nothing, or what it is of got worse.")
+    yield Rule(NOTHING_ASKED, Gravity.NOTHING_ASKED, "Nothing was found to ask.")
+
+
+RULES: Dict[str, Rule] = {rule.id: rule for rule in made_rules()}
+# what somebody may accept by itself
+ACCEPTABLE = tuple(rule.id for rule in RULES.values()
+                   if rule.id.partition("/")[0] in (OPENED, *(word for word, _ in PROVED.values())))
+
+
+@dataclass(frozen=True)
+class Finding:
+    """One thing that a report tells of. What is no entry has none, and what is of the host alone has no path."""
+    rule: Rule
+    path: str
+    entry: str
+    line: str
+    whom: Tuple[Whom, ...] = ()
+    # subtrees that it breaks
+    subtrees: Tuple[str, ...] = ()
+    # operations of somebody that break one
+    example: Tuple[str, ...] = ()
+    changes: Tuple[str, ...] = ()
+    setting: Optional[str] = None
+    # why it was accepted, where it was
+    accepted: Union[str, Absent] = ABSENT
+
+    @property
+    def is_counted(self) -> bool:
+        """Whether it is part of the status."""
+        return self.accepted is ABSENT and self.rule.gravity is not Gravity.CONTAINED
+
+
+def of_entry(each: EntryFinding) -> Finding:
+    word = PROVED.get(of_answer(each.answer), PROVED[Gravity.ESCAPES])[0]
+    example = each.example.lines[1:] if each.example else ()
+    return Finding(RULES[f"{word}/{GUARDS.get(each.entry, UNKNOWN)}"], each.path, each.entry, entry_line([each]), each.whom,
+                   each.subtrees, example, each.changes, each.setting, each.accepted)
+
+
+def of_opened(each: OpenedFinding) -> Finding:
+    rule = RULES[OPENED_DIRECTORY if each.file == "dir" else OPENED]
+    return Finding(rule, each.path, each.file, opened_line(each), each.whom, changes=each.changes, setting=each.setting,
+                   accepted=each.accepted)
+
+
+def of_differs(each: DiffersFinding) -> Finding:
+    return Finding(RULES[DIFFERS], each.path, "", differs_line(each), changes=each.changes, setting=each.setting)
+
+
+def findings_of(report: Report) -> Iterator[Finding]:
+    """Everything that a report tells of, in its order; a fault once for each subtree that it is of."""
+    yield from map(of_entry, report.entries)
+    yield from map(of_opened, report.opened)
+    for fault in report.faults:
+        rule = RULES["fault" if of_fault(fault) is Gravity.FAULT else "fault/own"]
+        yield from (Finding(rule, path, "", fault_line(fault, [path])) for path in fault.subtrees)
+    for told in (*report.unseen, *report.snapshot):
+        if told.kind == FAILED:
+            yield Finding(RULES[FAILED], "", "", f"{FAILED}: {told.place}: {told.text}")
+    if report.version_1:
+        yield Finding(RULES[VERSION_1], "", "", version_1_line(report.version_1))
+    yield from map(of_differs, report.differs)
+    if not isinstance(report.acceptances, Absent):
+        yield from (Finding(RULES["acceptance"], each.path, each.entry, acceptance_line(each)) for each in report.acceptances
+                    if each.state != ACCEPTED)
+    if not report.asked:
+        yield Finding(RULES[NOTHING_ASKED], "", "", NOTHING_ASKED_LINE)

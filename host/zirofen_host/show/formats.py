@@ -1,0 +1,60 @@
+"""A report in each way that was asked for."""
+from typing import Callable, Dict, Iterable, Iterator, Tuple
+
+from zirofen_host import fault, output
+from zirofen_host.judge import as_json
+from zirofen_host.options import CheckOptions, Way
+from zirofen_host.profile import shown
+from zirofen_host.show import junit, lines, metrics, sarif
+from zirofen_host.show.run import Run
+
+STANDARD_OUTPUT = "-"
+
+
+def ways_of(options: CheckOptions) -> Tuple[Way, ...]:
+    """Each way to write that was asked for; the text goes to standard output where nothing else does."""
+    ways = (*options.format, *([Way("json")] if options.json else []))
+    files = [way.file for way in ways]
+    if STANDARD_OUTPUT not in files:
+        return ways_apart((Way("text"), *ways))
+    return ways_apart(ways)
+
+
+def ways_apart(ways: Tuple[Way, ...]) -> Tuple[Way, ...]:
+    """Some ways to write, of which no two go to the same place."""
+    files = [way.file for way in ways]
+    twice = next((file for file in files if files.count(file) > 1), None)
+    if twice is not None:
+        place = "standard output" if twice == STANDARD_OUTPUT else shown(twice)
+        raise fault.Fault(f"two reports would go to {place}: --format KIND=FILE puts each into a file of its own")
+    return ways
+
+
+def is_whole(ways: Iterable[Way]) -> bool:
+    """Whether a way to write takes the host itself in the report."""
+    return any(way.kind == "json" for way in ways)
+
+
+def text_parts(run: Run, is_each: bool) -> Iterator[str]:
+    """The lines that are printed, which harm no terminal."""
+    report, compared = run.report, run.comparison
+    told = lines.comparison_lines(report, compared, is_each) if compared else lines.lines_of(report, is_each)
+    return (f"{fault.plain(line)}\n" for line in told)
+
+
+def json_parts(run: Run) -> Iterator[str]:
+    yield from as_json.parts_of(run.report)
+    yield "\n"
+
+
+PARTS: Dict[str, Callable[[Run], Iterator[str]]] = {
+    "json": json_parts, "junit": junit.parts_of, "metrics": metrics.parts_of, "sarif": sarif.parts_of}
+
+
+def write(way: Way, run: Run, is_each: bool = False) -> None:
+    """Writes a report in one way. Metrics name nobody, so that everybody may read them."""
+    parts = text_parts(run, is_each) if way.kind == "text" else PARTS[way.kind](run)
+    if way.file == STANDARD_OUTPUT:
+        fault.write(parts)
+    else:
+        output.write(way.file, parts, f"the {way.kind}", is_public=way.kind == "metrics")

@@ -1,0 +1,153 @@
+"""A report as JUnit's XML: a case for each subtree and whoever was asked of it, for what stands open and for what was accepted."""
+import time
+from collections import defaultdict
+from dataclasses import dataclass, field
+from typing import DefaultDict, Dict, Iterable, Iterator, List, Mapping, Optional, Tuple
+from xml.sax.saxutils import escape, quoteattr
+
+from zirofen_host.collect.model import OWNER
+from zirofen_host.fault import plain
+from zirofen_host.judge.gravity import Gravity, of_answer
+from zirofen_host.judge.model import Absent, Subtree
+from zirofen_host.judge.rules import DIFFERS, NOTHING_ASKED, OPENED, OPENED_DIRECTORY, VERSION_1, Finding
+from zirofen_host.profile import ancestors
+from zirofen_host.show.run import Run
+
+PASSED, SKIPPED, FAILURE, ERROR = "passed", "skipped", "failure", "error"
+OF_GRAVITY: Dict[Gravity, str] = {Gravity.ESCAPES: FAILURE, Gravity.UNSETTLED: FAILURE, Gravity.NOT_LOOKED_AT: FAILURE,
+                                  Gravity.STALE: FAILURE,
+                                  Gravity.CONTAINED: PASSED}
+HOST = "the host"
+# what is told of the host as a whole has a case in each report
+OF_HOST = {NOTHING_ASKED: "something is asked", VERSION_1: "no limits are v1's"}
+
+
+@dataclass
+class Case:
+    """A case of a suite: what came of it, with the lines that say so."""
+    subject: str
+    name: str
+    outcome: str = PASSED
+    kind: str = ""
+    lines: List[str] = field(default_factory=list)
+
+    def add(self, outcome: str, kind: str, lines: Iterable[str]) -> None:
+        """Something that was found: what fails goes before what was accepted."""
+        order = (PASSED, SKIPPED, FAILURE, ERROR)
+        if order.index(outcome) > order.index(self.outcome):
+            self.outcome, self.kind = outcome, kind
+        self.lines += lines
+
+
+class Cases:
+    """The cases of a report in their order, each once."""
+
+    def __init__(self) -> None:
+        self.found: Dict[Tuple[str, str], Case] = {}
+
+    def at(self, subject: str, name: str) -> Case:
+        return self.found.setdefault((subject, name), Case(subject, name))
+
+
+def outcome_of(found: Finding) -> str:
+    return OF_GRAVITY.get(found.rule.gravity, ERROR) if isinstance(found.accepted, Absent) else SKIPPED
+
+
+def told(found: Finding) -> List[str]:
+    """All that is said of a finding, with what mends it."""
+    accepted = [] if isinstance(found.accepted, Absent) else [f"accepted: {found.accepted}"]
+    setting = [f"setting, at the next start: {found.setting}"] if found.setting else []
+    return [found.line, *found.example, *(f"change: {each}" for each in found.changes), *setting, *accepted]
+
+
+def holder_case(cases: Cases, subtree: Subtree, by_subtree: Mapping[str, List[Finding]]) -> None:
+    """A case for each answer of whoever holds a subtree; the entries that it rests on say more."""
+    behind = [found for place in (subtree.path, *ancestors(subtree.path)) for found in by_subtree.get(place, ())]
+    for each in subtree.answers:
+        case = cases.at(subtree.path, f"held by {each.who}")
+        gravity = Gravity.CONTAINED if each.is_above else of_answer(each.lines[0].split(" ")[0])
+        if gravity is Gravity.CONTAINED:
+            continue
+        is_accepted = bool(behind) and not any(isinstance(found.accepted, Absent) for found in behind)
+        outcome = SKIPPED if is_accepted else OF_GRAVITY.get(gravity, ERROR)
+        case.add(outcome, each.lines[0].split(" ")[0], [*each.lines, *(line for found in behind for line in told(found))])
+    if not subtree.answers:
+        cases.at(subtree.path, "held by root alone")
+
+
+def is_holders(subtree: Optional[Subtree], by: str, number: Optional[int]) -> bool:
+    """Whether the answers of who holds a subtree say it already."""
+    return subtree is not None and by == OWNER and any(number in each.uids for each in subtree.answers)
+
+
+def entry_cases(cases: Cases, found: Finding, subtrees: Dict[str, Subtree]) -> None:
+    """A case for whom an entry lets in beside who holds the subtree."""
+    for whom in found.whom:
+        for path in found.subtrees:
+            if not is_holders(subtrees.get(path), whom.by, whom.id):
+                cases.at(path, f"let in: {whom.name}").add(outcome_of(found), found.rule.id, told(found))
+
+
+def place_of(found: Finding) -> Tuple[str, str]:
+    """The subject and the name of the case of what isn't an entry's finding."""
+    if found.rule.id in OF_HOST:
+        return HOST, OF_HOST[found.rule.id]
+    if found.rule.id in (OPENED, OPENED_DIRECTORY):
+        return found.path, f"opened {found.entry}"
+    if found.rule.gravity is Gravity.STALE:
+        return found.path, f"acceptance {found.entry}".rstrip()
+    return found.path or HOST, DIFFERS if found.rule.id == DIFFERS else "answered"
+
+
+def cases_of(run: Run) -> Iterable[Case]:
+    cases = Cases()
+    by_subtree: DefaultDict[str, List[Finding]] = defaultdict(list)
+    for found in run.findings:
+        for path in found.subtrees:
+            by_subtree[path].append(found)
+    subtrees = {each.path: each for each in run.report.subtrees}
+    for subtree in run.report.subtrees:
+        holder_case(cases, subtree, by_subtree)
+    for name in OF_HOST.values():
+        cases.at(HOST, name)
+    if not run.report.opened:
+        cases.at(HOST, "nothing else stands open")
+    for found in run.findings:
+        if found.subtrees:
+            entry_cases(cases, found, subtrees)
+        else:
+            cases.at(*place_of(found)).add(outcome_of(found), found.rule.id, told(found))
+    return cases.found.values()
+
+
+def case_lines(case: Case) -> Iterator[str]:
+    name, subject = quoteattr(plain(case.name)), quoteattr(plain(case.subject))
+    text = "\n".join(map(plain, dict.fromkeys(case.lines)))
+    if not text:
+        yield f"  <testcase classname={subject} name={name} time=\"0\"/>\n"
+        return
+    yield f"  <testcase classname={subject} name={name} time=\"0\">\n"
+    first = quoteattr(plain(case.lines[0]))
+    if case.outcome == PASSED:
+        yield f"   <system-out>{escape(text)}</system-out>\n"
+    elif case.outcome == SKIPPED:
+        yield f"   <skipped message={quoteattr(plain(case.lines[-1]))}/>\n   <system-out>{escape(text)}</system-out>\n"
+    else:
+        yield f"   <{case.outcome} type={quoteattr(case.kind)} message={first}>{escape(text)}</{case.outcome}>\n"
+    yield "  </testcase>\n"
+
+
+def parts_of(run: Run) -> Iterator[str]:
+    """The XML of a report: one suite, which is of a host or of a tree text."""
+    cases = list(cases_of(run))
+    numbers = {"tests": len(cases), **{f"{word}s": sum(case.outcome == word for case in cases) for word in (FAILURE, ERROR)},
+               "skipped": sum(case.outcome == SKIPPED for case in cases)}
+    counts = " ".join(f'{name}="{number}"' for name, number in numbers.items())
+    moment = time.strftime("%Y-%m-%dT%H:%M:%S", time.gmtime(run.ended))
+    suite, seconds = plain(run.subject), f'{run.seconds:.3f}'
+    yield '<?xml version="1.0" encoding="UTF-8"?>\n'
+    yield f'<testsuites name="zirofen" {counts} time="{seconds}">\n'
+    yield f' <testsuite name={quoteattr(suite)} {counts} time="{seconds}" timestamp="{moment}" hostname={quoteattr(suite)}>\n'
+    for case in cases:
+        yield from case_lines(case)
+    yield " </testsuite>\n</testsuites>\n"

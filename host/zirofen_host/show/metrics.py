@@ -1,0 +1,62 @@
+"""A report as Prometheus' text format, for node_exporter's textfile collector: numbers alone, under labels of this module's making."""
+from collections import Counter
+from typing import Dict, Iterator, Mapping, NamedTuple, Tuple
+
+from zirofen_host.judge.gravity import Gravity
+from zirofen_host.judge.model import ABSENT, Absent
+from zirofen_host.judge.rules import RULES, Rule
+from zirofen_host.show.folded import GRAVITY
+from zirofen_host.show.lines import standings
+from zirofen_host.show.run import Run
+
+# what isn't a finding of an entry is a fault, or told by the status
+FAULTS: Dict[str, str] = {"fault": "anybody", "fault/own": "holders", "failed": "look"}
+NAMES: Dict[Gravity, str] = {Gravity.ESCAPES: "escapes", Gravity.UNSETTLED: "unsettled", Gravity.CONTAINED: "contained",
+                             Gravity.NOT_LOOKED_AT: "not_looked_at", Gravity.NOTHING_ASKED: "nothing_asked",
+                             Gravity.STALE: "stale"}
+Values = Mapping[Tuple[Tuple[str, str], ...], float]
+ALONE: Tuple[Tuple[str, str], ...] = ()
+
+
+class Gauge(NamedTuple):
+    """A metric with its values by labels."""
+    name: str
+    told: str
+    values: Values
+
+
+def kind_labels(rule: Rule) -> Tuple[Tuple[str, str], ...]:
+    """Labels of a kind of finding: of an entry's the guard, which the gravity stands beside."""
+    word, _, guard = rule.id.partition("/")
+    kind = guard if word == NAMES[rule.gravity] else rule.id
+    return ("kind", kind), ("gravity", NAMES[rule.gravity])
+
+
+def gauges(run: Run) -> Iterator[Gauge]:
+    found = run.findings
+    counts = Counter(each.rule.id for each in found if each.accepted is ABSENT)
+    standing = standings(run.report)
+    answers = Counter(standing.values())
+    yield Gauge("zirofen_subtrees_asked", "Subtrees that were asked of.", {ALONE: len(standing)})
+    yield Gauge("zirofen_subtrees", "Subtrees by the gravest that is told of each.",
+                {(("answer", word),): answers[word] for word in GRAVITY})
+    yield Gauge("zirofen_findings", "Findings by kind and gravity, without those that were accepted.",
+                {kind_labels(rule): counts[rule.id] for rule in RULES.values() if rule.id not in FAULTS})
+    yield Gauge("zirofen_faults", "What has no answer, by whose making.", {(("of", word),): counts[kind] for kind, word in FAULTS.items()})
+    yield Gauge("zirofen_accepted_findings", "Findings that were accepted and aren't counted.",
+                {ALONE: sum(not isinstance(each.accepted, Absent) for each in found)})
+    yield Gauge("zirofen_status", "The status that the check ended with.", {ALONE: run.status})
+    yield Gauge("zirofen_run_seconds", "How long the check took.", {ALONE: round(run.seconds, 3)})
+    yield Gauge("zirofen_last_run_timestamp_seconds", "When the check ended.", {ALONE: round(run.ended)})
+
+
+def lines_of(gauge: Gauge) -> Iterator[str]:
+    yield f"# HELP {gauge.name} {gauge.told}\n# TYPE {gauge.name} gauge\n"
+    for labels, value in gauge.values.items():
+        told = ",".join(f'{name}="{word}"' for name, word in labels)
+        yield f"{gauge.name}{{{told}}} {value}\n" if told else f"{gauge.name} {value}\n"
+
+
+def parts_of(run: Run) -> Iterator[str]:
+    """The text of all metrics."""
+    return (line for gauge in gauges(run) for line in lines_of(gauge))
