@@ -1,6 +1,7 @@
 """Tests of what is written where: into whose folders, through which links, and what is left when a signal ends a helper."""
 import contextlib
 import os
+import shutil
 import signal
 import stat
 import subprocess
@@ -314,6 +315,43 @@ class HelperTest(HostTest):
                 self.assertEqual((os.lstat(kept).st_uid, read(kept)[:12]), (0, "# A snapshot"))
             for file in (kept, baseline, f"{baseline}.new"):
                 os.remove(file)
+
+    def test_a_baseline_that_somebody_could_have_put_there(self):
+        """Nobody accepts what is found but whom root takes a baseline from, and nobody keeps a check waiting."""
+        everybodys, roots, theirs = (f"{self.host.folder}/{name}" for name in ("everybodys", "roots", "theirs"))
+        for folder, mode in ((everybodys, 0o1777), (roots, 0o755), (theirs, 0o755)):
+            os.mkdir(folder)
+            os.chmod(folder, mode)
+        kept = f"{roots}/kept.json"
+        self.assertEqual(self.check("--baseline-update", kept).returncode, 0)
+        os.chown(theirs, ALICE, ALICE)
+        made = (lambda file: shutil.copy(kept, file), os.mkfifo, lambda file: os.symlink(kept, file))
+        for file in (f"{everybodys}/base.json", f"{theirs}/base.json"):
+            for make in made:
+                make(file)
+                os.chown(file, ALICE, ALICE, follow_symlinks=False)
+                ended = self.check("--baseline", file)
+                self.assertEqual((ended.returncode, ended.stdout), (3, ""))
+                self.assertRegex(ended.stderr, f"^zirofen-host check: can't read the baseline {file}: .*somebody else")
+                os.remove(file)
+        for owner, mode, status in ((0, 0o664, 0), (0, 0o666, 3), (50, 0o644, 0), (50, 0o664, 3)):
+            os.chown(kept, 0, owner)
+            os.chmod(kept, mode)
+            self.assertEqual(self.check("--baseline", kept).returncode, status)
+
+    def test_a_baseline_of_roots_by_its_links(self):
+        kept = f"{self.host.folder}/kept.json"
+        self.assertEqual(self.check("--baseline-update", kept).returncode, 0)
+        os.symlink("kept.json", f"{self.host.folder}/to-it")
+        os.symlink("to-it", f"{self.host.folder}/to-that")
+        os.symlink("itself", f"{self.host.folder}/itself")
+        self.assertEqual(self.check("--baseline", f"{self.host.folder}/to-that").returncode, 0)
+        with open(kept, "rb") as given:
+            ended = subprocess.run(self.words("--baseline", "/dev/stdin"), stdin=given, capture_output=True, text=True, timeout=60)
+        self.assertEqual((ended.returncode, ended.stderr), (0, ""))
+        for odd in ("itself", "temporary", "temporary/"):
+            ended = self.check("--baseline", f"{self.host.folder}/{odd}")
+            self.assertEqual((ended.returncode, ended.stdout, ended.stderr.count("\n")), (3, "", 1))
 
     def test_what_is_kept_into_a_pipe_is_asked_of_too(self):
         ended = self.check("--keep", "/dev/stderr")

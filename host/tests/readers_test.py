@@ -23,8 +23,8 @@ WRITES = {"os.write", "os.rename", "os.replace", "os.link", "os.symlink", "os.un
           "tempfile.mkdtemp", "tempfile.TemporaryDirectory", "tempfile.NamedTemporaryFile", "tempfile.TemporaryFile"}
 # what a function writes that is no file
 NO_WRITES = {("ending", "end"): "a line on standard error"}
-# of what is opened to be written, one is read: a link of root's on the way to it
-READ_TO_WRITE = {("opened_folder", "os.readlink")}
+# of what is opened to be written, or was, links of root's on the way to it are read
+READ_TO_WRITE = {("opened_folder", "os.readlink"), ("open_back", "os.readlink")}
 
 
 def called(node):

@@ -1,7 +1,8 @@
 """The one module that writes files: a text stands whole in the place of what was there, or nothing is changed.
 
 The folder is opened once; what is written is made in it, given its mode, renamed and synced by that descriptor. As root it goes
-into no folder that somebody else owns or writes, since whoever does could put another file there, or take this one.
+into no folder that somebody else owns or writes, since whoever does could put another file there, or take this one; and what it
+reads back stands in none of these.
 """
 import contextlib
 import errno
@@ -18,6 +19,7 @@ from zirofen_host.profile import shown
 FOLDER = os.O_RDONLY | os.O_DIRECTORY | os.O_CLOEXEC
 NEW = os.O_WRONLY | os.O_CREAT | os.O_EXCL | os.O_NOFOLLOW | os.O_CLOEXEC
 THERE = os.O_WRONLY | os.O_NOFOLLOW | os.O_NOCTTY | os.O_CLOEXEC
+BACK = os.O_RDONLY | os.O_NOCTTY | os.O_CLOEXEC
 STANDARD_OUTPUT = "/dev/stdout"
 _DESCRIPTOR = re.compile(r"/dev/(?:stdout|stderr|fd/([0-9]+))\Z|/proc/self/fd/([0-9]+)\Z")
 # devices that take all that is written to them, or refuse it: null, zero and full
@@ -101,6 +103,42 @@ def write(file: str, parts: Iterable[str], what: str, is_public: bool = False) -
                 fill(open_as_it_is(folder, name, there), parts)
     except OSError as error:
         raise Fault(f"can't write {what} {shown(file)}: {error.strerror}") from None
+
+
+@contextlib.contextmanager
+def opened_back(file: str) -> Iterator[int]:
+    """A descriptor to read what was written to a file before. What somebody else could put there, or write, root doesn't believe;
+    a link of root's is followed."""
+    number = open_back(file)
+    try:
+        yield number
+    finally:
+        os.close(number)
+
+
+def open_back(file: str) -> int:
+    for _ in range(MOST_LINKS if os.geteuid() == 0 else 0):
+        above, name = os.path.split(file)
+        if _DESCRIPTOR.match(file) or name in ("", ".", ".."):
+            break
+        with opened_folder(above) as folder:
+            there = os.lstat(name, dir_fd=folder)
+            if not stat.S_ISLNK(there.st_mode):
+                return open_own(folder, name)
+            if is_anothers(there):
+                raise refused("it is a link of somebody else's")
+            file = os.path.join(above, os.readlink(name, dir_fd=folder))
+    return os.open(file, BACK)
+
+
+def open_own(folder: int, name: str) -> int:
+    """Opens a file of root's to be read; a pipe has nothing, and isn't waited for."""
+    number = os.open(name, BACK | os.O_NOFOLLOW | os.O_NONBLOCK, dir_fd=folder)
+    status = os.fstat(number)
+    if is_anothers(status) or status.st_mode & 0o002 or status.st_gid and status.st_mode & 0o020:
+        os.close(number)
+        raise refused("somebody else owns or writes it, and root believes none of theirs")
+    return number
 
 
 def status_of(name: str, folder: int) -> Optional[os.stat_result]:

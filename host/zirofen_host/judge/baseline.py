@@ -6,7 +6,7 @@ from typing import Dict, FrozenSet, Iterable, Iterator, List, NamedTuple, Option
 
 from zirofen_host import output
 from zirofen_host.ask.program import CONTAINED
-from zirofen_host.collect.bounded import REPORT_FILE, read_file
+from zirofen_host.collect.bounded import REPORT_FILE, read_opened
 from zirofen_host.fault import Fault
 from zirofen_host.judge import as_json
 from zirofen_host.judge.acceptances import accepted_subtrees
@@ -39,10 +39,12 @@ class Found(NamedTuple):
 
 
 def read(file: str) -> Optional[Report]:
-    """An earlier report, or None where there is no such file; only one of this version of its keys can be compared."""
+    """An earlier report, or None where there is no such file; only one of this version of its keys can be compared, and as root
+    none that somebody else could have put there."""
     none = Fault(f"the baseline {shown(file)} is no report of zirofen-host check --json")
     try:
-        before = json.loads(read_file(file, REPORT_FILE).text("ascii"))
+        with output.opened_back(file) as opened:
+            before = json.loads(read_opened(opened, REPORT_FILE).text("ascii"))
     except FileNotFoundError:
         return None
     except OSError as error:
