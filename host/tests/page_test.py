@@ -107,7 +107,8 @@ class WholeTest(PageTest):
     def test_an_example_host(self):
         reader = self.read(example.kept())
         self.assertIn("2 of 6 delegations can be broken by somebody whom they should hold.", reader.text())
-        self.assertEqual(reader.tags.count("svg"), 2)
+        # of each escape one, and the host's in two sizes
+        self.assertEqual(reader.tags.count("svg"), 4)
         for told in (
                 "alice(1000) moves a process over the edge of /user.slice/user-1000.slice/user@1000.service",
                 "move process 2000 (bash) from /user.slice/user-1000.slice/session-2.scope to "
@@ -156,7 +157,7 @@ class WholeTest(PageTest):
         self.assertLess(time.process_time() - start, 5)
         self.assertLess(len(made.encode()), 2_000_000)
         # of the escapes that are alike twelve have a picture, and each has its place, and a line of what to change
-        self.assertEqual(made.count("<svg"), 13)
+        self.assertEqual(made.count('<svg class="picture"'), 13)
         reader = PageReader(made)
         self.assertEqual(reader.faults, [])
         self.assertEqual(sum(name.startswith("host-1-finding-") and name.rpartition("-")[2].isdigit() for name in reader.ids), 403)
@@ -225,7 +226,7 @@ class PictureTest(PageTest):
         subtree = next(each for each in report["subtrees"] if each["path"] == self.MANAGER)
         subtree["answers"][0]["lines"] = ["escapes", *lines]
         reader = self.read(report)
-        svg = page_of(report).split("<svg")[2].partition("</svg>")[0]
+        svg = page_of(report).split('<svg class="picture"')[2].partition("</svg>")[0]
         lines = re.findall('<text class="([a-z]+)"[^>]*>([^<]*)', svg)
         return svg, lines, reader.text("host-1-finding-2")
 

@@ -7,7 +7,7 @@ from typing import Dict, List, Sequence, Tuple
 
 from zirofen_host import output
 from zirofen_host.judge.model import Absent, Difference, Report
-from zirofen_host.show import against, groups, words
+from zirofen_host.show import against, chart, groups, words
 from zirofen_host.show.branches import Branches
 from zirofen_host.show.finding import Place
 from zirofen_host.show.lines import by_kind
@@ -80,7 +80,7 @@ class HostPage:
 
     def html(self) -> str:
         delegations, contained, open_findings = self.host.numbers
-        findings = groups.html(self.host, self.at)
+        findings, picture = groups.html(self.host, self.at), chart.html(self.host, self.at)
         return filled("host.html", id=self.at.id, heading=self.at.level(1), second=self.at.level(2), kind=css(self.kind),
                       sign=SIGNS[self.kind][0],
                       sentence=text(self.sentence()), delegations=delegations, contained=contained, open=open_findings,
@@ -88,7 +88,8 @@ class HostPage:
                       open_kinds=text(self.open_kinds()), findings=findings or paragraph("There are none."),
                       baseline=self.baseline(), tree="\n".join(Branches(self.host, self.at).parts()), signs=self.signs(),
                       expected=self.expected(), unseen=self.unseen(), table=Table(self.host, self.at).html(),
-                      against=against.html(self.host, self.at),
+                      against=against.html(self.host, self.at), chart=picture,
+                      chart_link=f' <a href="#{self.at.id}-chart">Picture</a>' if picture else "",
                       host=text(self.name), source=self.source())
 
     def baseline(self) -> str:
