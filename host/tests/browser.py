@@ -36,6 +36,7 @@ class Browser:
         self.session = self.call("Target.attachToTarget", targetId=target["targetId"], flatten=True)["sessionId"]
         for domain in ("Page", "Runtime", "Log", "Network"):
             self.call(f"{domain}.enable")
+        self.call("Performance.enable", timeDomain="threadTicks")
 
     def __enter__(self):
         return self
@@ -102,5 +103,25 @@ class Browser:
             out.write(base64.b64decode(shown["data"]))
 
     def printed(self, file):
+        """Prints the page on A4, as `open` has opened it for print."""
+        made = self.call("Page.printToPDF", printBackground=False, paperWidth=8.27, paperHeight=11.69, preferCSSPageSize=True)
         with open(file, "wb") as out:
-            out.write(base64.b64decode(self.call("Page.printToPDF", printBackground=False)["data"]))
+            out.write(base64.b64decode(made["data"]))
+
+    def seconds(self):
+        """The seconds of processor that the page's main thread took since it was opened, by the browser's own counters."""
+        metrics = {each["name"]: each["value"] for each in self.call("Performance.getMetrics")["metrics"]}
+        return metrics["TaskDuration"]
+
+    def key(self, name, text="", shift=False):
+        """Presses a key and lets it go."""
+        codes = {"Tab": 9, "Enter": 13, "Escape": 27, " ": 32}
+        values = {"key": name, "windowsVirtualKeyCode": codes.get(name, ord(name[0].upper())), "modifiers": 8 if shift else 0}
+        text = text or {"Enter": "\r", " ": " "}.get(name, name if len(name) == 1 else "")
+        self.call("Input.dispatchKeyEvent", type="keyDown" if text else "rawKeyDown", text=text, **values)
+        self.call("Input.dispatchKeyEvent", type="keyUp", **values)
+
+    def settle(self):
+        """Waits until what was done is drawn."""
+        self.call("Runtime.evaluate", expression="new Promise((done) => requestAnimationFrame(() => requestAnimationFrame(done)))",
+                  awaitPromise=True)

@@ -17,7 +17,7 @@ from shown import made  # noqa: E402
 from zirofen_host.show import page  # noqa: E402
 
 # name, width, what the page is for, how much of its height, and the size of a picture's point
-PICTURES = (("page.png", 1000, "screen", 1180, 0.75), ("page-phone.png", 390, "screen", 1160, 0.75),
+PICTURES = (("page.png", 1000, "screen", 1960, 0.75), ("page-phone.png", 390, "screen", 2050, 0.75),
             ("page-print.png", 794, "print", 1123, 0.6))
 
 

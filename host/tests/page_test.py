@@ -107,7 +107,8 @@ class WholeTest(PageTest):
     def test_an_example_host(self):
         reader = self.read(example.kept())
         self.assertIn("2 of 6 delegations can be broken by somebody whom they should hold.", reader.text())
-        self.assertEqual(reader.tags.count("svg"), 2)
+        # of each escape one, and the host's in two sizes
+        self.assertEqual(reader.tags.count("svg"), 4)
         for told in (
                 "alice(1000) moves a process over the edge of /user.slice/user-1000.slice/user@1000.service",
                 "move process 2000 (bash) from /user.slice/user-1000.slice/session-2.scope to "
@@ -120,9 +121,9 @@ class WholeTest(PageTest):
                 "Members of group team(50) (carol(1002)) write cgroup.procs (0:50 664) of /batch.slice, which is its parent.",
                 "web1, Linux 6.12.9, at 2026-11-25T08:00:00Z"):
             self.assertIn(told, reader.text())
-        self.assertEqual([link for link in reader.links if "finding" in link and link != "#host-1-findings"],
-                         ["#host-1-finding-4"] * 2 + ["#host-1-finding-3", "#host-1-finding-1", "#host-1-finding-1"]
-                         + ["#host-1-finding-2"] * 2)
+        # those of the table, and of the tree
+        self.assertEqual([int(link.rpartition("-")[2]) for link in reader.links if link.startswith("#host-1-finding-")],
+                         [1, 2, 4] + [4, 4, 3, 1, 1, 2, 2])
 
     def test_real_hosts(self):
         for name in REAL:
@@ -155,7 +156,15 @@ class WholeTest(PageTest):
         made = page_of(report)
         self.assertLess(time.process_time() - start, 5)
         self.assertLess(len(made.encode()), 2_000_000)
-        self.assertEqual(made.count("<svg"), 401)
+        # of the escapes that are alike twelve have a picture, and each has its place, and a line of what to change
+        self.assertEqual(made.count('<svg class="picture"'), 13)
+        reader = PageReader(made)
+        self.assertEqual(reader.faults, [])
+        self.assertEqual(sum(name.startswith("host-1-finding-") and name.rpartition("-")[2].isdigit() for name in reader.ids), 403)
+        self.assertEqual(reader.tags.count("article"), 4)
+        self.assertEqual(reader.text().count("What to change, for all 400\n"), 0)
+        for number in range(10000, 10400):
+            self.assertIn(f"chown root /sys/fs/cgroup/user.slice/user-{number}.slice/cgroup.procs ", reader.text())
 
     def test_no_limit_is_told_where_a_kernel_writes_its_own_bound(self):
         for file, value, usual in (("hugetlb.2MB.max", "9223372036852678656", True), ("hugetlb.1GB.max", "9223372036854771712", True),
@@ -217,7 +226,7 @@ class PictureTest(PageTest):
         subtree = next(each for each in report["subtrees"] if each["path"] == self.MANAGER)
         subtree["answers"][0]["lines"] = ["escapes", *lines]
         reader = self.read(report)
-        svg = page_of(report).split("<svg")[2].partition("</svg>")[0]
+        svg = page_of(report).split('<svg class="picture"')[2].partition("</svg>")[0]
         lines = re.findall('<text class="([a-z]+)"[^>]*>([^<]*)', svg)
         return svg, lines, reader.text("host-1-finding-2")
 
@@ -462,19 +471,21 @@ class BrowserTest(unittest.TestCase):
         return self.browser.value(f"[...document.querySelectorAll('{selector}')].filter(each => each.checkVisibility())"
                                   ".map(each => each.innerText)")
 
-    def test_the_search_box_hides_what_hasnt_the_word(self):
+    def test_the_search_box_hides_nothing(self):
         self.browser.open(self.written("search", example.kept()), 1280)
         self.assertEqual((len(self.shown(".search")), len(self.shown(".finding"))), (1, 4))
         self.browser.value("const box = document.querySelector('.search input'); box.value = 'NIGHTLY';"
                            "box.dispatchEvent(new Event('input'))")
-        self.assertIn("nightly.service", self.shown(".tree code"))
-        self.assertNotIn("build.service", self.shown(".tree code"))
-        self.assertEqual(len(self.shown(".finding")), 1)
+        self.assertEqual(self.browser.value("document.querySelector('.search output').textContent"), "4 hits")
+        self.assertIn("nightly.service", "".join(self.shown(".hit")))
+        self.assertEqual((len(self.shown(".finding")), len(self.shown("tbody tr"))), (4, 6))
 
     def test_links_lead_to_what_can_be_seen(self):
         self.browser.open(self.written("links", example.kept()), 390)
-        self.assertTrue(self.browser.value("[...document.querySelectorAll('a')]"
-                                           ".every(each => document.querySelector(each.hash).checkVisibility())"))
+        for at in range(self.browser.value("document.links.length")):
+            self.browser.value(f"document.links[{at}].click()")
+            self.browser.settle()
+            self.assertTrue(self.browser.value("document.querySelector(location.hash).checkVisibility()"), at)
 
     def test_texts_of_a_picture_stay_in_their_boxes(self):
         self.browser.open(self.written("boxes", example.kept(), hostile(example.kept()), *map(real, REAL)), 1280)

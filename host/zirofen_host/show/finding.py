@@ -12,7 +12,7 @@ from zirofen_host.show.lines import together
 from zirofen_host.show.markup import capital, code, commands, filled, items, paragraph, places, sentence, text
 from zirofen_host.show.steps import OVER, Steps, steps_of
 from zirofen_host.show.view import Escape, Grouped, Host, Part, entry_of, place_of, subtrees_of, whom_of
-from zirofen_host.show.words import ESCAPES, SIGNS, UNSETTLED
+from zirofen_host.show.words import ESCAPES, UNSETTLED
 
 
 def settings_by_unit(settings: Iterable[str]) -> List[str]:
@@ -61,10 +61,9 @@ class Article:
         return self.broken.steps if self.broken else None
 
     def html(self) -> str:
-        kind = self.finding.kind
-        return filled("finding.html", id=self.id, kind=kind, sign=SIGNS[kind][0] if kind in SIGNS else "~", word=text(kind),
-                      title=self.title(), heading=self.at.level(3), what=self.what(), of=self.of(), picture=self.picture(),
-                      steps=self.told_steps(), change=self.change(), try_it=self.try_it())
+        """All that is told of it, but for its title."""
+        return filled("finding.html", what=self.what(), of=self.of(), picture=self.picture(), steps=self.told_steps(),
+                      change=self.change(), try_it=self.try_it())
 
     def title(self) -> str:
         """What is the matter, in one line."""
@@ -152,16 +151,19 @@ class Article:
         return (f"<{heading}>What {text(self.broken.escape.who)} can do</{heading}>"
                 f"<ol>\n{items(map(sentence, steps.told))}\n</ol>{paragraph(text(capital(self.broken.escape.told)))}")
 
+    def changes(self) -> List[str]:
+        """The commands that mend it."""
+        return together(command for each in self.finding.parts if not isinstance(each, FaultFinding) for command in each.changes)
+
     def change(self) -> str:
-        mended = [each for each in self.finding.parts if not isinstance(each, FaultFinding)]
-        changes = together(command for each in mended for command in each.changes)
-        settings = settings_by_unit(each.setting for each in mended if each.setting)
+        changes = self.changes()
+        settings = settings_by_unit(each.setting for each in self.finding.parts if not isinstance(each, FaultFinding) and each.setting)
         if not changes and not settings:
             is_missing = self.finding.key == "entries" and not self.host.report.has_advice
             return "<p>What to change isn't told: the program of this report has no advise.</p>" if is_missing else ""
         heading = self.at.level(4)
         behind = f"<p>What brings it back when the unit is started again: {text(', '.join(settings))}.</p>" if settings else ""
-        return f"<{heading}>What to change</{heading}>{commands(changes)}{behind}"
+        return f'<div class="change"><{heading}>What to change</{heading}>{commands(changes)}{behind}</div>'
 
     def try_it(self) -> str:
         """The escape as commands, as far as the lines of the report are operations."""

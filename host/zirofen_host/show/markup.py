@@ -1,4 +1,5 @@
 """Markup of a page. Every text of a report goes through `text` or `code` into it, and no other way: names are hostile."""
+import functools
 import os
 from html import escape
 from string import Template
@@ -16,6 +17,7 @@ def code(value: str) -> str:
     return f"<code>{text(value)}</code>"
 
 
+@functools.lru_cache(maxsize=None)
 def read(name: str) -> str:
     """A template, or what of it stands in a file of its own."""
     with open(os.path.join(TEMPLATES, name), encoding="utf-8") as opened:

@@ -7,11 +7,12 @@ from typing import Dict, List, Sequence, Tuple
 
 from zirofen_host import output
 from zirofen_host.judge.model import Absent, Difference, Report
-from zirofen_host.show import words
+from zirofen_host.show import against, chart, groups, words
 from zirofen_host.show.branches import Branches
-from zirofen_host.show.finding import Place, articles
+from zirofen_host.show.finding import Place
 from zirofen_host.show.lines import by_kind
 from zirofen_host.show.markup import code, css, filled, paragraph, places, read, text
+from zirofen_host.show.table import Table
 from zirofen_host.show.view import COUNTED, Host, host_of
 from zirofen_host.show.words import CONTAINED, ESCAPES, FAULT, MEANINGS, NOT_ASKED, OPENED, SIGNS, STANDINGS, UNSETTLED
 
@@ -79,14 +80,16 @@ class HostPage:
 
     def html(self) -> str:
         delegations, contained, open_findings = self.host.numbers
-        findings = "\n".join(each.html() for each in articles(self.host, self.at))
+        findings, picture = groups.html(self.host, self.at), chart.html(self.host, self.at)
         return filled("host.html", id=self.at.id, heading=self.at.level(1), second=self.at.level(2), kind=css(self.kind),
                       sign=SIGNS[self.kind][0],
                       sentence=text(self.sentence()), delegations=delegations, contained=contained, open=open_findings,
                       delegations_word=words.noun(delegations, "delegation"), open_word=words.noun(open_findings, "finding"),
                       open_kinds=text(self.open_kinds()), findings=findings or paragraph("There are none."),
-                      baseline=self.baseline(), tree="\n".join(Branches(self.host, self.at.id).parts()), signs=self.signs(),
-                      expected=self.expected(), unseen=self.unseen(),
+                      baseline=self.baseline(), tree="\n".join(Branches(self.host, self.at).parts()), signs=self.signs(),
+                      expected=self.expected(), unseen=self.unseen(), table=Table(self.host, self.at).html(),
+                      against=against.html(self.host, self.at), chart=picture,
+                      chart_link=f' <a href="#{self.at.id}-chart">Picture</a>' if picture else "",
                       host=text(self.name), source=self.source())
 
     def baseline(self) -> str:

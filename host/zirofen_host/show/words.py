@@ -9,6 +9,8 @@ ESCAPES, OPENED, UNSETTLED, FAULT, NOT_ASKED, ABOVE, CONTAINED = (
     "escapes", "opened", "unsettled", "fault", "not asked", "above", "contained")
 # the gravest first
 STANDINGS = (ESCAPES, OPENED, UNSETTLED, FAULT, NOT_ASKED, ABOVE, CONTAINED)
+# of which nothing is to be told but where they stand
+QUIET = (NOT_ASKED, ABOVE, CONTAINED)
 # each with a sign of UTF-8 and one of ASCII
 SIGNS = {ESCAPES: ("✗", "X"), OPENED: ("!", "!"), UNSETTLED: ("?", "?"), FAULT: ("∅", "0"), NOT_ASKED: ("·", "-"),
          ABOVE: ("↑", "^"), CONTAINED: ("✓", "+")}
@@ -130,3 +132,8 @@ def guard(line: str) -> str:
     words = line.split(" ")
     told = GUARDS.get(words[1]) if len(words) == 3 else None
     return told.format(entry="cgroup.procs", path=words[2]) if told else line
+
+
+def operation(line: str) -> str:
+    """What an operation, or an answer's first line, does, without the names that it does it with."""
+    return " ".join(word for word in line.split(" ") if "/" not in word and not word.isdigit())

@@ -1,0 +1,43 @@
+"""What speaks against trusting the sum of a host: it stands in the page's first view."""
+from collections import Counter
+from typing import Iterator, Sequence
+
+from zirofen_host.collect.looks import FAILED
+from zirofen_host.judge.finding_lines import version_1_line
+from zirofen_host.judge.model import Told
+from zirofen_host.show import words
+from zirofen_host.show.finding import Place, id_of
+from zirofen_host.show.markup import code, items, text
+from zirofen_host.show.view import Host
+from zirofen_host.show.words import FAULT
+
+
+def against(host: Host, at: Place) -> Iterator[str]:
+    """The lines, as markup."""
+    report = host.report
+    if report.version_1:
+        yield f"{text(version_1_line(report.version_1).capitalize())}."
+    faulty = [number for number, each in enumerate(host.findings) if each.kind == FAULT]
+    if faulty:
+        without = {path for each in report.faults for path in each.subtrees}
+        yield f'<a href="#{id_of(at, faulty[0])}">{words.count(len(without), "delegation")} without an answer</a> for somebody.'
+    for each in report.unseen:
+        if each.kind == FAILED:
+            yield f"A look failed: {code(each.place)} {text(each.text)}"
+    yield from counted(at, "No answer looks at", [each for each in report.unseen if each.kind != FAILED])
+    yield from counted(at, "Left out of the tree text", report.snapshot)
+
+
+def counted(at: Place, what: str, found: Sequence[Told]) -> Iterator[str]:
+    """How many there are of each kind, with a link to them."""
+    if found:
+        kinds = Counter(each.kind for each in found)
+        told = ", ".join(f"{text(kind)} {number}" for kind, number in kinds.items())
+        yield f'{what}: <a href="#{at.id}-unseen">{told}</a>.'
+
+
+def html(host: Host, at: Place) -> str:
+    told = list(against(host, at))
+    if not told:
+        return '<p class="against">Nothing was seen beside these answers that speaks against them.</p>'
+    return f'<div class="against"><p>What speaks against trusting this sum:</p><ul>\n{items(told)}\n</ul></div>'

@@ -1,0 +1,80 @@
+"""The findings of a host in groups: those that differ in nothing but names are told once, with the names of all."""
+import re
+from dataclasses import dataclass
+from typing import Dict, Hashable, Iterator, List, Sequence
+
+from zirofen_host.judge.model import DiffersFinding, EntryFinding, FaultFinding
+from zirofen_host.show import words
+from zirofen_host.show.finding import Article, Place, articles
+from zirofen_host.show.markup import commands, filled
+from zirofen_host.show.view import Host, Part, subtrees_of, whom_of
+from zirofen_host.show.words import SIGNS
+
+# members of a group that have a picture and steps of their own
+SHOWN = 12
+# what of a fault's line is a name or a number
+_NAMES = re.compile(r"/\S*|[0-9]+")
+
+
+def part_in_common(part: Part) -> Hashable:
+    """What a part of a finding has but for names."""
+    if isinstance(part, FaultFinding):
+        return _NAMES.sub("", part.fault), part.made_by is None
+    if isinstance(part, DiffersFinding):
+        return part.entries
+    by, mode = tuple(each.by for each in whom_of(part)), part.owner.mode if part.owner else None
+    if isinstance(part, EntryFinding):
+        return part.entry, mode, by, words.where(part.path, part.subtrees) if part.subtrees else None
+    return part.file, mode, by, part.why
+
+
+def in_common(article: Article) -> Hashable:
+    """What findings have in common that are told together."""
+    finding, broken = article.finding, article.broken
+    how: Hashable = None
+    if broken:
+        steps = tuple(words.operation(line) for line in broken.escape.lines)
+        how = steps, broken.steps.breaks.kind if broken.steps else None, broken.told_before is None
+    return finding.kind, finding.key, tuple(map(part_in_common, finding.parts)), len(subtrees_of(finding.parts[0])) > 1, how
+
+
+@dataclass(frozen=True)
+class Group:
+    """Findings that are alike, of which the first is told whole."""
+    members: Sequence[Article]
+
+    def html(self, is_open: bool) -> str:
+        first = self.members[0]
+        kind, others = first.finding.kind, len(self.members) - 1
+        return filled("group.html", kind=kind, id=f' id="{first.id}"' if not others else "", open=" open" if is_open else "",
+                      heading=first.at.level(3), sign=SIGNS[kind][0] if kind in SIGNS else "~", word=kind,
+                      title=first.title() + (f", and {others} more {'is' if others == 1 else 'are'} alike" if others else ""),
+                      told=self.told() if others else first.html())
+
+    def told(self) -> str:
+        """All of them: each behind a fold of its own, and what mends them all at the end."""
+        shown = "\n".join(self.member(each) for each in self.members[:SHOWN])
+        rest = "\n".join(f'<li class="member" id="{each.id}">{each.what()}</li>' for each in self.members[SHOWN:])
+        return f'<ul class="members">\n{shown}\n{rest}</ul>\n{self.change()}'
+
+    def member(self, each: Article) -> str:
+        return f'<li class="member" id="{each.id}"><details><summary>{each.title()}</summary>\n{each.html()}\n</details></li>'
+
+    def change(self) -> str:
+        """What mends all of them, a line or more for each."""
+        changes = [line for each in self.members for line in each.changes()]
+        heading = self.members[0].at.level(4)
+        return f"<{heading}>What to change, for all {len(self.members)}</{heading}>{commands(changes)}" if changes else ""
+
+
+def groups(host: Host, at: Place) -> Iterator[Group]:
+    """The groups in the order of the gravest that is in each."""
+    found: Dict[Hashable, List[Article]] = {}
+    for article in articles(host, at):
+        found.setdefault(in_common(article), []).append(article)
+    return map(Group, found.values())
+
+
+def html(host: Host, at: Place) -> str:
+    """All findings; the gravest group stands open."""
+    return "\n".join(group.html(not number) for number, group in enumerate(groups(host, at)))
