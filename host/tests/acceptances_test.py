@@ -117,7 +117,8 @@ class AcceptancesTest(HostTest):
         self.host.accounts(group="team:x:50:carol,bob\n")
         found = self.applied(self.ALL[1])
         self.assertEqual((found.acceptances[0].state, found.status), ("worse", 1))
-        self.assertIn("an acceptance doesn't hold, it got worse: unsettled/common-ancestor /up cgroup.procs by group team(50): carol(1002): "
+        self.assertIn("an acceptance doesn't hold, it got worse: unsettled/common-ancestor /up cgroup.procs by group team(50): "
+                      "carol(1002): "
                       "a test host, until 2026-12-31; now: /up cgroup.procs (0:50 664): unsettled, by group team(50): bob(1001) "
                       "carol(1002), of /up/b", list(lines_of(found)))
 
@@ -162,7 +163,7 @@ class AcceptancesTest(HostTest):
     def test_root_takes_roots_word_alone(self):
         for owner, mode in ((1000, 0o644), (0, 0o664), (0, 0o646)):
             self.write(ROW)
-            os.chown(self.file, owner, 0)
+            os.chown(self.file, owner, 50)
             os.chmod(self.file, mode)
             with self.assertRaisesRegex(Fault, "somebody else owns or writes it"):
                 acceptances.read(self.file)
@@ -173,8 +174,9 @@ class AcceptancesTest(HostTest):
         os.rename(self.file, f"{self.host.folder}/theirs/accept.toml")
         with self.assertRaisesRegex(Fault, "somebody else owns or writes the folder"):
             acceptances.read(f"{self.host.folder}/theirs/accept.toml")
-        os.symlink("/etc/passwd", self.file)
-        with self.assertRaisesRegex(Fault, "can't read the acceptances"):
+        os.symlink("theirs/accept.toml", self.file)
+        os.lchown(self.file, 1000, 0)
+        with self.assertRaisesRegex(Fault, "it is a link of somebody else's"):
             acceptances.read(self.file)
         os.remove(self.file)
         os.mkfifo(self.file)

@@ -9,12 +9,12 @@ from typing import Dict, FrozenSet, Iterable, List, Mapping, NamedTuple, NoRetur
 
 from zirofen_host.collect import bounded
 from zirofen_host.collect.model import GROUP, OTHERS, OWNER
-from zirofen_host.collect.tree import tables_in, text_in, texts_in, toml_reader
+from zirofen_host.collect.tree import parts_in, table_in, text_in, texts_in, toml_reader
 from zirofen_host.fault import Fault
 from zirofen_host.judge.gravity import ACCEPTED, gravity_of
 from zirofen_host.judge.model import ABSENT, Acceptance, EntryFinding, OpenedFinding, Report, Whom
 from zirofen_host.judge.rules import ACCEPTABLE, Finding, findings_of
-from zirofen_host.output import opened_folder, refused
+from zirofen_host.output import opened_back, refused
 from zirofen_host.profile import ANYBODY, ancestors, shown
 
 KEYS = ("what", "path", "entry", "whom", "reason", "until")
@@ -89,7 +89,7 @@ def read(file: str) -> Optional[Tuple[Given, ...]]:
     reader = toml_reader("a file of acceptances")
     try:
         document = reader(text)
-        rows = tables_in(document.get("accept", []))
+        rows = [table_in(each) for each in parts_in(document.get("accept", []))]
         if set(document) - {"accept"}:
             raise ValueError
     except (AttributeError, TypeError, ValueError, RecursionError):
@@ -98,18 +98,10 @@ def read(file: str) -> Optional[Tuple[Given, ...]]:
 
 
 def bytes_of(file: str) -> bounded.Read:
-    above, name = os.path.split(file)
-    with opened_folder(above) as folder:
-        opened = os.open(name, bounded.FILE, dir_fd=folder)
-        try:
-            status = os.fstat(opened)
-            if not stat.S_ISREG(status.st_mode):
-                raise refused("it is no file")
-            if os.geteuid() == 0 and (status.st_uid or status.st_mode & 0o022):
-                raise refused("somebody else owns or writes it, and root takes nobody else's word")
-            found = bounded.read_opened(opened, bounded.ACCEPTANCES)
-        finally:
-            os.close(opened)
+    with opened_back(file) as opened:
+        if not stat.S_ISREG(os.fstat(opened).st_mode):
+            raise refused("it is no file")
+        found = bounded.read_opened(opened, bounded.ACCEPTANCES)
     if found.is_cut:
         raise OSError(errno.EFBIG, f"it is longer than {bounded.ACCEPTANCES} bytes")
     return found
