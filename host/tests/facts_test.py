@@ -1,7 +1,7 @@
 """Tests of lines that say one fact once, and of nothing that is no news."""
 import unittest
 
-from check_test import BY_GROUP, MARK, HostTest, owned
+from check_test import BY_GROUP, MARK, REAL_PROGRAM, HostTest, owned
 from zirofen_host.ask.model import Answer, Pair
 from zirofen_host.ask.program import ESCAPES
 from zirofen_host.collect import mount, snapshot
@@ -94,6 +94,16 @@ class OneLineTest(HostTest):
         found = [Uncontained(Pair(User(uid, ()), subtree), answer, None) for uid in (65534, 1000)]
         over = lets_in(mock.Mock(), Place(subtree, OVER), found)
         self.assertEqual(over.whom, (LetIn(OTHERS, None, {65534}), LetIn(OWNER, 1000, {1000})))
+
+    @unittest.skipUnless(REAL_PROGRAM, "the program isn't built")
+    def test_what_to_change_of_what_is_over_and_everybodys(self):
+        self.program = REAL_PROGRAM
+        self.host.cgroup("/open", modes={"dir": 0o777}, values={"cgroup.max.descendants": 0})
+        self.host.cgroup("/open/in")
+        found = self.report()
+        self.assertEqual([(each["entry"], [whom["by"] for whom in each["whom"]], each["changes"]) for each in found["entries"]],
+                         [(OVER, [OTHERS], [f"echo 1 >{self.host.mount}/open/cgroup.max.descendants"])])
+        self.assertEqual(self.told(found, "advice"), [])
 
     def test_processes_of_what_is_over_full(self):
         self.host.cgroup("/full", owners=owned(1000), pids=range(10, 30))

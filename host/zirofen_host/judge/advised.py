@@ -10,7 +10,7 @@ from zirofen_host.collect import bounded
 from zirofen_host.collect.model import Entry, User
 from zirofen_host.fault import Fault
 from zirofen_host.judge.checked import Checked
-from zirofen_host.judge.judged import LetsIn, Place, failing
+from zirofen_host.judge.judged import LetsIn, Place, class_of, failing
 from zirofen_host.judge.shell import Change
 from zirofen_host.profile import CgroupPath, path_of, text_of
 
@@ -58,7 +58,7 @@ def advise(checked: Checked) -> Advised:
         for place, changed in by_place(advice):
             for other, entry in failing(checked.questions, pair):
                 if other == place:
-                    told.setdefault(alike_of(other, entry, pair.user.class_of(entry) if entry else "owner"), []).extend(changed)
+                    told.setdefault(alike_of(other, entry, class_of(pair.user, entry)[0]), []).extend(changed)
         changes.update(told)
     unasked = sum(not any(alike_of(found.place, found.entry, by) in changes for by in found.pairs)
                   for found in checked.judged.entries.values())
@@ -80,8 +80,7 @@ def pairs_to_advise(checked: Checked) -> List[Pair]:
         for by, pair in found.pairs.items():
             if alike_of(place, found.entry, by) not in covered:
                 by_maker[checked.holds.within(place.path) or 0].append(pair)
-                covered |= {alike_of(other, entry, pair.user.class_of(entry) if entry else by)
-                            for other, entry in failing(checked.questions, pair)}
+                covered |= {alike_of(other, entry, class_of(pair.user, entry)[0]) for other, entry in failing(checked.questions, pair)}
     in_turn = chain.from_iterable(zip_longest(*(pairs for maker, pairs in sorted(by_maker.items()) if maker)))
     return [*by_maker[0], *(pair for pair in in_turn if pair)][:bounded.ADVICE]
 
