@@ -16,8 +16,12 @@ INDEX = "index.html"
 # a host's name that is a file's as it is; any other has a file by its sum
 _PLAIN = re.compile(r"[A-Za-z0-9_][A-Za-z0-9_.@-]{0,99}")
 _SUM = re.compile(r"index|host-[0-9a-f]{16}")
+# of a time what is told behind its minute
+_SECOND = re.compile(r"T([0-9]{2}:[0-9]{2}):[0-9]{2}Z")
 # letters of all that is told below the rows of an index: the rows behind have their numbers alone
 MOST_TOLD = 500_000
+# hosts of one row that aren't folded
+FEW = 6
 COLUMNS = ("Answer", "Host", "Delegations", "Contained", "Open", "Taken", "What is found")
 
 
@@ -48,11 +52,12 @@ class Index:
         first, rows = alike.first, alike.rows
         kind = FAULT if first.kind == NO_REPORT else first.kind
         sign = f'<span class="{css(kind)} standing"><span aria-hidden="true">{SIGNS[kind][0]}</span> {first.kind}</span>'
-        who = link(first) if len(rows) == 1 else (
-            f"<details><summary>{words.count(len(rows), 'host')}</summary>{', '.join(map(link, rows))}</details>")
+        who = ", ".join(map(link, rows))
+        if len(rows) > FEW:
+            who = f"<details><summary>{words.count(len(rows), 'host')}</summary>{who}</details>"
         numbers = ["", "", "", ""] if first.why is not None else [
             *(some(each) for each in ([row.delegations for row in rows], [row.contained for row in rows], [row.open for row in rows])),
-            times(alike)]
+            _SECOND.sub(r" \1", times(alike))]
         cells = "".join(f"<td>{each}</td>" for each in (sign, who, *map(text, numbers), self.told(alike)))
         return f'<tr class="{css(kind)}">{cells}</tr>' if first.why is None else f'<tr class="lost">{cells}</tr>'
 
