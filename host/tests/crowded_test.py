@@ -94,7 +94,8 @@ class WholeTest(CrowdedTest):
         self.assertEqual((rows, len(self.shown("tbody tr"))), (MANY, MANY))
         self.assertEqual(len(self.shown(".tree .at")), self.number("querySelectorAll('.tree .at').length"))
         # of what is alike one has its picture
-        self.assertEqual((self.number("querySelectorAll('figure').length"), len(self.shown("figure"))), (10, 2))
+        self.assertEqual((self.number("querySelectorAll('.finding figure').length"), len(self.shown(".finding figure"))), (10, 2))
+        self.assertEqual((len(self.shown("svg.wide")), len(self.shown("svg.tall"))), (1, 0))
         self.assertEqual(len(self.shown(".member")), 30)
 
 

@@ -16,7 +16,8 @@ SHAPES = {"rect", "circle", "path"}
 class PageReader(HTMLParser):
     """Reads a page; `faults` has what is wrong with it."""
 
-    def __init__(self, page):
+    def __init__(self, page, files=()):
+        """Of a page that may lead to these files beside it."""
         super().__init__()
         self.faults, self.ids, self.links, self.named, self.opened = [], {}, [], [], []
         self.texts, self.tags, self.headings, self.policy = [], [], [], None
@@ -26,7 +27,8 @@ class PageReader(HTMLParser):
         self.close()
         if self.opened:
             self.faults.append(f"left open: {[tag for tag, _ in self.opened]}")
-        self.faults += [f"a link to nothing: {link}" for link in self.links if link[:1] != "#" or link[1:] not in self.ids]
+        self.faults += [f"a link to nothing: {link}" for link in self.links
+                        if link not in files and (link[:1] != "#" or link[1:] not in self.ids)]
         self.faults += [f"no such id: {name}" for name in self.named if name not in self.ids]
         for before, behind in zip([0, *self.headings], self.headings):
             if behind > before + 1:

@@ -49,12 +49,22 @@ is known). Groups come from this host's accounts, its subordinate ids and its ru
 host give that host's account files by --accounts. The primary group stands first. The status is 0, or 3 for a fault,
 among them more groups than the program takes, where those that were left out could change an answer.
 """,
+    "fleet": f"""Tells how many hosts stand, by what {NAME} check --json wrote of each. Usage: {NAME} fleet FOLDER.
+
+A helper: no part of the proved program, and only tested. FOLDER has a file NAME.json for each host, which may have come from
+that host: each is read with a bound, and believed to be of the host NAME. It prints a table with the worst on top, and hosts
+that have the same findings together. A report that is empty, broken or too large doesn't count, and neither does one that is
+missing or older, where that is asked for; its row says why. The status is the worst of the hosts: 3 where a report doesn't
+count or a host has a fault; else 1 where somebody escapes or a limit stands open; else 2 where an answer is unsettled; else 4
+where nothing was found to ask of one; else 0.
+""",
     "page": f"""Writes reports of hosts as one page to look at. Usage: {NAME} page REPORT.json .. > page.html.
 
 A helper: no part of the proved program, and only tested. It draws what {NAME} check --json has, and nothing else: first a
 sentence and three numbers, then the findings with a picture of each escape, the tree of cgroups, and what no answer looks
-at. Of several hosts the worst stands on top. The page is one file, which loads nothing and needs no script. The status is
-0, or 3 for a fault, and then nothing is written; {NAME} check has the status of the answers.
+at. Of several hosts, up to 20, the worst stands on top, and a report that can't be read is a row that says why; {NAME} fleet
+writes more. The page is one file, which loads nothing and needs no script. The status is 0, or 3 for a fault, and where no
+report could be read nothing is written; {NAME} check has the status of the answers.
 """,
     "snapshot": f"""Writes the cgroups of this host as a tree text for zirofen, on standard output. Run it as root.
 
@@ -171,6 +181,16 @@ def add_page(parser: argparse.ArgumentParser) -> None:
     parser.add_argument("--out", metavar="FILE", default="-", help="where the page goes (standard output)")
 
 
+def add_fleet(parser: argparse.ArgumentParser) -> None:
+    parser.add_argument("folder", metavar="FOLDER", help=f"where NAME.json is what {NAME} check --json wrote of the host NAME")
+    parser.add_argument("--json", action="store_true", help="all of it as JSON, each host by itself")
+    parser.add_argument("--each", action="store_true", help="each host in a row of its own, also those that are alike")
+    parser.add_argument("--html", metavar="FOLDER",
+                        help="index.html there, and a page of each host beside it; what is printed stays as it is")
+    parser.add_argument("--older", metavar="DAYS", type=number, help="a report that is older than so many days doesn't count")
+    parser.add_argument("--hosts", metavar="FILE", help="the names of the hosts that should be there, a line each")
+
+
 def add_snapshot(parser: argparse.ArgumentParser) -> None:
     add_host(parser)
     add_accounts(parser)
@@ -192,7 +212,8 @@ def add_tree(parser: argparse.ArgumentParser) -> None:
 
 
 ARGUMENTS: Dict[str, Callable[[argparse.ArgumentParser], None]] = {
-    "ask": add_ask, "check": add_check, "commands": add_commands, "delegations": add_delegations, "page": add_page,
+    "ask": add_ask, "check": add_check, "commands": add_commands, "delegations": add_delegations, "fleet": add_fleet,
+    "page": add_page,
     "snapshot": add_snapshot, "tree": add_tree}
 # these tell their usage where their options are wrong, and the others a line
 PARSERS: Dict[str, Type[argparse.ArgumentParser]] = {"page": argparse.ArgumentParser, "tree": argparse.ArgumentParser}

@@ -1,13 +1,14 @@
 """The command `zirofen-host`: what each subcommand does with what it was asked for."""
 import argparse
 import dataclasses
-import datetime
 import functools
+import json
 import sys
 import time
+from datetime import datetime, timezone
 from typing import Callable, Dict, Iterable, Iterator, List, Mapping, NoReturn, Optional, Tuple
 
-from zirofen_host import ending, fault, installed
+from zirofen_host import ending, fault, installed, output
 from zirofen_host.arguments import ARGUMENTS, DESCRIPTIONS, NAME, parser_of
 from zirofen_host.ask import accepted
 from zirofen_host.ask.delegations import Delegations
@@ -21,10 +22,10 @@ from zirofen_host.collect.processes import read_processes
 from zirofen_host.collect.looks import why_of
 from zirofen_host.judge import acceptances, baseline, check, one, replayed, saved, settings, shell
 from zirofen_host.judge.model import Report
-from zirofen_host.options import (PROC, AskOptions, CheckOptions, CommandsOptions, DelegationsOptions, PageOptions,
+from zirofen_host.options import (PROC, AskOptions, CheckOptions, CommandsOptions, DelegationsOptions, FleetOptions, PageOptions,
                                   SnapshotOptions, TreeOptions, Way)
 from zirofen_host.profile import path_of, shown
-from zirofen_host.show import formats, listing, page, tree_view
+from zirofen_host.show import fleet, fleet_lines, fleet_page, formats, listing, page, tree_view
 from zirofen_host.show.run import Run
 
 ABOUT = f"""The helpers of zirofen for a running host: from its cgroups to answers. They are no part of what is proved.
@@ -55,7 +56,7 @@ def check_host(given: argparse.Namespace) -> int:
     taken = accepted.take(options, subtrees_by(options))
     report = check.report(taken, options, is_whole, before_the_walk)
     if granted is not None:
-        report = acceptances.applied(report, granted, datetime.datetime.now(datetime.timezone.utc).date())
+        report = acceptances.applied(report, granted, datetime.now(timezone.utc).date())
     comparison = baseline.compared(report, before, options.baseline) if before and options.baseline else None
     if comparison:
         report = dataclasses.replace(report, baseline=comparison)
@@ -135,8 +136,39 @@ def list_delegations(given: argparse.Namespace) -> int:
 
 def write_page(given: argparse.Namespace) -> int:
     options = PageOptions(tuple(given.reports), given.out)
-    page.write(options.out, [saved.read(file) for file in options.reports])
-    return 0
+    if len(options.reports) > page.MOST_REPORTS:
+        raise fault.Fault(f"a page has {page.MOST_REPORTS} reports at most: {NAME} fleet writes an index, and a page for each")
+    reports: List[Report] = []
+    unread: List[page.Unread] = []
+    for file in options.reports:
+        try:
+            reports.append(saved.read(file))
+        except fault.Fault as why:
+            unread.append(page.Unread(file, str(why)))
+            fault.warn(f"{NAME} page: {why}")
+    if not reports:
+        return fault.FAULT
+    page.write(options.out, reports, unread)
+    return fault.FAULT if unread else 0
+
+
+def tell_fleet(given: argparse.Namespace) -> int:
+    options = FleetOptions(**vars(given))
+    rules = fleet.Rules(datetime.now(timezone.utc), options.older, fleet.hosts_in(options.hosts) if options.hosts else None)
+    if options.html:
+        output.make_folder(options.html)
+
+    def draw(name: str, report: Report) -> None:
+        if options.html:
+            fleet_page.write_host(options.html, name, report)
+    found = fleet.read_fleet(options.folder, rules, draw)
+    if options.html:
+        fleet_page.write_index(options.html, found)
+    if options.json:
+        fault.write([json.dumps(fleet.value_of(found), indent=1), "\n"])
+    else:
+        fault.write_lines(fleet_lines.lines_of(found, options.each))
+    return found.status
 
 
 def write_snapshot(given: argparse.Namespace) -> int:
@@ -171,7 +203,8 @@ def draw_tree(given: argparse.Namespace) -> int:
 
 
 RUNS: Dict[str, Callable[[argparse.Namespace], int]] = {
-    "ask": ask, "check": check_host, "commands": write_commands, "delegations": list_delegations, "page": write_page,
+    "ask": ask, "check": check_host, "commands": write_commands, "delegations": list_delegations, "fleet": tell_fleet,
+    "page": write_page,
     "snapshot": write_snapshot, "tree": draw_tree}
 
 

@@ -83,6 +83,19 @@ class PageOptions:
 
 
 @dataclass(frozen=True)
+class FleetOptions:
+    folder: str = ""
+    json: bool = False
+    # each host in a row of its own
+    each: bool = False
+    html: Optional[str] = None
+    # days after which a report doesn't count
+    older: Optional[int] = None
+    # a file with the names of the hosts that should be there
+    hosts: Optional[str] = None
+
+
+@dataclass(frozen=True)
 class CommandsOptions(Options):
     uid: Optional[int] = None
     gid: Tuple[int, ...] = ()

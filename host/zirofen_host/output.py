@@ -199,6 +199,16 @@ def open_as_it_is(folder: int, name: str, there: os.stat_result) -> int:
     raise refused("it is a device, and no terminal")
 
 
+def make_folder(path: str) -> None:
+    """A folder to write into, where there is none yet."""
+    above, name = os.path.split(path.rstrip("/"))
+    try:
+        with contextlib.suppress(FileExistsError), opened_folder(above) as folder:
+            os.mkdir(name or ".", dir_fd=folder)
+    except OSError as error:
+        raise Fault(f"can't make the folder {shown(path)}: {error.strerror}") from None
+
+
 @contextlib.contextmanager
 def temporary_folder() -> Iterator[str]:
     """A folder of one's own that nobody else looks into, and that is gone behind it."""

@@ -4,6 +4,7 @@ Each reader has its bound as an argument, and tells in what it gives whether som
 """
 import errno
 import os
+import stat
 from collections import Counter
 from itertools import islice
 from typing import Callable, Dict, Iterator, List, Mapping, NamedTuple, Optional, Sequence, Tuple, Union
@@ -20,6 +21,10 @@ ACCOUNT_FILE = 1 << 30
 REPORT_FILE = 1 << 32
 # bytes of what somebody accepts
 ACCEPTANCES = 1 << 20
+# the same of one that another host sent, how many lists and keys it has in all, and how many values
+SENT_REPORT, SENT_PARTS, SENT_VALUES = 1 << 26, 1 << 20, 1 << 22
+# bytes of a list of hosts
+HOSTS_FILE = 1 << 26
 # bytes of all operations that are turned into commands
 OPERATIONS = 1 << 30
 # bytes that are kept of one extended attribute: a mark has one digit
@@ -208,3 +213,14 @@ def read_attributes(folder: int, wanted: Sequence[str], most: int) -> Attributes
             raise
         values[name], read = value[:most], read + len(value)
     return Attributes(values, read)
+
+
+def read_regular(path: Place, most: int) -> Read:
+    """What a file has that somebody else may have put where it is: no link, and nothing but a regular file, is opened to be read."""
+    opened = os.open(path, FILE)
+    try:
+        if not stat.S_ISREG(os.fstat(opened).st_mode):
+            raise OSError(errno.EINVAL, "it is no regular file")
+        return read_opened(opened, most)
+    finally:
+        os.close(opened)

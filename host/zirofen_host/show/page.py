@@ -3,7 +3,7 @@ import base64
 import hashlib
 from dataclasses import dataclass
 from string import Template
-from typing import Dict, List, Sequence, Tuple
+from typing import Dict, List, NamedTuple, Sequence, Tuple
 
 from zirofen_host import output
 from zirofen_host.judge.model import Absent, Difference, Report
@@ -14,7 +14,18 @@ from zirofen_host.show.lines import by_kind
 from zirofen_host.show.markup import code, css, filled, paragraph, places, read, text
 from zirofen_host.show.table import Table
 from zirofen_host.show.view import COUNTED, Host, host_of
-from zirofen_host.show.words import CONTAINED, ESCAPES, FAULT, MEANINGS, NOT_ASKED, OPENED, SIGNS, STANDINGS, UNSETTLED
+from zirofen_host.show.words import (CONTAINED, ESCAPES, FAULT, MEANINGS, NOT_ASKED, OPENED, SIGNS, STANDINGS, UNSETTLED,
+                                     visible)
+
+
+# reports on one page
+MOST_REPORTS = 20
+
+
+class Unread(NamedTuple):
+    """A report that can't be read, and why."""
+    file: str
+    why: str
 
 
 def difference(each: Difference) -> str:
@@ -159,23 +170,32 @@ def policy(style: str, script: str) -> str:
             "form-action 'none'")
 
 
-def page(reports: Sequence[Report]) -> str:
-    """The page of one report or more."""
-    hosts = [host_of(report) for report in reports]
-    is_alone = len(hosts) == 1
-    pages = sorted((HostPage(host, Place(f"host-{number}", is_alone)) for number, host in enumerate(hosts, 1)), key=gravity)
-    title = text(words.name_of(hosts[0].report) if is_alone else words.count(len(hosts), "host"))
-    overview = filled("overview.html", title=f"Zirofen: cgroup delegations of {title}",
-                      hosts="\n".join(each.overview() for each in pages))
+def whole(title: str, body: str) -> str:
+    """A page with all that it needs in it."""
     style, script = read("page.css"), read("page.js")
     # in the template they are named as files, so that it can be opened by itself
     template = read("page.html").replace('<link rel="stylesheet" href="page.css">', "<style>$style</style>")
     template = template.replace('<script src="page.js"></script>', "<script>$script</script>")
-    return Template(template).substitute(
-        policy=policy(style, script), title=f"Zirofen: {title}", style=style, script=script,
-        overview="" if is_alone else overview, hosts="\n".join(each.html() for each in pages))
+    return Template(template).substitute(policy=policy(style, script), title=title, style=style, script=script, body=body)
 
 
-def write(file: str, reports: Sequence[Report]) -> None:
+def unread_row(each: Unread) -> str:
+    """A report that can't be read, in the list of several hosts."""
+    return (f'<li class="fault lost"><strong class="name">{text(visible(each.file))}</strong> <span class="standing">'
+            f"{SIGNS[FAULT][0]} no report</span><br>{text(visible(each.why))}</li>")
+
+
+def page(reports: Sequence[Report], unread: Sequence[Unread] = (), above: str = "") -> str:
+    """The page of one report or more, with what stands above it; reports that couldn't be read are told first."""
+    hosts = [host_of(report) for report in reports]
+    is_alone = len(hosts) == 1 and not unread
+    pages = sorted((HostPage(host, Place(f"host-{number}", is_alone)) for number, host in enumerate(hosts, 1)), key=gravity)
+    title = text(words.name_of(hosts[0].report) if is_alone else words.count(len(hosts) + len(unread), "host"))
+    overview = filled("overview.html", title=f"Zirofen: cgroup delegations of {title}",
+                      hosts="\n".join([*map(unread_row, unread), *(each.overview() for each in pages)]))
+    return whole(f"Zirofen: {title}", "\n".join([above, "" if is_alone else overview, *(each.html() for each in pages)]))
+
+
+def write(file: str, reports: Sequence[Report], unread: Sequence[Unread] = ()) -> None:
     """Writes the page, whole or not at all."""
-    output.write(output.STANDARD_OUTPUT if file == "-" else file, [page(reports)], "the page")
+    output.write(output.STANDARD_OUTPUT if file == "-" else file, [page(reports, unread)], "the page")

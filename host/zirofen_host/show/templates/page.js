@@ -66,14 +66,14 @@ for (const box of document.querySelectorAll(".filters")) {
   const section = box.closest("section"), said = box.querySelector("output"), rest = section.querySelector(".rest");
   const rows = [...section.querySelectorAll("tbody tr")], fields = [...box.querySelectorAll("select, input")];
   if (rows.length < 2) continue;
-  const whose = rows.map((row) => row.cells[2].textContent), names = rows.map((row) => row.cells[1].textContent.toLowerCase());
+  const isByWhom = fields.length > 2, whose = rows.map((row) => (isByWhom ? row.cells[2].textContent : "")), names = rows.map((row) => row.cells[1].textContent.toLowerCase());
   const words = rows.map((row) => [...row.cells[0].children].map((each) => each.lastChild.textContent.trim()));
-  [new Set(words.flat()), new Set(whose)].forEach((values, at) => {
+  [new Set(words.flat()), new Set(whose)].slice(0, fields.length - 1).forEach((values, at) => {
     fields[at].append(...[...values].filter(Boolean).sort().map((each) => new Option(each)));
   });
   box.hidden = false;
   box.addEventListener("input", () => {
-    const [answer, whom, name] = fields.map((each) => each.value);
+    const [answer, whom, name] = isByWhom ? fields.map((each) => each.value) : [fields[0].value, "", fields[1].value];
     const isAny = Boolean(answer || whom || name.trim()), part = name.trim().toLowerCase();
     let kept = 0;
     rows.forEach((row, at) => {
