@@ -87,6 +87,10 @@ def parts_in(value: object) -> Sequence[object]:
     return typed(list, value)
 
 
+def tables_in(value: object) -> Sequence[Table]:
+    return list(map(table_in, parts_in(value)))
+
+
 def number_in(value: object) -> int:
     return typed(int, value)
 
@@ -107,8 +111,7 @@ def read_entry(table: Table, usual_mode: int) -> Entry:
     return Entry(number_in(table.get("uid", 0)), number_in(table.get("gid", 0)), number_in(table.get("mode", usual_mode)))
 
 
-def read_row(value: object) -> Row:
-    table = table_in(value)
+def read_row(table: Table) -> Row:
     files = {name: table_in(entry) for name, entry in table_in(table.get("files", {})).items()}
     return Row(path=path_of(text_in(table["path"])),
                directory=read_entry(table_in(table.get("dir", {})), DIRECTORY_MODE),
@@ -135,9 +138,9 @@ def read_tree(text: str) -> Tree:
     reader = toml_reader()
     try:
         document = reader(text)
-        rows = {row.path: row for row in map(read_row, parts_in(document.get("cgroup", [])))}
+        rows = {row.path: row for row in map(read_row, tables_in(document.get("cgroup", [])))}
         processes = [Placed(number_in(each["pid"]), number_in(each["uid"]), path_of(text_in(each["at"])))
-                     for each in map(table_in, parts_in(document.get("process", [])))]
+                     for each in tables_in(document.get("process", []))]
         tree = Tree(texts_in(document["controllers"]), rows, processes)
     except (AttributeError, KeyError, TypeError, ValueError, RecursionError):
         raise Fault("this is no tree text that this helper reads, which is TOML 1.0") from None
