@@ -2,13 +2,12 @@
 import argparse
 import dataclasses
 import functools
-import json
 import sys
 import time
 from datetime import datetime, timezone
 from typing import Callable, Dict, Iterable, Iterator, List, Mapping, NoReturn, Optional, Tuple
 
-from zirofen_host import ending, fault, installed, output
+from zirofen_host import ending, fault, installed
 from zirofen_host.arguments import ARGUMENTS, DESCRIPTIONS, NAME, parser_of
 from zirofen_host.ask import accepted
 from zirofen_host.ask.delegations import Delegations
@@ -25,7 +24,7 @@ from zirofen_host.judge.model import Report
 from zirofen_host.options import (PROC, AskOptions, CheckOptions, CommandsOptions, DelegationsOptions, FleetOptions, PageOptions,
                                   SnapshotOptions, TreeOptions, Way)
 from zirofen_host.profile import path_of, shown
-from zirofen_host.show import fleet, fleet_lines, fleet_page, formats, listing, page, tree_view
+from zirofen_host.show import fleet_run, formats, listing, page, tree_view
 from zirofen_host.show.run import Run
 
 ABOUT = f"""The helpers of zirofen for a running host: from its cgroups to answers. They are no part of what is proved.
@@ -153,22 +152,7 @@ def write_page(given: argparse.Namespace) -> int:
 
 
 def tell_fleet(given: argparse.Namespace) -> int:
-    options = FleetOptions(**vars(given))
-    rules = fleet.Rules(datetime.now(timezone.utc), options.older, fleet.hosts_in(options.hosts) if options.hosts else None)
-    if options.html:
-        output.make_folder(options.html)
-
-    def draw(name: str, report: Report) -> None:
-        if options.html:
-            fleet_page.write_host(options.html, name, report)
-    found = fleet.read_fleet(options.folder, rules, draw)
-    if options.html:
-        fleet_page.write_index(options.html, found)
-    if options.json:
-        fault.write([json.dumps(fleet.value_of(found), indent=1), "\n"])
-    else:
-        fault.write_lines(fleet_lines.lines_of(found, options.each))
-    return found.status
+    return fleet_run.tell(FleetOptions(**vars(given)))
 
 
 def write_snapshot(given: argparse.Namespace) -> int:

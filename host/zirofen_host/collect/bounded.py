@@ -21,10 +21,6 @@ ACCOUNT_FILE = 1 << 30
 REPORT_FILE = 1 << 32
 # bytes of what somebody accepts
 ACCEPTANCES = 1 << 20
-# the same of one that another host sent, how many lists and keys it has in all, and how many values
-SENT_REPORT, SENT_PARTS, SENT_VALUES = 1 << 26, 1 << 20, 1 << 22
-# bytes of a list of hosts
-HOSTS_FILE = 1 << 26
 # bytes of all operations that are turned into commands
 OPERATIONS = 1 << 30
 # bytes that are kept of one extended attribute: a mark has one digit
@@ -35,6 +31,10 @@ NAMES = 1 << 30
 STATUS, FLAGS, DESCRIPTOR = 1 << 20, 1 << 12, 1 << 12
 # bytes of the host's own list of mounts
 HOST_MOUNTS = 1 << 26
+# bytes of a report that another host sent, how many lists and keys it has in all, and how many values
+SENT_REPORT, SENT_PARTS, SENT_VALUES = 1 << 26, 1 << 20, 1 << 22
+# bytes of a list of hosts
+HOSTS_FILE = 1 << 26
 
 PART = 1 << 14
 FOLDER = os.O_RDONLY | os.O_DIRECTORY | os.O_NOFOLLOW | os.O_CLOEXEC

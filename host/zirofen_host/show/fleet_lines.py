@@ -40,7 +40,7 @@ def told(alike: Alike) -> Iterator[str]:
         yield first.why
     elif first.findings:
         if not is_one:
-            yield f"the same {words.count(first.findings, 'finding')}:"
+            yield f"the same {'finding' if first.findings == 1 else words.count(first.findings, 'finding')}:"
         yield from first.lines
         if first.findings > len(first.lines):
             yield f".. and {first.findings - len(first.lines)} more"
