@@ -1,5 +1,5 @@
 -- What the changes of the advice leave of a tree, and of the guards of every user and subtree.
-use Rattle.std.proofs.Common.{◌≡◌, ℕ, ◌≤◌, Bool, true, false, cond, ◌&&◌, ◌||◌, not, List, [], ◌∷◌, ◌++◌, append_assoc, map, length, take, filter, refl, sym, ap, ◌∙◌, subst, Option, Some, None, option_map, option_and_then, le-leb, arith}
+use Rattle.std.proofs.Common.{◌≡◌, ℕ, ◌≤◌, nat_le, Bool, true, false, cond, ◌&&◌, ◌||◌, not, List, [], ◌∷◌, ◌++◌, append_assoc, map, length, take, filter, refl, sym, ap, ◌∙◌, subst, Option, Some, None, option_map, option_and_then, le-leb, arith}
 use Rattle.std.specs.List.{flat_map, list_any, All, AllByRecursion}
 use Rattle.std.proofs.lemmas.Bool.{and_parts, and_from, not-true}
 use Rattle.std.proofs.lemmas.List.Elements.{All-from_recursion, recursion_from_All}
@@ -374,6 +374,10 @@ makeable subtree mends can = all-mapped IsMakeable (λ mend. (subtree, mend)) me
 abbrev HasMode : Entrant → Type 0
 HasMode each = each.at.entry.mode ≤ 511
 
+-- what the two files of the core take
+is_taken : (value : ℕ) → value ≤ 9223372036854775807 → (nat_le 0 value && nat_le value 9223372036854775807) ≡ true
+is_taken value few = and_from _ _ (le-leb 0 value (omega arith)) (le-leb value 9223372036854775807 few)
+
 module _ (st : State) (formed : IsWellFormed st) where
   entry_mode : (path : Names) (name : EntryName) (entry : Entry) → entry_at st path name ≡ Some entry → entry.mode ≤ 511
   entry_mode path name entry is =
@@ -401,8 +405,8 @@ module _ (st : State) (formed : IsWellFormed st) where
       all_flat IsMakeable (AreCountable st) (limit_changes st) (λ subtree few.
       makeable subtree (limit_mends st subtree)
       (all-append CanBeMade (descendants_of st subtree) (depth_of st subtree)
-      (all-unless CanBeMade _ _ (le-leb (count_below st subtree) 9223372036854775807 few.0))
-      (all-unless CanBeMade _ _ (le-leb (depth_below st subtree) 9223372036854775807 few.1)))) subtrees few
+      (all-unless CanBeMade _ _ (is_taken (count_below st subtree) few.0))
+      (all-unless CanBeMade _ _ (is_taken (depth_below st subtree) few.1)))) subtrees few
 
   pub formed-advised : (pairs : List Pair) → All (λ pair. AreCountable st pair.subtree) pairs → IsWellFormed (advised st pairs)
   formed-advised pairs few =

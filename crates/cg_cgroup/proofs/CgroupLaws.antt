@@ -1,18 +1,23 @@
 -- What the entries, files and values of a cgroup are after each change, and those of a new cgroup.
-use Rattle.std.proofs.Common.{◌≡◌, ℕ, Bool, true, false, cond, refl, ap, ◌∙◌}
+use Rattle.std.proofs.Common.{◌≡◌, ◌≢◌, ℕ, ◌<◌, Bool, true, false, cond, refl, sym, ap, ◌∙◌, nat_eq, arith, eqb-true}
+use Rattle.std.proofs.Common.{List, [], ◌∷◌, length, map, get_or, zero, suc}
 use Rattle.std.specs.Prelude.{Option, Some, None, is_some, unwrap_or}
+use Rattle.std.proofs.lemmas.List.{get_or-set_same, get_or-set_other}
+use mathlib.Core.HLevel.{is_prop→PathP}
+use native.Mathlib.Nat.{ℕ_set}
 use Rattle.std.specs.Option.{option_map}
 use Rattle.std.proofs.lemmas.Option.{same_Some}
 use Rattle.cg_cgroup.specs.Identity.{Identity}
-use Rattle.cg_cgroup.specs.Files.{accepts, default_value, stands_under, same_file, same_entry}
-use Rattle.cg_cgroup.specs.Cgroups.{file_of, entry_in, value_in, with_file, with_value_of, with_value_in, with_mode_of, with_file_mode_of, with_mode_in, file_made_by, refitted, with_files_of, cgroup_made_by}
+use Rattle.cg_cgroup.specs.Files.{all_files, brought_files, kind_of, place_of, accepts, default_value, stands_under, same_file, same_entry}
+use Rattle.cg_cgroup.specs.Cgroups.{held_at, with_held, file_of, entry_in, value_in, with_file, with_value_of, with_value_in, with_mode_of, with_file_mode_of, with_mode_in, file_made_by, refitted, with_files_of, cgroup_made_by}
 use Rattle.cg_cgroup.specs.declared.files.Limit.{Limit}
 use Rattle.cg_cgroup.specs.declared.files.ControllerSet.{ControllerSet}
 use Rattle.cg_cgroup.specs.declared.files.LimitFile.{LimitFile}
-use Rattle.cg_cgroup.specs.declared.files.LimitFile.TheVariants.{MaxDescendants, MaxDepth, CpuWeight, MemoryMin, MemoryLow, MemoryHigh, MemoryMax, PidsMax}
+use Rattle.cg_cgroup.specs.declared.files.LimitFile.TheVariants.{MaxDescendants, MaxDepth, CpuWeight}
 use Rattle.cg_cgroup.specs.declared.files.EntryName.{EntryName}
 use Rattle.cg_cgroup.specs.declared.files.EntryName.TheVariants.{Dir, Procs, SubtreeControl, File}
 use Rattle.cg_cgroup.specs.declared.cgroup.LimitEntry.{LimitEntry}
+use Rattle.cg_cgroup.specs.declared.brought.BroughtFiles.{BroughtFiles}
 use Rattle.cg_cgroup.specs.declared.cgroup.Cgroup.{Cgroup}
 
 -- ---- names
@@ -21,16 +26,13 @@ pub same_file-refl : (file : LimitFile) → same_file file file ≡ true
 same_file-refl MaxDescendants = refl
 same_file-refl file = refl
 
+numbered : (file : LimitFile) → get_or all_files (kind_of file).number CpuWeight ≡ file
+numbered MaxDescendants = refl
+numbered file = refl
+
 pub same_file-true : (file other : LimitFile) → same_file file other ≡ true → file ≡ other
-same_file-true MaxDescendants MaxDescendants h = refl
-same_file-true MaxDepth MaxDepth h = refl
-same_file-true CpuWeight CpuWeight h = refl
-same_file-true MemoryMin MemoryMin h = refl
-same_file-true MemoryLow MemoryLow h = refl
-same_file-true MemoryHigh MemoryHigh h = refl
-same_file-true MemoryMax MemoryMax h = refl
-same_file-true PidsMax PidsMax h = refl
-same_file-true file other h = cc
+same_file-true file other h =
+    sym (numbered file) ∙ ap (λ n. get_or all_files n CpuWeight) (eqb-true (kind_of file).number (kind_of other).number h) ∙ numbered other
 
 pub same_entry-refl : (name : EntryName) → same_entry name name ≡ true
 same_entry-refl Dir = refl
@@ -45,19 +47,71 @@ same_entry-true SubtreeControl SubtreeControl h = refl
 same_entry-true (File file) (File other) h = ap File (same_file-true file other h)
 same_entry-true name other h = cc
 
+-- ---- the files that controllers bring
+
+pub place_within : (file : LimitFile) → place_of file < length brought_files
+place_within MaxDescendants = omega arith
+place_within file = omega arith
+
+pub same_brought : (old new : BroughtFiles) → new.entries ≡ old.entries → new ≡ old
+same_brought old new same =
+    λ i. record {
+      entries = same i;
+      whole = is_prop→PathP (λ j. length (same j) ≡ length brought_files) (λ j. ℕ_set _ _) new.whole old.whole i;
+    }
+
+held-with_held : (files : BroughtFiles) (place other : ℕ) (f : LimitEntry → LimitEntry) → place < length brought_files
+    → held_at (with_held place f files) other
+    ≡ cond (nat_eq place other) (option_map f (held_at files other)) (held_at files other)
+held-with_held files place other f within =
+    elim (nat_eq place other) as (λ b. nat_eq place other ≡ b → held_at (with_held place f files) other
+    ≡ cond b (option_map f (held_at files other)) (held_at files other)) [
+      | true ↦ λ e.
+          let same : place ≡ other = eqb-true place other e in
+          ap (held_at (with_held place f files)) (sym same)
+          ∙ get_or-set_same files.entries place (option_map f (held_at files place)) None (omega (arith, within, files.whole))
+          ∙ ap (λ k. option_map f (held_at files k)) same
+      | false ↦ λ e. get_or-set_other files.entries place other (option_map f (held_at files place)) None (grind (arith, e))
+    ] refl
+
+-- the numbers below another
+abbrev numbers : ℕ → List ℕ
+numbers zero = []
+numbers (suc count) = 0 ∷ map suc (numbers count)
+
+later : {A : Type 0} (f : ℕ → A) (places : List ℕ) → map f (map suc places) ≡ map (λ place. f (suc place)) places
+later f [] = refl
+later f (place ∷ places) = ap (λ rest. f (suc place) ∷ rest) (later f places)
+
+held_all : {A : Type 0} (held : List A) (none : A) → map (λ place. get_or held place none) (numbers (length held)) ≡ held
+held_all [] none = refl
+held_all (one ∷ held) none =
+    ap (λ rest. one ∷ rest) (later (λ place. get_or (one ∷ held) place none) (numbers (length held)) ∙ held_all held none)
+
+-- the files that a row has, in their order
+entries_are : (row : Cgroup) → map (file_of row) brought_files ≡ row.files.entries
+entries_are row =
+    ap (λ count. map (λ place. get_or row.files.entries place None) (numbers count)) (sym row.files.whole)
+    ∙ held_all row.files.entries None
+
 -- ---- one limit file changed
 
 pub file_of-with_file : (file : LimitFile) (f : LimitEntry → LimitEntry) (row : Cgroup) (other : LimitFile)
     → file_of (with_file file f row) other ≡ cond (same_file file other) (option_map f (file_of row other)) (file_of row other)
 file_of-with_file MaxDescendants f row MaxDescendants = refl
-file_of-with_file MaxDepth f row MaxDepth = refl
-file_of-with_file CpuWeight f row CpuWeight = refl
-file_of-with_file MemoryMin f row MemoryMin = refl
-file_of-with_file MemoryLow f row MemoryLow = refl
-file_of-with_file MemoryHigh f row MemoryHigh = refl
-file_of-with_file MemoryMax f row MemoryMax = refl
-file_of-with_file PidsMax f row PidsMax = refl
-file_of-with_file file f row other = refl
+file_of-with_file MaxDescendants f row other = refl
+file_of-with_file MaxDepth f row MaxDescendants = refl
+file_of-with_file MaxDepth f row other = refl
+file_of-with_file file f row MaxDescendants = refl
+file_of-with_file file f row MaxDepth = refl
+file_of-with_file file f row other = held-with_held row.files (place_of file) (place_of other) f (place_within file)
+
+-- a file that a controller brings
+pub with_file-brought : (file : LimitFile) (f : LimitEntry → LimitEntry) (row : Cgroup) → file ≢ MaxDescendants → file ≢ MaxDepth
+    → record row { files = with_held (place_of file) f row.files } ≡ with_file file f row
+with_file-brought MaxDescendants f row other deeper = absurd (other refl)
+with_file-brought MaxDepth f row other deeper = absurd (deeper refl)
+with_file-brought file f row other deeper = refl
 
 -- what a change of a limit file leaves
 pub record SameRest (old new : Cgroup) : Type 0 where
@@ -189,18 +243,15 @@ same_cgroup old new rest files =
     let max_descendants : new.max_descendants ≡ old.max_descendants =
     same_Some new.max_descendants old.max_descendants (files MaxDescendants) in
     let max_depth : new.max_depth ≡ old.max_depth = same_Some new.max_depth old.max_depth (files MaxDepth) in
+    let brought : new.files ≡ old.files =
+    same_brought old.files new.files (sym (entries_are new) ∙ (λ i. map (λ file. files file i) brought_files) ∙ entries_are old) in
     λ i. record {
       dir = rest.dir i;
       procs = rest.procs i;
       subtree_control = rest.subtree_control i;
       max_descendants = max_descendants i;
       max_depth = max_depth i;
-      cpu_weight = files CpuWeight i;
-      memory_min = files MemoryMin i;
-      memory_low = files MemoryLow i;
-      memory_high = files MemoryHigh i;
-      memory_max = files MemoryMax i;
-      pids_max = files PidsMax i;
+      files = brought i;
       enabled = rest.enabled i;
     }
 

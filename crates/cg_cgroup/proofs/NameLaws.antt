@@ -1,6 +1,6 @@
 -- The names of controllers, limit files and entries: no two are equal, and what is found by a name has that name.
 use Rattle.std.proofs.Common.{◌≡◌, ◌≢◌, ℕ, Bool, true, false, cond, List, [], ◌∷◌, refl, sym, ap, ◌∙◌}
-use Rattle.std.specs.Prelude.{Option, Some, None}
+use Rattle.std.specs.Prelude.{Option, Some, None, IfSome, IfNone}
 use Rattle.std.specs.List.{find}
 use Rattle.std.specs.Cmp.Lexicographic.{bytes_decides}
 use Rattle.std.proofs.lemmas.Option.{none-some, same_Some}
@@ -58,3 +58,13 @@ entry_names = are_names entry_text all_entries found_entry
 pub unnamed : {A : Type 0} {name : A → List ℕ} {look_up : List ℕ → Option A} → AreNames name look_up → (text : List ℕ) → look_up text ≡ None
     → (x : A) → text ≢ name x
 unnamed {look_up = look_up} names text none x e = none-some x (sym none ∙ (ap look_up e ∙ names.found x))
+
+-- what is found of a text has its name, and where nothing is found no file has
+pub file_found : (text : List ℕ) (found : Option LimitFile) → found ≡ file_named text → IfSome found (λ file. text ≡ file_name file)
+file_found text None is = tt
+file_found text (Some file) is = file_names.named text file (sym is)
+
+pub file_missed : (text : List ℕ) (found : Option LimitFile) → found ≡ file_named text
+    → IfNone found ((file : LimitFile) → text ≢ file_name file)
+file_missed text None is = unnamed file_names text (sym is)
+file_missed text (Some file) is = tt

@@ -1,28 +1,36 @@
 -- A cgroup's entries and limit files, read and changed by name.
-use Rattle.std.specs.Prelude.{ℕ, cond, Option, Some, None, unwrap_or}
+use Rattle.std.specs.Prelude.{ℕ, cond, map, Option, Some, None, unwrap_or, get_or, slice_set}
 use Rattle.std.specs.Option.{option_map}
 pub use Rattle.cg_cgroup.specs.Users.{entry_made_by}
 use Rattle.cg_cgroup.specs.Identity.{Identity}
-use Rattle.cg_cgroup.specs.Files.{default_value, stands_under, no_controllers}
+use Rattle.std.proofs.Common.{◌∙◌, refl}
+use Rattle.std.proofs.lemmas.List.{length-set}
+use Rattle.cg_cgroup.specs.Files.{brought_files, place_of, default_value, stands_under, no_controllers}
 use Rattle.cg_cgroup.specs.declared.user.Entry.{Entry}
 use Rattle.cg_cgroup.specs.declared.files.Limit.{Limit}
 use Rattle.cg_cgroup.specs.declared.files.ControllerSet.{ControllerSet}
 use Rattle.cg_cgroup.specs.declared.files.LimitFile.{LimitFile}
-use Rattle.cg_cgroup.specs.declared.files.LimitFile.TheVariants.{MaxDescendants, MaxDepth, CpuWeight, MemoryMin, MemoryLow, MemoryHigh, MemoryMax, PidsMax}
+use Rattle.cg_cgroup.specs.declared.files.LimitFile.TheVariants.{MaxDescendants, MaxDepth}
 use Rattle.cg_cgroup.specs.declared.files.EntryName.{EntryName}
 use Rattle.cg_cgroup.specs.declared.files.EntryName.TheVariants.{Dir, Procs, SubtreeControl, File}
 use Rattle.cg_cgroup.specs.declared.cgroup.LimitEntry.{LimitEntry}
+use Rattle.cg_cgroup.specs.declared.brought.BroughtFiles.{BroughtFiles}
 use Rattle.cg_cgroup.specs.declared.cgroup.Cgroup.{Cgroup}
+
+-- the files that controllers bring, each by its place, where it stands
+abbrev pub held_at : BroughtFiles → ℕ → Option LimitEntry
+held_at files place = get_or files.entries place None
+
+abbrev pub holding : ℕ → Option LimitEntry → BroughtFiles → BroughtFiles
+holding place held files = record { entries = slice_set files.entries place held; whole = length-set files.entries place held ∙ files.whole }
+
+abbrev pub files_by : (LimitFile → Option LimitEntry) → BroughtFiles
+files_by held = record { entries = map held brought_files; whole = refl }
 
 abbrev pub file_of : Cgroup → LimitFile → Option LimitEntry
 file_of row MaxDescendants = Some row.max_descendants
 file_of row MaxDepth = Some row.max_depth
-file_of row CpuWeight = row.cpu_weight
-file_of row MemoryMin = row.memory_min
-file_of row MemoryLow = row.memory_low
-file_of row MemoryHigh = row.memory_high
-file_of row MemoryMax = row.memory_max
-file_of row PidsMax = row.pids_max
+file_of row file = held_at row.files (place_of file)
 
 -- the entry of a directory or file, where it is there
 abbrev pub entry_in : Cgroup → EntryName → Option Entry
@@ -36,15 +44,13 @@ abbrev pub value_in : Cgroup → LimitFile → Option Limit
 value_in row file = option_map (λ f. f.value) (file_of row file)
 
 -- the row with a limit file changed, where it stands
+abbrev pub with_held : ℕ → (LimitEntry → LimitEntry) → BroughtFiles → BroughtFiles
+with_held place f files = holding place (option_map f (held_at files place)) files
+
 abbrev pub with_file : LimitFile → (LimitEntry → LimitEntry) → Cgroup → Cgroup
 with_file MaxDescendants f row = record row { max_descendants = f row.max_descendants }
 with_file MaxDepth f row = record row { max_depth = f row.max_depth }
-with_file CpuWeight f row = record row { cpu_weight = option_map f row.cpu_weight }
-with_file MemoryMin f row = record row { memory_min = option_map f row.memory_min }
-with_file MemoryLow f row = record row { memory_low = option_map f row.memory_low }
-with_file MemoryHigh f row = record row { memory_high = option_map f row.memory_high }
-with_file MemoryMax f row = record row { memory_max = option_map f row.memory_max }
-with_file PidsMax f row = record row { pids_max = option_map f row.pids_max }
+with_file file f row = record row { files = with_held (place_of file) f row.files }
 
 abbrev pub with_value_of : Limit → LimitEntry → LimitEntry
 with_value_of value file = record file { value = value }
@@ -73,14 +79,7 @@ abbrev pub refitted : ControllerSet → Identity → LimitFile → Option LimitE
 refitted enabled user file had = cond (stands_under enabled file) (Some (unwrap_or had (file_made_by user file))) None
 
 abbrev pub with_files_of : ControllerSet → Identity → Cgroup → Cgroup
-with_files_of enabled user row = record row {
-  cpu_weight = refitted enabled user CpuWeight row.cpu_weight;
-  memory_min = refitted enabled user MemoryMin row.memory_min;
-  memory_low = refitted enabled user MemoryLow row.memory_low;
-  memory_high = refitted enabled user MemoryHigh row.memory_high;
-  memory_max = refitted enabled user MemoryMax row.memory_max;
-  pids_max = refitted enabled user PidsMax row.pids_max;
-}
+with_files_of enabled user row = record row { files = files_by (λ file. refitted enabled user file (file_of row file)) }
 
 -- A new cgroup of a user under a parent that enables these. Own: its directory has mode 0o755, its files 0o644.
 abbrev pub cgroup_made_by : Identity → ControllerSet → Cgroup
@@ -90,11 +89,6 @@ cgroup_made_by user enabled = with_files_of enabled user (record {
   subtree_control = entry_made_by user 420;
   max_descendants = file_made_by user MaxDescendants;
   max_depth = file_made_by user MaxDepth;
-  cpu_weight = None;
-  memory_min = None;
-  memory_low = None;
-  memory_high = None;
-  memory_max = None;
-  pids_max = None;
+  files = files_by (λ file. None);
   enabled = no_controllers;
 })

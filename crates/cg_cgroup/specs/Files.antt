@@ -1,15 +1,15 @@
--- Controllers and limit files: their names, where they stand, their defaults and the values that they take.
-use Rattle.std.specs.Prelude.{◌≡◌, ℕ, Bool, true, false, ◌&&◌, ◌||◌, not, nat_le, map, List, [], ◌∷◌, Option, Some, None, codes}
+-- Controllers and limit files: how they are found by their names, where they stand, and the values that they take.
+use Rattle.std.specs.Prelude.{◌≡◌, ℕ, Bool, true, false, ◌&&◌, ◌||◌, not, nat_eq, nat_le, map, List, ◌∷◌, Option, Some, None, codes}
 use Rattle.std.specs.List.{find, list_all}
 use Rattle.cg_cgroup.specs.Paths.{same_name}
 use Rattle.cg_cgroup.specs.Texts as texts
+pub use Rattle.cg_cgroup.specs.Kinds.{all_controllers, controller_name, all_files, file_name, kind_of, brought_files, place_of}
 use Rattle.cg_cgroup.specs.declared.files.Limit.{Limit}
 use Rattle.cg_cgroup.specs.declared.files.Limit.TheVariants.{Max, At}
 use Rattle.cg_cgroup.specs.declared.files.Controller.{Controller}
 use Rattle.cg_cgroup.specs.declared.files.Controller.TheVariants.{Cpu, Memory, Pids}
 use Rattle.cg_cgroup.specs.declared.files.ControllerSet.{ControllerSet}
 use Rattle.cg_cgroup.specs.declared.files.LimitFile.{LimitFile}
-use Rattle.cg_cgroup.specs.declared.files.LimitFile.TheVariants.{MaxDescendants, MaxDepth, CpuWeight, MemoryMin, MemoryLow, MemoryHigh, MemoryMax, PidsMax}
 use Rattle.cg_cgroup.specs.declared.files.EntryName.{EntryName}
 use Rattle.cg_cgroup.specs.declared.files.EntryName.TheVariants.{Dir, Procs, SubtreeControl, File}
 
@@ -18,15 +18,6 @@ pub record AreNames {A : Type 0} (name : A → List ℕ) (look_up : List ℕ →
   pub found : (x : A) → look_up (name x) ≡ Some x
   pub named : (text : List ℕ) (x : A) → look_up text ≡ Some x → text ≡ name x
   pub distinct : (x y : A) → name x ≡ name y → x ≡ y
-
--- Own: the order used everywhere.
-abbrev pub all_controllers : List Controller
-all_controllers = Cpu ∷ Memory ∷ Pids ∷ []
-
-abbrev pub controller_name : Controller → List ℕ
-controller_name Cpu = codes "cpu"
-controller_name Memory = codes "memory"
-controller_name Pids = codes "pids"
 
 -- the controller of a name
 abbrev pub controller_named : List ℕ → Option Controller
@@ -43,6 +34,10 @@ enables set Cpu = set.cpu
 enables set Memory = set.memory
 enables set Pids = set.pids
 
+-- the controllers that pass a test
+abbrev pub set_by : (Controller → Bool) → ControllerSet
+set_by test = record { cpu = test Cpu; memory = test Memory; pids = test Pids }
+
 abbrev pub with_controller : ControllerSet → Controller → Bool → ControllerSet
 with_controller set Cpu on = record set { cpu = on }
 with_controller set Memory on = record set { memory = on }
@@ -58,20 +53,8 @@ enables_nothing set = not set.cpu && (not set.memory && not set.pids)
 abbrev pub is_within : ControllerSet → ControllerSet → Bool
 is_within set other = list_all (λ controller. not (enables set controller) || enables other controller) all_controllers
 
--- The order used everywhere. Core Interface Files; CPU, Memory and PID.
-abbrev pub all_files : List LimitFile
-all_files = MaxDescendants ∷ MaxDepth ∷ CpuWeight ∷ MemoryMin ∷ MemoryLow ∷ MemoryHigh ∷ MemoryMax ∷ PidsMax ∷ []
-
 abbrev pub same_file : LimitFile → LimitFile → Bool
-same_file MaxDescendants MaxDescendants = true
-same_file MaxDepth MaxDepth = true
-same_file CpuWeight CpuWeight = true
-same_file MemoryMin MemoryMin = true
-same_file MemoryLow MemoryLow = true
-same_file MemoryHigh MemoryHigh = true
-same_file MemoryMax MemoryMax = true
-same_file PidsMax PidsMax = true
-same_file file other = false
+same_file file other = nat_eq (kind_of file).number (kind_of other).number
 
 abbrev pub same_entry : EntryName → EntryName → Bool
 same_entry Dir Dir = true
@@ -79,16 +62,6 @@ same_entry Procs Procs = true
 same_entry SubtreeControl SubtreeControl = true
 same_entry (File file) (File other) = same_file file other
 same_entry name other = false
-
-abbrev pub file_name : LimitFile → List ℕ
-file_name MaxDescendants = texts.cgroup_max_descendants
-file_name MaxDepth = texts.cgroup_max_depth
-file_name CpuWeight = texts.cpu_weight
-file_name MemoryMin = texts.memory_min
-file_name MemoryLow = texts.memory_low
-file_name MemoryHigh = texts.memory_high
-file_name MemoryMax = texts.memory_max
-file_name PidsMax = texts.pids_max
 
 -- the limit file of a name
 abbrev pub file_named : List ℕ → Option LimitFile
@@ -109,31 +82,14 @@ entry_named text = find (λ name. same_name text (entry_text name)) all_entries
 
 -- The controller that brings a file. The two of the core stand at every cgroup. Enabling and Disabling; Core Interface Files.
 abbrev pub controller_of : LimitFile → Option Controller
-controller_of MaxDescendants = None
-controller_of MaxDepth = None
-controller_of CpuWeight = Some Cpu
-controller_of MemoryMin = Some Memory
-controller_of MemoryLow = Some Memory
-controller_of MemoryHigh = Some Memory
-controller_of MemoryMax = Some Memory
-controller_of PidsMax = Some Pids
+controller_of file = (kind_of file).controller
 
 abbrev pub default_value : LimitFile → Limit
-default_value MaxDescendants = Max
-default_value MaxDepth = Max
-default_value CpuWeight = At 100
-default_value MemoryMin = At 0
-default_value MemoryLow = At 0
-default_value MemoryHigh = Max
-default_value MemoryMax = Max
-default_value PidsMax = Max
+default_value file = (kind_of file).default
 
--- CPU: a weight is 1 to 10000. The range of all others is own.
 abbrev pub accepts : LimitFile → Limit → Bool
-accepts CpuWeight Max = false
-accepts CpuWeight (At value) = nat_le 1 value && nat_le value 10000
-accepts file Max = true
-accepts file (At value) = nat_le value 9223372036854775807
+accepts file Max = (kind_of file).takes_max
+accepts file (At value) = nat_le (kind_of file).least value && nat_le value (kind_of file).greatest
 
 -- Whether a file stands at a child of a cgroup that enables these, or at the root where there is no such cgroup.
 abbrev pub stands_under : ControllerSet → LimitFile → Bool

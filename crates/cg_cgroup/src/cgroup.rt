@@ -1,9 +1,10 @@
 //! One cgroup: its entries, its limits and what it enables for its children.
-ghost use Rattle.std.specs.Prelude.{◌≡◌};
-ghost use Rattle.std.specs.Option.{option_map};
+ghost use Rattle.std.specs.Prelude.{◌≡◌, map};
+ghost use Rattle.cg_cgroup.specs.Files.{brought_files};
 ghost use Rattle.cg_cgroup.specs.Cgroups.{file_of, entry_in, value_in, with_value_in, with_value_of, with_mode_in, with_file_mode_of, file_made_by, refitted, with_files_of, cgroup_made_by};
 
-use crate::files::{ControllerSet, EntryName, Limit, LimitFile};
+use crate::brought::BroughtFiles;
+use crate::files::{BROUGHT_COUNT, ControllerSet, EntryName, Limit, LimitFile};
 use crate::user::{Entry, Mode, User};
 
 /// A limit file: its owner and mode, and its value.
@@ -23,9 +24,25 @@ impl LimitEntry {
             value: file.default_value(),
         }
     }
+
+    /// The file with another value.
+    pub fn with_value(self, value: Limit) -> LimitEntry
+        ensures { result ≡ with_value_of value self }
+    {
+        LimitEntry { value, ..self }
+    }
+
+    /// The file with another mode.
+    pub fn with_mode(self, mode: Mode) -> LimitEntry
+        ensures { result ≡ with_file_mode_of mode self }
+    {
+        let mut file = self;
+        file.entry.mode = mode.get();
+        file
+    }
 }
 
-/// A cgroup. A limit file that doesn't stand at it is `None`.
+/// A cgroup.
 #[derive(Clone, Copy, Debug, PartialEq, Eq)]
 pub struct Cgroup {
     pub dir: Entry,
@@ -33,12 +50,7 @@ pub struct Cgroup {
     pub subtree_control: Entry,
     pub max_descendants: LimitEntry,
     pub max_depth: LimitEntry,
-    pub cpu_weight: Option<LimitEntry>,
-    pub memory_min: Option<LimitEntry>,
-    pub memory_low: Option<LimitEntry>,
-    pub memory_high: Option<LimitEntry>,
-    pub memory_max: Option<LimitEntry>,
-    pub pids_max: Option<LimitEntry>,
+    pub files: BroughtFiles,
     pub enabled: ControllerSet,
 }
 
@@ -54,12 +66,7 @@ impl Cgroup {
             subtree_control: Entry::made_by(user, Mode::FILE),
             max_descendants: LimitEntry::made_by(user, LimitFile::MaxDescendants),
             max_depth: LimitEntry::made_by(user, LimitFile::MaxDepth),
-            cpu_weight: None,
-            memory_min: None,
-            memory_low: None,
-            memory_high: None,
-            memory_max: None,
-            pids_max: None,
+            files: BroughtFiles::none(),
             enabled: ControllerSet::none(),
         };
         cgroup.refit(enabled, user);
@@ -73,12 +80,7 @@ impl Cgroup {
         match file {
             LimitFile::MaxDescendants => Some(self.max_descendants),
             LimitFile::MaxDepth => Some(self.max_depth),
-            LimitFile::CpuWeight => self.cpu_weight,
-            LimitFile::MemoryMin => self.memory_min,
-            LimitFile::MemoryLow => self.memory_low,
-            LimitFile::MemoryHigh => self.memory_high,
-            LimitFile::MemoryMax => self.memory_max,
-            LimitFile::PidsMax => self.pids_max,
+            _ => self.files.get(file.place()),
         }
     }
 
@@ -108,12 +110,7 @@ impl Cgroup {
         match file {
             LimitFile::MaxDescendants => self.max_descendants.value = value,
             LimitFile::MaxDepth => self.max_depth.value = value,
-            LimitFile::CpuWeight => set_value_of(&mut self.cpu_weight, value),
-            LimitFile::MemoryMin => set_value_of(&mut self.memory_min, value),
-            LimitFile::MemoryLow => set_value_of(&mut self.memory_low, value),
-            LimitFile::MemoryHigh => set_value_of(&mut self.memory_high, value),
-            LimitFile::MemoryMax => set_value_of(&mut self.memory_max, value),
-            LimitFile::PidsMax => set_value_of(&mut self.pids_max, value),
+            _ => self.files.set_value(file.place(), value),
         }
     }
 
@@ -136,12 +133,7 @@ impl Cgroup {
         match file {
             LimitFile::MaxDescendants => self.max_descendants.entry.mode = mode.get(),
             LimitFile::MaxDepth => self.max_depth.entry.mode = mode.get(),
-            LimitFile::CpuWeight => set_mode_of(&mut self.cpu_weight, mode),
-            LimitFile::MemoryMin => set_mode_of(&mut self.memory_min, mode),
-            LimitFile::MemoryLow => set_mode_of(&mut self.memory_low, mode),
-            LimitFile::MemoryHigh => set_mode_of(&mut self.memory_high, mode),
-            LimitFile::MemoryMax => set_mode_of(&mut self.memory_max, mode),
-            LimitFile::PidsMax => set_mode_of(&mut self.pids_max, mode),
+            _ => self.files.set_mode(file.place(), mode),
         }
     }
 
@@ -150,29 +142,21 @@ impl Cgroup {
     pub fn refit(&mut self, enabled: ControllerSet, user: &User)
         ensures { self.new ≡ with_files_of enabled user.now self.old }
     {
-        self.cpu_weight = refitted(self.cpu_weight, LimitFile::CpuWeight, enabled, user);
-        self.memory_min = refitted(self.memory_min, LimitFile::MemoryMin, enabled, user);
-        self.memory_low = refitted(self.memory_low, LimitFile::MemoryLow, enabled, user);
-        self.memory_high = refitted(self.memory_high, LimitFile::MemoryHigh, enabled, user);
-        self.memory_max = refitted(self.memory_max, LimitFile::MemoryMax, enabled, user);
-        self.pids_max = refitted(self.pids_max, LimitFile::PidsMax, enabled, user);
+        self.files = BroughtFiles {
+            entries: refitted_files(self, enabled, user),
+        };
     }
 }
 
-fn set_value_of(held: &mut Option<LimitEntry>, value: Limit)
-    ensures { held.new ≡ option_map (with_value_of value) held.old }
+/// The files that controllers bring, as a parent that enables these has them.
+fn refitted_files(
+    cgroup: &Cgroup,
+    enabled: ControllerSet,
+    user: &User,
+) -> [Option<LimitEntry>; BROUGHT_COUNT]
+    ensures { result ≡ map (λ file. refitted enabled user.now file (file_of cgroup.now file)) brought_files }
 {
-    if let Some(held) = held {
-        held.value = value;
-    }
-}
-
-fn set_mode_of(held: &mut Option<LimitEntry>, mode: Mode)
-    ensures { held.new ≡ option_map (with_file_mode_of mode) held.old }
-{
-    if let Some(held) = held {
-        held.entry.mode = mode.get();
-    }
+    LimitFile::BROUGHT.map(|file| refitted(cgroup.file(file), file, enabled, user))
 }
 
 /// A limit file that stays, a new one, or none.

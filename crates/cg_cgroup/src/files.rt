@@ -1,6 +1,8 @@
 //! Controllers, and the limit files that they bring.
-ghost use Rattle.std.specs.Prelude.{◌≡◌, ◌≢◌, IfSome, IfNone};
-ghost use Rattle.cg_cgroup.specs.Files.{enables, with_controller, no_controllers, enables_nothing, is_within, controller_of, default_value, accepts, stands_under, all_controllers, all_files, AreNames, controller_name, controller_named, file_name, file_named, entry_text, entry_named};
+ghost use Rattle.std.specs.Prelude.{ℕ, ◌≡◌, ◌≢◌, ◌<◌, ◌≤◌, true, false, length, IfSome, IfNone};
+ghost use Rattle.std.specs.List.{find};
+ghost use Rattle.cg_cgroup.specs.Paths.{same_name};
+ghost use Rattle.cg_cgroup.specs.Files.{kind_of, brought_files, place_of, enables, with_controller, no_controllers, enables_nothing, is_within, controller_of, default_value, accepts, stands_under, all_controllers, all_files, AreNames, controller_name, controller_named, file_name, file_named, entry_text, entry_named};
 
 /// The value of a limit file: `max`, or a number.
 #[derive(Clone, Copy, Debug, PartialEq, Eq)]
@@ -117,8 +119,63 @@ pub enum LimitFile {
     PidsMax,
 }
 
+/// What a limit file is.
+#[derive(Clone, Copy, Debug)]
+struct Kind {
+    name: &'static str,
+    /// The controller that brings it; `None` for the two that stand at every cgroup.
+    controller: Option<Controller>,
+    /// The value of one that has just been made.
+    default: Limit,
+    /// The least and the greatest number that it takes.
+    least: u64,
+    greatest: u64,
+    takes_max: bool,
+}
+
+impl Kind {
+    /// A file that takes `max` and each number up to `LimitFile::GREATEST`.
+    fn usual(name: &'static str, controller: Option<Controller>, default: Limit) -> Kind
+        ensures name { result.name.now ≡ name.now }
+        ensures controller { result.controller ≡ controller }
+        ensures default { result.default ≡ default }
+        ensures least { result.least ≡ 0 }
+        ensures greatest { result.greatest ≡ 9223372036854775807 }
+        ensures takes_max { result.takes_max ≡ true }
+    {
+        Kind {
+            name,
+            controller,
+            default,
+            least: 0,
+            greatest: LimitFile::GREATEST,
+            takes_max: true,
+        }
+    }
+
+    /// A file that takes the numbers of a range alone.
+    fn with_range(self, least: u64, greatest: u64) -> Kind
+        ensures name { result.name.now ≡ self.name.now }
+        ensures controller { result.controller ≡ self.controller }
+        ensures default { result.default ≡ self.default }
+        ensures least { result.least ≡ least }
+        ensures greatest { result.greatest ≡ greatest }
+        ensures takes_max { result.takes_max ≡ false }
+    {
+        Kind {
+            least,
+            greatest,
+            takes_max: false,
+            ..self
+        }
+    }
+}
+
+/// How many limit files controllers bring.
+pub const BROUGHT_COUNT: usize = 6;
+
 impl LimitFile {
-    /// The limit files, in their order.
+    /// The limit files, in their order. The two of the core come first.
     pub const ALL: [LimitFile; 8] = [
         LimitFile::MaxDescendants,
         LimitFile::MaxDepth,
@@ -130,23 +187,60 @@ impl LimitFile {
         LimitFile::PidsMax,
     ];
 
+    /// Those that controllers bring, in their order.
+    pub const BROUGHT: [LimitFile; BROUGHT_COUNT] = [
+        LimitFile::CpuWeight,
+        LimitFile::MemoryMin,
+        LimitFile::MemoryLow,
+        LimitFile::MemoryHigh,
+        LimitFile::MemoryMax,
+        LimitFile::PidsMax,
+    ];
+
     /// The greatest number that a limit file takes, `cpu.weight` apart.
     pub const GREATEST: u64 = 9223372036854775807;
+
+    /// What the file is.
+    fn kind(self) -> Kind
+        ensures name { result.name.now ≡ (kind_of self).name }
+        ensures controller { result.controller ≡ (kind_of self).controller }
+        ensures default { result.default ≡ (kind_of self).default }
+        ensures least { result.least ≡ (kind_of self).least }
+        ensures greatest { result.greatest ≡ (kind_of self).greatest }
+        ensures takes_max { result.takes_max ≡ (kind_of self).takes_max }
+    {
+        let cpu = Some(Controller::Cpu);
+        let memory = Some(Controller::Memory);
+        let pids = Some(Controller::Pids);
+        let none = Limit::At(0);
+        match self {
+            LimitFile::MaxDescendants => Kind::usual("cgroup.max.descendants", None, Limit::Max),
+            LimitFile::MaxDepth => Kind::usual("cgroup.max.depth", None, Limit::Max),
+            LimitFile::CpuWeight => Kind::usual("cpu.weight", cpu, Limit::At(100)).with_range(
+                1, 10000,
+            ),
+            LimitFile::MemoryMin => Kind::usual("memory.min", memory, none),
+            LimitFile::MemoryLow => Kind::usual("memory.low", memory, none),
+            LimitFile::MemoryHigh => Kind::usual("memory.high", memory, Limit::Max),
+            LimitFile::MemoryMax => Kind::usual("memory.max", memory, Limit::Max),
+            LimitFile::PidsMax => Kind::usual("pids.max", pids, Limit::Max),
+        }
+    }
+
+    /// The place of a file that a controller brings among `BROUGHT`.
+    pub fn place(self) -> usize
+        requires { 2 ≤ (kind_of self).number }
+        ensures place { result ≡ place_of self }
+        ensures within { result < length brought_files }
+    {
+        self as usize - 2
+    }
 
     /// The name.
     pub fn name(self) -> &'static str
         ensures { result.now ≡ file_name self }
     {
-        match self {
-            LimitFile::MaxDescendants => "cgroup.max.descendants",
-            LimitFile::MaxDepth => "cgroup.max.depth",
-            LimitFile::CpuWeight => "cpu.weight",
-            LimitFile::MemoryMin => "memory.min",
-            LimitFile::MemoryLow => "memory.low",
-            LimitFile::MemoryHigh => "memory.high",
-            LimitFile::MemoryMax => "memory.max",
-            LimitFile::PidsMax => "pids.max",
-        }
+        self.kind().name
     }
 
     /// The limit file of a name, where it is one.
@@ -155,32 +249,14 @@ impl LimitFile {
         ensures named { IfSome result (λ file. text.now ≡ file_name file) }
         ensures unnamed { IfNone result ((file : LimitFile) → text.now ≢ file_name file) }
     {
-        match text {
-            "cgroup.max.descendants" => Some(LimitFile::MaxDescendants),
-            "cgroup.max.depth" => Some(LimitFile::MaxDepth),
-            "cpu.weight" => Some(LimitFile::CpuWeight),
-            "memory.min" => Some(LimitFile::MemoryMin),
-            "memory.low" => Some(LimitFile::MemoryLow),
-            "memory.high" => Some(LimitFile::MemoryHigh),
-            "memory.max" => Some(LimitFile::MemoryMax),
-            "pids.max" => Some(LimitFile::PidsMax),
-            _ => None,
-        }
+        file_of_name(text, &Self::ALL)
     }
 
     /// The controller that brings the file; `None` for the two that stand at every cgroup.
     pub fn controller(self) -> Option<Controller>
         ensures { result ≡ controller_of self }
     {
-        match self {
-            LimitFile::MaxDescendants | LimitFile::MaxDepth => None,
-            LimitFile::CpuWeight => Some(Controller::Cpu),
-            LimitFile::MemoryMin
-            | LimitFile::MemoryLow
-            | LimitFile::MemoryHigh
-            | LimitFile::MemoryMax => Some(Controller::Memory),
-            LimitFile::PidsMax => Some(Controller::Pids),
-        }
+        self.kind().controller
     }
 
     /// Whether the file stands at a child of a cgroup that enables these controllers.
@@ -197,28 +273,26 @@ impl LimitFile {
     pub fn default_value(self) -> Limit
         ensures { result ≡ default_value self }
     {
-        match self {
-            LimitFile::CpuWeight => Limit::At(100),
-            LimitFile::MemoryMin | LimitFile::MemoryLow => Limit::At(0),
-            LimitFile::MaxDescendants
-            | LimitFile::MaxDepth
-            | LimitFile::MemoryHigh
-            | LimitFile::MemoryMax
-            | LimitFile::PidsMax => Limit::Max,
-        }
+        self.kind().default
     }
 
     /// Whether the file takes a value: `cpu.weight` takes 1 to 10000, each other file `max` and 0 to `GREATEST`.
     pub fn accepts(self, value: Limit) -> bool
         ensures { result ≡ accepts self value }
     {
-        match (self, value) {
-            (LimitFile::CpuWeight, Limit::Max) => false,
-            (LimitFile::CpuWeight, Limit::At(weight)) => 1 <= weight && weight <= 10000,
-            (_, Limit::Max) => true,
-            (_, Limit::At(amount)) => amount <= Self::GREATEST,
+        let kind = self.kind();
+        match value {
+            Limit::Max => kind.takes_max,
+            Limit::At(amount) => kind.least <= amount && amount <= kind.greatest,
         }
     }
+}
+
+/// The file of a name among these.
+fn file_of_name(text: &str, files: &[LimitFile]) -> Option<LimitFile>
+    ensures { result ≡ find (λ file. same_name text.now (file_name file)) files.now }
+{
+    files.iter().copied().find(|file| text == file.name())
 }
 
 /// An entry of a cgroup's directory that has an owner and a mode.
@@ -262,6 +336,7 @@ impl EntryName {
 pub fn all_are_listed()
     ensures controllers { Controller.ALL ≡ all_controllers }
     ensures files { LimitFile.ALL ≡ all_files }
+    ensures brought { LimitFile.BROUGHT ≡ brought_files }
 {}
 
 /// The law of names: a controller, a limit file and an entry is found by its name, what is found has the name that was

@@ -1,6 +1,7 @@
 //! What one cgroup is made of: its path, owners and modes, limit files, and the processes that stand in it.
 #![tactic(auto)]
 
+pub mod brought;
 pub mod cgroup;
 pub mod files;
 pub mod memory;

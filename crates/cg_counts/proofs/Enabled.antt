@@ -7,12 +7,14 @@ use Rattle.std.specs.FinMap as map
 use Rattle.std.specs.FinMap.{FinMap}
 use Rattle.cg_cgroup.specs.Paths.{Names, path_cmp, same_path, inside, below, is_child, parent, is_root}
 use Rattle.cg_cgroup.specs.Identity.{Identity}
-use Rattle.cg_cgroup.specs.Files.{enables, stands_under}
+use Rattle.cg_cgroup.specs.Files.{enables, controller_of, stands_under}
 use Rattle.cg_cgroup.specs.Cgroups.{file_of, file_made_by, with_files_of, cgroup_made_by}
 use Rattle.cg_cgroup.specs.declared.files.Controller.{Controller}
+use Rattle.cg_cgroup.specs.declared.files.Controller.TheVariants.{Cpu, Memory, Pids}
+use Rattle.cg_cgroup.specs.declared.cgroup.LimitEntry.{LimitEntry}
 use Rattle.cg_cgroup.specs.declared.files.ControllerSet.{ControllerSet}
 use Rattle.cg_cgroup.specs.declared.files.LimitFile.{LimitFile}
-use Rattle.cg_cgroup.specs.declared.files.LimitFile.TheVariants.{MaxDescendants, MaxDepth, CpuWeight, PidsMax}
+use Rattle.cg_cgroup.specs.declared.files.LimitFile.TheVariants.{MaxDescendants, MaxDepth}
 use Rattle.cg_cgroup.specs.declared.cgroup.Cgroup.{Cgroup}
 use Rattle.cg_model.specs.States.{enabling, enabling_these}
 use Rattle.cg_cgroup.proofs.PathOrder.{same_path-is, same_path_refl, same_path_comm, path_cmp-IsAntisymmetric}
@@ -58,18 +60,27 @@ file_from false false (Some x) made h = absurd (true≢false h)
 abbrev pub IsFitted : ControllerSet → Cgroup → Type 0
 IsFitted above row = (file : LimitFile) → is_some (file_of row file) ≡ stands_under above file
 
+controller_taken : (controller : Controller) (had enabled : ControllerSet) (held : Option LimitEntry) (made : LimitEntry)
+    → is_some held ≡ enables had controller
+    → cond (enables (differing had enabled) controller) (cond (enables enabled controller) (Some made) None) held
+    ≡ cond (enables enabled controller) (Some (unwrap_or held made)) None
+controller_taken Cpu had enabled held made fitted = file_from had.cpu enabled.cpu held made fitted
+controller_taken Memory had enabled held made fitted = file_from had.memory enabled.memory held made fitted
+controller_taken Pids had enabled held made fitted = file_from had.pids enabled.pids held made fitted
+
 file_taken : (had enabled : ControllerSet) (user : Identity) (row : Cgroup) (file : LimitFile)
     → is_some (file_of row file) ≡ stands_under had file
     → file_of (with_files_from (differing had enabled) (cgroup_made_by user enabled) row) file
     ≡ file_of (with_files_of enabled user row) file
+unfolding with_files_from
 file_taken had enabled user row MaxDescendants fitted = refl
 file_taken had enabled user row MaxDepth fitted = refl
-file_taken had enabled user row CpuWeight fitted = file_from had.cpu enabled.cpu _ (file_made_by user CpuWeight) fitted
-file_taken had enabled user row PidsMax fitted = file_from had.pids enabled.pids _ (file_made_by user PidsMax) fitted
-file_taken had enabled user row file fitted = file_from had.memory enabled.memory _ (file_made_by user file) fitted
+file_taken had enabled user row file fitted =
+    controller_taken (unwrap_or (controller_of file) Cpu) had enabled (file_of row file) (file_made_by user file) fitted
 
 files_from : (had enabled : ControllerSet) (user : Identity) (row : Cgroup) → IsFitted had row
     → with_files_from (differing had enabled) (cgroup_made_by user enabled) row ≡ with_files_of enabled user row
+unfolding with_files_from
 files_from had enabled user row fitted =
     same_cgroup (with_files_of enabled user row) (with_files_from (differing had enabled) (cgroup_made_by user enabled) row)
     (record { dir = refl; procs = refl; subtree_control = refl; enabled = refl })

@@ -14,14 +14,14 @@ use Rattle.std.proofs.lemmas.Bool.{leb-true}
 use Rattle.toml.specs.Data.{Members}
 use Rattle.cg_cgroup.specs.Paths.{Names, path_cmp, same_path}
 use Rattle.cg_cgroup.specs.Files.{no_controllers, stands_under}
-use Rattle.cg_cgroup.specs.Cgroups.{file_of, entry_in}
+use Rattle.cg_cgroup.specs.Cgroups.{file_of, files_by, entry_in}
 use Rattle.cg_cgroup.proofs.Options.{same_some}
 use Rattle.cg_cgroup.proofs.PathOrder.{path_cmp_total, path_cmp-IsAntisymmetric, same_path-ties}
 use Rattle.cg_cgroup.specs.declared.files.ControllerSet.{ControllerSet}
 use Rattle.cg_cgroup.specs.declared.files.EntryName.{EntryName}
 use Rattle.cg_cgroup.specs.declared.files.EntryName.TheVariants.{Dir, Procs, SubtreeControl, File}
 use Rattle.cg_cgroup.specs.declared.files.LimitFile.{LimitFile}
-use Rattle.cg_cgroup.specs.declared.files.LimitFile.TheVariants.{MaxDescendants, MaxDepth, CpuWeight, MemoryMin, MemoryLow, MemoryHigh, MemoryMax, PidsMax}
+use Rattle.cg_cgroup.specs.declared.files.LimitFile.TheVariants.{MaxDescendants, MaxDepth}
 use Rattle.cg_cgroup.specs.declared.user.Entry.{Entry}
 use Rattle.cg_cgroup.specs.declared.files.Limit.{Limit}
 use Rattle.cg_cgroup.specs.declared.cgroup.LimitEntry.{LimitEntry}
@@ -67,12 +67,7 @@ module _ (format : Format) (row : Members) (says : SaysCgroup format row) (above
     subtree_control = says.owner SubtreeControl;
     max_descendants = held MaxDescendants;
     max_depth = held MaxDepth;
-    cpu_weight = standing CpuWeight;
-    memory_min = standing MemoryMin;
-    memory_low = standing MemoryLow;
-    memory_high = standing MemoryHigh;
-    memory_max = standing MemoryMax;
-    pids_max = standing PidsMax;
+    files = files_by standing;
     enabled = says.enabled;
   }
 

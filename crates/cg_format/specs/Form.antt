@@ -6,6 +6,7 @@ use Rattle.cg_cgroup.specs.Files.{all_files, file_name}
 use Rattle.cg_cgroup.specs.Texts as texts
 use Rattle.toml.specs.Data.{Data, array, table, Items, no_items, item, Members, no_members, member, get_member, as_str, as_integer, as_array}
 use Rattle.cg_format.specs.declared.format.Format.{Format}
+use Rattle.cg_format.specs.declared.format.TheConstants.{MOST_ROWS}
 use Rattle.cg_format.specs.declared.format.Format.TheVariants.{One, Two}
 
 abbrev pub is_two : Format → Bool
@@ -14,7 +15,7 @@ is_two Two = true
 
 -- the largest number of rows of an array
 abbrev pub most_rows : ℕ
-most_rows = 4096
+most_rows = MOST_ROWS
 
 -- ---- types of values
 

@@ -3,8 +3,8 @@
 use Rattle.std.specs.Prelude.{◌≡◌, ℕ, ◌<◌, Bool, true, ◌&&◌, not, cond, nat_eq, List, [], ◌++◌, map, length, get_or, Option, Some, None, is_none, slice_set}
 use Rattle.std.specs.Option.{option_map}
 use mathlib.Core.Bool.{beq}
-use Rattle.cg_cgroup.specs.Files.{no_controllers}
-use Rattle.cg_cgroup.specs.Cgroups.{cgroup_made_by}
+use Rattle.cg_cgroup.specs.Files.{enables, no_controllers, set_by, stands_under}
+use Rattle.cg_cgroup.specs.Cgroups.{file_of, files_by, cgroup_made_by}
 use Rattle.cg_model.specs.States.{enabling_these}
 use Rattle.cg_cgroup.specs.declared.files.Controller.{Controller}
 use Rattle.cg_cgroup.specs.declared.files.Controller.TheVariants.{Cpu, Memory, Pids}
@@ -132,18 +132,12 @@ differs a b = not (beq a b)
 
 -- the controllers that are in one set and not in the other
 abbrev pub differing : ControllerSet → ControllerSet → ControllerSet
-differing had has = record { cpu = differs had.cpu has.cpu; memory = differs had.memory has.memory; pids = differs had.pids has.pids }
+differing had has = set_by (λ controller. differs (enables had controller) (enables has controller))
 
 -- a cgroup with the limit files of these controllers as another one has them
-abbrev pub with_files_from : ControllerSet → Cgroup → Cgroup → Cgroup
-with_files_from changed fresh row = record row {
-  cpu_weight = cond changed.cpu fresh.cpu_weight row.cpu_weight;
-  memory_min = cond changed.memory fresh.memory_min row.memory_min;
-  memory_low = cond changed.memory fresh.memory_low row.memory_low;
-  memory_high = cond changed.memory fresh.memory_high row.memory_high;
-  memory_max = cond changed.memory fresh.memory_max row.memory_max;
-  pids_max = cond changed.pids fresh.pids_max row.pids_max;
-}
+unfoldable pub with_files_from : ControllerSet → Cgroup → Cgroup → Cgroup
+with_files_from changed fresh row =
+    record row { files = files_by (λ file. cond (stands_under changed file) (file_of fresh file) (file_of row file)) }
 
 abbrev pub refitted_node : ControllerSet → Cgroup → Node → Node
 refitted_node changed fresh node = record node { cgroup = with_files_from changed fresh node.cgroup }

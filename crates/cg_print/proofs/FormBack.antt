@@ -76,7 +76,7 @@ module _ (row : Cgroup) where
 
   -- at the name of a limit file stands its table, where the file stands
   pub at_file : (file : LimitFile) → get_member (file_name file) (files_table row) ≡ table_of_file (file_of row file)
-  at_file MaxDescendants = at_key texts.cgroup_max_descendants
+  at_file MaxDescendants = at_key (file_name MaxDescendants)
   at_file file = at_key (file_name file) ∙ or_none (table_of_file (file_of row file))
 
   abbrev is_file_key : List ℕ → Bool

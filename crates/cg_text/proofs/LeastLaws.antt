@@ -14,7 +14,6 @@ use Rattle.cg_cgroup.specs.Files.{all_files, no_controllers, is_within, stands_u
 use Rattle.cg_cgroup.specs.declared.files.ControllerSet.{ControllerSet}
 use Rattle.cg_cgroup.specs.declared.files.EntryName.TheVariants.{File}
 use Rattle.cg_cgroup.specs.declared.files.LimitFile.{LimitFile}
-use Rattle.cg_cgroup.specs.declared.files.LimitFile.TheVariants.{MaxDescendants, MaxDepth, CpuWeight, MemoryMin, MemoryLow, MemoryHigh, MemoryMax, PidsMax}
 use Rattle.cg_cgroup.proofs.PathOrder.{path_cmp_total, same_path-ties, same_path-is, same_path_refl, same_path_comm}
 use Rattle.cg_cgroup.proofs.PathParents.{inside-take, is_root-is, parent-other}
 use Rattle.cg_cgroup.proofs.PathLaws.{inside-first}
@@ -32,6 +31,7 @@ use Rattle.cg_format.specs.declared.format.Format.{Format}
 use Rattle.cg_text.specs.declared.tree.row.Row.{Row}
 use Rattle.cg_text.specs.declared.tree.walk.Least.{Least}
 use Rattle.cg_text.proofs.EachRow.{first_or}
+use Rattle.cg_text.proofs.Needed.{all_within}
 use Rattle.cg_format.proofs.CgroupClauses.{CgroupClause, twice_clause, orphan_clause, within_clause, files_clause}
 use Rattle.cg_format.proofs.Cuts.{not_empty, head_of, find_filter, is_some-find, any_filter, filter_reverse, filter_none, cut_moved, once_kept}
 
@@ -319,20 +319,10 @@ orphan_fault : (root there : Bool) (found : Option Row) (at_root : ControllerSet
     ≡ cond (not (is_some (cond root (Some at_root) (option_map (λ (row : Row). row.cgroup.enabled) found)))) (Some fault) None
 orphan_fault root there found at_root fault is = grind arith
 
-eight_files : (a b c m n o p q cpu memory pids : Bool)
-    → ((not a || true) && ((not b || true) && ((not c || cpu) && ((not m || memory) && ((not n || memory)
-    && ((not o || memory) && ((not p || memory) && ((not q || pids) && true))))))))
-    ≡ ((not c || cpu) && ((not (m || n || o || p) || memory) && ((not q || pids) && true)))
-eight_files a b c m n o p q cpu memory pids = grind arith
-
 files_within : (format : Format) (i : ℕ) (table : Members) (row : Row) (above : ControllerSet) → IsReadAs format i table row
     → list_all (λ file. not (is_named (File file) table) || stands_under above file) all_files ≡ is_within row.needed above
 files_within format i table row above read =
-    let named : LimitFile → Bool = λ file. is_named (File file) table in
-    eight_files (named MaxDescendants) (named MaxDepth) (named CpuWeight) (named MemoryMin) (named MemoryLow) (named MemoryHigh)
-    (named MemoryMax) (named PidsMax) above.cpu above.memory above.pids
-    ∙ (λ j. (not (sym read.cpu j) || above.cpu)
-    && ((not (sym read.memory j) || above.memory) && ((not (sym read.pids j) || above.pids) && true)))
+    all_within (λ file. is_named (File file) table) above ∙ ap (λ set. is_within set above) (sym read.needed)
 
 -- the faults in their order
 in_turn : (twice orphan within files : Option ℕ) (root : Bool) (a b c d e : Option TreeFault)

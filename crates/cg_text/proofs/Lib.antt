@@ -5,6 +5,7 @@ pub mod LiveLaws
 pub mod DocumentInTurn
 pub mod RowLaws
 pub mod EachRow
+mod Needed
 pub mod TakesLaws
 pub mod FormInTurn
 pub mod WalkFronts

@@ -1,12 +1,12 @@
 -- What a row's reader makes of its tables: entries and values, or the clause that fails.
 use Rattle.std.proofs.Common.{◌≡◌, ◌≢◌, ℕ, ◌+◌, ◌<◌, ◌≤◌, Bool, true, false, ◌||◌, List, [], ◌∷◌, ◌++◌, length}
 use Rattle.std.proofs.Common.{get_or, take, map, filter_map, codes, Option, Some, None, is_some, option_map, option_and_then, unwrap_or}
-use Rattle.std.proofs.Common.{Result, Ok, Err, sym, ap, subst, ◌∙◌, true≢false, arith}
+use Rattle.std.proofs.Common.{Result, Ok, Err, refl, sym, ap, subst, ◌∙◌, true≢false, arith}
 use Rattle.std.specs.Option.{ok_or}
 use Rattle.std.specs.Result.{IsErr, IsErrAnd}
 use Rattle.std.specs.List.{list_all}
-use Rattle.std.proofs.lemmas.Bool.{false_from_ne_true}
-use Rattle.cg_cgroup.proofs.AllFiles.{each_passes}
+use Rattle.std.proofs.lemmas.Bool.{false_from_ne_true, and_parts, and_from}
+use Rattle.cg_cgroup.proofs.AllFiles.{each_passes, each_brought, held_as}
 use Rattle.cg_format.proofs.TablesSay.{all_so, each_entry}
 use Rattle.std.proofs.lemmas.List.{length-take-le}
 use Rattle.std.proofs.lemmas.List.Folds.{list_all_at}
@@ -14,14 +14,14 @@ use Rattle.toml.specs.Data.{Members, no_members, as_table}
 use Rattle.toml.specs.View.{view, table_view}
 use Rattle.toml.specs.declared.value.Value.{Value}
 use Rattle.cg_cgroup.specs.Paths.{Names}
-use Rattle.cg_cgroup.specs.Files.{all_files, all_entries, entry_text}
+use Rattle.cg_cgroup.specs.Files.{all_files, brought_files, all_entries, entry_text}
 use Rattle.cg_cgroup.specs.Cgroups.{file_of, entry_in, value_in as value_at}
-use Rattle.cg_cgroup.proofs.Options.{mapped_from, is_some-mapped}
+use Rattle.cg_cgroup.proofs.Options.{some_value, mapped_from, is_some-mapped}
 use Rattle.cg_cgroup.specs.declared.user.Entry.{Entry}
+use Rattle.cg_cgroup.specs.declared.files.Limit.{Limit}
 use Rattle.cg_cgroup.specs.declared.files.ControllerSet.{ControllerSet}
 use Rattle.cg_cgroup.specs.declared.files.LimitFile.{LimitFile}
-use Rattle.cg_cgroup.specs.declared.files.LimitFile.TheVariants.{CpuWeight, MemoryMin, MemoryLow}
-use Rattle.cg_cgroup.specs.declared.files.LimitFile.TheVariants.{MemoryHigh, MemoryMax, PidsMax}
+use Rattle.cg_cgroup.specs.declared.files.LimitFile.TheVariants.{MaxDescendants, MaxDepth}
 use Rattle.cg_cgroup.specs.declared.files.EntryName.{EntryName}
 use Rattle.cg_cgroup.specs.declared.files.EntryName.TheVariants.{Dir, Procs, SubtreeControl, File}
 use Rattle.cg_cgroup.specs.declared.cgroup.LimitEntry.{LimitEntry}
@@ -31,7 +31,7 @@ use Rattle.cg_format.specs.Said.{table_at, path_said, controllers_said, owner_sa
 use Rattle.cg_format.specs.Said.{entry_said, value_said, is_named}
 use Rattle.cg_format.specs.TextFaults.{row_faults}
 use Rattle.cg_text.specs.Faults.{or_fault, Passes}
-use Rattle.cg_text.specs.Rows.{table_in, owner_in, limit_in, entry_with, names, needed_by, entry_faults, IsCgroupOf, IsReadAs, AreReadAs}
+use Rattle.cg_text.specs.Rows.{table_in, owner_in, limit_in, entry_with, names, needed_where, needed_by, file_in, entry_faults, IsCgroupOf, IsReadAs, AreReadAs}
 use Rattle.cg_format.specs.declared.fault.Place.TheVariants.{Cgroup as AtCgroup}
 use Rattle.cg_format.specs.declared.fault.TreeFault.{TreeFault}
 use Rattle.cg_format.specs.declared.fault.TreeFault.TheVariants.{BadPath, BadController, BadEntry, BadValue, NoMemory}
@@ -143,6 +143,97 @@ module _ (said : Entries) where
         value = from.1 ∙ ap (λ (h : LimitEntry). Some h.value) from.2;
       }
 
+  -- the files that controllers bring
+
+  abbrev has_owner_at : LimitFile → Bool
+  has_owner_at file = is_some (owner_in said (File file))
+
+  both_parts : (owner : Option Entry) (value : Option Limit)
+      → is_some (option_and_then (λ entry. option_map (entry_with entry) value) owner) ≡ true
+      → (is_some owner ≡ true) × (is_some value ≡ true)
+  both_parts None value h = absurd (true≢false (sym h))
+  both_parts (Some entry) None h = absurd (true≢false (sym h))
+  both_parts (Some entry) (Some value) h = (refl, refl)
+
+  parts_both : (owner : Option Entry) (value : Option Limit) → is_some owner ≡ true → is_some value ≡ true
+      → is_some (option_and_then (λ entry. option_map (entry_with entry) value) owner) ≡ true
+  parts_both None value h k = absurd (true≢false (sym h))
+  parts_both (Some entry) None h k = absurd (true≢false (sym k))
+  parts_both (Some entry) (Some value) h k = refl
+
+  all_parts : (files : List LimitFile) → list_all is_some (map (file_in said) files) ≡ true
+      → (list_all has_owner_at files ≡ true) × (list_all valued files ≡ true)
+  all_parts [] h = (refl, refl)
+  all_parts (file ∷ files) h =
+      let both = and_parts (is_some (file_in said file)) (list_all is_some (map (file_in said) files)) h in
+      let one = both_parts (owner_in said (File file)) (limit_in said file) both.0 in
+      let rest = all_parts files both.1 in
+      (and_from _ _ one.0 rest.0, and_from _ _ one.1 rest.1)
+
+  all_there : (files : List LimitFile) → list_all has_owner_at files ≡ true → list_all valued files ≡ true
+      → list_all is_some (map (file_in said) files) ≡ true
+  all_there [] h k = refl
+  all_there (file ∷ files) h k =
+      let owners = and_parts (has_owner_at file) (list_all has_owner_at files) h in
+      let values = and_parts (valued file) (list_all valued files) k in
+      and_from _ _ (parts_both (owner_in said (File file)) (limit_in said file) owners.0 values.0) (all_there files owners.1 values.1)
+
+  -- those that were read are all there
+  pub owners_there : (files : List (Option LimitEntry)) → files ≡ map (file_in said) brought_files → list_all is_some files ≡ true
+      → list_all has_owner_at brought_files ≡ true
+  owners_there files read there = (all_parts brought_files (sym (ap (list_all is_some) read) ∙ there)).0
+
+  module _ (cgroup : Cgroup) (read : cgroup.files.entries ≡ map (file_in said) brought_files)
+      (there : list_all is_some cgroup.files.entries ≡ true) where
+    parts : (list_all has_owner_at brought_files ≡ true) × (list_all valued brought_files ≡ true)
+    parts = all_parts brought_files (sym (ap (list_all is_some) read) ∙ there)
+
+    has_brought : (file : LimitFile) → file ≢ MaxDescendants → file ≢ MaxDepth → HasFile cgroup file
+    has_brought file other deeper =
+        let owner = some_value (owner_in said (File file)) (each_brought has_owner_at parts.0 file other deeper) in
+        let value = some_value (limit_in said file) (each_brought valued parts.1 file other deeper) in
+        record {
+          held = entry_with owner.0 value.0;
+          stands =
+              held_as cgroup (file_in said) read file other deeper
+              ∙ (λ i. option_and_then (λ entry. option_map (entry_with entry) (value.1 i)) (owner.1 i));
+          owner = owner.1;
+          value = value.1;
+        }
+
+    pub has_each : HasFile cgroup MaxDescendants → HasFile cgroup MaxDepth → (file : LimitFile) → HasFile cgroup file
+    has_each descendants depth MaxDescendants = descendants
+    has_each descendants depth MaxDepth = depth
+    has_each descendants depth file = has_brought file (λ is. cc) (λ is. cc)
+
+  pub each_owned : (dir procs control descendants depth : Entry) → HasOwner Dir dir → HasOwner Procs procs → HasOwner SubtreeControl control
+      → HasOwner (File MaxDescendants) descendants → HasOwner (File MaxDepth) depth → list_all has_owner_at brought_files ≡ true
+      → (name : EntryName) → is_some (owner_in said name) ≡ true
+  each_owned dir procs control descendants depth d p c a b brought =
+      by_entry (λ name. is_some (owner_in said name) ≡ true) (has_owner Dir dir d) (has_owner Procs procs p)
+      (has_owner SubtreeControl control c) of_file
+    where
+      of_file : (file : LimitFile) → is_some (owner_in said (File file)) ≡ true
+      of_file MaxDescendants = has_owner (File MaxDescendants) descendants a
+      of_file MaxDepth = has_owner (File MaxDepth) depth b
+      of_file file = each_brought has_owner_at brought file (λ is. cc) (λ is. cc)
+
+  -- where an owner or a value isn't so, it isn't so of all
+  pub none_owned : list_all has_owner_at brought_files ≡ false → first (entry_faults said) ≡ Some (BadEntry said.place)
+  none_owned is =
+      let some = false_from_ne_true (list_all owned all_entries)
+      (λ all. true≢false (sym (all_so has_owner_at (λ file. each_entry owned all (File file)) brought_files) ∙ is)) in
+      ap (λ b. first (unless b (BadEntry said.place) ++ value_faults)) some
+
+  pub none_valued : ((name : EntryName) → is_some (owner_in said name) ≡ true) → (files : List (Option LimitEntry))
+      → files ≡ map (file_in said) brought_files → list_all is_some files ≡ false
+      → first (entry_faults said) ≡ Some (BadValue said.place)
+  none_valued are files read is =
+      let some = false_from_ne_true (list_all valued all_files) (λ all.
+      true≢false (sym (all_there brought_files (all_so has_owner_at (λ file. are (File file)) brought_files)
+      (all_so valued (each_passes valued all) brought_files)) ∙ sym (ap (list_all is_some) read) ∙ is)) in
+      no_entry_fault are ∙ ap (λ b. first (unless b (BadValue said.place))) some
+
   pub cgroup_read : (controllers : ControllerSet) (cgroup : Cgroup) → cgroup.enabled ≡ controllers
       → HasOwner Dir cgroup.dir → HasOwner Procs cgroup.procs → HasOwner SubtreeControl cgroup.subtree_control
       → ((file : LimitFile) → HasFile cgroup file) → (first (entry_faults said) ≡ None) × IsCgroupOf said controllers cgroup
@@ -211,14 +302,7 @@ module _ (said : Entries) (row : Members) (dir : option_map (λ table. table_vie
     enabled = has_enabled ∙ ap (λ (set : ControllerSet). Some set) (sym is.enabled);
     entries = λ name. sym (entry_is name) ∙ sym (is.entries name);
     values = λ file. sym (value_is file) ∙ sym (is.values file);
-    cpu = ap (λ (set : ControllerSet). set.cpu) needed ∙ named_is CpuWeight;
-    memory =
-        let least = named_is MemoryMin in
-        let low = named_is MemoryLow in
-        let high = named_is MemoryHigh in
-        let most = named_is MemoryMax in
-        ap (λ (set : ControllerSet). set.memory) needed ∙ (λ i. least i || low i || high i || most i);
-    pids = ap (λ (set : ControllerSet). set.pids) needed ∙ named_is PidsMax;
+    needed = needed ∙ (λ i. needed_where (λ file. named_is file i));
     files = is.files;
   }
 

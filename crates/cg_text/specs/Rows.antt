@@ -1,21 +1,21 @@
 -- How it is read and written: nobody has to believe it.
 -- The reader's row of a cgroup, held against what the cgroup's table says.
-use Rattle.std.specs.Prelude.{◌≡◌, ℕ, ◌+◌, Bool, true, ◌||◌, List, [], ◌∷◌, ◌++◌, String, codes, Option, Some, None, is_some, unwrap_or, option_and_then}
+use Rattle.std.specs.Prelude.{◌≡◌, ℕ, ◌+◌, Bool, true, false, ◌&&◌, List, [], ◌∷◌, ◌++◌, String, codes, Option, Some, None, is_some, unwrap_or, option_and_then}
 use Rattle.std.specs.Option.{option_map}
-use Rattle.std.specs.List.{list_all}
+use Rattle.std.specs.List.{list_all, list_any}
 use Rattle.std.specs.Borrow.{Bor}
 use Rattle.std.specs.BTreeMap.{BTreeMap}
 use Rattle.std.specs.declared.alloc.Global.{Global}
 use Rattle.toml.specs.Data.{Members, no_members}
 use Rattle.toml.specs.View.{table_view}
 use Rattle.toml.specs.declared.value.Value.{Value}
-use Rattle.cg_cgroup.specs.Files.{all_files, all_entries, entry_text}
+use Rattle.cg_cgroup.specs.Files.{all_files, all_entries, entry_text, controller_of, same_controller, set_by}
 use Rattle.cg_cgroup.specs.Cgroups.{file_of, entry_in, value_in as value_at}
 use Rattle.cg_cgroup.specs.declared.user.Entry.{Entry}
 use Rattle.cg_cgroup.specs.declared.files.Limit.{Limit}
+use Rattle.cg_cgroup.specs.declared.files.Controller.{Controller}
 use Rattle.cg_cgroup.specs.declared.files.ControllerSet.{ControllerSet}
 use Rattle.cg_cgroup.specs.declared.files.LimitFile.{LimitFile}
-use Rattle.cg_cgroup.specs.declared.files.LimitFile.TheVariants.{CpuWeight, MemoryMin, MemoryLow, MemoryHigh, MemoryMax, PidsMax}
 use Rattle.cg_cgroup.specs.declared.files.EntryName.{EntryName}
 use Rattle.cg_cgroup.specs.declared.files.EntryName.TheVariants.{Dir, File}
 use Rattle.cg_cgroup.specs.declared.cgroup.LimitEntry.{LimitEntry}
@@ -49,13 +49,21 @@ entry_with entry value = record { entry = entry; value = value }
 abbrev pub names : Entries → LimitFile → Bool
 names entries file = is_some (table_in entries (File file))
 
+-- whether a controller brings a file
+abbrev pub is_of : Controller → LimitFile → Bool
+is_of controller file = elim (controller_of file) [ None ↦ false | Some own ↦ same_controller own controller ]
+
+-- the controllers of which a file passes
+abbrev pub needed_where : (LimitFile → Bool) → ControllerSet
+needed_where named = set_by (λ controller. list_any (λ file. is_of controller file && named file) all_files)
+
 -- the controllers whose files are named
 abbrev pub needed_by : Entries → ControllerSet
-needed_by entries = record {
-  cpu = names entries CpuWeight;
-  memory = names entries MemoryMin || names entries MemoryLow || names entries MemoryHigh || names entries MemoryMax;
-  pids = names entries PidsMax;
-}
+needed_by entries = needed_where (names entries)
+
+-- a limit file, where both its owner and its value are so
+abbrev pub file_in : Entries → LimitFile → Option LimitEntry
+file_in entries file = option_and_then (λ entry. option_map (entry_with entry) (limit_in entries file)) (owner_in entries (File file))
 
 -- the clauses on entries and values, which are the last of a row's own
 abbrev pub entry_faults : Entries → List TreeFault
@@ -77,9 +85,7 @@ pub record IsReadAs (format : Format) (i : ℕ) (table : Members) (row : Row) : 
   pub enabled : controllers_said (codes "enabled") table ≡ Some row.cgroup.enabled
   pub entries : (name : EntryName) → entry_said format table name ≡ entry_in row.cgroup name
   pub values : (file : LimitFile) → value_said table file ≡ value_at row.cgroup file
-  pub cpu : row.needed.cpu ≡ is_named (File CpuWeight) table
-  pub memory : row.needed.memory ≡ (is_named (File MemoryMin) table || is_named (File MemoryLow) table || is_named (File MemoryHigh) table || is_named (File MemoryMax) table)
-  pub pids : row.needed.pids ≡ is_named (File PidsMax) table
+  pub needed : row.needed ≡ needed_where (λ file. is_named (File file) table)
   pub files : (file : LimitFile) → is_some (file_of row.cgroup file) ≡ true
 
 -- rows as tables say them, the first of which has the number i

@@ -6,9 +6,9 @@ use Rattle.std.specs.List.{list_any}
 use Rattle.std.specs.List.Sorted.{IsSortedByKey}
 use Rattle.cg_cgroup.specs.Paths.{Names, path_cmp, same_path, is_root, parent, inside}
 use Rattle.cg_cgroup.specs.Files.{no_controllers, is_within, stands_under}
+use Rattle.cg_cgroup.specs.Cgroups.{file_of, files_by}
 use Rattle.cg_cgroup.specs.declared.files.ControllerSet.{ControllerSet}
 use Rattle.cg_cgroup.specs.declared.files.LimitFile.{LimitFile}
-use Rattle.cg_cgroup.specs.declared.files.LimitFile.TheVariants.{CpuWeight, MemoryMin, MemoryLow, MemoryHigh, MemoryMax, PidsMax}
 use Rattle.cg_cgroup.specs.declared.cgroup.LimitEntry.{LimitEntry}
 use Rattle.cg_cgroup.specs.declared.cgroup.Cgroup.{Cgroup}
 use Rattle.cg_format.specs.declared.fault.Place.TheVariants.{Cgroup as AtCgroup}
@@ -37,14 +37,7 @@ abbrev pub held_under : ControllerSet → LimitFile → Option LimitEntry → Op
 held_under over file held = cond (stands_under over file) held None
 
 abbrev pub fitted_to : ControllerSet → Cgroup → Cgroup
-fitted_to over cgroup = record cgroup {
-  cpu_weight = held_under over CpuWeight cgroup.cpu_weight;
-  memory_min = held_under over MemoryMin cgroup.memory_min;
-  memory_low = held_under over MemoryLow cgroup.memory_low;
-  memory_high = held_under over MemoryHigh cgroup.memory_high;
-  memory_max = held_under over MemoryMax cgroup.memory_max;
-  pids_max = held_under over PidsMax cgroup.pids_max;
-}
+fitted_to over cgroup = record cgroup { files = files_by (λ file. held_under over file (file_of cgroup file)) }
 
 -- the rows' entries, each behind those before it
 abbrev pub entries_from : List Row → List Row → List (Names × Cgroup)

@@ -2,8 +2,10 @@
 ghost use Rattle.std.specs.Prelude.{ℕ, ◌≡◌, ◌≢◌, ◌<◌, ◌≤◌, ◌-◌, ◌&&◌, ◌||◌, ◌==◌, not, nat_lt, nat_le, length, slice_index_or, IfOk};
 ghost use Rattle.std.specs.List.{count_by, list_all, list_any, slice_split};
 ghost use Rattle.cg_cgroup.specs.Paths.{is_name, is_name_byte, is_reserved, is_word, same_name};
+ghost use Rattle.cg_cgroup.specs.Files.{file_name};
 ghost use Rattle.cg_cgroup.specs.PathText.{ends_from};
 
+use crate::files::LimitFile;
 use std::alloc::{AllocError, Global};
 
 /// The greatest number of bytes of a name.
@@ -30,21 +32,14 @@ fn has_name_bytes(name: &[u8]) -> bool
     name.iter().all(|byte| is_name_byte(*byte))
 }
 
-/// The names that no cgroup has: a directory's own entries and the interface files of the profile.
-const RESERVED: [&str; 13] = [
+/// The names that no cgroup has, limit files' apart: a directory's own entries and the files of the core that hold no
+/// limit.
+const RESERVED: [&str; 5] = [
     ".",
     "..",
     "cgroup.controllers",
     "cgroup.procs",
     "cgroup.subtree_control",
-    "cgroup.max.descendants",
-    "cgroup.max.depth",
-    "cpu.weight",
-    "memory.min",
-    "memory.low",
-    "memory.high",
-    "memory.max",
-    "pids.max",
 ];
 
 fn is_listed(name: &[u8], names: &[&str]) -> bool
@@ -53,12 +48,18 @@ fn is_listed(name: &[u8], names: &[&str]) -> bool
     names.iter().any(|listed| name == listed.as_bytes())
 }
 
+fn is_file(name: &[u8], files: &[LimitFile]) -> bool
+    ensures { result ≡ list_any (λ file. same_name name.now (file_name file)) files.now }
+{
+    files.iter().any(|file| name == file.name().as_bytes())
+}
+
 /// Whether a text is a name that no cgroup has.
 fn is_reserved(name: &[u8]) -> bool
     ensures { result ≡ is_reserved name.now }
 {
     // each of these names has a dot, and most others have none
-    name.contains(&b'.') && is_listed(name, &RESERVED)
+    name.contains(&b'.') && (is_listed(name, &RESERVED) || is_file(name, &LimitFile::ALL))
 }
 
 /// Whether a text is a name of a cgroup.

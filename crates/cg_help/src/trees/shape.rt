@@ -1,6 +1,7 @@
 //! A key that is missing, unknown or of the wrong type.
 use crate::shown::quoted;
 use crate::trees::table::{RowAt, shown_value};
+use cg_cgroup::files::{EntryName, LimitFile};
 use cg_text::tree::Place;
 use std::alloc::{AllocError, Global};
 use toml::{Table, Value};
@@ -54,19 +55,6 @@ const LIMIT_FILE: [Key; 4] = [
     ("value", Kind::Value, false),
 ];
 
-const FILES: [Key; 10] = [
-    ("cgroup.procs", Kind::Table, false),
-    ("cgroup.subtree_control", Kind::Table, false),
-    ("cgroup.max.descendants", Kind::Table, false),
-    ("cgroup.max.depth", Kind::Table, false),
-    ("cpu.weight", Kind::Table, false),
-    ("memory.min", Kind::Table, false),
-    ("memory.low", Kind::Table, false),
-    ("memory.high", Kind::Table, false),
-    ("memory.max", Kind::Table, false),
-    ("pids.max", Kind::Table, false),
-];
-
 fn keys_of(place: Place) -> &'static [Key] {
     match place {
         Place::Top => &TOP,
@@ -90,13 +78,26 @@ fn inner_said(alloc: Global, row: &Table) -> Result<Option<String>, AllocError> 
     if let Some(why) = named_said(alloc, row, "dir", &ENTRY)? {
         return Ok(Some(why));
     }
-    if let Some(why) = named_said(alloc, row, "files", &FILES)? {
+    let names = file_names(alloc)?;
+    if let Some(why) = named_said(alloc, row, "files", &names)? {
         return Ok(Some(why));
     }
     match row.get("files") {
         Some(Value::Table(files)) => files_said(alloc, files),
         _ => Ok(None),
     }
+}
+
+/// The keys of `files`.
+fn file_names(alloc: Global) -> Result<Vec<Key>, AllocError> {
+    let mut names = Vec::new(alloc);
+    for entry in [EntryName::Procs, EntryName::SubtreeControl] {
+        names.push((entry.name(), Kind::Table, false))?;
+    }
+    for file in LimitFile::ALL {
+        names.push((file.name(), Kind::Table, false))?;
+    }
+    Ok(names)
 }
 
 fn files_said(alloc: Global, files: &Table) -> Result<Option<String>, AllocError> {

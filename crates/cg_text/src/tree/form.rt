@@ -5,7 +5,7 @@ ghost use Rattle.cg_model.specs.Clauses.{first, unless};
 ghost use Rattle.toml.specs.Data.{table, get_member};
 ghost use Rattle.toml.specs.View.{view, table_view};
 ghost use Rattle.cg_format.specs.declared.fault.TreeFault.TheVariants.{Shape};
-ghost use Rattle.cg_format.specs.Form.{is_text, are_texts, document_keys, owner_keys, limit_keys, file_keys_of, row_keys, live_keys, is_table};
+ghost use Rattle.cg_format.specs.Form.{most_rows, is_text, are_texts, document_keys, owner_keys, limit_keys, file_keys_of, row_keys, live_keys, is_table};
 ghost use Rattle.cg_format.specs.TextFaults.{each_cgroup, each_process, form_faults};
 ghost use Rattle.cg_format.specs.TextOf.{IsInForm};
 ghost use Rattle.cg_text.specs.Faults.{Passes};
@@ -14,15 +14,12 @@ ghost use Rattle.cg_text.specs.Keys.{flat_keys, takes, allows, allows_table};
 use crate::tree::said::{elements_at, format_at};
 use cg_cgroup::files::EntryName;
 use cg_format::fault::{Place, TreeFault};
-use cg_format::format::Format;
+use cg_format::format::{Format, MOST_ROWS};
 use toml::{Table, Value};
-
-/// The largest number of cgroups, and of processes.
-const MOST_ROWS: usize = 4096;
 
 /// The number of a row that stands at `index` in its array.
 pub fn row_number(index: usize) -> u32
-    requires { index < 4096 }
+    requires { index < most_rows }
     ensures { result ≡ index + 1 }
 {
     index as u32 + 1
@@ -203,7 +200,7 @@ fn is_document(document: &Table) -> bool
 
 /// Tests the form of each cgroup.
 fn cgroups_in_form(format: Format, cgroups: &[Value]) -> Result<(), TreeFault>
-    requires { length cgroups.now ≤ 4096 }
+    requires { length cgroups.now ≤ most_rows }
     ensures { Passes (λ _. Unit {0})
         (first (each_cgroup (λ _ place held. unless (is_table (row_keys format) held) (Shape place)) (map view cgroups.now))) result }
 {
@@ -217,7 +214,7 @@ fn cgroups_in_form(format: Format, cgroups: &[Value]) -> Result<(), TreeFault>
 
 /// Tests the form of each process.
 fn processes_in_form(processes: &[Value]) -> Result<(), TreeFault>
-    requires { length processes.now ≤ 4096 }
+    requires { length processes.now ≤ most_rows }
     ensures { Passes (λ _. Unit {0})
         (first (each_process (λ _ place held. unless (is_table live_keys held) (Shape place)) (map view processes.now))) result }
 {

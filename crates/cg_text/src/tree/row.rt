@@ -1,21 +1,24 @@
 //! A cgroup's row, read into what the tree keeps of it.
-ghost use Rattle.std.specs.Prelude.{◌≡◌, ◌≤◌, true, length, map, filter_map, Some, is_some};
+ghost use Rattle.std.specs.Prelude.{◌≡◌, ◌≤◌, true, ◌&&◌, length, map, filter_map, Some, is_some};
 ghost use Rattle.std.specs.Option.{option_map};
-ghost use Rattle.std.specs.List.{list_all};
+ghost use Rattle.std.specs.List.{list_all, list_any};
 ghost use Rattle.toml.specs.Data.{Members, as_table};
 ghost use Rattle.toml.specs.View.{view, table_view};
+ghost use Rattle.cg_cgroup.specs.Files.{all_files, brought_files};
 ghost use Rattle.cg_cgroup.specs.declared.files.EntryName.TheVariants.{File};
 ghost use Rattle.cg_model.specs.Clauses.{first};
 ghost use Rattle.cg_format.specs.declared.fault.Place.TheVariants.{Cgroup as AtCgroup};
 ghost use Rattle.cg_format.specs.declared.fault.TreeFault.TheVariants.{BadEntry, BadValue};
+ghost use Rattle.cg_format.specs.Form.{most_rows};
 ghost use Rattle.cg_format.specs.TextFaults.{each_cgroup, row_faults};
 ghost use Rattle.cg_text.specs.Faults.{Passes, or_fault};
-ghost use Rattle.cg_text.specs.Rows.{table_in, owner_in, limit_in, entry_with, needed_by, entry_faults, IsCgroupOf, IsReadAs, AreReadAs};
+ghost use Rattle.cg_text.specs.Rows.{table_in, owner_in, limit_in, entry_with, is_of, names, needed_by, file_in, entry_faults, IsCgroupOf, IsReadAs, AreReadAs};
 
 use crate::tree::form::row_number;
 use crate::tree::said::{controllers_at, limit_of, owner_of, path_at, table_at};
+use cg_cgroup::brought::BroughtFiles;
 use cg_cgroup::cgroup::{Cgroup, LimitEntry};
-use cg_cgroup::files::{ControllerSet, EntryName, LimitFile};
+use cg_cgroup::files::{BROUGHT_COUNT, Controller, ControllerSet, EntryName, Limit, LimitFile};
 use cg_cgroup::path::Path;
 use cg_cgroup::user::{Entry, Mode};
 use cg_format::fault::{Place, TreeFault};
@@ -52,17 +55,22 @@ impl<'a> Entries<'a> {
         }
     }
 
-    /// The owner, the group and the mode of an entry.
-    fn owner(self, name: EntryName) -> Result<Entry, TreeFault>
-        ensures { result ≡ or_fault (owner_in self.entry name) (BadEntry self.entry.place) }
+    /// The owner, the group and the mode of an entry, where they are so.
+    fn owner_at(self, name: EntryName) -> Option<Entry>
+        ensures { result ≡ owner_in self.entry name }
     {
         let missing = match name {
             EntryName::Dir => Mode::DIRECTORY,
             _ => Mode::FILE,
         };
-        owner_of(self.format, missing.get(), self.table(name)).ok_or(TreeFault::BadEntry(
-            self.place,
-        ))
+        owner_of(self.format, missing.get(), self.table(name))
+    }
+
+    /// The owner, the group and the mode of an entry.
+    fn owner(self, name: EntryName) -> Result<Entry, TreeFault>
+        ensures { result ≡ or_fault (owner_in self.entry name) (BadEntry self.entry.place) }
+    {
+        self.owner_at(name).ok_or(TreeFault::BadEntry(self.place))
     }
 
     fn file(self, file: LimitFile) -> Result<Entry, TreeFault>
@@ -71,11 +79,18 @@ impl<'a> Entries<'a> {
         self.owner(EntryName::File(file))
     }
 
+    /// The value of a limit file, where it is so.
+    fn value_at(self, file: LimitFile) -> Option<Limit>
+        ensures { result ≡ limit_in self.entry file }
+    {
+        limit_of(file, self.table(EntryName::File(file)))
+    }
+
     /// A limit file of this owner.
     fn held(self, entry: Entry, file: LimitFile) -> Result<LimitEntry, TreeFault>
         ensures { result ≡ or_fault (option_map (entry_with entry) (limit_in self.entry file)) (BadValue self.entry.place) }
     {
-        match limit_of(file, self.table(EntryName::File(file))) {
+        match self.value_at(file) {
             None => Err(TreeFault::BadValue(self.place)),
             Some(value) => Ok(LimitEntry { entry, value }),
         }
@@ -87,50 +102,106 @@ impl<'a> Entries<'a> {
         self.table(EntryName::File(file)).is_some()
     }
 
+    /// Whether a file of a controller is named.
+    fn needs(self, controller: Controller) -> bool
+        ensures { result ≡ list_any (λ file. is_of controller file && names self.entry file) all_files }
+    {
+        LimitFile::ALL
+            .iter()
+            .any(|file| is_of(controller, *file) && self.names(*file))
+    }
+
     /// The controllers whose files are named.
     fn needed(self) -> ControllerSet
         ensures { result ≡ needed_by self.entry }
     {
         ControllerSet {
-            cpu: self.names(LimitFile::CpuWeight),
-            memory: self.names(LimitFile::MemoryMin)
-                || self.names(LimitFile::MemoryLow)
-                || self.names(LimitFile::MemoryHigh)
-                || self.names(LimitFile::MemoryMax),
-            pids: self.names(LimitFile::PidsMax),
+            cpu: self.needs(Controller::Cpu),
+            memory: self.needs(Controller::Memory),
+            pids: self.needs(Controller::Pids),
         }
+    }
+
+    /// A limit file, where its owner and its value are so.
+    fn file_at(self, file: LimitFile) -> Option<LimitEntry>
+        ensures { result ≡ file_in self.entry file }
+    {
+        let entry = self.owner_at(EntryName::File(file))?;
+        let value = self.value_at(file)?;
+        Some(LimitEntry { entry, value })
+    }
+
+    /// The files that controllers bring.
+    fn brought(self) -> [Option<LimitEntry>; BROUGHT_COUNT]
+        ensures { result ≡ map (file_in self.entry) brought_files }
+    {
+        LimitFile::BROUGHT.map(|file| self.file_at(file))
+    }
+
+    fn has_owners(self) -> bool
+        ensures { result ≡ list_all (λ file. is_some (owner_in self.entry (File file))) brought_files }
+    {
+        LimitFile::BROUGHT
+            .iter()
+            .all(|file| self.owner_at(EntryName::File(*file)).is_some())
+    }
+
+    /// Whether the owner of each of these files is so; where each file is, nothing is read again.
+    fn are_owned(self, files: &[Option<LimitEntry>]) -> bool
+        requires { files.now ≡ map (file_in self) brought_files }
+        ensures { result ≡ list_all (λ file. is_some (owner_in self.entry (File file))) brought_files }
+    {
+        if are_there(files) {
+            return true;
+        }
+        self.has_owners()
     }
 
     /// The cgroup that has these entries, or the first fault of an entry, and then of a value.
     fn cgroup(self, enabled: ControllerSet) -> Result<Cgroup, TreeFault>
         ensures { Passes (IsCgroupOf self.entry enabled) (first (entry_faults self.entry)) result }
     {
+        let files = self.brought();
         let dir = self.owner(EntryName::Dir)?;
         let procs = self.owner(EntryName::Procs)?;
         let subtree_control = self.owner(EntryName::SubtreeControl)?;
         let max_descendants = self.file(LimitFile::MaxDescendants)?;
         let max_depth = self.file(LimitFile::MaxDepth)?;
-        let cpu_weight = self.file(LimitFile::CpuWeight)?;
-        let memory_min = self.file(LimitFile::MemoryMin)?;
-        let memory_low = self.file(LimitFile::MemoryLow)?;
-        let memory_high = self.file(LimitFile::MemoryHigh)?;
-        let memory_max = self.file(LimitFile::MemoryMax)?;
-        let pids_max = self.file(LimitFile::PidsMax)?;
+        if !self.are_owned(&files) {
+            return Err(TreeFault::BadEntry(self.place));
+        }
+        let max_descendants = self.held(max_descendants, LimitFile::MaxDescendants)?;
+        let max_depth = self.held(max_depth, LimitFile::MaxDepth)?;
+        if !are_there(&files) {
+            return Err(TreeFault::BadValue(self.place));
+        }
         Ok(Cgroup {
             dir,
             procs,
             subtree_control,
-            max_descendants: self.held(max_descendants, LimitFile::MaxDescendants)?,
-            max_depth: self.held(max_depth, LimitFile::MaxDepth)?,
-            cpu_weight: Some(self.held(cpu_weight, LimitFile::CpuWeight)?),
-            memory_min: Some(self.held(memory_min, LimitFile::MemoryMin)?),
-            memory_low: Some(self.held(memory_low, LimitFile::MemoryLow)?),
-            memory_high: Some(self.held(memory_high, LimitFile::MemoryHigh)?),
-            memory_max: Some(self.held(memory_max, LimitFile::MemoryMax)?),
-            pids_max: Some(self.held(pids_max, LimitFile::PidsMax)?),
+            max_descendants,
+            max_depth,
+            files: BroughtFiles { entries: files },
             enabled,
         })
     }
+}
+
+/// Whether a controller brings a file.
+fn is_of(controller: Controller, file: LimitFile) -> bool
+    ensures { result ≡ is_of controller file }
+{
+    match file.controller() {
+        None => false,
+        Some(own) => own == controller,
+    }
+}
+
+/// Whether each of these files is there.
+fn are_there(files: &[Option<LimitEntry>]) -> bool
+    ensures { result ≡ list_all is_some files.now }
+{
+    files.iter().all(|file| file.is_some())
 }
 
 /// The row of a cgroup's table, or its first fault.
@@ -169,7 +240,7 @@ fn row_in(alloc: Global, format: Format, number: u32, element: Value) -> Result<
 
 /// The rows of cgroups' tables, or the first fault of the first that has one. A table is dropped once it is read.
 pub fn rows_of(alloc: Global, format: Format, elements: Vec<Value>) -> Result<Vec<Row>, TreeFault>
-    requires few { length elements.items ≤ 4096 }
+    requires few { length elements.items ≤ most_rows }
     requires tables { list_all (λ held. is_some (as_table (view held))) elements.items ≡ true }
     ensures { Passes (λ rows. AreReadAs format 1 (filter_map as_table (map view elements.items)) rows.items)
         (first (each_cgroup (λ _. row_faults format) (filter_map as_table (map view elements.items)))) result }

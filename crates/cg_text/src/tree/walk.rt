@@ -3,7 +3,8 @@ ghost use Rattle.std.specs.Prelude.{◌≡◌, List, [], ◌∷◌, ◌++◌, ma
 ghost use Rattle.std.specs.List.Sorted.{IsPermutation, IsStableByKey};
 ghost use Rattle.toml.specs.Data.{Members};
 ghost use Rattle.cg_cgroup.specs.Paths.{path_cmp, is_root};
-ghost use Rattle.cg_cgroup.specs.Files.{stands_under};
+ghost use Rattle.cg_cgroup.specs.Files.{brought_files, stands_under};
+ghost use Rattle.cg_cgroup.specs.Cgroups.{file_of};
 ghost use Rattle.cg_cgroup.specs.declared.files.ControllerSet.{ControllerSet};
 ghost use Rattle.cg_model.specs.Clauses.{first};
 ghost use Rattle.cg_format.specs.declared.format.Format.{Format};
@@ -15,8 +16,9 @@ ghost use Rattle.cg_text.specs.Rows.{AreReadAs};
 ghost use Rattle.cg_text.specs.Walk.{has_met, is_past, over_at, fitted_to, entries_from, noted, least_behind, least_fault, has_root, is_front, fronts_above, HasMet, AreInOrder, IsNext};
 
 use crate::tree::row::Row;
+use cg_cgroup::brought::BroughtFiles;
 use cg_cgroup::cgroup::{Cgroup, LimitEntry};
-use cg_cgroup::files::{ControllerSet, LimitFile};
+use cg_cgroup::files::{BROUGHT_COUNT, ControllerSet, LimitFile};
 use cg_cgroup::memory::NoMemory;
 use cg_cgroup::path::Path;
 use cg_format::fault::{Place, TreeFault};
@@ -133,17 +135,21 @@ fn standing(over: ControllerSet, file: LimitFile, held: Option<LimitEntry>) -> O
     if file.stands_under(over) { held } else { None }
 }
 
+/// The files that controllers bring, where they stand.
+fn standing_files(over: ControllerSet, cgroup: &Cgroup) -> [Option<LimitEntry>; BROUGHT_COUNT]
+    ensures { result ≡ map (λ file. cond (stands_under over file) (file_of cgroup.now file) None) brought_files }
+{
+    LimitFile::BROUGHT.map(|file| standing(over, file, cgroup.file(file)))
+}
+
 /// A cgroup with the files that stand at it.
 fn fitted(over: ControllerSet, cgroup: Cgroup) -> Cgroup
     ensures { result ≡ fitted_to over cgroup }
 {
     Cgroup {
-        cpu_weight: standing(over, LimitFile::CpuWeight, cgroup.cpu_weight),
-        memory_min: standing(over, LimitFile::MemoryMin, cgroup.memory_min),
-        memory_low: standing(over, LimitFile::MemoryLow, cgroup.memory_low),
-        memory_high: standing(over, LimitFile::MemoryHigh, cgroup.memory_high),
-        memory_max: standing(over, LimitFile::MemoryMax, cgroup.memory_max),
-        pids_max: standing(over, LimitFile::PidsMax, cgroup.pids_max),
+        files: BroughtFiles {
+            entries: standing_files(over, &cgroup),
+        },
         ..cgroup
     }
 }

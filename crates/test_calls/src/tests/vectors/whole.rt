@@ -1,6 +1,7 @@
 //! Whole trees: every cgroup with its owners, modes and values, and every process.
+use cg_cgroup::brought::BroughtFiles;
 use cg_cgroup::cgroup::{Cgroup, LimitEntry};
-use cg_cgroup::files::{ControllerSet, Limit};
+use cg_cgroup::files::{Controller, ControllerSet, Limit, LimitFile};
 use cg_cgroup::path::Path;
 use cg_cgroup::process::Pid;
 use cg_cgroup::user::Entry;
@@ -50,12 +51,7 @@ fn plain() -> Cgroup {
         subtree_control: file(0),
         max_descendants: limit(0, Limit::Max),
         max_depth: limit(0, Limit::Max),
-        cpu_weight: None,
-        memory_min: None,
-        memory_low: None,
-        memory_high: None,
-        memory_max: None,
-        pids_max: None,
+        files: BroughtFiles::none(),
         enabled: ControllerSet {
             cpu: false,
             memory: false,
@@ -66,13 +62,18 @@ fn plain() -> Cgroup {
 
 /// The cgroup below a parent that enables memory.
 fn with_memory(cgroup: Cgroup, memory_max: Limit) -> Cgroup {
-    Cgroup {
-        memory_min: Some(limit(0, Limit::At(0))),
-        memory_low: Some(limit(0, Limit::At(0))),
-        memory_high: Some(limit(0, Limit::Max)),
-        memory_max: Some(limit(0, memory_max)),
-        ..cgroup
+    let mut files = cgroup.files;
+    for (place, file) in LimitFile::BROUGHT.iter().enumerate() {
+        if file.controller() == Some(Controller::Memory) {
+            let value = match file {
+                LimitFile::MemoryMin | LimitFile::MemoryLow => Limit::At(0),
+                LimitFile::MemoryMax => memory_max,
+                _ => Limit::Max,
+            };
+            files.entries[place] = Some(limit(0, value));
+        }
     }
+    Cgroup { files, ..cgroup }
 }
 
 /// The cgroup with what is handed to user 1000 where a subtree is delegated to him.

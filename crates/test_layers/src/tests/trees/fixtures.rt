@@ -1,13 +1,14 @@
 //! Changes of any tree, each tested for what it requires, and the trees that are built by them.
-ghost use Rattle.std.specs.Prelude.{◌≡◌, true, not, ◌||◌, [], cond, Some, None, IfOk};
-ghost use Rattle.cg_cgroup.specs.Files.{enables, stands_under};
+ghost use Rattle.std.specs.Prelude.{◌≡◌, true, not, ◌||◌, [], cond, map, Some, None, IfOk};
+ghost use Rattle.cg_cgroup.specs.Files.{brought_files, enables, stands_under};
 ghost use Rattle.cg_cgroup.specs.Cgroups.{file_made_by, entry_made_by, cgroup_made_by};
 ghost use Rattle.cg_model.specs.States.{child_enables};
 ghost use Rattle.cg_rows.specs.RowsForm.{IsRoot, state_of_root};
 ghost use Rattle.cg_model.specs.WellFormed.{has_row, may_hold, available_at};
 
+use cg_cgroup::brought::BroughtFiles;
 use cg_cgroup::cgroup::{Cgroup, LimitEntry};
-use cg_cgroup::files::{Controller, ControllerSet, EntryName, Limit, LimitFile};
+use cg_cgroup::files::{BROUGHT_COUNT, Controller, ControllerSet, EntryName, Limit, LimitFile};
 use cg_cgroup::memory::NoMemory;
 use cg_cgroup::path::{Path, PathFault};
 use cg_cgroup::process::Pid;
@@ -91,6 +92,15 @@ fn file_under(above: ControllerSet, uid: u32, file: LimitFile) -> Option<LimitEn
     file.stands_under(above).then_some(limit_file(uid, file))
 }
 
+/// The limit files that controllers bring, where they stand below a cgroup that enables these.
+fn files_under(above: ControllerSet, uid: u32) -> [Option<LimitEntry>; BROUGHT_COUNT]
+    ensures { result ≡ map
+        (λ file. cond (stands_under above file) (Some (file_made_by (record { uid = uid; gids = [] }) file)) None)
+        brought_files }
+{
+    LimitFile::BROUGHT.map(|file| file_under(above, uid, file))
+}
+
 /// A cgroup below one that enables these: with default modes and values, and group 0.
 pub fn cgroup_of(owners: Owners, above: ControllerSet) -> Cgroup
     ensures { result ≡ record (cgroup_made_by (record { uid = owners.limits; gids = [] }) above) {
@@ -106,12 +116,9 @@ pub fn cgroup_of(owners: Owners, above: ControllerSet) -> Cgroup
         subtree_control: entry(owners.subtree_control, Mode::FILE),
         max_descendants: limit_file(uid, LimitFile::MaxDescendants),
         max_depth: limit_file(uid, LimitFile::MaxDepth),
-        cpu_weight: file_under(above, uid, LimitFile::CpuWeight),
-        memory_min: file_under(above, uid, LimitFile::MemoryMin),
-        memory_low: file_under(above, uid, LimitFile::MemoryLow),
-        memory_high: file_under(above, uid, LimitFile::MemoryHigh),
-        memory_max: file_under(above, uid, LimitFile::MemoryMax),
-        pids_max: file_under(above, uid, LimitFile::PidsMax),
+        files: BroughtFiles {
+            entries: files_under(above, uid),
+        },
         enabled: ControllerSet::none(),
     }
 }
