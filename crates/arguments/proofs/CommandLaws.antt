@@ -1,5 +1,5 @@
 -- An option and a command more, of what is known of a command line.
-use Rattle.std.proofs.Common.{◌≡◌, ◌∙◌, List, [], ◌∷◌, ◌++◌, ap, ap₂, refl, false}
+use Rattle.std.proofs.Common.{◌≡◌, ◌∙◌, [], ◌∷◌, ◌++◌, ap, ap₂, refl}
 use Rattle.clap.specs.Walk.{Rule}
 use Rattle.clap.specs.Built.{AddsArg, AddsSubcommand}
 use Rattle.clap.specs.Simple.{App, Shape, app_of, with_rule, with_subcommand}

@@ -7,7 +7,7 @@ use Rattle.clap.specs.Walk.{rows_of, first_of, one_of, all_of, many_of}
 use Rattle.clap.specs.declared.parser.matches.Found.{Found}
 use Rattle.clap.proofs.WalkLemmas.{first_value-rows, one_text-rows, raw_values-rows, typed_values-rows}
 use Rattle.arguments.specs.UserWords.{all_read, user_at}
-use Rattle.arguments.specs.Given.{number_read, words_at, file_named, file_at, number_at, numbers_at, user_given, users_given, users_beside, advised_given, IsFlag, IsMay, IsCheck, IsAudit, IsAdvise, IsReplay, IsUpgrade, Holds}
+use Rattle.arguments.specs.Given.{number_read, words_at, file_named, file_at, number_at, numbers_at, user_given, users_given, users_beside, advised_given, Holds}
 use Rattle.arguments.specs.declared.request.Request.{Request}
 use Rattle.arguments.specs.declared.request.Request.TheVariants as request
 

@@ -1,5 +1,5 @@
 -- The request of matches is that of their words.
-use Rattle.std.proofs.Common.{◌≡◌, ◌∙◌, ℕ, List, [], ap, ap₂, sym, refl, subst, inl, inr, true}
+use Rattle.std.proofs.Common.{◌≡◌, ◌∙◌, List, [], ap, ap₂, sym, refl, subst, inl, inr, true}
 use Rattle.std.specs.Prelude.{◌≢◌, ◌⊎◌, Option, Some, None, Result, Ok, Err, MatchResult, unwrap_or}
 use Rattle.std.specs.Option.{option_map}
 use Rattle.clap.specs.Values.{kind_of}

@@ -1,5 +1,5 @@
 -- The request that the words of a command line make, by what `clap` promises of the command line. Own.
-use Rattle.std.specs.Prelude.{◌≡◌, ◌≢◌, ◌⊎◌, List, [], codes, Some}
+use Rattle.std.specs.Prelude.{◌≡◌, ◌⊎◌, List, [], codes, Some}
 use Rattle.clap.specs.Values.{kind_of}
 use Rattle.clap.specs.Kinds.{IsAmong}
 use Rattle.clap.specs.Walk.{Text, rows_of}

@@ -1,10 +1,9 @@
 -- What `clap` promises of the words, at the program's own command line.
-use Rattle.std.proofs.Common.{◌≡◌, ◌∙◌, List, [], map, ap, sym, subst, inl, inr}
+use Rattle.std.proofs.Common.{◌∙◌, List, map, ap, sym}
 use Rattle.std.specs.Prelude.{string_bytes}
 use Rattle.clap.specs.Walk.{Text}
 use Rattle.clap.specs.Simple.{App, is_simple, subcommand_of}
 use Rattle.clap.specs.Faults.{fault_of, is_simple_and_free}
-use Rattle.arguments.specs.CommandLine.{command_line}
 use Rattle.arguments.proofs.WordLaws.{simple, simple_and_free, request_of, shown_as, mistaken}
 use Rattle.arguments.proofs.request.Request.from_words.Goals as goal
 
