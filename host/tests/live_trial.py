@@ -97,7 +97,9 @@ class Place:
                 except OSError:
                     time.sleep(0.02)
         for name in self.enabled_here:
-            write(f"{self.mount}/cgroup.subtree_control", f"-{name}")
+            # another trial may be at work beside
+            with contextlib.suppress(OSError):
+                write(f"{self.mount}/cgroup.subtree_control", f"-{name}")
 
 
 def folders_in(top):
