@@ -95,7 +95,7 @@ class WholeTest(CrowdedTest):
         self.assertEqual(len(self.shown(".tree .at")), self.number("querySelectorAll('.tree .at').length"))
         # of what is alike one has its picture
         self.assertEqual((self.number("querySelectorAll('.finding figure').length"), len(self.shown(".finding figure"))), (10, 2))
-        self.assertEqual((len(self.shown("svg.wide")), len(self.shown("svg.tall"))), (1, 0))
+        self.assertEqual([self.number(f"querySelector('svg.{size}').checkVisibility()") for size in ("wide", "tall")], [True, False])
         self.assertEqual(len(self.shown(".member")), 30)
 
 

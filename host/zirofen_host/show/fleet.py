@@ -195,13 +195,14 @@ class Rules:
 
 
 def rows(folder: str, names: Iterable[str], rules: Rules, draw: Callable[[str, Report], None]) -> Iterator[Row]:
-    """The rows of the hosts that have a file, each of which is drawn; whatever a report makes go wrong is told of it alone."""
+    """The rows of the hosts that have a file. Each whose report counts is drawn, and what goes wrong with one is told of it alone."""
     for name in names:
         try:
             report = report_in(os.path.join(folder, name + ENDING))
             why = rules.why_not(report)
             row = missing(name, why) if why else row_of(name, host_of(report), rules.is_listed(name))
-            draw(name, report)
+            if not why:
+                draw(name, report)
         except Fault as fault:
             row = missing(name, str(fault).lstrip(": "))
         except (Exception, RecursionError, MemoryError) as error:
