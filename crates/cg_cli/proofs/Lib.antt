@@ -6,6 +6,7 @@ mod ReplayReads
 pub mod CheckReports
 mod AdviseReports
 mod AdvisedTrees
+mod NamedPairs
 mod EachRead
 mod AuditStatus
 mod AuditOnce

@@ -1,5 +1,6 @@
 mod BufferedLaws
 mod FaultLaws
+mod PairLaws
 mod ProgramLaws
 mod RequestLaws
 mod RunLaws

@@ -47,8 +47,6 @@ class LetsIn:
     # of those inside one another the outermost, where they come in the order of their tree
     subtrees: Set[CgroupPath] = field(default_factory=set)
     last: Optional[CgroupPath] = None
-    # a pair of each class that it lets in, to be advised of
-    pairs: Dict[str, Pair] = field(default_factory=dict)
 
     def add(self, pair: Pair, answer: Answer) -> None:
         user, entry = pair.user, self.entry
@@ -57,7 +55,6 @@ class LetsIn:
         if self.last is None or not is_inside(pair.subtree, self.last):
             self.subtrees.add(pair.subtree)
             self.last = pair.subtree
-        self.pairs.setdefault(by, pair)
         if worst({answer.status, self.answer.status}) != self.answer.status:
             self.worst, self.answer = pair, answer
 
@@ -73,6 +70,8 @@ class Judged:
     # by uid and the topmost place that is theirs
     above: Dict[Tuple[int, CgroupPath], Set[CgroupPath]]
     own: Dict[Tuple[int, CgroupPath], Own]
+    # those that some entry lets in, to be advised of
+    let_in: List[Pair] = field(default_factory=list)
 
 
 def judge(questions: Questions, answers: Answers) -> Judged:
@@ -97,6 +96,7 @@ def add(judged: Judged, questions: Questions, pair: Pair, answer: Answer) -> Non
     elif handed := questions.handed_above(*pair):
         judged.above.setdefault((pair.user.uid, handed), set()).add(pair.subtree)
     else:
+        judged.let_in.append(pair)
         for place, entry in failing(questions, pair):
             judged.entries.setdefault(place, LetsIn(place, entry, pair, answer)).add(pair, answer)
     if questions.holds(*pair):
