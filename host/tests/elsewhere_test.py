@@ -157,7 +157,7 @@ class ElsewhereTest(HostTest):
         for value in ("", "{", "[]", "{}", '{"account": ["a", -1, 2]}', '{"account": ["a", 1]}', '{"account": [1e999, true, 2]}',
                       '{"cgroup": {"path": "/none"}}', '{"cgroup": {"path": "/up", "files": {"x": "1:2:9"}, "values": {}, "marks": {}}}',
                       '{"process": [1, "x", 3, [], "", []]}', '{"init__": 1}', '{"carried": 1}', '{"about": {"host": 1}}',
-                      '{"subuid": ["a", 1, 99999999999]}', "[" * 100000):
+                      '{"subuid": ["a", 1, 99999999999]}', '{"note": ["type", "/\\ud800", "x"]}', "[" * 100000):
             with self.subTest(value[:40]):
                 with open(self.file, "w", encoding="ascii") as out:
                     out.write("\n".join([*lines[:number], elsewhere.MARK + value, *lines[number:]]))
