@@ -1,0 +1,247 @@
+//! What lifts a refusal: operations that are to be carried out before the one that met it.
+use crate::draft::Draft;
+use crate::emptied::{emptied, left, room};
+use crate::goal::Goal;
+use crate::holds::Side;
+use cg_cgroup::files::{Controller, ControllerSet, EntryName, Limit, LimitFile};
+use cg_cgroup::memory::NoMemory;
+use cg_cgroup::path::Path;
+use cg_cgroup::process::Pid;
+use cg_cgroup::user::Mode;
+use cg_model::changes::{Change, Changes};
+use cg_model::operation::Op;
+use cg_model::outcome::Refusal;
+use cg_tree::hierarchy::Hierarchy;
+use std::alloc::Global;
+
+/// What lifts a refusal that a goal has met, in the order in which it is to be carried out; nothing where it can't be lifted.
+pub fn lifts<H: Hierarchy + Drop>(
+    draft: &mut Draft<H>,
+    goal: &Goal,
+    refusal: &Refusal,
+) -> Result<Vec<Goal>, NoMemory> {
+    let times = goal.times(refusal);
+    match (&goal.op, refusal) {
+        (op, Refusal::NoAccess { len, entry }) if times == 0 && owns(draft, op, *len, *entry) => {
+            chmod(draft, op, *len, *entry)
+        }
+        (Op::Move { pid, to }, Refusal::NoAccess { len, .. }) if *len < to.depth() => {
+            around(draft, *pid, to, *len, times)
+        }
+        (Op::Control { at, .. }, Refusal::NoAccess { .. }) if times == 0 => removed(draft, at),
+        (Op::Control { at, .. }, Refusal::ChildUses { .. }) if times == 1 => removed(draft, at),
+        (Op::Mkdir { path }, Refusal::DescendantLimit { len }) if times > 0 => {
+            room(draft, path, *len, times - 1)
+        }
+        (op, refusal) if times == 0 => first_lifts(draft, op, refusal),
+        _ => Ok(Vec::new(draft.planner.alloc)),
+    }
+}
+
+/// What lifts a refusal that is met for the first time.
+fn first_lifts<H: Hierarchy + Drop>(
+    draft: &mut Draft<H>,
+    op: &Op,
+    refusal: &Refusal,
+) -> Result<Vec<Goal>, NoMemory> {
+    match (op, refusal) {
+        (Op::Move { to, .. }, Refusal::NoSuchCgroup { len }) if *len == to.depth() => {
+            let path = to.try_clone(draft.planner.alloc)?;
+            only(draft.planner.alloc, Op::Mkdir { path })
+        }
+        (Op::Move { to, .. }, Refusal::InternalProcess { .. }) => all_off(draft, to),
+        (Op::Control { at, .. }, Refusal::InternalProcess { .. }) => left(draft, at),
+        (Op::Control { at, .. }, Refusal::NotAvailable { controller }) => {
+            on_above(draft, at, *controller)
+        }
+        (Op::Control { at, .. }, Refusal::ChildUses { controller }) => {
+            off_below(draft, at, *controller)
+        }
+        (Op::Mkdir { path }, Refusal::DescendantLimit { len }) => {
+            raised(draft, path, *len, LimitFile::MaxDescendants)
+        }
+        (Op::Mkdir { path }, Refusal::DepthLimit { len }) => {
+            raised(draft, path, *len, LimitFile::MaxDepth)
+        }
+        (Op::Rmdir { path }, Refusal::HasChildren | Refusal::HasProcesses) => emptied(draft, path),
+        _ => Ok(Vec::new(draft.planner.alloc)),
+    }
+}
+
+/// One goal alone.
+fn only(alloc: Global, op: Op) -> Result<Vec<Goal>, NoMemory> {
+    Ok(vec![in alloc; Goal::new(op)]?)
+}
+
+/// The operation that enables a controller, or disables it.
+fn control(alloc: Global, at: Path, on: bool, controller: Controller) -> Result<Op, NoMemory> {
+    let mut changes = Changes::new(alloc);
+    changes.push(Change { on, controller })?;
+    Ok(Op::Control { at, changes })
+}
+
+/// Whether the user owns an entry of the cgroup of the first `len` names of an operation's path.
+fn owns<H: Hierarchy>(draft: &Draft<H>, op: &Op, len: usize, name: EntryName) -> bool {
+    match path_of(op) {
+        Some(path) => opened(draft, path, len, name).is_some(),
+        None => false,
+    }
+}
+
+/// The chmod by which the user comes to write it.
+fn chmod<H: Hierarchy>(
+    draft: &Draft<H>,
+    op: &Op,
+    len: usize,
+    entry: EntryName,
+) -> Result<Vec<Goal>, NoMemory> {
+    let alloc = draft.planner.alloc;
+    let Some(path) = path_of(op) else {
+        return Ok(Vec::new(alloc));
+    };
+    let Some(mode) = opened(draft, path, len, entry) else {
+        return Ok(Vec::new(alloc));
+    };
+    let at = path.try_prefix(alloc, len.min(path.depth()))?;
+    only(alloc, Op::Chmod { at, entry, mode })
+}
+
+/// The path of an operation on a cgroup.
+fn path_of(op: &Op) -> Option<&Path> {
+    match op {
+        Op::Move { to, .. } => Some(to),
+        Op::Control { at, .. } | Op::Set { at, .. } | Op::Chmod { at, .. } => Some(at),
+        Op::Mkdir { path } | Op::Rmdir { path } => Some(path),
+        Op::Fork { .. } | Op::Exit { .. } => None,
+    }
+}
+
+/// The mode by which the user comes to write an entry, where they own it.
+fn opened<H: Hierarchy>(
+    draft: &Draft<H>,
+    path: &Path,
+    len: usize,
+    name: EntryName,
+) -> Option<Mode> {
+    if len > path.depth() {
+        return None;
+    }
+    let entry = draft.tree.get(path, len)?.entry(name)?;
+    if !draft.planner.user.owns(&entry) {
+        return None;
+    }
+    Mode::new(entry.mode | 0o200)
+}
+
+/// A move to a place outside whose common ancestor with the subtree lies above the one of `len` names, where the user doesn't
+/// move processes past that: of these places the one behind so many.
+fn around<H: Hierarchy + Drop>(
+    draft: &mut Draft<H>,
+    pid: Pid,
+    to: &Path,
+    len: usize,
+    times: usize,
+) -> Result<Vec<Goal>, NoMemory> {
+    let alloc = draft.planner.alloc;
+    if !draft.may_scan() {
+        return Ok(Vec::new(alloc));
+    }
+    let mut left = times;
+    for hold in draft.planner.holds(Side::Outside)? {
+        if hold.common_len(to) >= len {
+            continue;
+        }
+        if left == 0 {
+            return only(alloc, Op::Move { pid, to: hold });
+        }
+        left -= 1;
+    }
+    Ok(Vec::new(alloc))
+}
+
+/// A controller on at the parent of a cgroup.
+fn on_above<H: Hierarchy>(
+    draft: &Draft<H>,
+    at: &Path,
+    controller: Controller,
+) -> Result<Vec<Goal>, NoMemory> {
+    let alloc = draft.planner.alloc;
+    if at.depth() == 0 {
+        return Ok(Vec::new(alloc));
+    }
+    let parent = at.try_prefix(alloc, at.parent_len())?;
+    only(alloc, control(alloc, parent, true, controller)?)
+}
+
+/// Each controller off that a cgroup enables.
+fn all_off<H: Hierarchy>(draft: &Draft<H>, path: &Path) -> Result<Vec<Goal>, NoMemory> {
+    let alloc = draft.planner.alloc;
+    let enabled = match draft.tree.get(path, path.depth()) {
+        Some(cgroup) => cgroup.enabled,
+        None => ControllerSet::none(),
+    };
+    let mut goals = Vec::new(alloc);
+    for controller in Controller::ALL {
+        if enabled.contains(controller) {
+            let at = path.try_clone(alloc)?;
+            goals.push(Goal::new(control(alloc, at, false, controller)?))?;
+        }
+    }
+    Ok(goals)
+}
+
+/// A controller off at each cgroup below one that enables it, the deepest first.
+fn off_below<H: Hierarchy + Drop>(
+    draft: &mut Draft<H>,
+    top: &Path,
+    controller: Controller,
+) -> Result<Vec<Goal>, NoMemory> {
+    let alloc = draft.planner.alloc;
+    let mut goals = Vec::new(alloc);
+    if !draft.may_scan() {
+        return Ok(goals);
+    }
+    for path in draft.planner.paths.iter().rev() {
+        if path.depth() > top.depth()
+            && top.is_prefix_of(path)
+            && enables(draft, path, controller)
+        {
+            let op = control(alloc, path.try_clone(alloc)?, false, controller)?;
+            goals.push(Goal::after(op, Refusal::ChildUses { controller }))?;
+        }
+    }
+    Ok(goals)
+}
+
+/// Whether a cgroup enables a controller.
+fn enables<H: Hierarchy>(draft: &Draft<H>, path: &Path, controller: Controller) -> bool {
+    match draft.tree.get(path, path.depth()) {
+        Some(cgroup) => cgroup.enabled.contains(controller),
+        None => false,
+    }
+}
+
+/// The removal of a cgroup that the subtree isn't in.
+fn removed<H: Hierarchy>(draft: &Draft<H>, path: &Path) -> Result<Vec<Goal>, NoMemory> {
+    if path.is_prefix_of(draft.planner.subtree) {
+        return Ok(Vec::new(draft.planner.alloc));
+    }
+    let path = path.try_clone(draft.planner.alloc)?;
+    only(draft.planner.alloc, Op::Rmdir { path })
+}
+
+/// A limit to `max`, of the cgroup of the first `len` names.
+fn raised<H: Hierarchy>(
+    draft: &Draft<H>,
+    path: &Path,
+    len: usize,
+    file: LimitFile,
+) -> Result<Vec<Goal>, NoMemory> {
+    let alloc = draft.planner.alloc;
+    if len > path.depth() {
+        return Ok(Vec::new(alloc));
+    }
+    let at = path.try_prefix(alloc, len)?;
+    let value = Limit::Max;
+    only(alloc, Op::Set { at, file, value })
+}

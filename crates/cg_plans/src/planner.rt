@@ -1,0 +1,80 @@
+//! Who plans, and what a tree says of what they reach.
+ghost use Rattle.std.specs.Prelude.{◌≤◌, length};
+
+use cg_cgroup::files::EntryName;
+use cg_cgroup::memory::NoMemory;
+use cg_cgroup::path::{Path, PathFault};
+use cg_cgroup::process::Pid;
+use cg_cgroup::user::User;
+use cg_ops::moves::may_hold;
+use cg_tree::hierarchy::Hierarchy;
+use std::alloc::Global;
+
+/// A user, the subtree of a tree that they would break, and what was in the tree at the start.
+#[derive(Drop)]
+pub struct Planner<'a, H: Hierarchy> {
+    pub alloc: Global,
+    pub tree: &'a H,
+    pub user: &'a User,
+    pub subtree: &'a Path,
+    pub paths: Vec<Path>,
+    pub pids: Vec<Pid>,
+}
+
+impl<'a, H: Hierarchy> Planner<'a, H> {
+    /// Whether a live process is the user's.
+    pub fn is_own(&self, pid: Pid) -> bool {
+        self.tree.owner(pid) == Some(self.user.uid())
+    }
+
+    /// Whether the user reaches an entry of the cgroup of the first `len` names of a path.
+    pub fn reaches(&self, tree: &H, path: &Path, len: usize, name: EntryName) -> bool
+        requires { len ≤ length path.now }
+    {
+        let Some(cgroup) = tree.get(path, len) else {
+            return false;
+        };
+        match cgroup.entry(name) {
+            Some(entry) => self.user.reaches(&entry),
+            None => false,
+        }
+    }
+
+    /// Whether a cgroup is there and takes processes as it is.
+    pub fn is_open(&self, tree: &H, path: &Path) -> bool {
+        match tree.get(path, path.depth()) {
+            Some(cgroup) => may_hold(cgroup, path),
+            None => false,
+        }
+    }
+
+    /// Whether the user reaches the `cgroup.procs` of the cgroup of the first `len` names of a path.
+    pub fn passes_at(&self, tree: &H, path: &Path, len: usize) -> bool
+        requires { len ≤ length path.now }
+    {
+        self.reaches(tree, path, len, EntryName::Procs)
+    }
+
+    /// Whether the user moves processes past the common ancestor of two cgroups.
+    #[tactic(auto, using(cg_steps::proofs::Prefixes::length_common))]
+    pub fn passes(&self, tree: &H, from: &Path, to: &Path) -> bool {
+        self.passes_at(tree, to, from.common_len(to))
+    }
+
+    /// A path below a cgroup that isn't there; none where its text would be too long.
+    pub fn new_child(&self, tree: &H, path: &Path) -> Result<Option<Path>, NoMemory> {
+        for number in 0..=self.paths.len() {
+            let name = format!(in self.alloc; "probe{number}")?;
+            match path.with_child(self.alloc, path.depth(), &name) {
+                Ok(child) => {
+                    if tree.get(&child, child.depth()).is_none() {
+                        return Ok(Some(child));
+                    }
+                }
+                Err(PathFault::BadPath) => return Ok(None),
+                Err(PathFault::NoMemory) => return Err(NoMemory),
+            }
+        }
+        Ok(None)
+    }
+}
