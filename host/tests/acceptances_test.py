@@ -117,7 +117,8 @@ class AcceptancesTest(HostTest):
         self.host.accounts(group="team:x:50:carol,bob\n")
         found = self.applied(self.ALL[1])
         self.assertEqual((found.acceptances[0].state, found.status), ("worse", 1))
-        self.assertIn("an acceptance doesn't hold, it got worse: unsettled/common-ancestor /up cgroup.procs by group team(50): carol(1002): "
+        self.assertIn("an acceptance doesn't hold, it got worse: unsettled/common-ancestor /up cgroup.procs by group team(50): "
+                      "carol(1002): "
                       "a test host, until 2026-12-31; now: /up cgroup.procs (0:50 664): unsettled, by group team(50): bob(1001) "
                       "carol(1002), of /up/b", list(lines_of(found)))
 
