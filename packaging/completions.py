@@ -2,10 +2,12 @@
 import re
 from collections import namedtuple
 
+import helps
+
 OPTION = re.compile(r"\s+(?:(-\w), )?(--[\w-]+)(?: <([^>]*)>)?(?:\.\.\.)?(?:\s\s+(.*))?")
 
-# as the helpers' --help has them: a help that doesn't fit beside its option stands below it
-HELPERS_OPTION = re.compile(r"  (?:-\w, )?(--[\w-]+)(?: ([A-Z]+|\{[^}]*\}))?(?:, --[\w-]+(?: \S+)?)?(?:  +(.*))?")
+# as the helpers' --help has them
+HELPERS_OPTION = re.compile(r"(?:-\w, )?(--[\w-]+)(?: ([A-Z]+|\{[^}]*\}))?(?:, --[\w-]+(?: \S+)?)?")
 FILES = ("FILE", "FOLDER", "PROGRAM")
 
 # value: what is named after it, or nothing; FILE is completed by names of files
@@ -29,9 +31,8 @@ def options_of(said):
 
 def helpers_options_of(said):
     """The options that a helper's help lists."""
-    lines = said.split("\n")
-    rows = (HELPERS_OPTION.fullmatch(line) for line in lines[lines.index("options:") + 1:])
-    return [Option(row[1], "FILE" if row[2] in FILES else row[2] or "", (row[3] or "").strip()) for row in rows if row]
+    rows = ((HELPERS_OPTION.fullmatch(tag), told) for tag, told in helps.parsed(said).lists["options"])
+    return [Option(row[1], "FILE" if row[2] in FILES else row[2] or "", told) for row, told in rows if row]
 
 
 def read_helpers(help_of):

@@ -1,6 +1,9 @@
 """Manual pages out of the project's own texts: sections of docs/*.md, and what --help says."""
 import re
+import textwrap
 
+# columns of a line of the source, and of one that stands as it is in a page of 78
+SOURCE, AS_IT_IS = 76, 66
 HEAD = re.compile(r"(#+) (.*)")
 BULLET = re.compile(r"([-*]|\d+\.) (.*)")
 
@@ -12,9 +15,20 @@ def escaped(text):
 def plain(text):
     """A line of Markdown as a manual page has it: what is code or strong in bold, a link by its words."""
     text = re.sub(r"\[([^]]*)\]\([^)]*\)", r"\1", text)
-    parts = re.split(r"(`[^`]*`|\*\*.+?\*\*)", text)
-    return "".join(f"\\fB{escaped(re.sub('[`*]', '', part))}\\fR" if part[:1] == "`" or part[:2] == "**" else escaped(part)
-                   for part in parts)
+    parts = re.split(r"(`[^`]*`|\*\*.+?\*\*|(?<![\w*])\*[\w' ]+\*(?!\w))", text)
+    return "".join(marked(part) for part in parts)
+
+
+def marked(part):
+    if part[:1] == "`" or part[:2] == "**":
+        return f"\\fB{escaped(part.strip('`') if part[:1] == '`' else re.sub('[`*]', '', part))}\\fR"
+    return f"\\fI{escaped(part[1:-1])}\\fR" if part[:1] == "*" and part[-1:] == "*" and len(part) > 2 else escaped(part)
+
+
+def flowed(text):
+    """Words as lines of the page's source, none of which is longer than what is read easily there."""
+    lines = textwrap.wrap(text, SOURCE, break_long_words=False, break_on_hyphens=False)
+    return [at_start(line) for line in lines]
 
 
 def at_start(text):
@@ -56,7 +70,28 @@ def kind_of(line):
 
 
 def code(lines):
-    return [".PP", ".RS 4", ".nf", *(at_start(escaped(line)) for line in lines), ".fi", ".RE"]
+    """Lines that stand as they are; of commands with what they do beside them each is a tag, and what is too long is cut."""
+    if sum(bool(re.match(r"\S.*?   +\S", line)) for line in lines) > len(lines) / 2 and any(len(it) > AS_IT_IS for it in lines):
+        return [part for line in lines for part in described(line)] + [".PP"]
+    return [".PP", ".RS 4", ".nf", *(at_start(escaped(part)) for line in lines for part in cut(line)), ".fi", ".RE"]
+
+
+def described(line):
+    command, _, told = line.partition("   ")
+    return [".TP", f"\\fB{escaped(command)}\\fR", *flowed(plain(told.strip()))]
+
+
+def cut(line):
+    """A line in parts, as a shell joins them again; a comment goes on as one."""
+    indent = " " * (len(line) - len(line.lstrip()) + 4)
+    while len(line) > AS_IT_IS:
+        at = line.rfind(" ", len(indent), AS_IT_IS - 2)
+        if at <= len(indent):
+            break
+        is_comment = "#" in line[:at + 2]
+        yield line[:at].rstrip() + ("" if is_comment else " \\")
+        line = indent + ("# " if is_comment and line[at + 1:at + 2] != "#" else "") + line[at + 1:].lstrip()
+    yield line
 
 
 def cells(row):
@@ -69,7 +104,7 @@ def table(lines):
     for row in lines[2:]:
         first, *others = cells(row)
         told = [cell if at == 0 else f"{heads[at + 1]}: {cell}" for at, cell in enumerate(others) if cell]
-        out += [".TP", at_start(plain(first)), *(at_start(plain(it)) + "." for it in told)]
+        out += [".TP", at_start(plain(first)), *(line for it in told for line in flowed(plain(it) + "."))]
     return [*out, ".PP"]
 
 
@@ -78,7 +113,7 @@ def items(lines):
     for line in lines:
         found = BULLET.match(line)
         mark = "\\(bu" if found and found[1] in "-*" else found and found[1]
-        out += [f".IP {mark} 3", at_start(plain(found[2]))] if found else [at_start(plain(line.strip()))]
+        out += [f".IP {mark} 3", *flowed(plain(found[2]))] if found else flowed(plain(line.strip()))
     return [*out, ".PP"]
 
 
@@ -88,11 +123,12 @@ def from_markdown(text, depth):
     for kind, lines in blocks(text.split("\n")):
         if kind == "head":
             marks, words = HEAD.fullmatch(lines[0]).groups()
+            words = words.replace("`", "")
             out.append(f".SH {escaped(words.upper())}" if len(marks) <= depth else f".SS {escaped(words)}")
         elif kind in ("code", "table", "list"):
             out += {"code": code, "table": table, "list": items}[kind](lines)
         else:
-            out += [".PP", *(at_start(plain(line)) for line in lines)]
+            out += [".PP", *flowed(plain(" ".join(lines)))]
     return out
 
 
@@ -115,12 +151,38 @@ def section(text, name):
     return "\n".join(lines[first:end])
 
 
-def page(name, number, version, about, body):
+def tidied(lines):
+    """Lines without requests that do nothing: a paragraph that begins where one has begun, or that ends where one begins."""
+    out = []
+    for at, line in enumerate(lines):
+        following = lines[at + 1] if at + 1 < len(lines) else ".SH"
+        if line == ".PP" and (following[:3] in (".SH", ".SS", ".TP", ".IP", ".PP") or out and out[-1][:3] in (".SH", ".SS")):
+            continue
+        out.append(line)
+    return out
+
+
+def page(name, number, version, day, about, body):
     """A whole page: its head, the line that apropos finds, and these lines."""
-    head = f'.TH {name.upper()} {number} "" "zirofen {version}" "zirofen"'
-    return "\n".join([head, ".SH NAME", f"{escaped(name)} \\- {escaped(about)}", *body]) + "\n"
+    head = f'.TH {name.upper()} {number} {day} "zirofen {version}" "zirofen"'
+    return "\n".join([head, *tidied([".SH NAME", f"{escaped(name)} \\- {escaped(about)}", *body])]) + "\n"
 
 
-def help_as_page(name, said):
-    """What --help says, as a section that begins with its usage; its lines stand as they are."""
-    return [f".SH {escaped(name.upper())}", *code(said.rstrip("\n").split("\n"))]
+def listed(entries):
+    """Entries of a help, each with its tag."""
+    return [line for tag, told in entries for line in (".TP", f"\\fB{escaped(tag)}\\fR", *(flowed(plain(told)) or ["\\&"]))]
+
+
+def from_helps(known, about):
+    """The synopsis, what it is about, the commands, their options and what they end with, out of the help of each by its name."""
+    out = [".SH SYNOPSIS"]
+    for said in known.values():
+        out += [".PP", *flowed(escaped(said.usage))]
+    out += [".SH DESCRIPTION", *from_markdown(about, 2), ".SH COMMANDS"]
+    for name, said in known.items():
+        out += [f".SS {escaped(name)}", *(line for it in said.paragraphs for line in (".PP", *flowed(plain(it))))]
+    out.append(".SH OPTIONS")
+    for name, said in known.items():
+        rows = [entry for kind, rows in said.lists.items() if kind != "commands" for entry in rows]
+        out += [f".SS {escaped(name)}", *listed(rows)]
+    return [*out, ".SH EXIT STATUS", *listed((name, said.status) for name, said in known.items())]

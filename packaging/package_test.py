@@ -6,6 +6,7 @@ import io
 import json
 import os
 import re
+import shutil
 import subprocess
 import sys
 import tarfile
@@ -85,7 +86,7 @@ class PackageTest(unittest.TestCase):
         self.assertEqual(run("sha256sum", "-c", "--quiet", "SHA256SUMS", cwd=self.made).returncode, 0)
 
     def test_the_program_is_whole_and_all_is_roots(self):
-        data = members(self.archive(".deb"))
+        data = members(self.archive("_amd64.deb"))
         with tarfile.open(fileobj=io.BytesIO(data["data.tar.xz"])) as files:
             program = files.extractfile("./usr/bin/zirofen")
             self.assertEqual(program.read(), self.program.bytes)
@@ -93,17 +94,112 @@ class PackageTest(unittest.TestCase):
                 self.assertEqual((file.uid, file.gid, file.mtime), (0, 0, 1577836800))
                 self.assertIn(file.mode, (0o755, 0o644))
         with tarfile.open(fileobj=io.BytesIO(self.archive(".tar.gz"))) as files:
-            self.assertEqual(len([it for it in files if it.isfile()]), len(self.files))
+            # the licence and what says how it is used
+            self.assertEqual(len([it for it in files if it.isfile()]), len(self.files) + 2)
 
     def test_dpkg_reads_it(self):
-        [name] = [it for it in os.listdir(self.made) if it.endswith(".deb")]
-        said = run("dpkg-deb", "--field", f"{self.made}/{name}", "Package", "Version", "Architecture", "Depends").stdout
-        for told in ("Package: zirofen", f"Version: {self.program.version}", "Architecture: amd64", "libc6 (>= 2.34)"):
-            self.assertIn(told, said)
-        out = f"{self.folder.name}/out"
-        self.assertEqual(run("dpkg-deb", "--extract", f"{self.made}/{name}", out).returncode, 0)
+        out, version = f"{self.folder.name}/out", f"{self.program.version}-{package.REVISION}"
+        for name, told in (("zirofen", ["Architecture: amd64", "Depends: libc6 (>= 2.34)", "Recommends: zirofen-host"]),
+                           ("zirofen-host", ["Architecture: all", f"Depends: zirofen (= {version}), python3 (>= 3.11)",
+                                             "Breaks: zirofen (<< 0.2.0-1~)", "Replaces: zirofen (<< 0.2.0-1~)"])):
+            file = self.debian_file(name)
+            said = run("dpkg-deb", "--field", file, "Package", "Version", "Architecture", "Depends", "Recommends", "Breaks", "Replaces")
+            self.assertEqual(said.stdout.splitlines(), [f"Package: {name}", f"Version: {version}", *told])
+            self.assertEqual(run("dpkg-deb", "--extract", file, out).returncode, 0)
         self.assertEqual(run(f"{out}/usr/bin/zirofen", "--version").stdout, f"zirofen {self.program.version}\n")
         self.helpers_run(f"{out}/usr/bin", f"{out}/{package.DOCS}/examples/delegation.toml")
+
+    def debian_file(self, name):
+        [found] = [it for it in os.listdir(self.made) if it.startswith(f"{name}_") and it.endswith(".deb")]
+        return f"{self.made}/{found}"
+
+    def test_each_file_is_in_one_package(self):
+        """And the program's needs no Python."""
+        listed = {}
+        for name in ("zirofen", "zirofen-host"):
+            said = run("dpkg-deb", "--contents", self.debian_file(name)).stdout
+            listed[name] = {line.split()[5][2:] for line in said.splitlines() if not line.endswith("/")}
+        self.assertEqual(listed["zirofen"] & listed["zirofen-host"], set())
+        self.assertLessEqual(set(self.files), listed["zirofen"] | listed["zirofen-host"])
+        self.assertFalse([path for path in listed["zirofen"] if path.endswith(".py") or "systemd" in path or path.startswith("etc/")])
+        self.assertIn("usr/share/doc/zirofen/NEWS.Debian.gz", listed["zirofen"])
+
+    def test_the_archive_works_wherever_it_is_unpacked(self):
+        """In a folder with a blank, for nobody, as its README says."""
+        with tempfile.TemporaryDirectory() as room:
+            os.chmod(room, 0o755)
+            with tarfile.open(fileobj=io.BytesIO(self.archive(".tar.gz"))) as files:
+                files.extractall(f"{room}/a blank")
+            [top] = os.listdir(f"{room}/a blank")
+            where = f"{room}/a blank/{top}"
+            as_nobody = ["setpriv", "--reuid", "65534", "--regid", "65534", "--clear-groups"] if os.geteuid() == 0 else []
+            with open(f"{where}/README", encoding="ascii") as text:
+                commands = [line.strip() for line in text if line.startswith("    usr/bin/") and "--tree" in line]
+            self.assertEqual(len(commands), 2)
+            for command, first in zip(commands, ("contained\n", "UID ")):
+                said = run(*as_nobody, "sh", "-c", command, cwd=where, env={"PATH": "/usr/bin:/bin"})
+                self.assertEqual((said.returncode, said.stderr, said.stdout[:len(first)]), (0, "", first))
+            said = run(*as_nobody, f"{where}/usr/bin/zirofen-host", "check", "--help", cwd="/", env={"PATH": "/usr/bin:/bin"}).stdout
+            self.assertIn(f"{where}/usr/share/doc/zirofen/docs/HOSTS.md", re.sub(r"\s+", " ", said))
+
+    def fenced(self, kind):
+        """The blocks of a kind in the page for pipelines."""
+        with open(f"{TOP}/docs/CI.md", encoding="ascii") as text:
+            return re.findall(rf"^```{kind}\n(.*?)^```$", text.read(), re.M | re.S)
+
+    def jobs(self):
+        """The lines of each job: behind `run: |` those that are indented further, behind `script:` those of its list."""
+        github, gitlab = self.fenced("yaml")[:2]
+        runs = [block for _, block in re.findall(r"^( +)run: \|\n((?:\1 +.*\n)+)", github, re.M)]
+        [script] = re.findall(r"^  script:\n((?:    - .*\n)+)", gitlab, re.M)
+        return {"zirofen.sarif": "".join(runs), "zirofen.xml": re.sub("^    - ", "", script, flags=re.M)}
+
+    def test_the_jobs_of_the_page_for_pipelines(self):
+        """They fail on a tree that escapes, and pass on one that holds; the report is left both times."""
+        for tree, status, told in (("delegation-limit-writable", 1, "escapes/limit-file"), ("delegation", 0, None)):
+            for left, lines in self.jobs().items():
+                with self.subTest(tree, left=left), tempfile.TemporaryDirectory() as room:
+                    with open(f"{room}/zirofen-0-linux-x86_64.tar.gz", "wb") as out:
+                        out.write(self.archive(".tar.gz"))
+                    shutil.copy(f"{TOP}/examples/{tree}.toml", f"{room}/tree.toml")
+                    ended = run("bash", "-e", "-c", lines, cwd=room, env={"PATH": "/usr/bin:/bin"})
+                    self.assertEqual((ended.returncode, ended.stderr), (status, ""))
+                    with open(f"{room}/{left}", encoding="ascii") as text:
+                        report = text.read()
+                    if left.endswith("sarif"):
+                        results = json.loads(report)["runs"][0]["results"]
+                        self.assertEqual([each["ruleId"] for each in results], [told] if told else [])
+                    else:
+                        self.assertEqual("<failure" in report, bool(status))
+
+    def recipe_ends(self, room, tree, *words):
+        """What a recipe of the page ends with where the program of each host judges a tree in place of it."""
+        os.makedirs(f"{room}/bin", exist_ok=True)
+        for name, does in (("ssh", '[ "$1" = -n ]; shift 2; exec "$@"'),
+                           ("zirofen-host", f'exec {TOP}/host/zirofen-host "$@" --tree {TOP}/examples/{tree}.toml')):
+            with open(f"{room}/bin/{name}", "w", encoding="ascii") as out:
+                out.write(f"#!/bin/sh\n{does}\n")
+            os.chmod(out.name, 0o755)
+        return run(*words, cwd=room, env={**os.environ, "PATH": f"{room}/bin:/usr/bin:/bin", "HOME": room})
+
+    def test_the_recipe_for_ssh(self):
+        with tempfile.TemporaryDirectory() as room:
+            with open(f"{room}/hosts", "w", encoding="ascii") as out:
+                out.write("web1\nweb2\n")
+            [recipe] = self.fenced("sh")
+            ended = self.recipe_ends(room, "delegation-limit-writable", "bash", "-c", recipe)
+            self.assertEqual(ended.stdout, "web1: 1\nweb2: 1\n")
+            with open(f"{room}/web2.json", encoding="ascii") as text:
+                self.assertEqual(json.load(text)["status"], 1)
+
+    def test_the_recipe_for_ansible(self):
+        """On the machine itself, by Debian's ansible."""
+        with tempfile.TemporaryDirectory() as room:
+            with open(f"{room}/check.yml", "w", encoding="ascii") as out:
+                out.write(self.fenced("yaml")[2].replace("become: true", "gather_facts: false"))
+            for tree, status in (("delegation-limit-writable", 2), ("delegation", 0)):
+                ended = self.recipe_ends(room, tree, "ansible-playbook", "-i", "localhost,", "-c", "local", "check.yml")
+                self.assertEqual(ended.returncode, status, ended.stdout + ended.stderr)
 
     def helpers_run(self, folder, tree):
         """The installed helpers ask the installed program, and draw what it answered."""
@@ -117,8 +213,7 @@ class PackageTest(unittest.TestCase):
         self.assertIn("<!DOCTYPE html>", run(f"{folder}/zirofen-host", "page", out.name).stdout)
 
     def test_lintian_has_nothing_above_information(self):
-        [name] = [it for it in os.listdir(self.made) if it.endswith(".deb")]
-        said = run("lintian", "--allow-root", f"{self.made}/{name}")
+        said = run("lintian", "--allow-root", self.debian_file("zirofen"), self.debian_file("zirofen-host"))
         self.assertEqual([line for line in said.stdout.splitlines() if line[:2] in ("E:", "W:")], [], said.stderr)
 
     def page(self, path):
@@ -132,17 +227,44 @@ class PackageTest(unittest.TestCase):
         return re.sub(r"\s+", " ", said.stdout)
 
     def test_pages_say_what_help_and_docs_say(self):
-        shown = self.shown("man1/zirofen.1")
-        for words in ((), *((name,) for name in self.program.commands())):
-            for line in self.program.help(*words).split("\n"):
-                self.assertIn(re.sub(r"\s+", " ", line.strip()), shown)
-        shown = self.shown("man8/zirofen-host.8")
-        for name in package.helpers():
-            for line in package.host_help(name).split("\n"):
-                self.assertIn(re.sub(r"\s+", " ", line.strip()), shown)
+        for path, help_of, names in (("man1/zirofen.1", self.program.help, self.program.commands()),
+                                     ("man8/zirofen-host.8", package.host_help, package.helpers())):
+            shown = self.shown(path)
+            for name in names:
+                said = package.helps.parsed(help_of(name))
+                self.assertTrue(said.usage and said.paragraphs and said.status and said.lists["options"], name)
+                told = [word for entries in said.lists.values() for entry in entries for word in entry]
+                for words in (said.usage, said.status, *said.paragraphs, *told):
+                    self.assertIn(re.sub(r"\s+", " ", words.replace("`", "")), shown)
         shown = self.shown("man5/zirofen-tree.5")
         for word in re.findall(r"^\| `([^`|]+)`", package.manual.section(package.docs("FORMATS.md"), "Tree text"), re.M):
             self.assertIn(word, shown)
+
+    def test_pages_are_manual_pages(self):
+        """By mandoc and man, in 78 columns, with the sections that one looks for and no mark of Markdown."""
+        for path in ("man1/zirofen.1", "man5/zirofen-tree.5", "man8/zirofen-host.8"):
+            with self.subTest(path):
+                file = f"{self.folder.name}/{os.path.basename(path)}"
+                with open(file, "w", encoding="ascii") as out:
+                    out.write(self.page(path))
+                said = run("mandoc", "-Tlint", file)
+                self.assertEqual((said.returncode, said.stdout, said.stderr), (0, "", ""))
+                said = run("man", "--warnings", "-l", file, env={**os.environ, "MANWIDTH": "78", "LC_ALL": "C.UTF-8"})
+                self.assertEqual((said.returncode, said.stderr), (0, ""))
+                self.assertEqual([line for line in said.stdout.splitlines() if len(line) > 78], [])
+                self.assertNotRegex(said.stdout, r"`|\*\*|\*(Means|Stays|Subtrees)\*|\]\(")
+                if path != "man5/zirofen-tree.5":
+                    wanted = ["SYNOPSIS", "DESCRIPTION", "OPTIONS", "EXIT STATUS", "ENVIRONMENT", "FILES", "EXAMPLES"]
+                    self.assertEqual([head for head in re.findall(r"^([A-Z ]+)$", said.stdout, re.M) if head in wanted], wanted)
+        self.assertIn("hugetlb.*", self.shown("man8/zirofen-host.8"))
+
+    def test_completions_are_whole_sentences(self):
+        for known in (package.completions.read(self.program.help), package.completions.read_helpers(package.host_help)):
+            for name, (_, options) in known.items():
+                for option in options:
+                    self.assertNotRegex(option.told, r"^$|,$|\b(the|a|of|in|and|or|with|by)$", f"{name} {option.name}")
+        self.assertIn("that cgroup, its ancestors and what is inside it, and no more",
+                      self.files["usr/share/fish/vendor_completions.d/zirofen-host.fish"].data.decode())
 
     def test_completions_have_each_command_and_option(self):
         known = package.completions.read(self.program.help)
@@ -183,7 +305,9 @@ class PackageTest(unittest.TestCase):
             self.assertEqual(run("zsh", "-n", f"{self.folder.name}/_zirofen").stderr, "")
 
     def test_the_copyright_names_the_toolchain_of_the_program(self):
-        self.assertIn(f"\nwith, {self.program.manifest['kit'].split(' ')[0]}, and uses", self.files[f"{package.DOCS}/copyright"].data.decode())
+        for name in ("zirofen", "zirofen-host"):
+            legal = next(file for file in package.legal_files(self.program, name) if file.path.endswith("/copyright"))
+            self.assertIn(f"\nwith, {self.program.manifest['kit'].split(' ')[0]}, and uses", legal.data.decode())
 
     def test_the_version_is_the_first_of_the_changes(self):
         with open(f"{TOP}/CHANGELOG.md", encoding="ascii") as text:

@@ -1,5 +1,6 @@
 """Tests of the parts of ./package that take no program: archives, pages, completions, and what is installed beside it."""
 import io
+import json
 import os
 import shutil
 import subprocess
@@ -70,10 +71,11 @@ class TextTest(unittest.TestCase):
         self.assertEqual(manual.section("## B\n\n```\n# no heading\n```\n\n## D", "B"), "## B\n\n```\n# no heading\n```\n")
 
     def test_changes_as_debian_writes_them(self):
-        told = changes.debian("# Changes\n\n## 0.2.0, 2026-11-25\n\n- One\n  thing.\n\n## 0.1.0, 2026-11-20\n\n- Other.\n", "They <they@it>")
-        self.assertEqual(told.splitlines()[:5], ["zirofen (0.2.0) unstable; urgency=medium", "", "  * One thing.", "",
+        told = changes.debian("# Changes\n\n## 0.2.0, 2026-11-25\n\n- One\n  thing.\n\n## 0.1.0, 2026-11-20\n\n- Other.\n", "They <they@it>",
+                              "it", "1")
+        self.assertEqual(told.splitlines()[:5], ["it (0.2.0-1) unstable; urgency=medium", "", "  * One thing.", "",
                                                  " -- They <they@it>  Wed, 25 Nov 2026 12:00:00 +0000"])
-        self.assertIn("zirofen (0.1.0) unstable", told)
+        self.assertIn("it (0.1.0) unstable", told)
 
     def test_commands_and_options_are_those_of_help(self):
         known = completions.read(lambda *words: LOOK if words else HELP)
@@ -98,6 +100,7 @@ class InstalledTest(unittest.TestCase):
     def test_the_unit_calls_the_helper_by_its_path_with_options_that_it_has(self):
         words = self.unit()["ExecStart"].split()
         self.assertEqual((words[:2], words[-1]), (["/usr/bin/zirofen-host", "check"], "$OPTIONS"))
+        self.assertEqual(words[words.index("--accept") + 1], "/etc/zirofen/accept.toml")
         helps = self.host("check", "--help").stdout
         for option in words[2:-1]:
             self.assertTrue(option[:2] != "--" or f"  {option} " in helps, option)
@@ -105,8 +108,28 @@ class InstalledTest(unittest.TestCase):
         self.assertEqual((words[words.index("--seconds") + 1], self.unit()["TimeoutStartSec"]), ("1500", "30min"))
         with open(f"{HERE}/debian/zirofen-check.default", encoding="ascii") as text:
             self.assertEqual([line for line in text.read().splitlines() if line[:1] != "#"], ["OPTIONS="])
-        with open(f"{HERE}/debian/conffiles", encoding="ascii") as text:
-            self.assertEqual(text.read(), f"/{self.unit()['EnvironmentFile'][2:]}\n")
+        with open(f"{HERE}/debian/zirofen-host/conffiles", encoding="ascii") as text:
+            self.assertEqual(text.read(), f"/{self.unit()['EnvironmentFile'][2:]}\n/etc/zirofen/accept.toml\n")
+
+    def test_the_acceptances_that_are_installed_are_none(self):
+        """And what they show behind # is one that is taken."""
+        with open(f"{HERE}/debian/accept.toml", encoding="ascii") as text:
+            whole = text.read()
+        shown = "".join(line[4:] for line in whole.splitlines(True) if line.startswith("#   "))
+        for given, numbers in ((whole, 0), (shown, 1)):
+            file = f"{self.room}/accept.toml"
+            with open(file, "w", encoding="ascii") as out:
+                out.write(given)
+            tree = f"{TOP}/examples/delegation.toml"
+            said = subprocess.run([f"{TOP}/host/zirofen-host", "check", "--tree", tree, "--accept", file, "--json"], capture_output=True,
+                                  text=True)
+            self.assertEqual(len(json.loads(said.stdout)["acceptances"]), numbers, said.stderr)
+
+    def test_what_the_unit_writes(self):
+        unit = self.unit()
+        self.assertEqual((unit["ReadWritePaths"], unit["StateDirectory"]), ("-/var/lib/prometheus/node-exporter", "zirofen"))
+        with open(f"{HERE}/debian/zirofen-check.default", encoding="ascii") as text:
+            self.assertIn(f"metrics={unit['ReadWritePaths'][1:]}/", text.read())
 
     def test_the_unit_is_exposed_by_two_at_most(self):
         """And nothing in it hides what a check by hand sees."""
@@ -120,7 +143,7 @@ class InstalledTest(unittest.TestCase):
         self.assertFalse({"ProtectProc", "ProcSubset", "PrivateUsers", "PrivatePIDs", "DynamicUser", "User"} & settings.keys())
 
     def test_nothing_is_switched_on(self):
-        for name in os.listdir(f"{HERE}/debian"):
+        for name in files_of(f"{HERE}/debian"):
             with open(f"{HERE}/debian/{name}", encoding="ascii") as text:
                 self.assertNotRegex(text.read(), r"systemctl.*(enable|start)|deb-systemd-(helper|invoke) (enable|start)")
 

@@ -3,11 +3,14 @@ import os
 
 TOP = os.path.dirname(os.path.dirname(os.path.dirname(os.path.realpath(__file__))))
 WRAPPER = os.path.join(TOP, "zirofen")
-PROGRAM = "/usr/bin/zirofen"
+PREFIX = os.path.normpath(os.path.join(TOP, "../.."))
+# the program that was installed or unpacked with this package, else that of the system
+PROGRAM = next(filter(os.path.isfile, (f"{PREFIX}/bin/zirofen",)), "/usr/bin/zirofen")
 
 IS_CLONE = os.path.isfile(WRAPPER)
 # what a line can name to read on
-MANUAL = "docs/HOSTS.md" if IS_CLONE else "zirofen-host(8)"
+UNPACKED = os.path.join(PREFIX, "share/doc/zirofen/docs/HOSTS.md")
+MANUAL = "docs/HOSTS.md" if IS_CLONE else UNPACKED if PREFIX != "/usr" and os.path.isfile(UNPACKED) else "zirofen-host(8)"
 # what the program is called where its place doesn't matter
 TOLD_PROGRAM = "the wrapper beside this folder" if IS_CLONE else PROGRAM
 
