@@ -38,8 +38,8 @@ def parsed(said):
             usage = joined(block)[len("usage: "):]
         elif head in ("options", "commands", "positional arguments"):
             lists[head] = entries(block[1:])
-        elif block[0].startswith("Status: "):
-            status, rest = block[0][len("Status: "):], block[1:]
+        elif block[0].startswith("Status"):
+            status, rest = block[0].partition(" ")[2], block[1:]
             paragraphs += [joined(rest)] if rest else []
         elif head not in ("example", "examples"):
             paragraphs.append(joined(block))
