@@ -44,6 +44,9 @@ def parsed(said):
         elif head not in ("example", "examples"):
             paragraphs.append(joined(block))
     if not status:
+        told_so = re.search(r"^Status: (.*)", said, re.M)
+        status = told_so[1] if told_so else ""
+    if not status:
         told = [re.search(r"The status is .*", it) for it in paragraphs]
         status = next((it[0] for it in told if it), "")
     return Help(usage, paragraphs, lists, status)
