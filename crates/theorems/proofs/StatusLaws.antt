@@ -114,12 +114,12 @@ module _ (st : State) (given : List (ℕ × List ℕ)) (words : List (List ℕ))
       (found_is _ pairs (sym listing_is ∙ is)) in
       (sym stated.1, all-unlisted st (once same_user users) (once same_path subtrees) stated.0 (λ _. formed))
 
-  advice_is : advise_report (Ok st) given words ≡ advice_report st (once same_path subtrees) (all_pairs (once same_user users) (once same_path subtrees))
+  advice_is : advise_report (Ok st) given words ≡ advice_report st (once same_user users) (once same_path subtrees)
   advice_is =
       ap (λ u. report_on u (λ users. report_on (paths_read words)
-      (λ subtrees. advice_report st (once same_path subtrees) (all_pairs (once same_user users) (once same_path subtrees)))))
+      (λ subtrees. advice_report st (once same_user users) (once same_path subtrees))))
       of_users
-      ∙ ap (λ p. report_on p (λ subtrees. advice_report st (once same_path subtrees) (all_pairs (once same_user users) (once same_path subtrees)))) of_paths
+      ∙ ap (λ p. report_on p (λ subtrees. advice_report st (once same_user users) (once same_path subtrees))) of_paths
 
   -- what is found, where no subtree has a fault, and what is said of it
   pub advice_found : (status : ℕ) → (advise_report (Ok st) given words).ending ≡ Ok status
@@ -129,8 +129,8 @@ module _ (st : State) (given : List (ℕ × List ℕ)) (words : List (List ℕ))
   advice_found status is =
       let us = once same_user users in
       let ss = once same_path subtrees in
-      let one = report_ok (in_call (advice_of st ss (all_pairs us ss))) lines_report status (ap (λ (r : Report). r.ending) (sym advice_is) ∙ is) in
-      let found = found_is (advice_of st ss (all_pairs us ss)) one.0 one.1 in
+      let one = report_ok (in_call (advice_of st us ss)) lines_report status (ap (λ (r : Report). r.ending) (sym advice_is) ∙ is) in
+      let found = found_is (advice_of st us ss) one.0 one.1 in
       let stated = unfaulted (first (flat_map (subtree_faults st) ss)) (advice_lines st (all_pairs us ss)) one.0 found in (
         one.0,
         stated.0,
