@@ -269,8 +269,7 @@ fn of_pairs_nobody_is_asked_of_the_others_subtrees(rt: HostRuntime) -> Result<()
     let call = Call::AdvisePairs(&again);
     expect(&rt, rt.alloc(), text.as_bytes(), call, HANDED_ON.report, 1);
     let users = [user(1000, &[]), user(1001, &[50])];
-    let all =
-        "fails common-ancestor /a cgroup.procs 1000:0 644 owner\nchown /a cgroup.procs 0:0\nfails parent-control /a cgroup.subtree_control 1000:0 644 owner\nchown /a cgroup.subtree_control 0:0\nfails parent-dir /a dir 1000:0 755 owner\nchown /a dir 0:0\nfails limit-file /a/b memory.max 0:50 664 group\nchmod /a/b memory.max 644\n";
+    let all = "fails common-ancestor /a cgroup.procs 1000:0 644 owner\nchown /a cgroup.procs 0:0\nfails parent-control /a cgroup.subtree_control 1000:0 644 owner\nchown /a cgroup.subtree_control 0:0\nfails parent-dir /a dir 1000:0 755 owner\nchown /a dir 0:0\nfails limit-file /a/b memory.max 0:50 664 group\nchmod /a/b memory.max 644\n";
     let call = Call::Advise(&users, &["/a", "/a/b"]);
     expect(&rt, rt.alloc(), text.as_bytes(), call, all, 1);
     let call = Call::AdvisePairs(&[]);
