@@ -1,5 +1,5 @@
 mod CommandLaws
 mod FoundLaws
 mod GivenLaws
-pub mod UserWordLaws
+mod UserWordLaws
 mod WordLaws

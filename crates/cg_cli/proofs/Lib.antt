@@ -6,7 +6,6 @@ mod ReplayReads
 pub mod CheckReports
 pub mod AdviseReports
 pub mod AdvisedTrees
-mod NamedPairs
 mod EachRead
 pub mod AuditStatus
 pub mod AuditOnce

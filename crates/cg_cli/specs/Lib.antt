@@ -13,4 +13,3 @@ pub mod Once
 pub mod AllPairs
 pub mod Asking
 pub mod Advising
-pub mod Pairs

@@ -1,6 +1,5 @@
 pub mod BufferedLaws
 mod FaultLaws
-mod PairLaws
 mod ProgramLaws
 mod RequestLaws
 mod RunLaws

@@ -1,4 +1,3 @@
 pub mod Faults
-pub mod PairLines
 pub mod Requests
 pub mod Runs

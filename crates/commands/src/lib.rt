@@ -3,6 +3,5 @@
 
 mod carried;
 pub mod fault;
-mod pairs;
 pub mod program;
 pub mod run;
