@@ -2,6 +2,7 @@ pub mod TextKeys
 mod Alike
 pub mod Turns
 pub mod Refits
+pub mod Taken
 pub mod Values
 pub mod Counted
 pub mod Puts

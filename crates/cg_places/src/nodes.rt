@@ -1,13 +1,12 @@
 //! Cgroups at their places, and what is counted of their children and processes.
-ghost use Rattle.std.specs.Prelude.{◌≡◌, true, ◌<◌, cond, map, length, slice_set, [], ◌∷◌, None, IfOk, OnOk, OnErr};
-ghost use Rattle.cg_cgroup.specs.Files.{brought_files, stands_under};
-ghost use Rattle.cg_cgroup.specs.Cgroups.{file_of};
+ghost use Rattle.std.specs.Prelude.{◌≡◌, true, ◌<◌, length, slice_set, [], ◌∷◌, None, IfOk, OnOk, OnErr};
 ghost use Rattle.cg_places.specs.Links.{put_at};
 ghost use Rattle.cg_places.specs.Nodes.{Refits, RefitsShared, RefitsSlots, HasGrown, IsSharedAt, kin_if, new_node, new_slot, node_at, slot_at, more_if, less_if, uses_after, uses_of, with_cgroup, with_own, with_live, with_uses, tallied_node, recounted, enabled_at, differing, with_files_from};
+ghost use Rattle.cg_places.specs.Taken.{Takes};
 
 use crate::links::{Link, Tally};
 use cg_cgroup::brought::BroughtFiles;
-use cg_cgroup::cgroup::{Cgroup, LimitEntry};
+use cg_cgroup::cgroup::Cgroup;
 use cg_cgroup::files::{BROUGHT_COUNT, Controller, ControllerSet, LimitFile};
 use cg_cgroup::memory::NoMemory;
 use std::alloc::Global;
@@ -375,32 +374,15 @@ pub fn differing(had: ControllerSet, has: ControllerSet) -> ControllerSet
     }
 }
 
-/// The files that controllers bring, where these controllers change: a changed one's as another cgroup has them.
-fn files_from(
-    cgroup: &Cgroup,
-    changed: ControllerSet,
-    from: &Cgroup,
-) -> [Option<LimitEntry>; BROUGHT_COUNT]
-    ensures { result ≡ map
-        (λ file. cond (stands_under changed file) (file_of from.now file) (file_of cgroup.now file))
-        brought_files }
+/// Gives the files of these controllers as they are elsewhere. What doesn't change isn't written.
+#[tactic(auto, using(crate::proofs::Taken::taken_one, crate::proofs::Taken::taken_none))]
+fn take_each(files: &mut BroughtFiles, changed: ControllerSet, from: &BroughtFiles)
+    ensures { Takes changed from.now files.old files.new }
 {
-    LimitFile::BROUGHT.map(|file| file_from(cgroup, changed, from, file))
-}
-
-/// A limit file, of the other cgroup where a controller that changes brings it.
-fn file_from(
-    cgroup: &Cgroup,
-    changed: ControllerSet,
-    from: &Cgroup,
-    file: LimitFile,
-) -> Option<LimitEntry>
-    ensures { result ≡ cond (stands_under changed file) (file_of from.now file) (file_of cgroup.now file) }
-{
-    if file.stands_under(changed) {
-        from.file(file)
-    } else {
-        cgroup.file(file)
+    for place in 0..BROUGHT_COUNT {
+        if LimitFile::BROUGHT[place].stands_under(changed) {
+            files.set(place, from.get(place));
+        }
     }
 }
 
@@ -408,9 +390,7 @@ fn file_from(
 fn take_files(cgroup: &mut Cgroup, changed: ControllerSet, from: &Cgroup)
     ensures { cgroup.new ≡ with_files_from changed from.now cgroup.old }
 {
-    cgroup.files = BroughtFiles {
-        entries: files_from(cgroup, changed, from),
-    };
+    take_each(&mut cgroup.files, changed, &from.files);
 }
 
 /// Gives the cgroups that children of a place share the limit files of these controllers as a new one has them.
