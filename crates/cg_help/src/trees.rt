@@ -12,7 +12,10 @@ use shape::shape_said;
 use std::alloc::{AllocError, Global};
 use streams::kept::MOST_BYTES;
 use table::{RowAt, label, paths_of_rows, row, text_at};
-use toml::Table;
+use toml::{Error, Table};
+
+/// How many digits of an octal number are shown at most.
+const MOST_DIGITS: usize = 21;
 
 /// What is wrong with the text of a tree, which has this fault.
 pub(crate) fn tree_said(
@@ -26,8 +29,46 @@ pub(crate) fn tree_said(
     match toml::table_from_slice(alloc, bytes) {
         Ok(top) => fault_said(alloc, fault, &top),
         Err(error) if error.is_memory() => Ok(None),
-        Err(error) => Ok(Some(format!(in alloc; "{error}")?)),
+        Err(error) => match misspelled_said(alloc, bytes, &error)? {
+            Some(why) => Ok(Some(format!(in alloc; "{error}\n{why}")?)),
+            None => Ok(Some(format!(in alloc; "{error}")?)),
+        },
     }
+}
+
+/// How a value is written that stands at the place of an error: an octal number as C has it, or `max` without quotes.
+fn misspelled_said(
+    alloc: Global,
+    bytes: &[u8],
+    error: &Error,
+) -> Result<Option<String>, AllocError> {
+    let Some(span) = error.span() else {
+        return Ok(None);
+    };
+    let (_, behind) = bytes.split_at(span.start.min(bytes.len()));
+    if behind.starts_with(b"max") {
+        return plainly(alloc, "max is a text: write \"max\"");
+    }
+    match octal_digits(behind) {
+        Some(digits) => Ok(Some(format!(in alloc;
+            "an octal number begins with 0o: write 0o{digits}"
+        )?)),
+        None => Ok(None),
+    }
+}
+
+/// The octal digits of a number that begins with 0 and has more of them.
+fn octal_digits(text: &[u8]) -> Option<&str> {
+    let digits = text.strip_prefix(b"0")?;
+    let count = digits
+        .iter()
+        .take_while(|byte| matches!(**byte, b'0'..=b'7'))
+        .count();
+    if count == 0 || MOST_DIGITS < count {
+        return None;
+    }
+    let (digits, _) = digits.split_at(count);
+    std::str::from_utf8(digits).ok()
 }
 
 /// The first of these paths that no row of a tree's text has.

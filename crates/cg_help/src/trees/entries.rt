@@ -1,5 +1,6 @@
 //! Owners, modes and values that are out of range.
 use crate::trees::table::{RowAt, shown_value};
+use cg_cgroup::files::{Limit, LimitFile};
 use cg_text::tree::Place;
 use std::alloc::{AllocError, Global};
 use toml::{Table, Value};
@@ -121,10 +122,12 @@ fn value_of(file: &Value) -> Option<&Value> {
 }
 
 fn is_accepted(name: &str, value: &Value) -> bool {
+    let Some(file) = LimitFile::from_name(name) else {
+        return true;
+    };
     match value {
-        Value::Integer(number) if name == "cpu.weight" => 1 <= *number && *number <= 10000,
-        Value::Integer(number) => 0 <= *number,
-        Value::String(text) => text.as_str() == "max" && name != "cpu.weight",
+        Value::Integer(number) => 0 <= *number && file.accepts(Limit::At(*number as u64)),
+        Value::String(text) => text.as_str() == "max" && file.accepts(Limit::Max),
         _ => false,
     }
 }

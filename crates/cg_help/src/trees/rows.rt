@@ -1,7 +1,7 @@
 //! Rows that don't go together.
 use crate::shown::quoted;
 use crate::trees::table::{RowAt, row_of, shown_value, text_at, texts_at};
-use cg_cgroup::files::LimitFile;
+use cg_cgroup::files::{Controller, LimitFile};
 use cg_text::tree::Place;
 use std::alloc::{AllocError, Global};
 use toml::{Table, Value};
@@ -19,7 +19,7 @@ pub(super) fn controller_said(
         Some(text) => {
             let shown = quoted(alloc, text)?;
             Ok(Some(format!(in alloc;
-                "'{shown}' of {key} isn't cpu, memory or pids: leave it out"
+                "'{shown}' of {key} isn't cpu, memory or pids: left out, its limits count in no answer"
             )?))
         }
         None => Ok(None),
@@ -29,7 +29,7 @@ pub(super) fn controller_said(
 fn unknown_controller(texts: &[Value]) -> Option<&str> {
     for value in texts {
         if let Some(text) = value.as_str() {
-            if !matches!(text, "cpu" | "memory" | "pids") {
+            if Controller::from_name(text).is_none() {
                 return Some(text);
             }
         }
