@@ -72,6 +72,7 @@ def tree_trials(kind):
         if report != "contained":
             word = {"e": "Escapes", "u": "Unsettled"}[report[0]]
             yield "check", tree, [kind, "check", "1000", subtree], f"Ok({word}("
+    yield "find_escape", PARENT_DIRECTORY, [kind, "find_escape", "1000", "/c1"], "Ok(Some(Operations { items: [Exit { pid: Pid { number: 10 } }, Rmdir "
     yield "check_all", SECOND_USER, [kind, "check_all", "1000", "1001", "/c0", "/c1"], "Ok(Pair { user: 1, subtree: 0, answer: Escapes("
 
 

@@ -65,6 +65,7 @@ fn of_tree<H: Hierarchy + Drop>(tree: H, trial: &mut Trial<'_>) -> Ended {
         "failed_guard" => checks::guarded(tree, trial),
         "check" => checks::checked(tree, trial),
         "check_all" => checks::all_checked(tree, trial),
+        "find_escape" => checks::escape_found(tree, trial),
         _ => Err(Stopped::BadWords),
     }
 }

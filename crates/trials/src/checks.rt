@@ -3,11 +3,13 @@ use crate::begin::Stopped;
 use crate::lent::asked;
 use crate::said::answer_said;
 use crate::trial::{Ended, Trial};
+use cg_cgroup::memory::NoMemory;
 use cg_cgroup::path::Path;
 use cg_cgroup::user::User;
 use cg_check::{check, check_all};
 use cg_guards::failed::failed_guard;
 use cg_model::fault::CheckFault;
+use cg_plans::escape::find_escape;
 use cg_tree::hierarchy::Hierarchy;
 use std::alloc::Global;
 
@@ -34,6 +36,19 @@ pub fn checked<H: Hierarchy + Drop>(tree: H, trial: &mut Trial<'_>) -> Ended {
         &tree,
         CheckFault::NoMemory,
         || check(alloc, &tree, &user, &subtree),
+    )
+}
+
+/// `find_escape UID SUBTREE`
+pub fn escape_found<H: Hierarchy + Drop>(tree: H, trial: &mut Trial<'_>) -> Ended {
+    let alloc = trial.alloc;
+    let user = trial.words.user()?;
+    let subtree = trial.words.path(alloc)?;
+    asked(
+        trial,
+        &tree,
+        NoMemory,
+        || find_escape(alloc, &tree, &user, &subtree),
     )
 }
 
