@@ -3,13 +3,14 @@
 host/ has to be on the path.
 """
 import collections
+import dataclasses
 import itertools
 
 from device_rows import ANSWERS, ASKED, FAULTS
 from trial_rows import CHECKS, REPLAYS, lines
-from zirofen_host.profile import CONTROLLERS, CONTROL_FILES, LIMIT_FILES, LONGEST_PATH, MOST_GROUPS, accepts, is_root, text_of
+from zirofen_host.profile import CONTROLLERS, CONTROL_FILES, LIMIT_FILES, LONGEST_PATH, MOST_GROUPS, accepts, is_root, path_of, text_of
 from zirofen_host.collect.tree import Row, Tree, tree_text
-from zirofen_host.collect.model import Entry
+from zirofen_host.collect.model import Entry, Placed
 
 # a command's words, on the tree that is standard input; where OPS stands in them, the file of these operations
 Asked = collections.namedtuple("Asked", "words operations")
@@ -30,7 +31,9 @@ def owned(path, uid, gid=0, mode=0o644, **more):
 
 
 def tree_of(rows, processes=()):
-    return Tree(CONTROLLERS, {row.path: row for row in rows}, [*processes])
+    """The tree of rows and of processes, in which paths are texts."""
+    rows = [dataclasses.replace(row, path=path_of(row.path)) for row in rows]
+    return Tree(CONTROLLERS, {row.path: row for row in rows}, [Placed(pid, uid, path_of(path)) for pid, uid, path in processes])
 
 
 def named():

@@ -115,7 +115,8 @@ class CostTest(CrowdedTest):
             seconds.append(self.browser.seconds() - before)
         return seconds
 
-    def test_seven_times_the_delegations_cost_at_most_eight_times_as_much(self):
+    def measure(self):
+        """Seven times the delegations cost at most eight times as much, by hand: `python3 -m unittest crowded_test.CostTest.measure`."""
         for width in (1280, 390):
             few, many = ([min(each) for each in zip(*(self.cost(name, width) for _ in range(3)))] for name in ("many", "most"))
             for what, one, other in zip(["load", *"user1"], few, many):

