@@ -184,6 +184,66 @@ class ReleasedTest(WrapperTest):
         self.assert_no_answer(ended, "without execution")
 
 
+class ChosenBeforeTest(WrapperTest):
+    """The choice is kept with what the file system says of the sources and programs, and stands while that stays."""
+
+    def setUp(self):
+        super().setUp()
+        self.kept = f"{self.checkout.top}/.chosen"
+        self.assert_ran(self.checkout.call("may"))
+        self.assertFalse(os.path.exists(self.kept), "kept beside what could be changed without a trace")
+        time.sleep(2.1)
+        self.assert_ran(self.checkout.call("may"))
+
+    def test_it_is_kept_and_nothing_else(self):
+        first, second, *rest = read(self.kept).splitlines()
+        self.assertEqual((first, second), ("release", "zirofen 0.3.1"))
+        self.assertEqual(len(rest), sum(len(files) for at, _, files in os.walk(self.checkout.top) if "/src" in at)
+                         + len(("crates.txt", "release", "zirofen", "MANIFEST")) + len(("low", "middle", "beside", "zirofen")))
+        before = self.checkout.listed()
+        self.assert_ran(self.checkout.call("may", PATH=NO_TOOLCHAIN))
+        self.assertEqual(self.checkout.listed(), before)
+        self.assertEqual([name for name in os.listdir(self.checkout.top) if name.startswith(".")], [".chosen"])
+
+    def test_it_is_what_decides(self):
+        self.checkout.release(PROGRAM, sources="0" * 64)
+        seen = self.checkout.call("-c", 'top=$0; . "$top/gate/program.sh"; seen', self.checkout.top, program="bash").stdout.rstrip("\n")
+        write(self.kept, f"release\nzirofen 0.3.1\n{seen}")
+        self.assert_ran(self.checkout.call("may", PATH=NO_TOOLCHAIN), name="NAME")
+        write(self.kept, f"release\nzirofen 0.3.2\n{seen}")
+        self.assert_no_answer(self.checkout.call("may", PATH=NO_TOOLCHAIN), "no rt on the PATH", lines=2)
+        write(self.kept, f"../release\nzirofen 0.3.1\n{seen}")
+        self.assert_no_answer(self.checkout.call("may", PATH=NO_TOOLCHAIN), "no rt on the PATH", lines=2)
+
+    def test_a_change_is_seen_whatever_its_time_and_size(self):
+        source = f"{self.checkout.top}/crates/low/src/lib.rt"
+        was = os.stat(source)
+        self.checkout.change("crates/low/src/lib.rt", "wol")
+        os.utime(source, ns=(was.st_atime_ns, was.st_mtime_ns))
+        self.assert_no_answer(self.checkout.call("may", PATH=NO_TOOLCHAIN), "no rt on the PATH", lines=2)
+
+    def test_a_program_that_was_replaced_is_looked_at(self):
+        other = f"{self.checkout.room}/other"
+        write(other, PROGRAM.replace("ran", "fun"), executable=True)
+        os.rename(other, f"{self.checkout.top}/release/zirofen")
+        self.assert_no_answer(self.checkout.call("may"), "its bytes aren't those of its MANIFEST")
+
+    @unittest.skipUnless(os.geteuid() == 0, "takes another user")
+    def test_what_another_user_kept_is_not_read(self):
+        self.checkout.change("crates/low/src/lib.rt", "changed")
+        seen = self.checkout.call("-c", 'top=$0; . "$top/gate/program.sh"; seen', self.checkout.top, program="bash").stdout.rstrip("\n")
+        write(self.kept, f"release\nzirofen 0.3.1\n{seen}")
+        os.chown(self.kept, 65534, 65534)
+        self.assert_no_answer(self.checkout.call("may", PATH=NO_TOOLCHAIN), "no rt on the PATH", lines=2)
+
+    @unittest.skipUnless(os.geteuid() == 0, "takes another user")
+    def test_nothing_is_kept_in_a_checkout_of_another_user(self):
+        os.remove(self.kept)
+        os.chown(self.checkout.top, 65534, 65534)
+        self.assert_ran(self.checkout.call("may"))
+        self.assertFalse(os.path.exists(self.kept))
+
+
 class BuildTest(WrapperTest):
     def test_a_source_that_differs_is_built_once(self):
         self.checkout.change("crates/low/src/lib.rt", "changed", seconds=-1000)
