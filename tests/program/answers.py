@@ -1,0 +1,168 @@
+#!/usr/bin/env python3
+"""Runs each command of the program from end to end: its answers with their statuses, its faults and which of them comes first.
+
+Usage: tests/program/answers.py [PROGRAM]. Without PROGRAM it is ./zirofen. The last line is 'N passed, M failed'.
+"""
+import re
+import sys
+
+sys.dont_write_bytecode = True
+from case import EXAMPLES, TOP, Case, call, run
+
+MOVED_IN = b"move 10 /c0\n"
+CUT = b"exit 11\nmkdir /c0/a"
+FILLED = ["ok", "ok", "ok", "ok", "ok", "refused descendant-limit /c0", "refused no-access /c0 memory.max", "refused no-access / cgroup.procs"]
+FILLED_OPS = ["--ops", f"{EXAMPLES}/delegation-filled.ops"]
+LIMIT_SET = ["escapes", "set /c0 memory.max max"]
+# the tree of an escape, the subtree, and what a replay of its operations says
+ESCAPES = [
+    ("delegation-limit-writable", "/c0", ["ok", "broken 1 limits"]),
+    ("delegation-ancestor-writable", "/c0", ["ok", "broken 1 crossed 10"]),
+    ("delegation-over-limit", "/c0", ["broken 0 descendants"]),
+    ("empty-parent-directory", "/c0", ["ok", "broken 1 gone"]),
+    ("delegation-ancestor-owned", "/c0", ["ok", "ok", "broken 2 crossed 10"]),
+    ("delegation-parent-control", "/c0", ["ok", "broken 1 limits"]),
+    ("parent-delegated", "/p/s", ["ok", "ok", "broken 2 crossed 20"]),
+]
+
+
+def tree(name):
+    return ["--tree", f"{EXAMPLES}/{name}.toml"]
+
+
+def asked(uid, subtree):
+    return ["--uid", uid, "--subtree", subtree]
+
+
+def fault(cause, *words):
+    return Case(list(words), 3, fault=f"fault: {cause}")
+
+
+def version():
+    with open(f"{TOP}/crates/arguments/src/command.rt", encoding="utf-8") as source:
+        return re.search(r'^const VERSION: &str = "(.*)";$', source.read(), re.M)[1]
+
+
+def command_lines(_):
+    yield Case(["--version"], 0, [f"zirofen {version()}"])
+    yield fault("usage", "frobnicate")
+    yield fault("usage")
+
+
+def migrations(_):
+    def may(uid, pid, to):
+        return ["may", "--uid", uid, "--pid", pid, "--to", to]
+    yield Case(may("1000", "11", "/c0/c01"), 0, ["granted"])
+    yield Case([*may("1000", "11", "/c0/c01"), *tree("delegation"), "--gid", "5", "--gid", "6"], 0, ["granted"])
+    yield Case(may("1001", "11", "/c0/c01"), 1, ["refused no-access /c0/c01 cgroup.procs"])
+    yield Case(may("1000", "10", "/c0/c00"), 1, ["refused no-access / cgroup.procs"])
+    yield fault("uid", *may("0", "11", "/c0/c01"))
+    yield fault("pid", *may("1000", "0", "/c0/c01"))
+    yield fault("pid", *may("1000", "4194304", "/c0/c01"))
+    yield fault("path", *may("1000", "11", "c0"))
+    yield fault("path", *may("1000", "11", ""))
+    # the tree is read before the call looks at its arguments, and the command line before the tree
+    yield fault("read", *may("0", "11", "/c0/c01"), *tree("none"))
+    yield fault("read", *may("1000", "11", "/c0/c01"), "--tree", EXAMPLES)
+    yield fault("usage", *may("x", "11", "/c0/c01"), *tree("none"))
+    yield fault("usage", *may("1000", "11", "/c0/c01"), "--uid", "1001")
+    yield fault("usage", "may", "--uid", "1000", "--pid", "11")
+
+
+def checks(_):
+    yield Case(["check", *asked("1000", "/c0")], 0, ["contained"])
+    yield Case(["check", *tree("delegation-limit-writable"), *asked("1000", "/c0")], 1, LIMIT_SET)
+    yield Case(["check", *tree("delegation-parent-directory"), *asked("1000", "/c0")], 2, ["unsettled parent-dir /"])
+    yield fault("uid", "check", *asked("0", "/c0"))
+    yield fault("path", "check", *asked("1000", "c0"))
+    yield fault("subtree root", "check", *asked("1000", "/"))
+    yield fault("subtree missing", "check", *asked("1000", "/zz"))
+    yield fault("usage", "check", "--uid", "1000")
+
+
+def audits(_):
+    second = tree("delegation-second-user")
+    both = ["--subtree", "/c0", "--subtree", "/c1"]
+    yield Case(["audit", "--uid", "1000", "--uid", "1001:5,6", *both], 0, ["contained"])
+    yield Case(["audit", *second, "--uid", "1000", "--uid", "01001:7", *both], 1, ["pair 1001 /c0", *LIMIT_SET])
+    # the primary group decides, and the second one
+    for gids in "50", "5,50":
+        yield Case(["audit", *tree("delegation-ancestor-group"), *asked(f"1000:{gids}", "/c0")], 1,
+                   ["pair 1000 /c0", "escapes", "move 10 /c0"])
+    yield Case(["audit", *tree("delegation-ancestor-group"), *asked("1000:5", "/c0")], 0, ["contained"])
+    yield fault("subtree missing", "audit", *asked("1000", "/zz"), "--subtree", "/")
+    yield fault("uid", "audit", "--uid", "1000", *asked("0", "zz"))
+    yield fault("gid", "audit", "--uid", f"1000:{','.join(map(str, range(1, 34)))}", *asked("0", "/c0"))
+    for word in "1000:", "1000:1,", "1000: 5", ":5", "+5", "1000:4294967296", "1e3":
+        yield fault("usage", "audit", *asked(word, "/c0"))
+    # with --all every pair that isn't contained, each once, and the worst of their statuses
+    yield Case(["audit", "--all", "--uid", "1000", "--uid", "1001:5,6", *both], 0, ["contained"])
+    yield Case(["audit", "--all", *second, "--uid", "1000", "--uid", "01001:7", *both], 1, ["pair 1001:7 /c0", *LIMIT_SET])
+    often = ["--uid", "1000", "--uid", "1001", "--uid", "1000", "--uid", "01001", *both, "--subtree", "/c0"]
+    yield Case(["audit", *second, "--all", *often], 1, ["pair 1001 /c0", *LIMIT_SET])
+    yield Case(["audit", "--all", *tree("delegation-parent-directory"), *asked("1000", "/c0")], 2,
+               ["pair 1000 /c0", "unsettled parent-dir /"])
+    yield fault("subtree missing", "audit", "--all", *asked("1000", "/zz"), "--subtree", "/")
+    yield fault("uid", "audit", "--all", "--uid", "1000", *asked("0", "zz"))
+    yield fault("usage", "audit", "--all", "--all", *asked("1000", "/c0"))
+    yield fault("usage", "audit", "--all")
+
+
+def advices(_):
+    yield Case(["advise", *asked("1000", "/c0")], 0, ["contained"])
+    yield Case(["advise", *tree("delegation-ancestor-group"), "--gid", "50", *asked("1000", "/c0")], 1,
+               ["fails common-ancestor / cgroup.procs 0:50 664 group", "chmod / cgroup.procs 644"])
+    yield fault("uid", "advise", *asked("0", "zz"))
+    yield fault("gid", "advise", *(word for gid in range(1, 34) for word in ("--gid", str(gid))), *asked("1000", "zz"))
+    yield fault("path", "advise", *asked("1000", "c0"))
+    yield fault("subtree root", "advise", *asked("1000", "/"))
+    yield fault("subtree missing", "advise", *asked("1000", "/zz"))
+    yield fault("usage", "advise", "--uid", "1000")
+
+
+def replays(program):
+    at_delegation = ["replay", *tree("delegation"), "--uid", "1000"]
+    yield Case(["replay", "--uid", "1000", *FILLED_OPS], 0, FILLED)
+    yield Case([*at_delegation, "--gid", "5", *FILLED_OPS], 0, FILLED)
+    yield Case([*at_delegation, "--ops", "-"], 0, given=b"")
+    yield Case([*at_delegation, "--subtree", "/c0", "--ops", "-"], 0, ["kept"], given=b"")
+    # the primary group decides, and the second one
+    in_group = ["replay", *tree("delegation-ancestor-group"), *asked("1000", "/c0"), "--ops", "-"]
+    for gids in ["--gid", "50"], ["--gid", "5", "--gid", "50"]:
+        yield Case([*in_group, *gids], 1, ["ok", "broken 1 crossed 10"], given=MOVED_IN)
+    yield Case([*in_group, "--gid", "5"], 0, ["refused no-access / cgroup.procs", "kept"], given=MOVED_IN)
+    # the lines before a fault are written
+    yield Case([*at_delegation, "--ops", "-"], 3, ["ok"], "fault: line 2 cut", given=CUT)
+    yield fault("line 1 bad-word", "replay", "--uid", "1000", "--ops", f"{EXAMPLES}/delegation.toml")
+    yield Case(["replay", "--uid", "1000", "--tree", "-", *FILLED_OPS], 3, fault="fault: tree not-toml", given=CUT)
+    # the operations are opened before the call looks at its arguments, and read after
+    yield fault("read", "replay", "--uid", "0", "--ops", f"{EXAMPLES}/none.ops")
+    yield fault("uid", "replay", "--uid", "0", "--ops", EXAMPLES)
+    yield fault("read", "replay", "--uid", "1000", "--ops", EXAMPLES)
+    yield fault("usage", "replay", "--uid", "1000")
+    yield Case(["replay", "--uid", "1000", *FILLED_OPS], 3, fault="fault: write", output="/dev/full")
+    for name, subtree, lines in ESCAPES:
+        _, *operations = call(program, ["check", *tree(name), *asked("1000", subtree)]).output.splitlines(keepends=True)
+        yield Case(["replay", *tree(name), *asked("1000", subtree), "--ops", "-"], 1, lines, given=b"".join(operations))
+
+
+def upgrades(program):
+    # what is written is the same tree, and the same bytes when it is written again
+    for name in "delegation", "delegation-ancestor-group", "host-user-managers":
+        written = call(program, ["upgrade", *tree(name)]).output
+        yield Case(["upgrade"], 0, written.decode().splitlines(), given=written)
+    written = call(program, ["upgrade"]).output
+    yield Case(["check", *asked("1000", "/c0")], 0, ["contained"], given=written)
+    yield fault("tree no-parent cgroup 2", "upgrade", *tree("fault-no-parent"))
+    yield fault("read", "upgrade", *tree("none"))
+    yield fault("usage", "upgrade", "--uid", "1000")
+    yield Case(["upgrade"], 3, fault="fault: write", output="/dev/full")
+
+
+def cases(program):
+    for table in command_lines, migrations, checks, audits, advices, replays, upgrades:
+        yield from table(program)
+
+
+if __name__ == "__main__":
+    sys.exit(run(cases, "answers"))
