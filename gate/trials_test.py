@@ -1,10 +1,13 @@
 """Tests of which trials gate/trials begins behind the reading of a tree."""
 import importlib.machinery
 import importlib.util
+import sys
 import unittest
 
 from checkout import TOP
-from trial_rows import Trial, all_trials
+
+sys.path.append(f"{TOP}/tests/program")
+from trial_rows import Trial, all_trials  # noqa: E402
 
 
 def loaded():

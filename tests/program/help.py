@@ -1,16 +1,17 @@
 #!/usr/bin/env python3
 """Runs the program on command lines, trees and operations as somebody mistypes them: what is said of each, and what below it.
 
-Usage: gate/help [PROGRAM]. Without PROGRAM it is ./zirofen. The first line of standard error is exact; below it stand lines of
+Usage: tests/program/help.py [PROGRAM]. Without PROGRAM it is ./zirofen. The first line of standard error is exact; below it stand lines of
 help, each two spaces in, that name what is wrong. The last line is 'N passed, M failed'.
 """
-import os
 import subprocess
 import sys
 import tempfile
-from collections import namedtuple
+from dataclasses import dataclass
 
-TOP = os.path.dirname(os.path.dirname(os.path.abspath(__file__)))
+sys.dont_write_bytecode = True
+from case import Ended, run
+
 TREE = """format = 2
 controllers = ["cpu", "memory", "pids"]
 
@@ -35,9 +36,37 @@ REPLAY = ["replay", "--uid", "1000", "--ops", "OPS"]
 
 BOTH = ["both the tree and the operations", "./-"]
 
-# words: of the command line, in which OPS and TREE stand for files of theirs; helps: what is told below the line; input: what
-# standard input gives where it isn't the tree
-Row = namedtuple("Row", "words line helps tree ops input", defaults=((), TREE, OPS, None))
+
+@dataclass(frozen=True)
+class Row:
+    """The words of a command line, in which OPS and TREE stand for files of theirs, the fault, and what is told below its line.
+    Standard input gives the tree where nothing else is said."""
+    words: list
+    line: str
+    helps: tuple = ()
+    tree: str = TREE
+    ops: str = OPS
+    input: str = None
+
+    def ended(self, program):
+        with tempfile.TemporaryDirectory() as folder:
+            names = {"OPS": self.ops, "TREE": self.tree}
+            for name, text in names.items():
+                with open(f"{folder}/{name}", "w", encoding="utf-8") as out:
+                    out.write(text)
+            words = [f"{folder}/{word}" if word in names else word for word in self.words]
+            given = (self.tree if self.input is None else self.input).encode(errors="surrogateescape")
+            ended = subprocess.run([program, *words], input=given, capture_output=True, cwd=folder)
+        return Ended(ended.returncode, ended.stdout, ended.stderr)
+
+    def failure(self, program):
+        ended = self.ended(program)
+        wrong = [f"the help has no {word!r}" for word in self.helps if not any(word in line for line in ended.help)]
+        if (ended.status, ended.fault) != (3, f"fault: {self.line}"):
+            wrong.append(f"it isn't fault: {self.line}, with status 3")
+        if not all(line.startswith("  ") and line.isprintable() for line in ended.help):
+            wrong.append("a line below the first isn't two spaces in, or has a byte that acts on a terminal")
+        return f"{'; '.join(wrong)}; it ended with status {ended.status} and wrote {ended.errors!r}" if wrong else ""
 
 
 def subtree(path):
@@ -172,42 +201,9 @@ def operations():
     yield Row(piped, "line 101 bad-word", ["'mvoe 10 /c0'"], input=long * 100 + "mvoe 10 /c0\n" + long)
 
 
-def told(program, row):
-    """How the program ends, and the lines that it says."""
-    with tempfile.TemporaryDirectory() as folder:
-        names = {"OPS": row.ops, "TREE": row.tree}
-        for name, text in names.items():
-            with open(f"{folder}/{name}", "w", encoding="utf-8") as out:
-                out.write(text)
-        words = [f"{folder}/{word}" if word in names else word for word in row.words]
-        given = row.tree if row.input is None else row.input
-        ended = subprocess.run([program, *words], input=given.encode(errors="surrogateescape"), capture_output=True, cwd=folder)
-    return ended.returncode, ended.stderr.decode("utf-8", "replace").split("\n")[:-1]
-
-
-def faults_of(row, status, lines):
-    """What is wrong with what is said."""
-    if (status, lines[:1]) != (3, [f"fault: {row.line}"]):
-        yield f"it isn't fault: {row.line}, with status 3"
-    if not all(line.startswith("  ") and line.isprintable() for line in lines[1:]):
-        yield "a line below the first isn't two spaces in, or has a byte that acts on a terminal"
-    yield from (f"the help has no {word!r}" for word in row.helps if not any(word in line for line in lines[1:]))
-
-
-def main():
-    program = os.path.abspath(sys.argv[1]) if len(sys.argv) > 1 else os.path.join(TOP, "zirofen")
-    rows = [*command_lines(), *arguments(), *trees(), *operations()]
-    failed = 0
-    for row in rows:
-        status, lines = told(program, row)
-        wrong = list(faults_of(row, status, lines))
-        failed += bool(wrong)
-        if wrong:
-            print(f"help: FAILED: {row.words!r} ({row.line}): {'; '.join(wrong)}; it ended with status {status} and wrote:")
-            print("\n".join(lines))
-    print(f"{len(rows) - failed} passed, {failed} failed")
-    return 1 if failed else 0
+def rows(_):
+    yield from (*command_lines(), *arguments(), *trees(), *operations())
 
 
 if __name__ == "__main__":
-    sys.exit(main())
+    sys.exit(run(rows, "help"))

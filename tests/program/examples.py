@@ -13,7 +13,9 @@ import shlex
 import subprocess
 import sys
 
-TOP = os.path.dirname(os.path.dirname(os.path.abspath(__file__)))
+sys.dont_write_bytecode = True
+from case import TOP
+
 HEAD_INDENT = "#     "
 HELP_INDENT = "  "
 PAGES, PAGE_INDENT = ("README.md", "docs/COMMANDS.md", "docs/FORMATS.md"), "    "

@@ -1,4 +1,4 @@
-/* Makes one call of a program fail, for gate/devices: preloaded, it stands before the C library's allocator, reads and writes.
+/* Makes one call of a program fail, for tests/program/devices.py: preloaded, it stands before the C library's allocator, reads and writes.
 
    FAILING_CALL    alloc, read or write
    FAILING_AT      which of these calls fails, counted from 1

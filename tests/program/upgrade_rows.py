@@ -1,4 +1,4 @@
-"""The trees that gate/upgrades writes anew beside those of examples/, and what it asks of each tree and of what was written.
+"""The trees that tests/program/upgrades.py writes anew beside those of examples/, and what it asks of each tree and of what was written.
 
 host/ has to be on the path.
 """

@@ -1,4 +1,4 @@
-"""The rows that gate/devices runs: of each command each kind of answer, of each format, and each kind of fault."""
+"""The rows that tests/program/devices.py runs: of each command each kind of answer, of each format, and each kind of fault."""
 import collections, os, subprocess
 
 Row = collections.namedtuple("Row", "command words tree out err status")

@@ -1,7 +1,7 @@
 #!/usr/bin/env python3
 """Runs the program again and again, each time with one of its allocations, reads or writes failing.
 
-  gate/devices [PROGRAM]     PROGRAM: crates/zirofen/out/zirofen where it is left out
+  tests/program/devices.py [PROGRAM]     PROGRAM: crates/zirofen/out/zirofen where it is left out
 
 Of each row, a command with what it writes, the first call fails, then the second, and so on until a run meets none that
 fails; behind the first thousand or so of a row in longer and longer steps. What then may come is the row's own answer, or
@@ -9,15 +9,15 @@ fails; behind the first thousand or so of a row in longer and longer steps. What
 ever. A read or write that moves one byte, or that a signal interrupts, changes nothing. The line of a fault may be cut where
 its own write fails.
 
-gate/failing.c does that, built by cc; where there is none that is a failure, and nothing is run. The last line is
+tests/program/failing.c does that, built by cc; where there is none that is a failure, and nothing is run. The last line is
 'N passed, M failed', each a run in which a call failed, and above it stands how many there were of each kind.
 """
 import collections, concurrent.futures, itertools, os, shutil, signal, subprocess, sys, tempfile
 
 sys.dont_write_bytecode = True
+from case import TOP
 from device_rows import rows_of
 
-TOP = os.path.dirname(os.path.dirname(os.path.abspath(__file__)))
 PROGRAM = f"{TOP}/crates/zirofen/out/zirofen"
 KINDS = (("alloc", "refused"), ("read", "refused"), ("read", "short"), ("read", "interrupted"), ("write", "refused"),
          ("write", "none"), ("write", "short"), ("write", "interrupted"))
@@ -37,7 +37,7 @@ def built(folder):
     if not shutil.which("cc"):
         return None
     library = f"{folder}/failing.so"
-    subprocess.run(["cc", "-O1", "-shared", "-fPIC", "-o", library, f"{TOP}/gate/failing.c"], check=True)
+    subprocess.run(["cc", "-O1", "-shared", "-fPIC", "-o", library, f"{TOP}/tests/program/failing.c"], check=True)
     return library
 
 
@@ -180,7 +180,7 @@ def main():
     with tempfile.TemporaryDirectory() as folder:
         library = built(folder)
         if not library:
-            print("devices: FAILED: there is no cc to build gate/failing.c\n0 passed, 1 failed")
+            print("devices: FAILED: there is no cc to build tests/program/failing.c\n0 passed, 1 failed")
             return 1
         rows = rows_of(program, TOP, folder)
         tasks = itertools.product(rows, (None, *KINDS))

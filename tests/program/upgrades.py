@@ -1,25 +1,25 @@
 #!/usr/bin/env python3
 """Writes trees anew by `zirofen upgrade`, and holds what was written against the tree, by other readers and by all commands.
 
-Usage: gate/upgrades [PROGRAM]. Without PROGRAM it is ./zirofen. The trees are those of examples/ and those at the edges of
-gate/upgrade_rows.py. Of each text that has a tree: Python's own reader of TOML reads what was written, which has every key
+Usage: tests/program/upgrades.py [PROGRAM]. Without PROGRAM it is ./zirofen. The trees are those of examples/ and those at the edges of
+tests/program/upgrade_rows.py. Of each text that has a tree: Python's own reader of TOML reads what was written, which has every key
 and nothing else, the cgroups and processes in their order; host/ reads the same tree from both; written anew it is the same
-bytes; and every command says the same of it, byte by byte: those at the head of an example, those that other tables of the
-gate have for it, and in every tree what some users are told of some cgroups and processes. Of each text with a fault the
+bytes; and every command says the same of it, byte by byte: those at the head of an example, those that other tables here
+have for it, and in every tree what some users are told of some cgroups and processes. Of each text with a fault the
 program says that fault and writes nothing. The last line is 'N passed, M failed'.
 """
 import collections
 import concurrent.futures
 import glob
-import importlib.machinery
-import importlib.util
 import os
 import subprocess
 import sys
 import tempfile
 
 sys.dont_write_bytecode = True
-TOP = os.path.dirname(os.path.dirname(os.path.abspath(__file__)))
+import examples  # noqa: E402
+from case import TOP  # noqa: E402
+
 sys.path.insert(0, f"{TOP}/host")
 from device_rows import named as operation_files  # noqa: E402
 from upgrade_rows import OPS, Asked, asked_of, asked_of_all, edge_trees  # noqa: E402
@@ -32,15 +32,6 @@ except ImportError:
     tomllib = None
 
 
-def examples():
-    """gate/examples, which finds the commands at the head of a text."""
-    loader = importlib.machinery.SourceFileLoader("examples", f"{TOP}/gate/examples")
-    module = importlib.util.module_from_spec(importlib.util.spec_from_loader("examples", loader))
-    loader.exec_module(module)
-    return module
-
-
-EXAMPLES = examples()
 # a text, its name, what is asked of it beside what is asked of every tree, and the line of its fault
 Case = collections.namedtuple("Case", "name text asked fault", defaults=((), None))
 # of what is wrong with one tree, and of the words of a command
@@ -98,7 +89,7 @@ def example_case(file, files):
     name = os.path.relpath(file, TOP)
     with open(file, encoding="ascii") as opened:
         text = opened.read()
-    commands = EXAMPLES.commands_of(EXAMPLES.head_of(text), EXAMPLES.HEAD_INDENT, "./zirofen")
+    commands = examples.commands_of(examples.head_of(text), examples.HEAD_INDENT, "./zirofen")
     fault = next((line for _, lines in commands for line in lines if line.startswith("fault: tree ")), None)
     asked = [Asked([word for word in words if word not in ("--tree", name)], "") for words, _ in commands]
     return Case(name, text.encode("ascii"), [*asked, *asked_of(os.path.basename(file)[:-len(".toml")], files)], fault)

@@ -2,17 +2,19 @@
 """Runs the program on words of its command line: numbers in their spellings, what asks for help, arguments that
 aren't UTF-8, its own name, `-`.
 
-Usage: gate/words [PROGRAM]. Without PROGRAM it is ./zirofen. The last line is 'N passed, M failed'.
+Usage: tests/program/words.py [PROGRAM]. Without PROGRAM it is ./zirofen. The last line is 'N passed, M failed'.
 """
 import os
-import shutil
 import subprocess
 import sys
 import tempfile
+from dataclasses import dataclass, field
 
-TOP = os.path.dirname(os.path.dirname(os.path.abspath(__file__)))
-TREE = os.path.join(TOP, "examples/delegation.toml")
-USAGE, OTHER = "fault: usage", "another answer"
+sys.dont_write_bytecode = True
+from case import DELEGATION, Ended, run
+
+CHECK = ["check", "--uid", "1000", "--subtree", "/c0"]
+REPLAY = ["replay", "--uid", "1000", "--ops"]
 # each word as it is where a number is asked: of a uid and a gid, of a pid, and of a uid of `audit`
 NUMBERS = [
     ("1000", "1000", "11", "1000"),
@@ -33,11 +35,46 @@ NOT_SHOWN = ["", "help nonsense", "help check nonsense", "help --help", "help he
 NOT_UTF_8 = [b"\xff", b"1000\xff", b"\xc0\x80", b"\xed\xa0\x80", b"/c0\xe2\x82"]
 
 
-def ask(program, words, name=None):
-    """The status and the first line of standard error."""
-    with open(TREE, "rb") as tree:
-        ended = subprocess.run([name or program, *words], executable=program, stdin=tree, capture_output=True)
-    return ended.returncode, ended.stderr.decode("utf-8", "replace").partition("\n")[0]
+def call(program, words, given, name=None, folder=None):
+    ended = subprocess.run([program if name is None else name, *words], executable=program, input=given, capture_output=True, cwd=folder)
+    return Ended(ended.returncode, ended.stdout, ended.stderr)
+
+
+@dataclass(frozen=True)
+class Spelled:
+    """Words of a command line, and whether they are usage."""
+    words: list
+    is_usage: bool
+
+    def failure(self, program):
+        ended = call(program, self.words, read(DELEGATION))
+        usage = ended.status == 3 and ended.fault == "fault: usage"
+        other = ended.status < 3 or ended.fault.startswith("fault: pid")
+        return "" if (usage if self.is_usage else other) else f"status {ended.status}; it wrote: {ended.fault}"
+
+
+@dataclass(frozen=True)
+class Answered:
+    """A command that ends with 0, by the name that the program is called, and in a folder with files of its own."""
+    words: list
+    given: bytes
+    output: bytes
+    name: str = None
+    files: dict = field(default_factory=dict)
+
+    def failure(self, program):
+        with tempfile.TemporaryDirectory() as folder:
+            for name, text in self.files.items():
+                with open(f"{folder}/{name}", "wb") as out:
+                    out.write(text)
+            ended = call(program, self.words, self.given, self.name, folder)
+        right = (ended.status, ended.output, ended.fault) == (0, self.output, "")
+        return "" if right else f"called as {self.name!r}, status {ended.status}; it wrote: {ended.output!r} {ended.fault}"
+
+
+def read(path):
+    with open(path, "rb") as file:
+        return file.read()
 
 
 def rows():
@@ -77,53 +114,30 @@ def rows():
                     (["replay", "--uid", "1000", "--ops", word], True))
 
 
-def report(right, words, status, line):
-    if not right:
-        print(f"words: FAILED: {words!r} ended with status {status}; it wrote: {line}")
-    return right
-
-
-def try_rows(program):
-    for words, is_usage in rows():
-        status, line = ask(program, words)
-        yield report((status == 3 and line == USAGE) if is_usage else (status < 3 or line.startswith("fault: pid")), words, status, line)
-
-
-def try_names(program):
+def names():
     """The name that the program is called by changes nothing."""
-    check = ["check", "--uid", "1000", "--subtree", "/c0"]
     for name in ("zirofen", "", "x y", "--help", "check", "/" * 3000):
-        yield report(ask(program, check, name) == (0, ""), [name, *check], *ask(program, check, name))
+        yield Answered(CHECK, read(DELEGATION), b"contained\n", name)
 
 
-def try_dashes(program):
+def dashes():
     """`-` is standard input, and `./-` a file of that name."""
-    check, replay = ["check", "--uid", "1000", "--subtree", "/c0"], ["replay", "--uid", "1000", "--ops"]
-    with open(TREE, "rb") as text:
-        tree = text.read()
-    ops = b"move 11 /c0/c01\n"
-    with tempfile.TemporaryDirectory() as folder:
-        shutil.copy(TREE, f"{folder}/tree")
-        shutil.copy(TREE, f"{folder}/-")
-        with open(f"{folder}/ops", "wb") as out:
-            out.write(ops)
-        for words, given, said in ((check, tree, b"contained\n"), ([*check, "--tree", "-"], tree, b"contained\n"),
-                                   ([*check, "--tree=-"], tree, b"contained\n"), ([*check, "--tree", "./-"], b"", b"contained\n"),
-                                   (["audit", *check[1:], "--tree", "-"], tree, b"contained\n"),
-                                   ([*replay, "-", "--tree", "tree"], ops, b"ok\n"),
-                                   ([*replay, "-", "--tree", "./-"], ops, b"ok\n"),
-                                   ([*replay, "ops", "--tree", "-"], tree, b"ok\n"), ([*replay, "-", "--tree", "tree"], b"", b"")):
-            ended = subprocess.run([program, *words], input=given, capture_output=True, cwd=folder)
-            line = ended.stderr.decode("utf-8", "replace").partition("\n")[0]
-            yield report((ended.returncode, ended.stdout, line) == (0, said, ""), words, ended.returncode, line)
+    tree, ops = read(DELEGATION), b"move 11 /c0/c01\n"
+    files = {"tree": tree, "-": tree, "ops": ops}
+    for words, given, output in ((CHECK, tree, b"contained\n"), ([*CHECK, "--tree", "-"], tree, b"contained\n"),
+                                 ([*CHECK, "--tree=-"], tree, b"contained\n"), ([*CHECK, "--tree", "./-"], b"", b"contained\n"),
+                                 (["audit", *CHECK[1:], "--tree", "-"], tree, b"contained\n"),
+                                 ([*REPLAY, "-", "--tree", "tree"], ops, b"ok\n"),
+                                 ([*REPLAY, "-", "--tree", "./-"], ops, b"ok\n"),
+                                 ([*REPLAY, "ops", "--tree", "-"], tree, b"ok\n"), ([*REPLAY, "-", "--tree", "tree"], b"", b"")):
+        yield Answered(words, given, output, files=files)
 
 
-def main():
-    program = os.path.abspath(sys.argv[1]) if len(sys.argv) > 1 else os.path.join(TOP, "zirofen")
-    results = [*try_rows(program), *try_names(program), *try_dashes(program)]
-    print(f"{sum(results)} passed, {len(results) - sum(results)} failed")
-    return 0 if all(results) else 1
+def cases(_):
+    yield from (Spelled(*row) for row in rows())
+    yield from names()
+    yield from dashes()
 
 
 if __name__ == "__main__":
-    sys.exit(main())
+    sys.exit(run(cases, "words"))
