@@ -42,7 +42,7 @@ class AskTest(HostTest):
         for user, warned in (("77", False), ("99", False), ("1000", False), ("78", True)):
             self.ask(user, "/a")
             self.assertEqual(bool(self.warnings), warned, user)
-        self.assertEqual(self.warnings, ["uid 78 owns nothing, writes nothing of his own, has no process and no account here"])
+        self.assertEqual(self.warnings, ["uid 78 owns nothing, writes nothing of their own, has no process and no account here"])
 
     def test_faults(self):
         for user, path, line in (("nobody-here", "/a", "there is no account 'nobody-here'"),
@@ -57,8 +57,8 @@ class AskTest(HostTest):
             path += f"/d{gid}"
             self.host.cgroup(path, owners={"cgroup.procs": (0, gid)})
         self.assertEqual(self.ask("alice", "/d100/d101"), (["contained"], 0))
-        self.assertRegex(self.warnings[0], "^[0-9]+ of his groups that stand in the tree are left out")
-        with self.assertRaisesRegex(Fault, "40 of his groups matter here, and the program takes 32"):
+        self.assertRegex(self.warnings[0], "^[0-9]+ of their groups that stand in the tree are left out")
+        with self.assertRaisesRegex(Fault, "40 of their groups matter here, and the program takes 32"):
             self.ask("alice", path)
 
 

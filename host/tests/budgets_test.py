@@ -210,7 +210,7 @@ class DescriptorsTest(ThreeTest):
     def setUp(self):
         super().setUp()
         self.host.process(7, uid=1000)
-        self.text = ("alice(1000): cgroup.max.depth at /bob is {}open for writing in process 7, and he may not open it now")
+        self.text = ("alice(1000): cgroup.max.depth at /bob is {}open for writing in process 7, and they may not open it now")
 
     def test_a_mount_that_another_namespace_has(self):
         self.host.opens(7, 3, "/bob/cgroup.max.depth", os.O_WRONLY, mount=31)
@@ -258,7 +258,7 @@ class DescriptorsTest(ThreeTest):
         found = self.counted(self.report)
         self.others(found)
         self.assertEqual(self.told(found, "descriptor"), [
-            self.text.format(""), "alice(1000): more than 16 open files that /proc tells much of are in his processes: not all were looked "
+            self.text.format(""), "alice(1000): more than 16 open files that /proc tells much of are in their processes: not all were looked "
             "at"])
         self.assertLess(self.bytes, 150000)
 

@@ -291,7 +291,7 @@ class BusyTest(HostTest):
         found = self.busy(act, b"/alice")
         self.assertEqual((self.turn, found["faults"]), (4, []))
         self.assertEqual(self.told(found, "descriptor"), [
-            "alice(1000): cgroup.subtree_control at / is open for writing in process 7, and he may not open it now"])
+            "alice(1000): cgroup.subtree_control at / is open for writing in process 7, and they may not open it now"])
 
     def test_what_cant_matter_begins_no_walk_again(self):
         self.host.cgroup("/system")

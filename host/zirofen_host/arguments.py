@@ -19,7 +19,7 @@ DESCRIPTIONS = {
     "ask": f"""Asks zirofen of one user and one subtree of this host, by name. Usage: {NAME} ask NAME|UID PATH. Run it as root.
 
 A helper: no part of the proved program, and only tested. The user's groups are looked up as this host does; one list of
-groups was found for his account, and others maybe for his running processes: each is asked of. It prints what `check`
+groups was found for their account, and others maybe for their running processes: each is asked of. It prints what `check`
 answers, and behind # what to change, and a warning where nothing here is the user's. The status is the worst answer's:
 3 for a fault, 1 for an escape, 2 where it is unsettled, 0 where the subtree is contained.
 """,
@@ -43,8 +43,8 @@ The status is 0, or 3 for a fault, and then nothing is written.
     "delegations": """Finds who was handed what in a tree text: one line for each user and subtree, UID TAB GIDS TAB PATH.
 GIDS is - where there are none.
 
-A helper: no part of the proved program, and only tested. A user is found where he owns or writes at a cgroup what he
-doesn't one level up: by his uid, by a group, or as one of everybody (uid 65534 stands for a user of whom nothing else
+A helper: no part of the proved program, and only tested. A user is found where they own or write at a cgroup what they
+don't one level up: by their uid, by a group, or as one of everybody (uid 65534 stands for a user of whom nothing else
 is known). Groups come from this host's accounts, its subordinate ids and its running processes; for a text of another
 host give that host's account files by --accounts. The primary group stands first. The status is 0, or 3 for a fault,
 among them more groups than the program takes, where those that were left out could change an answer.

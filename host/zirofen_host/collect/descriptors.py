@@ -142,7 +142,7 @@ class Descriptors:
 
 
 def told(budget: Budget) -> str:
-    return f"more than {budget.most} {budget.what} are in his processes: not all were looked at"
+    return f"more than {budget.most} {budget.what} are in their processes: not all were looked at"
 
 
 def is_for_writing(fields: Fields) -> bool:

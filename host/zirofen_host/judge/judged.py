@@ -76,7 +76,7 @@ def uncontained(questions: Questions, answers: Answers) -> List[Uncontained]:
     """Every pair that isn't contained, those that weren't asked first, and the others in the order of the tree."""
     found = []
     for each in answers.plan.cut:
-        line = f"{each.count} of his groups matter here, and the program takes 32: nothing was asked"
+        line = f"{each.count} of their groups matter here, and the program takes 32: nothing was asked"
         found.append(Uncontained(Pair(each.user, each.subtree), Answer(FAULT, (line,)), None))
     for pair in sorted(answers.found, key=in_turn):
         answer = answers.found[pair]

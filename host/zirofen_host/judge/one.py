@@ -95,14 +95,14 @@ def as_asked(one: One, users: Iterable[User], warn: Warn) -> Dict[User, int]:
     for user in users:
         few, count = with_groups(user, matter, one.delegations.gids_of_tree)
         if few and count:
-            warn(f"{count} of his groups that stand in the tree are left out: no entry that a guard stands on has them")
+            warn(f"{count} of their groups that stand in the tree are left out: no entry that a guard stands on has them")
         found[few or user] = 0 if few else count
     return found
 
 
 def answer(one: One, user: User, too_many: int) -> Answer:
     if too_many:
-        return Answer(FAULT, (f"{too_many} of his groups matter here, and the program takes {MOST_GROUPS}",))
+        return Answer(FAULT, (f"{too_many} of their groups matter here, and the program takes {MOST_GROUPS}",))
     try:
         ended = one.program.run("check", "--tree", one.program.tree, *user_words(user), "--subtree", text_of(one.path))
         return answer_of(ended.status, ended.lines)
@@ -144,7 +144,7 @@ def ask(snapshot: Snapshot, options: AskOptions, warn: Warn) -> Tuple[List[str],
     accounts = accounts_of(options.accounts, snapshot)
     users = users_of(options.user, accounts, not options.accounts and snapshot.source.file is None)
     if not any(is_known(user, snapshot.tree, accounts) for user in users):
-        warn(f"uid {users[0].uid} owns nothing, writes nothing of his own, has no process and no account here")
+        warn(f"uid {users[0].uid} owns nothing, writes nothing of their own, has no process and no account here")
     with output.temporary_folder() as folder:
         delegations = Delegations(snapshot.tree, accounts)
         programs = program_for(snapshot, options, folder, delegations, {user.uid for user in users})

@@ -57,7 +57,7 @@ def descriptors(checked: Checked) -> Iterator[Told]:
             held[pids[pid], path, name, is_sure].add(pid)
     for (uid, path, name, is_sure), of in sorted(held.items()):
         perhaps = "" if is_sure else "perhaps "
-        yield of_user(checked, "descriptor", uid, f"{name} at {path} is {perhaps}open for writing in process {numbers(of)}, and he may not "
+        yield of_user(checked, "descriptor", uid, f"{name} at {path} is {perhaps}open for writing in process {numbers(of)}, and they may not "
                       "open it now")
     for uid, why in looked.unlooked:
         yield of_user(checked, "descriptor", uid, why)
@@ -143,7 +143,7 @@ def search_bits(checked: Checked) -> Iterator[Told]:
             seen |= {(uid, place) for path in paths for place in ancestors(path)
                      if not searches(user, checked.snapshot.cgroups[place].directory)}
     for uid, place in sorted(seen):
-        yield of_user(checked, "search", uid, f"he can't search {text_of(place)}: safer than the answer")
+        yield of_user(checked, "search", uid, f"they can't search {text_of(place)}: safer than the answer")
 
 
 def searches(user: User, directory: Entry) -> bool:
@@ -161,7 +161,7 @@ def marks(checked: Checked) -> Iterator[Told]:
 def groups(checked: Checked) -> Iterator[Told]:
     for uid, count in sorted(checked.answers.plan.left_out.items()):
         if count:
-            yield of_user(checked, "groups", uid, f"{count} of his groups that stand in the tree were left out; "
+            yield of_user(checked, "groups", uid, f"{count} of their groups that stand in the tree were left out; "
                           "no entry that a guard stands on names them")
 
 

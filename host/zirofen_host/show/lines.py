@@ -43,7 +43,7 @@ def rows_of(subtree: Subtree, mark: str = "") -> Iterator[Row]:
 
 
 def table(report: Report, is_each: bool = False) -> Iterator[str]:
-    """Columns of who holds a subtree, his groups, the answer and the path, which may be long; what it shows stands below. What
+    """Columns of who holds a subtree, their groups, the answer and the path, which may be long; what it shows stands below. What
     somebody made below their own delegation stands last."""
     mark = VERSION_1 if report.version_1 else ""
     rows = [(subtree.within, row) for subtree in report.subtrees for row in rows_of(subtree, mark)]
@@ -222,7 +222,7 @@ def lines_of(report: Report, is_each: bool = False) -> Iterator[str]:
         yield from map(acceptance_line, report.acceptances)
     if report.above:
         yield ""
-        yield "What lies below what was handed to somebody is open to him, and isn't counted:"
+        yield "What lies below what was handed to somebody is open to them, and isn't counted:"
         yield from above_lines(report.above, is_each)
     yield ""
     yield f"What none of these answers looks at ({MANUAL}):"

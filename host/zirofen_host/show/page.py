@@ -81,8 +81,8 @@ class HostPage:
             return (f"{contained} of {every} are shown to be contained, and the others lie in what was handed to the same "
                     "person.")
         if delegations == 1:
-            return "The one delegation is shown to be contained: nobody who was asked can break it, whatever he does."
-        return f"All {every} are shown to be contained: nobody who was asked can break one, whatever he does."
+            return "The one delegation is shown to be contained: nobody who was asked can break it, whatever they do."
+        return f"All {every} are shown to be contained: nobody who was asked can break one, whatever they do."
 
     def open_kinds(self) -> str:
         kinds = [(kind, sum(each.kind == kind for each in self.host.findings)) for kind in COUNTED]
@@ -129,7 +129,7 @@ class HostPage:
         told = "\n".join(f'<li id="{self.at.id}-above-{number}">{text(each.who)}, below {code(each.handed)}: '
                          f'{places(each.subtrees)}</li>' for number, each in enumerate(above, 1))
         return (f'<section id="{self.at.id}-above"><{second}>Expected, and not counted</{second}>'
-                f"<p>What lies below what was handed to somebody is open to him.</p><ul>\n{told}\n</ul></section>")
+                f"<p>What lies below what was handed to somebody is open to them.</p><ul>\n{told}\n</ul></section>")
 
     def unseen(self) -> str:
         """The lines by their kind, each kind with what it means."""

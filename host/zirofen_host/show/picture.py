@@ -1,6 +1,6 @@
 """A picture of an escape: the cgroups from the root to the subtree as boxes in one another, as SVG for the page.
 
-The subtree's edge is dashed, the entries that let somebody in are marked, and so is what he breaks: an arrow for a process
+The subtree's edge is dashed, the entries that let somebody in are marked, and so is what they break: an arrow for a process
 that crosses the edge, or what becomes of a limit. The page's style has the colours, by the classes that are named here.
 """
 from dataclasses import dataclass, field

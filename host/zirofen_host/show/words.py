@@ -21,7 +21,7 @@ MEANINGS = {
     FAULT: "there is no answer for somebody",
     NOT_ASKED: "nothing was asked of it",
     ABOVE: "it lies in what was handed to the same person, and isn't counted",
-    CONTAINED: "nobody who was asked can break it, whatever he does",
+    CONTAINED: "nobody who was asked can break it, whatever they do",
 }
 WHAT_NO_ANSWER_SEES = {
     "descriptor": "What was opened before is still written through. Restart these processes, also after mending a finding.",
