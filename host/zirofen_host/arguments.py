@@ -1,7 +1,7 @@
 """What each subcommand takes on its command line, and what its --help says."""
 import argparse
 import os
-from typing import Callable, Dict, Type
+from typing import Callable, Dict, Sequence, Type
 
 from zirofen_host.fault import Parser
 from zirofen_host.installed import MANUAL, TOLD_PROGRAM, default_program
@@ -12,6 +12,10 @@ NAME = "zirofen-host"
 LARGEST_ID = 4294967295
 # what a check writes
 FORMATS = ("text", "json", "sarif", "junit", "metrics")
+# what is written of many hosts
+FLEET_FORMATS = ("text", "json", "metrics")
+# in which words it tells what mends findings
+MENDS = ("systemd", "shell")
 # columns that a tree is drawn in at least
 LEAST_WIDTH = 20
 
@@ -94,13 +98,21 @@ def width(word: str) -> int:
     return int(word)
 
 
-def way(word: str) -> Way:
+def way(word: str, kinds: Sequence[str] = FORMATS) -> Way:
     kind, is_named, file = word.partition("=")
-    if kind not in FORMATS:
-        raise argparse.ArgumentTypeError(f"{kind!a} is none of {', '.join(FORMATS)}")
+    if kind not in kinds:
+        raise argparse.ArgumentTypeError(f"{kind!a} is none of {', '.join(kinds)}")
     if is_named and not file:
         raise argparse.ArgumentTypeError("there is no file behind =")
     return Way(kind, file or "-")
+
+
+def way_to_mend(word: str) -> Way:
+    return way(word, MENDS)
+
+
+def way_of_fleet(word: str) -> Way:
+    return way(word, FLEET_FORMATS)
 
 
 def add_host(parser: argparse.ArgumentParser) -> None:
@@ -149,6 +161,8 @@ def add_check(parser: argparse.ArgumentParser) -> None:
     parser.add_argument("--format", metavar="KIND", type=way, action="append", default=[], help=f"{', '.join(FORMATS)}, or KIND=FILE into "
                         "a file; once or more. Where none goes to standard output, the text does")
     parser.add_argument("--json", action="store_true", help="what --format json is: all of it, with the host's cgroups and processes")
+    parser.add_argument("--mends", metavar="KIND", type=way_to_mend, action="append", default=[], help="in place of the text, what mends "
+                        "the findings so that it stays: as drop-ins (systemd) or as a script for root (shell); or KIND=FILE into a file")
     parser.add_argument("--html", metavar="FILE", help="one page of it to look at, into a file; what is printed stays as it is")
     parser.add_argument("--accept", metavar="FILE", help="findings that are accepted, each by itself, for a reason and until a day: told, "
                         "and not counted")

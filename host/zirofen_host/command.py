@@ -43,9 +43,9 @@ def ask(given: argparse.Namespace) -> int:
 
 
 def check_host(given: argparse.Namespace) -> int:
-    given.format = tuple(given.format)
+    given.format, given.mends = tuple(given.format), tuple(given.mends)
     options, began = CheckOptions(**vars(given)), time.monotonic()
-    ways = formats.ways_of(options)
+    ways = formats.ways_to_check(options)
     options = dataclasses.replace(options, program=program_at(options.program))
     before = baseline.read(options.baseline) if options.baseline else None
     granted = acceptances_of(options)
@@ -78,8 +78,7 @@ def write_all(options: CheckOptions, ways: Iterable[Way], run: Run, is_first: bo
     """Writes a report in each way that was asked for. Where one fails a line says which, and the others are written; whether all
     were."""
     written: List[Tuple[str, Callable[[], None]]] = [
-        ("the lines" if way.kind == "text" else f"the {way.kind}", functools.partial(formats.write, way, run, options.each))
-        for way in ways]
+        (formats.name_of(way), functools.partial(formats.write, way, run, options.each)) for way in ways]
     if options.html:
         written.append(("the page", lambda: page.write(str(options.html), [run.report])))
     if options.baseline or options.baseline_update:

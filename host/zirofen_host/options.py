@@ -38,6 +38,8 @@ class Way(NamedTuple):
 class CheckOptions(Options):
     json: bool = False
     format: Tuple[Way, ...] = ()
+    # what mends the findings
+    mends: Tuple[Way, ...] = ()
     # every finding by itself
     each: bool = False
     html: Optional[str] = None
