@@ -197,7 +197,9 @@ def add_page(parser: argparse.ArgumentParser) -> None:
 
 def add_fleet(parser: argparse.ArgumentParser) -> None:
     parser.add_argument("folder", metavar="FOLDER", help=f"where NAME.json is what {NAME} check --json wrote of the host NAME")
-    parser.add_argument("--json", action="store_true", help="all of it as JSON, each host by itself")
+    parser.add_argument("--json", action="store_true", help="what --format json is: all of it, each host by itself")
+    parser.add_argument("--format", metavar="KIND", type=way_of_fleet, action="append", default=[], help=f"{', '.join(FLEET_FORMATS)}, or "
+                        "KIND=FILE into a file; once or more. Where none goes to standard output, the text does")
     parser.add_argument("--each", action="store_true", help="each host in a row of its own, also those that are alike")
     parser.add_argument("--html", metavar="FOLDER",
                         help="index.html there, and a page of each host beside it; what is printed stays as it is")

@@ -151,6 +151,7 @@ def write_page(given: argparse.Namespace) -> int:
 
 
 def tell_fleet(given: argparse.Namespace) -> int:
+    given.format = tuple(given.format)
     return fleet_run.tell(FleetOptions(**vars(given)))
 
 

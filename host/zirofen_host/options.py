@@ -88,6 +88,7 @@ class PageOptions:
 class FleetOptions:
     folder: str = ""
     json: bool = False
+    format: Tuple[Way, ...] = ()
     # each host in a row of its own
     each: bool = False
     html: Optional[str] = None
