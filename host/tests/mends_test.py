@@ -35,7 +35,8 @@ class SettingsTest(HostTest):
 
     def test_each_limit_has_its_setting(self):
         for file, value, settings in (
-                ("memory.max", 4096, ["MemoryMax=4096"]), ("memory.high", 1, ["MemoryHigh=1"]), ("memory.low", "max", ["MemoryLow=infinity"]),
+                ("memory.max", 4096, ["MemoryMax=4096"]), ("memory.high", 1, ["MemoryHigh=1"]),
+                ("memory.low", "max", ["MemoryLow=infinity"]),
                 ("pids.max", 7, ["TasksMax=7"]), ("cpu.weight", 50, ["CPUWeight=50"]), ("memory.swap.max", "0", ["MemorySwapMax=0"]),
                 ("cpu.max", "20000 100000", ["CPUQuota=20%"]), ("cpu.max", "150000 100000", ["CPUQuota=150%"]),
                 ("cpu.max", "2500 20000", ["CPUQuota=12.5%", "CPUQuotaPeriodSec=20000us"]), ("cpu.idle", "1", ["CPUWeight=idle"]),

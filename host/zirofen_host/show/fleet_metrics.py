@@ -33,7 +33,8 @@ def gauges(fleet: Fleet, seconds: float, ended: float) -> Iterator[Gauge]:
     yield Gauge("zirofen_fleet_hosts_with_status", "Hosts by the status of each.",
                 {(("status", str(status)),): statuses[status] for status in sorted(WORST)})
     yield Gauge("zirofen_fleet_delegations", "Delegations of all hosts.", total(fleet, "delegations"))
-    yield Gauge("zirofen_fleet_contained_delegations", "Delegations of all hosts that are shown to be contained.", total(fleet, "contained"))
+    yield Gauge("zirofen_fleet_contained_delegations", "Delegations of all hosts that are shown to be contained.",
+                total(fleet, "contained"))
     yield Gauge("zirofen_fleet_open_findings", "Findings of all hosts that are open.", total(fleet, "open"))
     yield Gauge("zirofen_fleet_unexpected_reports", "Reports of other hosts than their names say, or of hosts that shouldn't be there.",
                 {ALONE: sum(map(is_another, fleet.rows))})
