@@ -70,6 +70,15 @@ at. Of several hosts, up to 20, the worst stands on top, and a report that can't
 writes more. The page is one file, which loads nothing and needs no script. The status is 0, or 3 for a fault, and where no
 report could be read nothing is written; {NAME} check has the status of the answers.
 """,
+    "plan": f"""Tells what changes of root's to this host, or to a tree text, would be answered, before they are made.
+
+A helper: no part of the proved program, and only tested; each answer is the program's own. Nothing is carried out on the host. FILE
+has a change in each line: mkdir PATH, chown PATH ENTRY UID:GID, chmod PATH ENTRY MODE, control PATH +CONTROLLER .., set PATH FILE
+VALUE, process PID UID PATH, mark PATH (the manager's mark of what it hands over). They are made to the tree's text one after another;
+one that a kernel wouldn't let root make is a fault of its line. Both trees are asked as {NAME} check asks, and what is new, worse,
+changed or gone behind the changes is printed. The status is that of what is new or worse: 3 for a fault, new or not; else 1 for an
+escape or a limit that stands open; else 2 where an answer is unsettled; else 4 where nothing was found to ask; else 0.
+""",
     "snapshot": f"""Writes the cgroups of this host as a tree text for zirofen, on standard output. Run it as root.
 
 A helper: no part of the proved program, and only tested. Two walks in a row agree on what is written. What the text
@@ -207,6 +216,14 @@ def add_fleet(parser: argparse.ArgumentParser) -> None:
     parser.add_argument("--hosts", metavar="FILE", help="the names of the hosts that should be there, a line each")
 
 
+def add_plan(parser: argparse.ArgumentParser) -> None:
+    for add in (add_host, add_text, add_accounts, add_program):
+        add(parser)
+    parser.add_argument("--ops", metavar="FILE", required=True, help="changes of root's, a line each, - for standard input")
+    parser.add_argument("--print", choices=("lines", "text"), help="in place of answers the changes, or the text of the tree behind them")
+    parser.add_argument("--json", action="store_true", help=f"what {NAME} check --json would write behind the changes, compared")
+
+
 def add_snapshot(parser: argparse.ArgumentParser) -> None:
     add_host(parser)
     add_accounts(parser)
@@ -229,7 +246,7 @@ def add_tree(parser: argparse.ArgumentParser) -> None:
 
 ARGUMENTS: Dict[str, Callable[[argparse.ArgumentParser], None]] = {
     "ask": add_ask, "check": add_check, "commands": add_commands, "delegations": add_delegations, "fleet": add_fleet,
-    "page": add_page,
+    "page": add_page, "plan": add_plan,
     "snapshot": add_snapshot, "tree": add_tree}
 # these tell their usage where their options are wrong, and the others a line
 PARSERS: Dict[str, Type[argparse.ArgumentParser]] = {"page": argparse.ArgumentParser, "tree": argparse.ArgumentParser}

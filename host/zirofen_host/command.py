@@ -13,18 +13,18 @@ from zirofen_host.ask import accepted
 from zirofen_host.ask.delegations import Delegations
 from zirofen_host.ask.program import program_at
 from zirofen_host.ask.questions import subtrees_by
-from zirofen_host.collect import bounded, elsewhere, fitting, snapshot
+from zirofen_host.collect import bounded, changes, elsewhere, fitting, snapshot
 from zirofen_host.collect.accounts import accounts_here, accounts_of, payer_of
 from zirofen_host.collect.holds import holds_of
 from zirofen_host.collect.model import Snapshot, User
 from zirofen_host.collect.processes import read_processes
 from zirofen_host.collect.looks import why_of
-from zirofen_host.judge import acceptances, baseline, check, one, replayed, saved, settings, shell
+from zirofen_host.judge import acceptances, baseline, check, one, plan, replayed, saved, settings, shell
 from zirofen_host.judge.model import Report
 from zirofen_host.options import (PROC, AskOptions, CheckOptions, CommandsOptions, DelegationsOptions, FleetOptions, PageOptions,
-                                  SnapshotOptions, TreeOptions, Way)
+                                  PlanOptions, SnapshotOptions, TreeOptions, Way)
 from zirofen_host.profile import path_of, shown
-from zirofen_host.show import fleet_run, formats, listing, page, tree_view
+from zirofen_host.show import fleet_run, formats, listing, page, plan_lines, tree_view
 from zirofen_host.show.run import Run
 
 ABOUT = f"""The helpers of zirofen for a running host: from its cgroups to answers. They are no part of what is proved.
@@ -155,6 +155,24 @@ def tell_fleet(given: argparse.Namespace) -> int:
     return fleet_run.tell(FleetOptions(**vars(given)))
 
 
+def tell_plan(given: argparse.Namespace) -> int:
+    options = PlanOptions(**vars(given))
+    options = dataclasses.replace(options, program=program_at(options.program))
+    if options.tree == options.ops == "-":
+        raise fault.Fault("the tree and the changes can't both be standard input")
+    lines = plan.operations(options.ops)
+    if options.print == "lines":
+        fault.write_lines(" ".join(words) for _, words in changes.lines_in(lines))
+        return 0
+    found = plan.before(options)
+    text = plan.planned_text(found, lines, options)
+    if options.print == "text":
+        fault.write(text)
+        return 0
+    report = plan.compared(found, text, options)
+    return plan_lines.write(report, options.json)
+
+
 def write_snapshot(given: argparse.Namespace) -> int:
     options = SnapshotOptions(**vars(given))
     taken = snapshot.take(options, snapshot.all_that_changes)
@@ -188,7 +206,7 @@ def draw_tree(given: argparse.Namespace) -> int:
 
 RUNS: Dict[str, Callable[[argparse.Namespace], int]] = {
     "ask": ask, "check": check_host, "commands": write_commands, "delegations": list_delegations, "fleet": tell_fleet,
-    "page": write_page,
+    "page": write_page, "plan": tell_plan,
     "snapshot": write_snapshot, "tree": draw_tree}
 
 

@@ -71,6 +71,15 @@ class TreeOptions(Options):
 
 
 @dataclass(frozen=True)
+class PlanOptions(Options):
+    # a file with changes of root's, a line each
+    ops: str = ""
+    json: bool = False
+    # the changes or the tree behind them, in place of answers
+    print: Optional[str] = None
+
+
+@dataclass(frozen=True)
 class DelegationsOptions:
     tree: Optional[str] = None
     proc: Optional[str] = None
