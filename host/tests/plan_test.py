@@ -110,7 +110,8 @@ class ChangesTest(unittest.TestCase):
                 ("process 7 0 /a/b", "there is a process 7 already"), ("process 9 0 /a", "/a enables a controller"),
                 ("mkdirs /b", "'mkdirs' is no change: mkdir, chown,")):
             self.assertIn(f"line 1: {why}", self.refused(line), line)
-        for line in ("mkdir", "mkdir /b /c", "chown /a dir 0", "chown /a dir x:0", "chown /a dir 0:4294967296", "chmod /a dir 8", "chmod /a dir 888",
+        for line in ("mkdir", "mkdir /b /c", "chown /a dir 0", "chown /a dir x:0", "chown /a dir 0:4294967296", "chmod /a dir 8",
+                     "chmod /a dir 888",
                      "control /a memory", "control /a +io", "set /a memory.max", "process 0 0 /a/b", "process x 0 /a/b", "mark"):
             self.assertIn(f"{line.split()[0]} ", self.refused("# a comment", "", line))
             self.assertTrue(self.refused("# a comment", "", line).startswith("line 3: "), line)
@@ -150,7 +151,8 @@ class CommandTest(HostTest):
         # what stands before counts as before
         said = self.plan("--tree", f"{TOP}/examples/delegation-ancestor-owned.toml", ops="set /c0 memory.max 9\n")
         self.assertEqual((said.returncode, said.stdout.splitlines()[-1]), (0, "2 asked: 2 escapes"))
-        said = self.plan("--tree", f"{TOP}/examples/delegation-ancestor-owned.toml", ops="chown / cgroup.procs 0:0\nchmod / cgroup.procs 644\n")
+        said = self.plan("--tree", f"{TOP}/examples/delegation-ancestor-owned.toml",
+                         ops="chown / cgroup.procs 0:0\nchmod / cgroup.procs 644\n")
         self.assertEqual((said.returncode, said.stdout.splitlines()[-1]), (0, "2 asked: 2 contained"))
         self.assertIn("gone: / cgroup.procs (1000:0 446): escapes", said.stdout)
 

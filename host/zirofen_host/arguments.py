@@ -16,6 +16,8 @@ FORMATS = ("text", "json", "sarif", "junit", "metrics")
 FLEET_FORMATS = ("text", "json", "metrics")
 # in which words it tells what mends findings
 MENDS = ("systemd", "shell")
+# a systemd that isn't told
+NEW_SYSTEMD = 257
 # columns that a tree is drawn in at least
 LEAST_WIDTH = 20
 
@@ -72,12 +74,15 @@ report could be read nothing is written; {NAME} check has the status of the answ
 """,
     "plan": f"""Tells what changes of root's to this host, or to a tree text, would be answered, before they are made.
 
-A helper: no part of the proved program, and only tested; each answer is the program's own. Nothing is carried out on the host. FILE
-has a change in each line: mkdir PATH, chown PATH ENTRY UID:GID, chmod PATH ENTRY MODE, control PATH +CONTROLLER .., set PATH FILE
-VALUE, process PID UID PATH, mark PATH (the manager's mark of what it hands over). They are made to the tree's text one after another;
-one that a kernel wouldn't let root make is a fault of its line. Both trees are asked as {NAME} check asks, and what is new, worse,
-changed or gone behind the changes is printed. The status is that of what is new or worse: 3 for a fault, new or not; else 1 for an
-escape or a limit that stands open; else 2 where an answer is unsettled; else 4 where nothing was found to ask; else 0.
+A helper: no part of the proved program, and only tested; each answer is the program's own. Nothing is carried out on the host.
+What changes is given by --ops FILE, or by --unit FILE ..: units as systemd starts them; what of them this can't tell is a line
+on standard error, and other drop-ins than those given are read from the system's folders of this host alone. A FILE of changes
+has one in each line: mkdir PATH, chown PATH ENTRY UID:GID, chmod PATH ENTRY MODE, control PATH +CONTROLLER .., set PATH FILE
+VALUE, process PID UID PATH, mark PATH (the manager's mark of what it hands over). They are made to the tree's text one after
+another; one that a kernel wouldn't let root make is a fault of its line. Both trees are asked as {NAME} check asks, and what is
+new, worse, changed or gone behind the changes is printed. The status is that of what is new or worse: 3 for a fault, new or
+not; else 1 for an escape or a limit that stands open; else 2 where an answer is unsettled; else 4 where nothing was found to
+ask; else 0.
 """,
     "snapshot": f"""Writes the cgroups of this host as a tree text for zirofen, on standard output. Run it as root.
 
@@ -219,7 +224,11 @@ def add_fleet(parser: argparse.ArgumentParser) -> None:
 def add_plan(parser: argparse.ArgumentParser) -> None:
     for add in (add_host, add_text, add_accounts, add_program):
         add(parser)
-    parser.add_argument("--ops", metavar="FILE", required=True, help="changes of root's, a line each, - for standard input")
+    parser.add_argument("--ops", metavar="FILE", help="changes of root's, a line each, - for standard input")
+    parser.add_argument("--unit", metavar="FILE", action="append", default=[], help="in place of these a unit of systemd that is started, "
+                        "NAME.service or NAME.slice, or a drop-in of one, UNIT.d/NAME.conf; once or more")
+    parser.add_argument("--systemd", metavar="VERSION", type=number, help="the version that units are for (the host's own, else "
+                        f"{NEW_SYSTEMD})")
     parser.add_argument("--print", choices=("lines", "text"), help="in place of answers the changes, or the text of the tree behind them")
     parser.add_argument("--json", action="store_true", help=f"what {NAME} check --json would write behind the changes, compared")
 

@@ -13,7 +13,7 @@ from zirofen_host.ask import accepted
 from zirofen_host.ask.delegations import Delegations
 from zirofen_host.ask.program import program_at
 from zirofen_host.ask.questions import subtrees_by
-from zirofen_host.collect import bounded, changes, elsewhere, fitting, snapshot
+from zirofen_host.collect import bounded, elsewhere, fitting, snapshot
 from zirofen_host.collect.accounts import accounts_here, accounts_of, payer_of
 from zirofen_host.collect.holds import holds_of
 from zirofen_host.collect.model import Snapshot, User
@@ -156,15 +156,23 @@ def tell_fleet(given: argparse.Namespace) -> int:
 
 
 def tell_plan(given: argparse.Namespace) -> int:
+    given.unit = tuple(given.unit)
     options = PlanOptions(**vars(given))
     options = dataclasses.replace(options, program=program_at(options.program))
+    if bool(options.ops) == bool(options.unit):
+        raise fault.Fault("either --ops or --unit is wanted")
     if options.tree == options.ops == "-":
         raise fault.Fault("the tree and the changes can't both be standard input")
-    lines = plan.operations(options.ops)
-    if options.print == "lines":
-        fault.write_lines(" ".join(words) for _, words in changes.lines_in(lines))
+    if options.print == "lines" and options.ops:
+        fault.write_lines(plan.as_read(plan.operations(options.ops)))
         return 0
     found = plan.before(options)
+    lines, named = plan.lines_of(found, options)
+    if options.print == "lines":
+        fault.write_lines([*(f"# not told: {each}" for each in named), *plan.as_read(lines)])
+        return 0
+    for each in named:
+        fault.warn(f"{NAME} plan: not told: {each}")
     text = plan.planned_text(found, lines, options)
     if options.print == "text":
         fault.write(text)

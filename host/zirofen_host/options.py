@@ -72,8 +72,11 @@ class TreeOptions(Options):
 
 @dataclass(frozen=True)
 class PlanOptions(Options):
-    # a file with changes of root's, a line each
-    ops: str = ""
+    # a file with changes of root's, a line each, or units of which they are made
+    ops: Optional[str] = None
+    unit: Tuple[str, ...] = ()
+    # the version of systemd that units are for; the host's own, else a new one
+    systemd: Optional[int] = None
     json: bool = False
     # the changes or the tree behind them, in place of answers
     print: Optional[str] = None

@@ -101,8 +101,8 @@ class Changes:
 
     def take_away(self, path: CgroupPath, file: str) -> None:
         row, found = self.rows[path], self.cgroups[path]
-        self.rows[path] = replace(row, files=without(row.files, file), values={name: value for name, value in row.values.items()
-                                                                              if name != file})
+        values = {name: value for name, value in row.values.items() if name != file}
+        self.rows[path] = replace(row, files=without(row.files, file), values=values)
         self.cgroups[path] = replace(found, files=without(found.files, file))
 
     def entry(self, path: CgroupPath, name: str) -> Entry:
