@@ -12,6 +12,7 @@ from datetime import datetime, timedelta, timezone
 
 import browser
 import crowded
+import debian_readers
 import example
 from made_up import COMMAND, MEMORY
 from page_reader import PageReader
@@ -134,8 +135,10 @@ class ManyTest(FleetTest):
         self.assertRegex(text, f"\n{SAME} hosts +opened +4 +2 +2 +20")
         self.assertIn("    the same 2 findings:\n    opened /system.slice/job10001.service cpu.max by everybody\n", text)
         self.assertIn("    app0000 app0001 app0002 app0003 app0004 app0005 app0006 app0007 and 304 more\n", text)
-        found = json.loads(run(*given, "--json")[0])
+        told, _ = run(*given, "--json", "--format", f"metrics={self.room}/fleet.prom")
+        found = json.loads(told)
         self.has_all(found, good)
+        self.has_metrics()
         self.has_pages(found, good)
 
     def has_all(self, found, good):
@@ -151,6 +154,22 @@ class ManyTest(FleetTest):
         self.assertTrue(all(hosts[name]["counts"] and hosts[name]["listed"] for name in good))
         alike = {each["answer"]: len(each["hosts"]) for each in found["alike"] if each["why"] is None}
         self.assertEqual(alike, {"opened": SAME, "contained": HOSTS - 40 - SAME - ESCAPING})
+
+    def has_metrics(self):
+        """Promtool has nothing against them, and they name no host."""
+        with open(f"{self.room}/fleet.prom", encoding="ascii") as opened:
+            text = opened.read()
+        self.assertEqual(debian_readers.promtool(text), "")
+        self.assertNotRegex(text, "app0|empty0|/")
+        told = dict(line.rsplit(" ", 1) for line in text.splitlines() if line[0] != "#")
+        hosts = {"no_report": 40, "escapes": ESCAPING, "opened": SAME, "contained": HOSTS - 40 - SAME - ESCAPING}
+        for kind in ("no_report", "escapes", "opened", "unsettled", "fault", "accepted", "not_asked", "above", "contained"):
+            self.assertEqual(told[f'zirofen_fleet_hosts{{answer="{kind}"}}'], str(hosts.get(kind, 0)))
+        self.assertEqual([told[f'zirofen_fleet_hosts_with_status{{status="{status}"}}'] for status in range(5)],
+                         [str(hosts["contained"]), str(SAME + ESCAPING), "0", "40", "0"])
+        self.assertEqual(told["zirofen_fleet_status"], "3")
+        self.assertEqual(told["zirofen_fleet_delegations"], str(2 * hosts["contained"] + 4 * SAME + 3 * ESCAPING))
+        self.assertEqual(told["zirofen_fleet_oldest_report_timestamp_seconds"], str(round((NOW - timedelta(days=1)).timestamp() - 0.5)))
 
     def has_pages(self, found, good):
         text, reader = self.index()
@@ -226,6 +245,26 @@ class RulesTest(FleetTest):
         self.assertIn("2 hosts  escapes  ", run(self.folder.folder)[0])
         text, status = run(self.folder.folder, "--each")
         self.assertEqual((text.count("escapes  3 "), status), (2, 1))
+
+    def test_what_is_written(self):
+        self.folder.put_like(["a", "b"], ("limit",))
+        text, status = run(self.folder.folder, "--format", f"json={self.room}/json", "--format", f"metrics={self.room}/metrics")
+        self.assertEqual((text.splitlines()[-1], status), ("2 hosts: 2 escapes", 1))
+        with open(f"{self.room}/json", encoding="ascii") as opened:
+            self.assertEqual(opened.read(), run(self.folder.folder, "--json")[0])
+        self.assertEqual(run(self.folder.folder, "--format", "json")[0], run(self.folder.folder, "--json")[0])
+        self.assertTrue(run(self.folder.folder, "--format", "metrics")[0].startswith("# HELP zirofen_fleet_hosts "))
+        # everybody may read metrics, whatever the umask is
+        self.assertEqual(os.stat(f"{self.room}/metrics").st_mode & 0o777, 0o644)
+        for given in (("--json", "--format", "metrics"), ("--format", "sarif"), ("--format", "json=")):
+            with self.assertRaises(command.fault.Fault):
+                run(self.folder.folder, *given)
+
+    def test_metrics_of_hosts_of_which_none_counts(self):
+        self.folder.put("a", "")
+        text, status = run(self.folder.folder, "--format", "metrics")
+        self.assertEqual((debian_readers.promtool(text), status), ("", 3))
+        self.assertIn("\nzirofen_fleet_oldest_report_timestamp_seconds 0\n", text)
 
     def test_faults(self):
         for given in ((f"{self.room}/none",), (self.folder.folder,), (self.folder.folder, "--hosts", f"{self.room}/none"),

@@ -1,6 +1,7 @@
 """Tests of what others read: SARIF, JUnit and metrics, of every kept report and of made-up hosts."""
 import json
 import os
+import shlex
 import stat
 import subprocess
 import sys
@@ -41,7 +42,7 @@ def odd_report():
     """A report with one of each kind of finding, under names that are made to harm."""
     found = made(example.kept())
     whom = (Whom("others", None, "everybody", ()),)
-    opened = OpenedFinding(ODD, "cpu.max", Owner(0, 0, "666"), whom, (f"chmod o-w '{ODD}'",), None, None)
+    opened = OpenedFinding(ODD, "cpu.max", Owner(0, 0, "666"), whom, (f"chmod o-w {shlex.quote(ODD)}",), None, None)
     faults = (FaultFinding("everybody", None, (), "it <changes>", (ODD,), None),
               FaultFinding("alice(1000)", 1000, (), "too large", ("/a/b",), "alice(1000)"))
     entries = tuple(replace(each, path=ODD, answer=answer) for each in found.entries[:1] for answer in ("escapes", "unsettled"))
@@ -204,10 +205,10 @@ class WaysTest(HostTest):
         text, json_, file = Way("text"), Way("json"), Way("sarif", "x")
         for options, ways in (({}, (text,)), ({"json": True}, (json_,)), ({"format": (file,)}, (text, file)),
                               ({"format": (file,), "json": True}, (file, json_)), ({"format": (Way("junit"),)}, (Way("junit"),))):
-            self.assertEqual(formats.ways_of(CheckOptions(**options)), ways)
+            self.assertEqual(formats.ways_to_check(CheckOptions(**options)), ways)
         for given in ((text, json_), (file, Way("junit", "x"))):
             with self.assertRaisesRegex(Fault, "two reports would go to"):
-                formats.ways_of(CheckOptions(format=given))
+                formats.ways_to_check(CheckOptions(format=given))
 
     def script(self, *words):
         return subprocess.run([sys.executable, COMMAND, "check", "--plain-folder", "--mount", self.host.mount, "--proc", self.host.proc,

@@ -1,7 +1,7 @@
 """What each subcommand takes on its command line, and what its --help says."""
 import argparse
 import os
-from typing import Callable, Dict, Type
+from typing import Callable, Dict, Sequence, Type
 
 from zirofen_host.fault import Parser
 from zirofen_host.installed import MANUAL, TOLD_PROGRAM, default_program
@@ -12,6 +12,12 @@ NAME = "zirofen-host"
 LARGEST_ID = 4294967295
 # what a check writes
 FORMATS = ("text", "json", "sarif", "junit", "metrics")
+# what is written of many hosts
+FLEET_FORMATS = ("text", "json", "metrics")
+# in which words it tells what mends findings
+MENDS = ("systemd", "shell")
+# a systemd that isn't told
+NEW_SYSTEMD = 257
 # columns that a tree is drawn in at least
 LEAST_WIDTH = 20
 
@@ -66,6 +72,18 @@ at. Of several hosts, up to 20, the worst stands on top, and a report that can't
 writes more. The page is one file, which loads nothing and needs no script. The status is 0, or 3 for a fault, and where no
 report could be read nothing is written; {NAME} check has the status of the answers.
 """,
+    "plan": f"""Tells what changes of root's to this host, or to a tree text, would be answered, before they are made.
+
+A helper: no part of the proved program, and only tested; each answer is the program's own. Nothing is carried out on the host.
+What changes is given by --ops FILE, or by --unit FILE ..: units as systemd starts them; what of them this can't tell is a line
+on standard error, and other drop-ins than those given are read from the system's folders of this host alone. A FILE of changes
+has one in each line: mkdir PATH, chown PATH ENTRY UID:GID, chmod PATH ENTRY MODE, control PATH +CONTROLLER .., set PATH FILE
+VALUE, process PID UID PATH, mark PATH (the manager's mark of what it hands over). They are made to the tree's text one after
+another; one that a kernel wouldn't let root make is a fault of its line. Both trees are asked as {NAME} check asks, and what is
+new, worse, changed or gone behind the changes is printed. The status is that of what is new or worse: 3 for a fault, new or
+not; else 1 for an escape or a limit that stands open; else 2 where an answer is unsettled; else 4 where nothing was found to
+ask; else 0.
+""",
     "snapshot": f"""Writes the cgroups of this host as a tree text for zirofen, on standard output. Run it as root.
 
 A helper: no part of the proved program, and only tested. Two walks in a row agree on what is written. What the text
@@ -94,13 +112,21 @@ def width(word: str) -> int:
     return int(word)
 
 
-def way(word: str) -> Way:
+def way(word: str, kinds: Sequence[str] = FORMATS) -> Way:
     kind, is_named, file = word.partition("=")
-    if kind not in FORMATS:
-        raise argparse.ArgumentTypeError(f"{kind!a} is none of {', '.join(FORMATS)}")
+    if kind not in kinds:
+        raise argparse.ArgumentTypeError(f"{kind!a} is none of {', '.join(kinds)}")
     if is_named and not file:
         raise argparse.ArgumentTypeError("there is no file behind =")
     return Way(kind, file or "-")
+
+
+def way_to_mend(word: str) -> Way:
+    return way(word, MENDS)
+
+
+def way_of_fleet(word: str) -> Way:
+    return way(word, FLEET_FORMATS)
 
 
 def add_host(parser: argparse.ArgumentParser) -> None:
@@ -149,6 +175,8 @@ def add_check(parser: argparse.ArgumentParser) -> None:
     parser.add_argument("--format", metavar="KIND", type=way, action="append", default=[], help=f"{', '.join(FORMATS)}, or KIND=FILE into "
                         "a file; once or more. Where none goes to standard output, the text does")
     parser.add_argument("--json", action="store_true", help="what --format json is: all of it, with the host's cgroups and processes")
+    parser.add_argument("--mends", metavar="KIND", type=way_to_mend, action="append", default=[], help="in place of the text, what mends "
+                        "the findings so that it stays: as drop-ins (systemd) or as a script for root (shell); or KIND=FILE into a file")
     parser.add_argument("--html", metavar="FILE", help="one page of it to look at, into a file; what is printed stays as it is")
     parser.add_argument("--accept", metavar="FILE", help="findings that are accepted, each by itself, for a reason and until a day: told, "
                         "and not counted")
@@ -183,12 +211,26 @@ def add_page(parser: argparse.ArgumentParser) -> None:
 
 def add_fleet(parser: argparse.ArgumentParser) -> None:
     parser.add_argument("folder", metavar="FOLDER", help=f"where NAME.json is what {NAME} check --json wrote of the host NAME")
-    parser.add_argument("--json", action="store_true", help="all of it as JSON, each host by itself")
+    parser.add_argument("--json", action="store_true", help="what --format json is: all of it, each host by itself")
+    parser.add_argument("--format", metavar="KIND", type=way_of_fleet, action="append", default=[], help=f"{', '.join(FLEET_FORMATS)}, or "
+                        "KIND=FILE into a file; once or more. Where none goes to standard output, the text does")
     parser.add_argument("--each", action="store_true", help="each host in a row of its own, also those that are alike")
     parser.add_argument("--html", metavar="FOLDER",
                         help="index.html there, and a page of each host beside it; what is printed stays as it is")
     parser.add_argument("--older", metavar="DAYS", type=number, help="a report that is older than so many days doesn't count")
     parser.add_argument("--hosts", metavar="FILE", help="the names of the hosts that should be there, a line each")
+
+
+def add_plan(parser: argparse.ArgumentParser) -> None:
+    for add in (add_host, add_text, add_accounts, add_program):
+        add(parser)
+    parser.add_argument("--ops", metavar="FILE", help="changes of root's, a line each, - for standard input")
+    parser.add_argument("--unit", metavar="FILE", action="append", default=[], help="in place of these a unit of systemd that is started, "
+                        "NAME.service or NAME.slice, or a drop-in of one, UNIT.d/NAME.conf; once or more")
+    parser.add_argument("--systemd", metavar="VERSION", type=number, help="the version that units are for (the host's own, else "
+                        f"{NEW_SYSTEMD})")
+    parser.add_argument("--print", choices=("lines", "text"), help="in place of answers the changes, or the text of the tree behind them")
+    parser.add_argument("--json", action="store_true", help=f"what {NAME} check --json would write behind the changes, compared")
 
 
 def add_snapshot(parser: argparse.ArgumentParser) -> None:
@@ -213,7 +255,7 @@ def add_tree(parser: argparse.ArgumentParser) -> None:
 
 ARGUMENTS: Dict[str, Callable[[argparse.ArgumentParser], None]] = {
     "ask": add_ask, "check": add_check, "commands": add_commands, "delegations": add_delegations, "fleet": add_fleet,
-    "page": add_page,
+    "page": add_page, "plan": add_plan,
     "snapshot": add_snapshot, "tree": add_tree}
 # these tell their usage where their options are wrong, and the others a line
 PARSERS: Dict[str, Type[argparse.ArgumentParser]] = {"page": argparse.ArgumentParser, "tree": argparse.ArgumentParser}

@@ -19,12 +19,12 @@ from zirofen_host.collect.holds import holds_of
 from zirofen_host.collect.model import Snapshot, User
 from zirofen_host.collect.processes import read_processes
 from zirofen_host.collect.looks import why_of
-from zirofen_host.judge import acceptances, baseline, check, one, replayed, saved, settings, shell
+from zirofen_host.judge import acceptances, baseline, check, one, plan, replayed, saved, settings, shell
 from zirofen_host.judge.model import Report
 from zirofen_host.options import (PROC, AskOptions, CheckOptions, CommandsOptions, DelegationsOptions, FleetOptions, PageOptions,
-                                  SnapshotOptions, TreeOptions, Way)
+                                  PlanOptions, SnapshotOptions, TreeOptions, Way)
 from zirofen_host.profile import path_of, shown
-from zirofen_host.show import fleet_run, formats, listing, page, tree_view
+from zirofen_host.show import fleet_run, formats, listing, page, plan_lines, tree_view
 from zirofen_host.show.run import Run
 
 ABOUT = f"""The helpers of zirofen for a running host: from its cgroups to answers. They are no part of what is proved.
@@ -43,9 +43,9 @@ def ask(given: argparse.Namespace) -> int:
 
 
 def check_host(given: argparse.Namespace) -> int:
-    given.format = tuple(given.format)
+    given.format, given.mends = tuple(given.format), tuple(given.mends)
     options, began = CheckOptions(**vars(given)), time.monotonic()
-    ways = formats.ways_of(options)
+    ways = formats.ways_to_check(options)
     options = dataclasses.replace(options, program=program_at(options.program))
     before = baseline.read(options.baseline) if options.baseline else None
     granted = acceptances_of(options)
@@ -78,8 +78,7 @@ def write_all(options: CheckOptions, ways: Iterable[Way], run: Run, is_first: bo
     """Writes a report in each way that was asked for. Where one fails a line says which, and the others are written; whether all
     were."""
     written: List[Tuple[str, Callable[[], None]]] = [
-        ("the lines" if way.kind == "text" else f"the {way.kind}", functools.partial(formats.write, way, run, options.each))
-        for way in ways]
+        (formats.name_of(way), functools.partial(formats.write, way, run, options.each)) for way in ways]
     if options.html:
         written.append(("the page", lambda: page.write(str(options.html), [run.report])))
     if options.baseline or options.baseline_update:
@@ -152,7 +151,34 @@ def write_page(given: argparse.Namespace) -> int:
 
 
 def tell_fleet(given: argparse.Namespace) -> int:
+    given.format = tuple(given.format)
     return fleet_run.tell(FleetOptions(**vars(given)))
+
+
+def tell_plan(given: argparse.Namespace) -> int:
+    given.unit = tuple(given.unit)
+    options = PlanOptions(**vars(given))
+    options = dataclasses.replace(options, program=program_at(options.program))
+    if bool(options.ops) == bool(options.unit):
+        raise fault.Fault("either --ops or --unit is wanted")
+    if options.tree == options.ops == "-":
+        raise fault.Fault("the tree and the changes can't both be standard input")
+    if options.print == "lines" and options.ops:
+        fault.write_lines(plan.as_read(plan.operations(options.ops)))
+        return 0
+    found = plan.before(options)
+    lines, named = plan.lines_of(found, options)
+    if options.print == "lines":
+        fault.write_lines([*(f"# not told: {each}" for each in named), *plan.as_read(lines)])
+        return 0
+    for each in named:
+        fault.warn(f"{NAME} plan: not told: {each}")
+    text = plan.planned_text(found, lines, options)
+    if options.print == "text":
+        fault.write(text)
+        return 0
+    report = plan.compared(found, text, options)
+    return plan_lines.write(report, options.json)
 
 
 def write_snapshot(given: argparse.Namespace) -> int:
@@ -188,7 +214,7 @@ def draw_tree(given: argparse.Namespace) -> int:
 
 RUNS: Dict[str, Callable[[argparse.Namespace], int]] = {
     "ask": ask, "check": check_host, "commands": write_commands, "delegations": list_delegations, "fleet": tell_fleet,
-    "page": write_page,
+    "page": write_page, "plan": tell_plan,
     "snapshot": write_snapshot, "tree": draw_tree}
 
 

@@ -38,6 +38,8 @@ class Way(NamedTuple):
 class CheckOptions(Options):
     json: bool = False
     format: Tuple[Way, ...] = ()
+    # what mends the findings
+    mends: Tuple[Way, ...] = ()
     # every finding by itself
     each: bool = False
     html: Optional[str] = None
@@ -69,6 +71,18 @@ class TreeOptions(Options):
 
 
 @dataclass(frozen=True)
+class PlanOptions(Options):
+    # a file with changes of root's, a line each, or units of which they are made
+    ops: Optional[str] = None
+    unit: Tuple[str, ...] = ()
+    # the version of systemd that units are for; the host's own, else a new one
+    systemd: Optional[int] = None
+    json: bool = False
+    # the changes or the tree behind them, in place of answers
+    print: Optional[str] = None
+
+
+@dataclass(frozen=True)
 class DelegationsOptions:
     tree: Optional[str] = None
     proc: Optional[str] = None
@@ -86,6 +100,7 @@ class PageOptions:
 class FleetOptions:
     folder: str = ""
     json: bool = False
+    format: Tuple[Way, ...] = ()
     # each host in a row of its own
     each: bool = False
     html: Optional[str] = None

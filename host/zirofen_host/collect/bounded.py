@@ -21,6 +21,10 @@ ACCOUNT_FILE = 1 << 30
 REPORT_FILE = 1 << 32
 # bytes of what somebody accepts
 ACCEPTANCES = 1 << 20
+# bytes of a unit's file
+UNIT_FILE = 1 << 20
+# bytes of changes of root's to a tree
+CHANGES = 1 << 24
 # bytes of all operations that are turned into commands
 OPERATIONS = 1 << 30
 # bytes that are kept of one extended attribute: a mark has one digit

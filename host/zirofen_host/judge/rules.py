@@ -7,10 +7,12 @@ from zirofen_host.judge.finding_lines import NOTHING_ASKED as NOTHING_ASKED_LINE
 from zirofen_host.judge.finding_lines import acceptance_line, differs_line, entry_line, fault_line, opened_line, version_1_line
 from zirofen_host.judge.gravity import ACCEPTED, Gravity, of_answer, of_fault
 from zirofen_host.judge.judged import OVER, UNKNOWN
-from zirofen_host.judge.model import (ABSENT, Absent, DiffersFinding, EntryFinding, OpenedFinding, Report, Whom)
+from zirofen_host.judge.model import (ABSENT, Absent, DiffersFinding, EntryFinding, OpenedFinding, Report, Whom, Within)
 from zirofen_host.profile import LIMIT_FILES
 
 NOTHING_ASKED, VERSION_1, DIFFERS = "nothing-asked", "version-1", "differs"
+# a look's kind: limits that a unit's next start doesn't bring back
+RESTART = "restart"
 OPENED, OPENED_DIRECTORY = "opened", "opened/dir"
 # the guard that stands on an entry, by the entry's name; what is no entry has its own word
 GUARDS: Dict[str, str] = {"cgroup.procs": "common-ancestor", "cgroup.subtree_control": "parent-control", "dir": "parent-dir",
@@ -74,6 +76,8 @@ class Finding:
     setting: Optional[str] = None
     # why it was accepted, where it was
     accepted: Union[str, Absent] = ABSENT
+    # whose own making its cgroup is
+    within: Within = ABSENT
 
     @property
     def is_counted(self) -> bool:
@@ -85,13 +89,13 @@ def of_entry(each: EntryFinding) -> Finding:
     word = PROVED.get(of_answer(each.answer), PROVED[Gravity.ESCAPES])[0]
     example = each.example.lines[1:] if each.example else ()
     return Finding(RULES[f"{word}/{GUARDS.get(each.entry, UNKNOWN)}"], each.path, each.entry, entry_line([each]), each.whom,
-                   each.subtrees, example, each.changes, each.setting, each.accepted)
+                   each.subtrees, example, each.changes, each.setting, each.accepted, each.within)
 
 
 def of_opened(each: OpenedFinding) -> Finding:
     rule = RULES[OPENED_DIRECTORY if each.file == "dir" else OPENED]
     return Finding(rule, each.path, each.file, opened_line(each), each.whom, changes=each.changes, setting=each.setting,
-                   accepted=each.accepted)
+                   accepted=each.accepted, within=each.within)
 
 
 def of_differs(each: DiffersFinding) -> Finding:

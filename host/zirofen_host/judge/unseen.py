@@ -17,6 +17,7 @@ from zirofen_host.judge.finding_lines import some
 from zirofen_host.judge.findings import texts_of
 from zirofen_host.judge.model import Told
 from zirofen_host.judge.opened import unknown_files
+from zirofen_host.judge.rules import RESTART
 from zirofen_host.profile import ANYBODY, CgroupPath, ancestors, is_inside, text_of
 
 
@@ -185,7 +186,7 @@ def restarts(checked: Checked) -> Iterator[Told]:
     """Limits that a service's settings don't bring, and that are gone when it is started anew."""
     units = {unit: path for path in checked.questions.subtrees if (unit := unit_of(path)) and unit.endswith(".service")}
     for path, text in settings.told(checked.snapshot, units, settings.systemctl_of(checked.options), checked.settings):
-        yield of_cgroup(checked, "restart", path, text)
+        yield of_cgroup(checked, RESTART, path, text)
 
 
 def about_the_mount(checked: Checked) -> Iterator[Told]:

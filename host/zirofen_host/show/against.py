@@ -3,13 +3,14 @@ from collections import Counter
 from typing import Iterator, Sequence
 
 from zirofen_host.collect.looks import FAILED
-from zirofen_host.judge.finding_lines import version_1_line
+from zirofen_host.judge.finding_lines import acceptance_line, version_1_line
+from zirofen_host.judge.gravity import ACCEPTED as STANDS
 from zirofen_host.judge.model import Told
 from zirofen_host.show import words
 from zirofen_host.show.finding import Place, id_of
 from zirofen_host.show.markup import code, items, text
-from zirofen_host.show.view import Host
-from zirofen_host.show.words import FAULT
+from zirofen_host.show.view import Host, present
+from zirofen_host.show.words import ACCEPTED, FAULT
 
 
 def against(host: Host, at: Place) -> Iterator[str]:
@@ -24,8 +25,18 @@ def against(host: Host, at: Place) -> Iterator[str]:
     for each in report.unseen:
         if each.kind == FAILED:
             yield f"A look failed: {code(each.place)} {text(each.text)}"
+    yield from accepted(host, at)
     yield from counted(at, "No answer looks at", [each for each in report.unseen if each.kind != FAILED])
     yield from counted(at, "Left out of the tree text", report.snapshot)
+
+
+def accepted(host: Host, at: Place) -> Iterator[str]:
+    """What isn't counted since somebody accepted it, and acceptances that don't hold."""
+    known = [number for number, each in enumerate(host.findings) if each.kind == ACCEPTED]
+    if known:
+        told = words.count(len(known), "finding")
+        yield f'<a href="#{id_of(at, known[0])}">{told}</a> {"was" if len(known) == 1 else "were"} accepted, and not counted.'
+    yield from (f"{text(acceptance_line(each))}." for each in present(host.report.acceptances) if each.state != STANDS)
 
 
 def counted(at: Place, what: str, found: Sequence[Told]) -> Iterator[str]:

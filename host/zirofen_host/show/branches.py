@@ -8,7 +8,7 @@ from zirofen_host.show import words
 from zirofen_host.show.finding import Place, id_of
 from zirofen_host.show.markup import code, css, items, text
 from zirofen_host.show.view import Host, entry_of, whom_of
-from zirofen_host.show.words import QUIET, SIGNS
+from zirofen_host.show.words import ACCEPTED, QUIET, SIGNS
 
 # so many cgroups beside one another of which nothing is to be told aren't folded: of delegations, and of others
 FEW, FEW_OTHERS = 4, 1
@@ -111,6 +111,7 @@ class Branches:
             if finding.key == "entries":
                 names = ", ".join(map(entry_of, finding.parts))
                 let_in = f"{names} let{'s' if len(finding.parts) == 1 else ''} in {words.who(whom_of(finding.parts[0]))}"
+                let_in += f", {ACCEPTED}" if finding.kind == ACCEPTED else ""
                 yield f'<a class="{css(finding.kind)}" href="#{id_of(self.at, number)}">{text(let_in)}</a>'
 
     def folded(self, paths: List[str]) -> str:

@@ -11,7 +11,7 @@ from zirofen_host.show import picture, words
 from zirofen_host.show.lines import together
 from zirofen_host.show.markup import capital, code, commands, filled, items, paragraph, places, sentence, text
 from zirofen_host.show.steps import OVER, Steps, steps_of
-from zirofen_host.show.view import Escape, Grouped, Host, Part, entry_of, place_of, subtrees_of, whom_of
+from zirofen_host.show.view import Escape, Grouped, Host, Part, accepted_of, entry_of, place_of, subtrees_of, whom_of
 from zirofen_host.show.words import ESCAPES, UNSETTLED
 
 
@@ -62,12 +62,17 @@ class Article:
 
     def html(self) -> str:
         """All that is told of it, but for its title."""
-        return filled("finding.html", what=self.what(), of=self.of(), picture=self.picture(), steps=self.told_steps(),
+        return filled("finding.html", what=self.accepted() + self.what(), of=self.of(), picture=self.picture(), steps=self.told_steps(),
                       change=self.change(), try_it=self.try_it())
+
+    def accepted(self) -> str:
+        """Why it isn't counted, where somebody accepted it."""
+        why = accepted_of(self.finding.parts[0])
+        return "" if why is None else paragraph(f"Accepted, and not counted: {text(why)}.")
 
     def title(self) -> str:
         """What is the matter, in one line."""
-        part, kind = self.finding.parts[0], self.finding.kind
+        part, kind = self.finding.parts[0], self.finding.answer
         if isinstance(part, DiffersFinding):
             return f"{code(part.path)} isn't as a service manager leaves it"
         if isinstance(part, FaultFinding):
@@ -123,7 +128,7 @@ class Article:
         """The subtrees that it opens, where the title doesn't name the one, and what an unsettled guard means."""
         subtrees = subtrees_of(self.finding.parts[0])
         told = f"<p>The subtrees are {places(subtrees)}.</p>" if len(subtrees) > 1 else ""
-        if self.finding.kind == UNSETTLED and self.broken:
+        if self.finding.answer == UNSETTLED and self.broken:
             guard = text(words.guard(self.broken.escape.lines[0]))
             told += f"<p>No operations were found that break it, and it isn't shown to hold: {guard}.</p>"
         return told
@@ -195,7 +200,7 @@ def articles(host: Host, at: Place) -> Iterator[Article]:
     for number, finding in enumerate(host.findings):
         part, broken = finding.parts[0], None
         escape = host.escape(part) if isinstance(part, EntryFinding) else None
-        if escape and finding.kind == ESCAPES:
+        if escape and finding.answer == ESCAPES:
             before = first.setdefault(escape, number)
             steps = steps_of(host, escape.subtree, escape.lines[1:])
             broken = Broken(escape, steps, None if before == number else id_of(at, before))

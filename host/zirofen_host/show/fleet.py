@@ -15,7 +15,7 @@ from zirofen_host.judge.finding_lines import differs_line, entry_line, fault_lin
 from zirofen_host.judge.gravity import gravity_of
 from zirofen_host.judge.model import DiffersFinding, EntryFinding, FaultFinding, OpenedFinding, Report
 from zirofen_host.profile import shown
-from zirofen_host.show.view import DIFFERS, Grouped, Host, host_of
+from zirofen_host.show.view import DIFFERS, Grouped, Host, accepted_of, host_of
 from zirofen_host.show.words import CONTAINED, NOT_ASKED, STANDINGS
 
 ENDING = ".json"
@@ -132,7 +132,16 @@ def missing(name: str, why: str) -> Row:
 
 
 def finding_lines(found: Grouped) -> Iterator[str]:
-    """A finding in lines, as a check prints it."""
+    """A finding in lines, as a check prints it, with why it was accepted."""
+    why = accepted_of(found.parts[0])
+    if why is not None:
+        yield from (f"accepted: {line}: {why}" for line in plain_lines(found))
+    else:
+        yield from plain_lines(found)
+
+
+def plain_lines(found: Grouped) -> Iterator[str]:
+    """A finding in lines, whether somebody accepted it or not."""
     entries = [each for each in found.parts if isinstance(each, EntryFinding)]
     if entries:
         yield entry_line(entries)

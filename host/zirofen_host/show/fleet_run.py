@@ -1,15 +1,31 @@
 """What `zirofen-host fleet` does: reads the reports of a folder one after another, and writes what it was asked for."""
+import functools
 import json
+import time
 from datetime import datetime, timezone
+from typing import Callable, Dict, Iterator
 
 from zirofen_host import fault, output
 from zirofen_host.judge.model import Report
 from zirofen_host.options import FleetOptions
-from zirofen_host.show import fleet, fleet_lines, fleet_page
+from zirofen_host.show import fleet, fleet_lines, fleet_metrics, fleet_page, formats
+
+Parts = Callable[[], Iterator[str]]
+
+
+def text_parts(found: fleet.Fleet, is_each: bool) -> Iterator[str]:
+    return (f"{fault.plain(line)}\n" for line in fleet_lines.lines_of(found, is_each))
+
+
+def json_parts(found: fleet.Fleet) -> Iterator[str]:
+    yield json.dumps(fleet.value_of(found), indent=1)
+    yield "\n"
 
 
 def tell(options: FleetOptions) -> int:
-    """Prints the hosts, and writes their pages where these are wanted; the status is the worst of them."""
+    """Prints the hosts, and writes what else is wanted of them; the status is the worst of them."""
+    ways = formats.ways_of((*options.format, *([formats.JSON] if options.json else [])))
+    began = time.monotonic()
     rules = fleet.Rules(datetime.now(timezone.utc), options.older, fleet.hosts_in(options.hosts) if options.hosts else None)
     if options.html:
         output.make_folder(options.html)
@@ -20,8 +36,9 @@ def tell(options: FleetOptions) -> int:
     found = fleet.read_fleet(options.folder, rules, draw)
     if options.html:
         fleet_page.write_index(options.html, found)
-    if options.json:
-        fault.write([json.dumps(fleet.value_of(found), indent=1), "\n"])
-    else:
-        fault.write_lines(fleet_lines.lines_of(found, options.each))
+    parts: Dict[str, Parts] = {
+        "text": functools.partial(text_parts, found, options.each), "json": functools.partial(json_parts, found),
+        "metrics": functools.partial(fleet_metrics.parts_of, found, time.monotonic() - began, time.time())}
+    for way in ways:
+        formats.write_parts(way, parts[way.kind]())
     return found.status

@@ -1,19 +1,26 @@
 """A report in each way that was asked for."""
+import functools
 from typing import Callable, Dict, Iterable, Iterator, Tuple
 
 from zirofen_host import fault, output
 from zirofen_host.judge import as_json
+from zirofen_host.judge.mends import KINDS
 from zirofen_host.options import CheckOptions, Way
 from zirofen_host.profile import shown
-from zirofen_host.show import junit, lines, metrics, sarif
+from zirofen_host.show import junit, lines, mends, metrics, sarif
 from zirofen_host.show.run import Run
 
 STANDARD_OUTPUT = "-"
+# what --json is
+JSON = Way("json")
 
 
-def ways_of(options: CheckOptions) -> Tuple[Way, ...]:
+def ways_to_check(options: CheckOptions) -> Tuple[Way, ...]:
+    return ways_of((*options.format, *([JSON] if options.json else []), *options.mends))
+
+
+def ways_of(ways: Tuple[Way, ...]) -> Tuple[Way, ...]:
     """Each way to write that was asked for; the text goes to standard output where nothing else does."""
-    ways = (*options.format, *([Way("json")] if options.json else []))
     files = [way.file for way in ways]
     if STANDARD_OUTPUT not in files:
         return ways_apart((Way("text"), *ways))
@@ -26,13 +33,18 @@ def ways_apart(ways: Tuple[Way, ...]) -> Tuple[Way, ...]:
     twice = next((file for file in files if files.count(file) > 1), None)
     if twice is not None:
         place = "standard output" if twice == STANDARD_OUTPUT else shown(twice)
-        raise fault.Fault(f"two reports would go to {place}: --format KIND=FILE puts each into a file of its own")
+        raise fault.Fault(f"two reports would go to {place}: KIND=FILE puts each into a file of its own")
     return ways
 
 
 def is_whole(ways: Iterable[Way]) -> bool:
     """Whether a way to write takes the host itself in the report."""
-    return any(way.kind == "json" for way in ways)
+    return any(way.kind in ("json", *KINDS) for way in ways)
+
+
+def name_of(way: Way) -> str:
+    """What is written, as a line tells of it."""
+    return "the lines" if way.kind == "text" else "the mends" if way.kind in KINDS else f"the {way.kind}"
 
 
 def text_parts(run: Run, is_each: bool) -> Iterator[str]:
@@ -48,13 +60,18 @@ def json_parts(run: Run) -> Iterator[str]:
 
 
 PARTS: Dict[str, Callable[[Run], Iterator[str]]] = {
-    "json": json_parts, "junit": junit.parts_of, "metrics": metrics.parts_of, "sarif": sarif.parts_of}
+    "json": json_parts, "junit": junit.parts_of, "metrics": metrics.parts_of, "sarif": sarif.parts_of,
+    **{kind: functools.partial(mends.parts_of, kind=kind) for kind in KINDS}}
 
 
 def write(way: Way, run: Run, is_each: bool = False) -> None:
-    """Writes a report in one way. Metrics name nobody, so that everybody may read them."""
-    parts = text_parts(run, is_each) if way.kind == "text" else PARTS[way.kind](run)
+    """Writes a report in one way."""
+    write_parts(way, text_parts(run, is_each) if way.kind == "text" else PARTS[way.kind](run))
+
+
+def write_parts(way: Way, parts: Iterable[str]) -> None:
+    """Writes a text to where it goes. Metrics name nobody, so that everybody may read them."""
     if way.file == STANDARD_OUTPUT:
         fault.write(parts)
     else:
-        output.write(way.file, parts, f"the {way.kind}", is_public=way.kind == "metrics")
+        output.write(way.file, parts, name_of(way), is_public=way.kind == "metrics")

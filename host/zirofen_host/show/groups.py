@@ -7,7 +7,7 @@ from zirofen_host.judge.model import DiffersFinding, EntryFinding, FaultFinding
 from zirofen_host.show import words
 from zirofen_host.show.finding import Article, Place, articles
 from zirofen_host.show.markup import commands, filled
-from zirofen_host.show.view import Host, Part, subtrees_of, whom_of
+from zirofen_host.show.view import Host, Part, accepted_of, subtrees_of, whom_of
 from zirofen_host.show.words import SIGNS
 
 # members of a group that have a picture and steps of their own
@@ -35,7 +35,9 @@ def in_common(article: Article) -> Hashable:
     if broken:
         steps = tuple(words.operation(line) for line in broken.escape.lines)
         how = steps, broken.steps.breaks.kind if broken.steps else None, broken.told_before is None
-    return finding.kind, finding.key, tuple(map(part_in_common, finding.parts)), len(subtrees_of(finding.parts[0])) > 1, how
+    first = finding.parts[0]
+    parts = tuple(map(part_in_common, finding.parts))
+    return finding.kind, accepted_of(first), finding.key, parts, len(subtrees_of(first)) > 1, how
 
 
 @dataclass(frozen=True)

@@ -14,7 +14,7 @@ from zirofen_host.show.lines import by_kind
 from zirofen_host.show.markup import code, css, filled, paragraph, places, read, text
 from zirofen_host.show.table import Table
 from zirofen_host.show.view import COUNTED, Host, host_of
-from zirofen_host.show.words import (CONTAINED, ESCAPES, FAULT, MEANINGS, NOT_ASKED, OPENED, SIGNS, STANDINGS, UNSETTLED,
+from zirofen_host.show.words import (ACCEPTED, CONTAINED, ESCAPES, FAULT, MEANINGS, NOT_ASKED, OPENED, SIGNS, STANDINGS, UNSETTLED,
                                      visible)
 
 
@@ -73,6 +73,9 @@ class HostPage:
         if self.kind == UNSETTLED:
             return (f"{number} of {every} {they_are} not settled: an entry stands open, and nothing was found that breaks the "
                     "subtree.")
+        if self.kind == ACCEPTED:
+            return (f"{number} of {every} {'stands' if number == 1 else 'stand'} open by what somebody accepted, and {contained} "
+                    f"{'is' if contained == 1 else 'are'} shown to be contained.")
         if self.kind == FAULT:
             return f"{number} of {every} {'has' if number == 1 else 'have'} no answer for somebody."
         if self.kind == NOT_ASKED:

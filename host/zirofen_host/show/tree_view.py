@@ -14,8 +14,8 @@ from zirofen_host.judge.model import DiffersFinding, Report
 from zirofen_host.options import TreeOptions
 from zirofen_host.profile import is_inside, is_root, text_of
 from zirofen_host.show import words
-from zirofen_host.show.view import COUNTED, Host, entry_of, host_of, whom_of
-from zirofen_host.show.words import ABOVE, CONTAINED, ESCAPES, FAULT, NOT_ASKED, OPENED, SIGNS, STANDINGS, UNSETTLED
+from zirofen_host.show.view import COUNTED, Host, accepted_of, entry_of, host_of, whom_of
+from zirofen_host.show.words import ABOVE, ACCEPTED, CONTAINED, ESCAPES, FAULT, NOT_ASKED, OPENED, SIGNS, STANDINGS, UNSETTLED
 
 # a cgroup, or those that are folded, with what stands before its line and before the lines below it
 Left = Tuple[Union[str, Sequence[str]], str, str]
@@ -41,7 +41,7 @@ class Glyphs(NamedTuple):
 
 UTF8 = Glyphs("│ ", "├─", "└─", "  ", "…")
 ASCII = Glyphs("| ", "|-", "`-", "  ", "..")
-COLOURS = {ESCAPES: "1;31", OPENED: "1;35", UNSETTLED: "1;33", FAULT: "1;31", NOT_ASKED: "2", ABOVE: "2", CONTAINED: "32"}
+COLOURS = {ESCAPES: "1;31", OPENED: "1;35", UNSETTLED: "1;33", FAULT: "1;31", ACCEPTED: "36", NOT_ASKED: "2", ABOVE: "2", CONTAINED: "32"}
 DIM = "2"
 # columns that a name keeps beside its answer
 LEAST_NAME = 14
@@ -115,7 +115,9 @@ class Drawer:
             if isinstance(first, DiffersFinding):
                 yield f"{sign} {' '.join(first.entries)} not as a service manager leaves it"
             else:
-                yield f"{sign} {' '.join(names)} let{'s' if len(names) == 1 else ''} in {words.who(whom_of(first))}"
+                why = accepted_of(first)
+                yield (f"{sign} {' '.join(names)} let{'s' if len(names) == 1 else ''} in {words.who(whom_of(first))}"
+                       + (f", accepted: {why}" if why else ""))
 
     def legend(self) -> Iterator[str]:
         """The numbers, and what the signs that were drawn mean."""

@@ -12,7 +12,7 @@ from zirofen_host.judge.model import (Absent, DiffersFinding, EntryFinding, Faul
 from zirofen_host.profile import CONTROL_FILES, HANDED_OVER, LIMIT_FILES, ancestors, is_usual, parent_of
 from zirofen_host.show import words
 from zirofen_host.show.lines import alike, entry_in_common, opened_in_common
-from zirofen_host.show.words import ABOVE, CONTAINED, ESCAPES, FAULT, NOT_ASKED, OPENED, STANDINGS, UNSETTLED, visible
+from zirofen_host.show.words import ABOVE, ACCEPTED, CONTAINED, ESCAPES, FAULT, NOT_ASKED, OPENED, STANDINGS, UNSETTLED, visible
 
 Part = Union[EntryFinding, OpenedFinding, FaultFinding, DiffersFinding]
 SomePart = TypeVar("SomePart", bound=Part)
@@ -24,6 +24,8 @@ Made = TypeVar("Made")
 class Grouped:
     """Findings of a report that stand together: a kind, their key in the report, and the numbers that they have there."""
     kind: str
+    # what was answered, whether somebody accepted it or not
+    answer: str
     key: str
     numbers: Sequence[int]
     parts: Sequence[Part]
@@ -96,13 +98,19 @@ def whom_of(part: Part) -> Tuple[Whom, ...]:
     return part.whom if isinstance(part, (EntryFinding, OpenedFinding)) else ()
 
 
+def accepted_of(part: Part) -> Optional[str]:
+    """Why a finding isn't counted, where somebody accepted it."""
+    why = part.accepted if isinstance(part, (EntryFinding, OpenedFinding)) else None
+    return None if isinstance(why, Absent) else why
+
+
 def grouped(key: str, found: Sequence[SomePart], in_common: Callable[[SomePart], object]) -> Iterator[Grouped]:
     """Findings that stand together below one key of the report."""
     at = 0
-    for parts in alike(found, in_common):
+    for parts in alike(found, lambda each: (in_common(each), accepted_of(each))):
         first = parts[0]
-        answered = ESCAPES if isinstance(first, EntryFinding) and first.answer == ESCAPES else UNSETTLED
-        yield Grouped(KINDS.get(key, answered), key, range(at, at + len(parts)), parts)
+        answer = KINDS.get(key, ESCAPES if isinstance(first, EntryFinding) and first.answer == ESCAPES else UNSETTLED)
+        yield Grouped(answer if accepted_of(first) is None else ACCEPTED, answer, key, range(at, at + len(parts)), parts)
         at += len(parts)
 
 

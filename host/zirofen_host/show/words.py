@@ -5,20 +5,21 @@ from zirofen_host.collect.model import Value
 from zirofen_host.judge.model import Report, Whom
 from zirofen_host.profile import parent_of
 
-ESCAPES, OPENED, UNSETTLED, FAULT, NOT_ASKED, ABOVE, CONTAINED = (
-    "escapes", "opened", "unsettled", "fault", "not asked", "above", "contained")
+ESCAPES, OPENED, UNSETTLED, FAULT, ACCEPTED, NOT_ASKED, ABOVE, CONTAINED = (
+    "escapes", "opened", "unsettled", "fault", "accepted", "not asked", "above", "contained")
 # the gravest first
-STANDINGS = (ESCAPES, OPENED, UNSETTLED, FAULT, NOT_ASKED, ABOVE, CONTAINED)
+STANDINGS = (ESCAPES, OPENED, UNSETTLED, FAULT, ACCEPTED, NOT_ASKED, ABOVE, CONTAINED)
 # of which nothing is to be told but where they stand
 QUIET = (NOT_ASKED, ABOVE, CONTAINED)
 # each with a sign of UTF-8 and one of ASCII
-SIGNS = {ESCAPES: ("✗", "X"), OPENED: ("!", "!"), UNSETTLED: ("?", "?"), FAULT: ("∅", "0"), NOT_ASKED: ("·", "-"),
-         ABOVE: ("↑", "^"), CONTAINED: ("✓", "+")}
+SIGNS = {ESCAPES: ("✗", "X"), OPENED: ("!", "!"), UNSETTLED: ("?", "?"), FAULT: ("∅", "0"), ACCEPTED: ("=", "="),
+         NOT_ASKED: ("·", "-"), ABOVE: ("↑", "^"), CONTAINED: ("✓", "+")}
 MEANINGS = {
     ESCAPES: "operations were found by which somebody breaks it",
     OPENED: "a limit, or where a manager makes what it starts, stands open to somebody; seen, and not proved",
     UNSETTLED: "an entry above or at it is open to somebody, and nothing was found that breaks it",
     FAULT: "there is no answer for somebody",
+    ACCEPTED: "what lets somebody in was accepted, for a reason and until a day, and isn't counted",
     NOT_ASKED: "nothing was asked of it",
     ABOVE: "it lies in what was handed to the same person, and isn't counted",
     CONTAINED: "nobody who was asked can break it, whatever they do",

@@ -1,0 +1,295 @@
+"""What the system's service manager makes of units when it starts them, as changes to a tree, and what of them can't be told."""
+import re
+from collections import Counter
+from dataclasses import dataclass, field
+from typing import Callable, Dict, Iterable, Iterator, List, Mapping, Optional, Sequence, Set, Tuple
+
+from zirofen_host.ask.questions import unit_of
+from zirofen_host.collect.accounts import is_id
+from zirofen_host.collect.model import AccountLists, Snapshot
+from zirofen_host.collect.snapshot import LARGEST_PID
+from zirofen_host.collect.unit_files import UnitFile, filled, specifiers
+from zirofen_host.fault import Fault
+from zirofen_host.profile import (CONTROL_FILES, CONTROLLERS, LIMIT_FILES, ROOT, SETTINGS, CgroupPath, ancestors, is_root, parent_of,
+                                  path_of, text_of)
+
+SERVICE, SLICE = "service", "slice"
+# what a manager of this version and of newer ones knows
+SUBGROUPS = 254
+# handed over with a delegated unit, as far as a tree text or what it carries has it
+HANDED_OVER = ("dir", *CONTROL_FILES, "cgroup.threads")
+PAGE = 4096
+# uids that a manager takes for users that are there while a service runs
+DYNAMIC = range(61184, 65520)
+UNITS = {"": 1, "B": 1, "K": 2**10, "M": 2**20, "G": 2**30, "T": 2**40, "P": 2**50, "E": 2**60}
+YES, NO = ("1", "yes", "y", "true", "t", "on"), ("0", "no", "n", "false", "f", "off")
+# the limit file that each setting sets, with what it is in
+LIMITS: Dict[str, str] = {setting.rstrip("="): file for file, setting in SETTINGS.items() if setting and file in LIMIT_FILES}
+# settings of what a cgroup has or who runs in it, which this can't tell; others have no bearing on owners, modes and limits
+CONTROLLED = re.compile(r"CPU(?!Scheduling|Affinity)|Memory(?!DenyWriteExecute|KSM|THP)|IO(?!Scheduling)|BlockIO|Tasks|Allowed|Startup|"
+                        r"DefaultMemory|DefaultStartup|ManagedOOM|DisableControllers|OOMPolicy")
+ACCOUNTING = re.compile(r"(CPU|Memory|IO|BlockIO|Tasks)Accounting\Z")
+RUNNING = ("PAMName", "SupplementaryGroups", "AmbientCapabilities", "PermissionsStartOnly", "PrivateUsers")
+CARRIED_OUT = {"User", "Group", "DynamicUser", "Delegate", "DelegateSubgroup", "Slice", *LIMITS}
+_SIZE = re.compile(r"([0-9]+)\s*([BKMGTPE]?)\Z")
+# a command that root carries out; !! does so on kernels alone that nobody has any more
+_AS_ROOT = re.compile(r"[-@:|]*(\+|!(?!!))")
+
+
+@dataclass
+class Plan:
+    """The lines for some units, and what of these isn't told."""
+    snapshot: Snapshot
+    accounts: AccountLists
+    systemd: int
+    lines: List[str] = field(default_factory=list)
+    named: List[str] = field(default_factory=list)
+    # the controllers that each cgroup enables
+    enabled: Dict[CgroupPath, Set[str]] = field(default_factory=dict)
+    taken: Set[int] = field(default_factory=set)
+    pids: Set[int] = field(default_factory=set)
+
+    def __post_init__(self) -> None:
+        tree = self.snapshot.tree
+        self.enabled = {path: set(row.enabled) for path, row in tree.rows.items()}
+        entries = (entry for row in tree.rows.values() for entry in (row.directory, *row.files.values()))
+        self.taken = {entry.uid for entry in entries} | {each.uid for each in self.accounts.accounts}
+        self.taken |= {each.uid for each in tree.processes}
+        self.pids = {each.pid for each in tree.processes}
+
+    def cgroup(self, path: CgroupPath) -> None:
+        """A cgroup is there, and all above it; files of one that was there are as a new one's."""
+        for place in [*reversed(list(ancestors(path))), path]:
+            if place not in self.enabled:
+                self.lines.append(f"mkdir {text_of(place)}")
+                self.enabled[place] = set()
+
+    def enable(self, path: CgroupPath, controllers: Iterable[str]) -> None:
+        """Each cgroup above one enables these controllers, as far as the root has them."""
+        wanted = set(controllers) & set(self.snapshot.tree.controllers)
+        for place in reversed(list(ancestors(path))):
+            more = [name for name in CONTROLLERS if name in wanted - self.enabled[place]]
+            if more:
+                self.lines.append(f"control {text_of(place)} {' '.join('+' + name for name in more)}")
+                self.enabled[place].update(more)
+
+    def usual_tasks(self) -> Optional[str]:
+        """The pids.max that most services have, where some have the same."""
+        rows = self.snapshot.tree.rows.items()
+        counts = Counter(row.values.get("pids.max") for path, row in rows if (unit_of(path) or "").endswith(".service"))
+        [(value, count)] = counts.most_common(1) or [(None, 0)]
+        return str(value) if isinstance(value, int) and count > 1 else None
+
+    def uid_for_nobody(self) -> int:
+        uid = next(each for each in DYNAMIC if each not in self.taken)
+        self.taken.add(uid)
+        return uid
+
+    def pid(self) -> int:
+        pid = next(each for each in range(LARGEST_PID, 0, -1) if each not in self.pids)
+        self.pids.add(pid)
+        return pid
+
+
+@dataclass(frozen=True)
+class Started:
+    """A unit on its way into a plan."""
+    plan: Plan
+    unit: UnitFile
+    known: Mapping[str, str]
+
+    def name_it(self, setting: str, value: str, why: str) -> None:
+        self.plan.named.append(f"{self.unit.name.text}: {setting}={value}: {why}")
+
+    def value(self, setting: str) -> Optional[str]:
+        """The last value of a setting, with its specifiers replaced."""
+        last = self.unit.last(setting)
+        found = None if last is None else filled(last, self.known)
+        if last is not None and found is None:
+            self.name_it(setting, last, "a specifier that isn't known here")
+        return found
+
+    def flag(self, setting: str) -> bool:
+        value = self.value(setting)
+        if value is not None and value.lower() not in (*YES, *NO):
+            self.name_it(setting, value, "neither yes nor no")
+        return value is not None and value.lower() in YES
+
+    def slice(self) -> CgroupPath:
+        """The cgroup of the slice that it is in."""
+        name = self.unit.name
+        if name.kind == SLICE:
+            return slice_path(name.text)
+        given = self.value("Slice")
+        if given and not given.endswith(".slice"):
+            self.name_it("Slice", given, "no name of a slice")
+            given = None
+        usual = "system.slice" if name.instance is None else f"system-{escaped(name.prefix)}.slice"
+        return slice_path(given or usual)
+
+    def path(self) -> CgroupPath:
+        if self.unit.name.kind == SLICE:
+            return self.slice()
+        above = self.slice()
+        return path_of(f"{'' if is_root(above) else text_of(above)}/{cgroup_name(self.unit.name.text)}")
+
+    def delegated(self) -> Optional[Set[str]]:
+        """The controllers that are delegated with it, or None where it isn't."""
+        found: Optional[Set[str]] = None
+        for value in self.unit.of("Delegate"):
+            if value.lower() in YES:
+                found = set(CONTROLLERS)
+            elif value.lower() in NO:
+                found = None
+            else:
+                found = (found or set()) | set(value.split()) if value else set()
+        return found if self.unit.name.kind == SERVICE else None
+
+    def user(self) -> Tuple[Optional[int], Optional[int]]:
+        """Whose the service's processes are: of root's neither."""
+        if self.flag("DynamicUser"):
+            stands = self.plan.uid_for_nobody()
+            if self.unit.last("User"):
+                self.name_it("User", str(self.unit.last("User")), f"a dynamic user's name: uid {stands} stands for it")
+            return stands, stands
+        user, group = self.value("User"), self.value("Group")
+        uid, gid = self.account(user) if user else (None, None)
+        if group:
+            gid = next((each.gid for each in self.plan.accounts.groups if each.name == group), int(group) if is_id(group) else None)
+            if gid is None:
+                self.name_it("Group", group, "no group that is known")
+        return uid, gid
+
+    def account(self, user: str) -> Tuple[Optional[int], Optional[int]]:
+        for each in self.plan.accounts.accounts:
+            if user in (each.name, str(each.uid)):
+                return each.uid, each.gid
+        if is_id(user):
+            return int(user), int(user)
+        if user == "root":
+            return 0, 0
+        self.name_it("User", user, "no account that is known: it is taken for one that isn't anybody else's")
+        uid = self.plan.uid_for_nobody()
+        return uid, uid
+
+    def limits(self) -> Iterator[Tuple[str, str]]:
+        """The limits that its settings bring, and for the others their defaults."""
+        for setting, file in LIMITS.items():
+            value = self.value(setting)
+            number = None if value is None else of_text(file, value)
+            if value is not None and number is None:
+                self.name_it(setting, value, "no number that can be known here")
+            if number is not None:
+                yield file, number
+            elif value is None and setting == "TasksMax" and self.unit.name.kind == SERVICE:
+                usual = self.plan.usual_tasks()
+                self.name_it(setting, "", "it isn't set, and so pids.max is the manager's DefaultTasksMax=, which isn't known"
+                             + (f": {usual} is what other services have" if usual else ""))
+                yield file, usual or "max"
+
+    def controllers(self, delegated: Optional[Set[str]]) -> Set[str]:
+        """What its slices have to enable for it."""
+        wanted = set(delegated or ())
+        wanted |= {name for name, setting in (("memory", "MemoryAccounting"), ("pids", "TasksAccounting"))
+                   if (self.unit.last(setting) or "yes").lower() not in NO}
+        wanted |= {str(LIMIT_FILES[LIMITS[each.name]][0]) for each in self.unit.settings if each.name in LIMITS}
+        return wanted | ({"cpu"} if any(each.name.startswith("CPU") and not ACCOUNTING.match(each.name)
+                                        for each in self.unit.settings) else set())
+
+    def start(self) -> None:
+        path, delegated = self.path(), self.delegated()
+        lines, was_there = self.plan.lines, path in self.plan.enabled
+        if was_there and self.unit.name.kind == SERVICE:
+            self.plan.named.append(f"{self.unit.name.text}: {text_of(path)} is there already: its files are planned as those of a new "
+                                   "one, and what is inside stays as it is")
+        self.plan.cgroup(path)
+        self.plan.enable(path, self.controllers(delegated))
+        parent = parent_of(path)
+        files = [file for file, (controller, _) in LIMIT_FILES.items()
+                 if parent and (controller is None or controller in self.plan.enabled[parent])]
+        if was_there and self.unit.name.kind == SERVICE:
+            lines += [line for name in ("dir", *CONTROL_FILES, *files) for line in
+                      (f"chown {text_of(path)} {name} 0:0", f"chmod {text_of(path)} {name} {'755' if name == 'dir' else '644'}")]
+            lines += [f"set {text_of(path)} {file} {LIMIT_FILES[file][1]}" for file in files]
+        lines += [f"set {text_of(path)} {file} {number}" for file, number in self.limits() if file in files]
+        if self.unit.name.kind == SERVICE:
+            self.run(path, delegated is not None)
+        self.tell_the_rest()
+
+    def run(self, path: CgroupPath, is_delegated: bool) -> None:
+        """Who runs in it, and what is handed over to them."""
+        uid, gid = self.user()
+        subgroup = self.value("DelegateSubgroup")
+        if subgroup and self.plan.systemd < SUBGROUPS:
+            self.name_it("DelegateSubgroup", subgroup, f"systemd {self.plan.systemd} doesn't know it")
+            subgroup = None
+        can_carry = self.plan.snapshot.source.file is None or self.plan.snapshot.source.carried is not None
+        places = [path]
+        if is_delegated:
+            if can_carry:
+                self.plan.lines.append(f"mark {text_of(path)}")
+            if subgroup:
+                places.append(path_of(f"{text_of(path)}/{subgroup}"))
+                self.plan.cgroup(places[-1])
+            for place in places:
+                self.plan.lines += [f"chown {text_of(place)} {name} {uid or 0}:{gid or 0}" for name in HANDED_OVER
+                                    if uid is not None or gid is not None if can_carry or name != "cgroup.threads"]
+        commands = self.unit.listed("ExecStart")
+        if commands:
+            runs_as_root = all(map(_AS_ROOT.match, commands))
+            self.plan.lines.append(f"process {self.plan.pid()} {0 if runs_as_root else uid or 0} {text_of(places[-1])}")
+
+    def tell_the_rest(self) -> None:
+        """Each setting of what it has or who runs in it that can't be told here."""
+        for _, name, value in self.unit.settings:
+            if not value or name in CARRIED_OUT or ACCOUNTING.match(name):
+                continue
+            if name.startswith("Exec") and _AS_ROOT.match(value):
+                self.name_it(name, value, "root carries it out, and what it does isn't known")
+            elif CONTROLLED.match(name):
+                self.name_it(name, value, "no limit that a tree text carries")
+            elif name in RUNNING:
+                self.name_it(name, value, "what it makes of who runs there isn't told")
+
+
+def escaped(prefix: str) -> str:
+    """A unit's prefix as a part of a slice's name."""
+    return prefix.replace("-", "\\x2d")
+
+
+def cgroup_name(unit: str) -> str:
+    """The cgroup of a unit; a name that might be one of the kernel's begins with _."""
+    is_file = unit[:1] in ("_", ".") or unit.startswith(("cgroup.", "notify_on_release", "release_agent", "tasks"))
+    return f"_{unit}" if is_file or unit.partition(".")[0] in ("cpu", "cpuset", "io", "memory", "pids", "hugetlb", "rdma", "misc") else unit
+
+
+def slice_path(name: str) -> CgroupPath:
+    """The cgroup of a slice, which stands in those that its name begins with."""
+    stem = name[:-len(".slice")]
+    if stem == "-":
+        return ROOT
+    parts = stem.split("-")
+    if not all(parts):
+        raise Fault(f"{name!a} is no name of a slice")
+    return path_of("".join(f"/{'-'.join(parts[:count])}.slice" for count in range(1, len(parts) + 1)))
+
+
+def of_text(file: str, value: str) -> Optional[str]:
+    """What a limit file has where a unit has a value; None for a share of what the host has, and for what is no number."""
+    if value == "infinity":
+        return "max" if file != "cpu.weight" else None
+    found = _SIZE.match(value)
+    if found is None or found[2] and not file.startswith(("memory.", "pids.")):
+        return None
+    number = int(found[1]) * UNITS[found[2]]
+    return str(number // PAGE * PAGE if file.startswith("memory.") else number)
+
+
+def planned(snapshot: Snapshot, accounts: AccountLists, units: Sequence[UnitFile], systemd: int,
+            known: Mapping[str, str]) -> Tuple[List[str], List[str]]:
+    """The changes that starting units comes to, one after another, slices first; and what of them isn't told."""
+    plan = Plan(snapshot, accounts, systemd)
+    in_turn: Callable[[UnitFile], bool] = lambda unit: unit.name.kind != SLICE
+    for unit in sorted(units, key=in_turn):
+        Started(plan, unit, specifiers(unit.name, known)).start()
+    return plan.lines, plan.named
