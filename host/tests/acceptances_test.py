@@ -239,7 +239,7 @@ class AcceptancesTest(HostTest):
 
     def test_all_that_can_be_accepted(self):
         self.assertEqual({kind for kind in RULES if kind not in acceptances.ACCEPTABLE}, {
-            "differs", "fault", "fault/own", "failed", "version-1", "nothing-asked", "acceptance"})
+            "differs", "fault", "fault/own", "failed", "version-1", "nothing-asked", "acceptance", "root-inside/held"})
 
 
 if __name__ == "__main__":

@@ -3,6 +3,7 @@ import json
 import os
 import subprocess
 import sys
+import time
 import unittest
 
 from check_test import PROGRAM, REAL_PROGRAM
@@ -10,6 +11,7 @@ from made_up import COMMAND
 from zirofen_host.collect.mount import mounts_of_host, refuse_what_is_no_host
 from zirofen_host.fault import Fault
 
+LIFT = "(echo 7 > /mnt/cgroup.max.depth) && echo lifted || echo refused; exec sleep 60"
 LOOP = """
 import os, sys
 places = [os.path.join(sys.argv[1], name) for name in ("a", "a/b", "a/b/c", "d")]
@@ -120,6 +122,54 @@ class RealMountTest(unittest.TestCase):
     def end_process(self, started):
         started.kill()
         started.communicate()
+
+    def container(self, name, way, *more):
+        """A process of root's with namespaces of its own, alone in a cgroup, and whether it lifts a limit there."""
+        self.make(f"/{name}")
+        inner = f"umount -l /sys/fs/cgroup; mount -t cgroup2 -o {way} none /mnt; exec {' '.join(more)} sh -c '{LIFT}'"
+        outer = f"echo 0 > {MOUNT}{self.top}/{name}/cgroup.procs; exec unshare --cgroup --mount sh -c \"$0\""
+        return self.started(["unshare", "--pid", "--fork", "--kill-child", "sh", "-c", outer, inner])
+
+    def started(self, words):
+        running = subprocess.Popen(words, stdout=subprocess.PIPE, stderr=subprocess.DEVNULL, text=True)
+        self.addCleanup(self.end_container, running)
+        return running.stdout.readline().strip()
+
+    def end_container(self, running):
+        running.kill()
+        running.communicate()
+        # what it started ends with it, and its cgroup is empty soon
+        for _ in range(100):
+            if not any(b"populated 1" in self.read(each, "cgroup.events") for each in os.listdir(f"{MOUNT}{self.top}")
+                       if os.path.isdir(f"{MOUNT}{self.top}/{each}")):
+                break
+            time.sleep(0.1)
+
+    def read(self, name, file):
+        with open(f"{MOUNT}{self.top}/{name}/{file}", "rb") as opened:
+            return opened.read()
+
+    def insides(self, *words):
+        found, status, _ = self.report(*words)
+        return {each["path"][len(self.top):]: (each["held"], each["ways"], each["by"]) for each in found.get("root_inside", ())}, status
+
+    @unittest.skipIf("nsdelegate" in mounts_of_host().options(MOUNT or ""), "nsdelegate is on here")
+    def test_containers_of_roots_beside_what_they_can(self):
+        """Where it is told that one writes cgroups it does, and where it is held by what it lacks it doesn't."""
+        by, dropped = ["cgroup namespace"], ("setpriv", "--bounding-set=-all")
+        lifted = {"writable": self.container("writable", "rw", *dropped), "ro": self.container("ro", "ro", *dropped),
+                  "admin": self.container("admin", "ro", "setpriv", "--bounding-set=-all,+sys_admin"),
+                  "mounts": self.service("mounts")}
+        self.assertEqual(lifted, {"writable": "lifted", "ro": "refused", "admin": "refused", "mounts": "ready"})
+        self.assertEqual(self.insides(), ({
+            "/writable": (False, ["mount", "nsdelegate"], by), "/ro": (True, [], by),
+            "/admin": (False, ["CAP_SYS_ADMIN", "nsdelegate"], by)}, 1))
+
+    def service(self, name):
+        """One with mounts of its own, and the host's root, as PrivateTmp= makes it."""
+        self.make(f"/{name}")
+        outer = f"echo 0 > {MOUNT}{self.top}/{name}/cgroup.procs; exec unshare --mount sh -c \"$0\""
+        return self.started(["sh", "-c", outer, "mount -t tmpfs none /tmp; echo ready; exec sleep 60"])
 
     def test_what_comes_and_goes_beside(self):
         self.loop("/beside")

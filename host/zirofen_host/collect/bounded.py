@@ -69,6 +69,8 @@ MOUNT_BYTES = Budget("bytes in lists of mounts", 1 << 22)
 LINKS = Budget("open files", 65536)
 DESCRIPTORS = Budget("open files with a path", 4096)
 LONG_DESCRIPTORS = Budget("open files that /proc tells much of", 16)
+# of one unit with containers of root's: cgroups of theirs, and processes of one mount namespace whose root is looked at
+INSIDES, ROOTS = 64, 256
 # of the program
 USERS = Budget("uids to ask of", 4096)
 RUNS = Budget("questions that differ in whom they ask of", 256)

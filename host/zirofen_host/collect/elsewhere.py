@@ -12,8 +12,8 @@ from zirofen_host.collect import fitting
 from zirofen_host.collect import snapshot as snapshots
 from zirofen_host.collect.accounts import Accounts, is_id
 from zirofen_host.collect.holds import Holds
-from zirofen_host.collect.model import (About, Account, AccountLists, Carried, Cgroup, Entry, Group, Note, Process, Range, Row, Snapshot,
-                                        Source, Tree, User)
+from zirofen_host.collect.model import (About, Account, AccountLists, Carried, Cgroup, CgroupMount, Entry, Group, Inside, Note, Process,
+                                        Range, Row, Snapshot, Source, Tree, User)
 from zirofen_host.collect.mount import read_kernel_list
 from zirofen_host.collect.tree import number_in, parts_in, table_in, text_in, texts_in
 from zirofen_host.fault import Fault
@@ -46,6 +46,7 @@ class Gathered:
         self.subordinate_uids: List[Range] = []
         self.subordinate_gids: List[Range] = []
         self.notes: List[Note] = []
+        self.inside: List[Inside] = []
         self.changing: Dict[CgroupPath, str] = {}
         self.about = About()
         self.mount: Optional[str] = None
@@ -94,6 +95,12 @@ class Gathered:
         path_of(place)
         self.notes.append(Note(kind, place, detail))
 
+    def take_inside(self, value: object) -> None:
+        path, processes, by, mounts, capabilities, *flags = parts_in(value)
+        has_own_namespace, has_host_pids, is_cut = map(flag_in, flags)
+        self.inside.append(Inside(path_of(text_in(path)), number_in(processes), texts_in(by), tuple(map(mount_in, parts_in(mounts))),
+                                  texts_in(capabilities), has_own_namespace, has_host_pids, is_cut))
+
     def take_changing(self, value: object) -> None:
         path, why = parts_in(value)
         self.changing[path_of(text_in(path))] = str(why)
@@ -112,7 +119,7 @@ class Gathered:
 # what takes a value by its key
 TAKERS: Mapping[str, Callable[[Gathered, object], None]] = {
     "about": Gathered.take_about, "account": Gathered.take_account, "cgroup": Gathered.take_cgroup,
-    "changing": Gathered.take_changing, "group": Gathered.take_group, "note": Gathered.take_note,
+    "changing": Gathered.take_changing, "group": Gathered.take_group, "inside": Gathered.take_inside, "note": Gathered.take_note,
     "process": Gathered.take_process, "subgid": Gathered.take_subgid, "subuid": Gathered.take_subuid}
 
 
@@ -127,7 +134,8 @@ def read(accepted: Accepted, mount: str) -> Snapshot:
                     cgroups={path: cgroup_of(tree, row, gathered) for path, row in tree.rows.items()}, tree=tree, processes=processes,
                     kernel_threads=0, places={}, kernel_list=frozenset(gathered.kernel_list) or read_kernel_list(None),
                     notes=tuple(gathered.notes), changing=gathered.changing, spoiled={}, version_1=version_1_in(gathered.notes),
-                    source=Source(accepted.file, gathered.carried()))
+                    source=Source(accepted.file, gathered.carried()),
+                    inside=tuple(each for each in gathered.inside if each.path in tree.rows))
 
 
 def with_defaults(tree: Tree) -> Tree:
@@ -174,8 +182,20 @@ def told_unseen(snapshot: Snapshot, has_accounts: bool) -> str:
     by_number = "" if has_accounts else (", and so it is judged by number: names, who is in which group and whose ids are subordinate "
                                          "aren't known, which --accounts FOLDER tells too")
     return ("this is judged by a text that carries nothing of its host: open descriptors, settings of units, marks, other files, "
-            "capabilities and the groups of processes aren't told; zirofen-host snapshot --with-host carries all but the first two"
+            "capabilities, the groups of processes and containers of root's aren't told; zirofen-host snapshot --with-host carries all but "
+            "the first two"
             f"{by_number}")
+
+
+def flag_in(value: object) -> bool:
+    if not isinstance(value, bool):
+        raise TypeError
+    return value
+
+
+def mount_in(value: object) -> CgroupMount:
+    place, top, is_writable, is_above = parts_in(value)
+    return CgroupMount(text_in(place), path_of(text_in(top)), flag_in(is_writable), flag_in(is_above))
 
 
 def entry_of(word: object) -> Entry:
@@ -210,6 +230,10 @@ def carried(snapshot: Snapshot, accounts: Accounts) -> Iterator[Mapping[str, obj
         if not process.is_kernel_thread:
             yield {"process": [process.pid, process.uid, process.user.uid, list(process.user.gids), process.name,
                                list(process.capabilities)]}
+    for each in snapshot.inside:
+        yield {"inside": [text_of(each.path), each.processes, list(each.by),
+                          [[mount.place, text_of(mount.top), mount.is_writable, mount.is_above] for mount in each.mounts],
+                          list(each.capabilities), each.has_own_namespace, each.has_host_pids, each.is_cut]}
     for account in accounts.lists.accounts:
         yield {"account": list(account)}
     for group in accounts.lists.groups:

@@ -107,6 +107,35 @@ class Process:
     is_privileged: bool = False
     # how many of its threads weren't looked at
     threads_left: int = 0
+    # the capabilities that it or one of its threads may ever get, as bits
+    bounding: int = 0
+
+
+class CgroupMount(NamedTuple):
+    """A mount of cgroups that a container sees: where, which cgroup is its top, whether it may be written through, and whether it
+    shows what is above the root of the container's cgroup namespace."""
+    place: str
+    top: CgroupPath
+    is_writable: bool
+    is_above: bool
+
+
+@dataclass(frozen=True)
+class Inside:
+    """Processes of root's in a container, all of one cgroup, and what of cgroups they get at."""
+    path: CgroupPath
+    processes: int
+    # what differs from PID 1's
+    by: Tuple[str, ...]
+    mounts: Tuple[CgroupMount, ...]
+    # of those that decide, what is in a bounding set of theirs
+    capabilities: Tuple[str, ...]
+    # all are in another cgroup namespace than PID 1
+    has_own_namespace: bool
+    # one is in PID 1's PID namespace
+    has_host_pids: bool
+    # not all mounts were looked at
+    is_cut: bool
 
 
 @dataclass(frozen=True)
@@ -195,6 +224,8 @@ class Snapshot:
     makers: Mapping[CgroupPath, int] = field(default_factory=dict)
     # of whom not all processes were looked at, each with why
     over: Mapping[int, str] = field(default_factory=dict)
+    # containers whose processes are root's
+    inside: Tuple[Inside, ...] = ()
 
     @property
     def processes_told(self) -> Collection[Process]:

@@ -16,6 +16,7 @@ NEEDED = (({21}, "SYS_ADMIN", "the mark trusted.delegate can't be seen, so that 
           ({19}, "SYS_PTRACE", "what others' processes hold open, and their namespaces, can't be seen"),
           ({1, 2}, "DAC_READ_SEARCH", "what its owner closed to others can't be read"))
 FIRST_USER_NAMESPACE = "user:[4026531837]"
+ALL = "ffffffffffffffff"
 
 Fields = Mapping[str, List[str]]
 
@@ -64,9 +65,9 @@ class Reader:
             flags = int(stat.rpartition(")")[2].split()[6])
             gid = int(fields["Gid"][1])
             others = [int(group) for group in fields.get("Groups", ()) if int(group) != gid]
-            bits, left = self.permitted(pid, fields)
+            (bits, bounding), left = self.permitted(pid, fields)
             return Process(pid, int(fields["Uid"][0]), User(int(fields["Uid"][1]), (gid, *others)), flags & KERNEL_THREAD != 0,
-                           " ".join(fields.get("Name", ())), capabilities_of(self.proc, pid, bits), bits != 0, left)
+                           " ".join(fields.get("Name", ())), capabilities_of(self.proc, pid, bits), bits != 0, left, bounding)
         except (FileNotFoundError, ProcessLookupError):
             return None
         except (ValueError, KeyError, IndexError, OSError):
@@ -85,9 +86,10 @@ class Reader:
             read = bounded.read_file(file, bounded.STATUS)
         return status_fields(read.text("utf-8", "replace")) if self.bytes.take(uid, len(read.data)) else None
 
-    def permitted(self, pid: int, fields: Fields) -> Tuple[int, int]:
-        """The capabilities that a process or one of its threads is permitted, as bits, and how many threads weren't looked at."""
-        bits, count, uid = int(fields.get("CapPrm", ["0"])[0], 16), int(fields.get("Threads", ["1"])[0]), int(fields["Uid"][0])
+    def permitted(self, pid: int, fields: Fields) -> Tuple[Tuple[int, int], int]:
+        """The capabilities that a process or one of its threads is permitted, and those of a bounding set, as bits, and how many
+        threads weren't looked at."""
+        bits, count, uid = bits_in(fields), int(fields.get("Threads", ["1"])[0]), int(fields["Uid"][0])
         if count < 2:
             return bits, 0
         try:
@@ -99,11 +101,17 @@ class Reader:
             try:
                 read = bounded.read_file(f"{self.proc}/{pid}/task/{name}/status", bounded.STATUS)
                 self.bytes.take(uid, len(read.data))
-                bits |= int(status_fields(read.text("utf-8", "replace")).get("CapPrm", ["0"])[0], 16)
+                of_thread = bits_in(status_fields(read.text("utf-8", "replace")))
+                bits = bits[0] | of_thread[0], bits[1] | of_thread[1]
             except OSError:
                 # it has ended
                 continue
         return bits, max(count - len(names), 0)
+
+
+def bits_in(fields: Fields) -> Tuple[int, int]:
+    """The capabilities that a status says are permitted, and those of its bounding set, which is all where it doesn't say."""
+    return int(fields.get("CapPrm", ["0"])[0], 16), int(fields.get("CapBnd", [ALL])[0], 16)
 
 
 def capabilities_of(proc: str, pid: int, bits: int) -> Tuple[str, ...]:

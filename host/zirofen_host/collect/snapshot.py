@@ -2,9 +2,10 @@
 import os
 import time
 from collections import Counter
+from dataclasses import replace
 from typing import Callable, Dict, Iterable, Iterator, List, Mapping, Optional, Tuple
 
-from zirofen_host.collect import walk
+from zirofen_host.collect import inside, walk
 from zirofen_host.collect.accounts import payer_of
 from zirofen_host.collect.bounded import Payer
 from zirofen_host.collect.looks import Looks
@@ -15,7 +16,7 @@ from zirofen_host.collect.tree import tree_text as text_of_tree
 from zirofen_host.fault import Fault
 from zirofen_host.options import PROC, Options
 from zirofen_host.profile import (CONTROL_FILES, CONTROLLERS, KERNEL_LIST, LIMIT_FILES, MOST_ROWS, ROOT, CgroupPath, accepts,
-                                  is_root, parent_of, shown, text_of, topmost)
+                                  is_inside, is_root, parent_of, shown, text_of, topmost)
 
 ANY_MODE = 0o777
 LARGEST_PID = 4194303
@@ -182,7 +183,11 @@ def take(options: Options, subtrees_of: SubtreesOf) -> Snapshot:
         return subtrees_of(found, changing)
 
     settled = walk.settled(options.mount, options.only, subtrees_in, payer)
-    return snapshot_of(settled, look_at_processes(options, payer), options, mounts)
+    found, looks = snapshot_of(settled, look_at_processes(options, payer), options, mounts), Looks()
+    insides = looks.all("root-inside", lambda: inside.look(options.proc, found.cgroups, found.processes))
+    # of a part what is above it is there for the answers, and isn't told of by itself
+    return replace(found, inside=tuple(each for each in insides if is_inside(each.path, options.only or ROOT)),
+                   notes=(*found.notes, *looks.failed))
 
 
 def look_at_processes(options: Options, payer: Payer) -> Reader:

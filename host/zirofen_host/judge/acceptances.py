@@ -12,8 +12,8 @@ from zirofen_host.collect.model import GROUP, OTHERS, OWNER
 from zirofen_host.collect.tree import parts_in, table_in, text_in, texts_in, toml_reader
 from zirofen_host.fault import Fault
 from zirofen_host.judge.gravity import ACCEPTED, gravity_of
-from zirofen_host.judge.model import ABSENT, Acceptance, EntryFinding, OpenedFinding, Report, Whom
-from zirofen_host.judge.rules import ACCEPTABLE, Finding, findings_of
+from zirofen_host.judge.model import ABSENT, Acceptance, EntryFinding, OpenedFinding, Report, RootInside, Whom
+from zirofen_host.judge.rules import ACCEPTABLE, OPENED, ROOT_INSIDE, Finding, findings_of
 from zirofen_host.output import opened_back, refused
 from zirofen_host.profile import ANYBODY, ancestors, shown
 
@@ -52,7 +52,9 @@ class Given:
         answer, _, guard = self.what.partition("/")
         of, _, at = found.rule.id.partition("/")
         is_graver = answer == "unsettled" and of == "escapes"
-        same = (found.path, found.entry, at) == (self.path, self.entry, guard) and (of == "opened") == (answer == "opened")
+        # of a container each thing that lets it out is accepted by itself
+        is_entry = set(found.entry.split()) <= set(self.entry.split()) if of == ROOT_INSIDE else found.entry == self.entry
+        same = (found.path, at) == (self.path, guard) and is_entry and kind_of(of) == kind_of(answer)
         return same and not is_graver and all(any(each.covers(whom) for each in self.named) for whom in found.whom)
 
 
@@ -148,33 +150,44 @@ def applied(report: Report, given: Iterable[Given], today: datetime.date) -> Rep
         if found.rule.id in ACCEPTABLE:
             by_path.setdefault(found.path, []).append(found)
     met = [(each, next((found for found in by_path.get(each.path, ()) if each.is_met_by(found)), None)) for each in given]
-    why = {(found.path, found.entry, found.rule.id.startswith("opened")): f"{each.reason}, until {each.until}"
+    why = {(found.path, found.entry, kind_of(found.rule.id)): f"{each.reason}, until {each.until}"
            for each, found in met if found and today <= each.until}
     report = replace(report, entries=tuple(accepted_entry(each, why) for each in report.entries),
                      opened=tuple(accepted_opened(each, why) for each in report.opened),
+                     root_inside=tuple(accepted_inside(each, why) for each in report.containers) or ABSENT,
                      acceptances=tuple(standing(each, found, by_path.get(each.path, ()), why, today) for each, found in met))
     return replace(report, status=gravity_of(report).status)
 
 
-Why = Mapping[Tuple[str, str, bool], str]
+Why = Mapping[Tuple[str, str, str], str]
 
 
 def accepted_entry(each: EntryFinding, why: Why) -> EntryFinding:
-    return replace(each, accepted=why.get((each.path, each.entry, False), ABSENT))
+    return replace(each, accepted=why.get((each.path, each.entry, ""), ABSENT))
 
 
 def accepted_opened(each: OpenedFinding, why: Why) -> OpenedFinding:
-    return replace(each, accepted=why.get((each.path, each.file, True), ABSENT))
+    return replace(each, accepted=why.get((each.path, each.file, OPENED), ABSENT))
+
+
+def accepted_inside(each: RootInside, why: Why) -> RootInside:
+    return replace(each, accepted=why.get((each.path, " ".join(each.ways), ROOT_INSIDE), ABSENT))
 
 
 def standing(each: Given, found: Optional[Finding], beside: Iterable[Finding], why: Why, today: datetime.date) -> Acceptance:
     """How an acceptance stands: where nothing is what was accepted, what stands there and nobody accepted is what got worse."""
-    others = [other for other in beside if (other.path, other.entry, other.rule.id.startswith("opened")) not in why]
+    others = [other for other in beside if (other.path, other.entry, kind_of(other.rule.id)) not in why]
     # the same entry first
     others.sort(key=lambda other: other.entry != each.entry)
     state = OVER if today > each.until else ACCEPTED if found else WORSE if others else UNMET
     told = found or (others[0] if others else None)
     return Acceptance(each.what, each.path, each.entry, each.whom, each.reason, str(each.until), state, told.line if told else None)
+
+
+def kind_of(rule: str) -> str:
+    """What findings at one place may be beside one another, by the id of a rule: an entry's, one that is opened, or a container."""
+    word = rule.partition("/")[0]
+    return word if word in (OPENED, ROOT_INSIDE) else ""
 
 
 def accepted_subtrees(report: Report) -> FrozenSet[str]:

@@ -10,12 +10,13 @@ from zirofen_host.collect.bounded import REPORT_FILE, read_opened
 from zirofen_host.fault import Fault
 from zirofen_host.judge import as_json
 from zirofen_host.judge.acceptances import accepted_subtrees
-from zirofen_host.judge.finding_lines import above_line, differs_line, entry_line, fault_line, opened_line, version_1_line
+from zirofen_host.judge.finding_lines import (above_line, differs_line, entry_line, fault_line, inside_line, opened_line,
+                                              version_1_line)
 from zirofen_host.judge.gravity import ACCEPTED as HOLDS
-from zirofen_host.judge.gravity import Gravity, of_answer, of_fault, worst
+from zirofen_host.judge.gravity import Gravity, is_empty, of_answer, of_fault, worst
 from zirofen_host.collect.looks import FAILED
 from zirofen_host.judge.model import (ABSENT, VERSION, Absent, Comparison, Difference, DiffersFinding, EntryFinding,
-                                      OpenedFinding, Report, Subtree, Whom, Within)
+                                      OpenedFinding, Report, RootInside, Subtree, Whom, Within)
 from zirofen_host.judge.saved import LACKING
 from zirofen_host.profile import shown
 
@@ -31,7 +32,7 @@ class Found(NamedTuple):
     gravity: Gravity
     line: str
     lets_in: FrozenSet[Tuple[object, ...]] = frozenset()
-    mended: Union[EntryFinding, OpenedFinding, DiffersFinding, None] = None
+    mended: Union[EntryFinding, OpenedFinding, DiffersFinding, RootInside, None] = None
     # whose own making it is
     within: Within = ABSENT
     # it is accepted by itself, and told so
@@ -89,6 +90,10 @@ def found_in(report: Report) -> Dict[Key, Found]:
     for opened in report.opened:
         found["opened", opened.path, opened.file] = Found(Gravity.ESCAPES, opened_line(opened), let_in(opened.whom, ()), opened,
                                                           opened.within, opened.accepted is not ABSENT)
+    for inside in report.containers:
+        found["root-inside", inside.path, ""] = Found(
+            Gravity.CONTAINED if inside.held else Gravity.ESCAPES, inside_line(inside), frozenset((way,) for way in inside.ways),
+            inside, is_accepted=inside.accepted is not ABSENT)
     for fault in report.faults:
         for path in fault.subtrees:
             found["fault", path, fault.fault] = Found(of_fault(fault), fault_line(fault, [path]))
@@ -139,7 +144,7 @@ def compared(report: Report, before: Report, file: str) -> Comparison:
     differing["changed"] += changes_of_host(report, before)
     if not isinstance(report.acceptances, Absent):
         gravities += [Gravity.STALE for each in report.acceptances if each.state != HOLDS]
-    if not report.asked and before.asked:
+    if is_empty(report) and not is_empty(before):
         gravities.append(Gravity.NOTHING_ASKED)
     new, worse, stand, changed, gone = (tuple(differing[kind]) for kind in KINDS)
     return Comparison(file, before.time, new, worse, stand, changed, gone, worst(gravities).status)

@@ -13,7 +13,7 @@ from zirofen_host.collect.holds import holds_of
 from zirofen_host.collect.looks import Looks
 from zirofen_host.collect.model import GROUP, OWNER, Note, Snapshot, User
 from zirofen_host.fault import Fault
-from zirofen_host.judge import unseen, whole
+from zirofen_host.judge import inside, unseen, whole
 from zirofen_host.judge.advised import Advised, advise
 from zirofen_host.judge.checked import Checked
 from zirofen_host.judge.finding_lines import SHOWN
@@ -21,7 +21,7 @@ from zirofen_host.judge.findings import above_findings, differs_findings, entry_
 from zirofen_host.judge.gravity import gravity_of
 from zirofen_host.judge.judged import Own, judge
 from zirofen_host.judge.lists import shown_lists
-from zirofen_host.judge.model import VERSION, HeldBy, HolderAnswer, Report, Subtree, Told
+from zirofen_host.judge.model import ABSENT, VERSION, HeldBy, HolderAnswer, Report, Subtree, Told
 from zirofen_host.judge.names import names_of
 from zirofen_host.judge.settings import Settings
 from zirofen_host.options import Options
@@ -105,7 +105,8 @@ def report_of(checked: Checked, is_whole: bool) -> Report:
         about.time or "", snapshot.mount, checked.is_asked, answers.has_advise,
         subtrees=subtrees, entries=entries, opened=tuple(opened.values()), faults=faults, differs=differs, above=above,
         unseen=told, snapshot=notes, status=CONTAINED, version_1=snapshot.version_1,
-        lists=looks.all("lists", lambda: shown_lists(checked, subtrees, entries)))
+        lists=looks.all("lists", lambda: shown_lists(checked, subtrees, entries)),
+        root_inside=looks.all("root-inside", lambda: inside.findings(checked)) or ABSENT)
     if is_whole:
         made = replace(made, users=looks.all("users", lambda: whole.users_of(checked)),
                        groups=looks.all("groups", lambda: whole.groups_of(checked)), cgroups=whole.cgroups_of(checked, looks),

@@ -2,11 +2,16 @@
 from typing import Iterable, Sequence
 
 from zirofen_host.collect.model import GROUP, OTHERS
-from zirofen_host.judge.model import AboveFinding, Acceptance, DiffersFinding, EntryFinding, FaultFinding, OpenedFinding, Owner, Whom
+from zirofen_host.judge.model import (AboveFinding, Acceptance, DiffersFinding, EntryFinding, FaultFinding, OpenedFinding, Owner,
+                                      RootInside, Whom)
 
 # names in a line; where there are more, it tells how many
 SHOWN = 8
-NOTHING_ASKED = "nothing was found to ask: no subtree and user of which containment could be asked"
+NOTHING_ASKED = ("nothing was found to ask: looked for were cgroups that somebody but root was handed, by a mark, a unit or the owners "
+                 "and modes of their entries, and processes of root's in a container, by their cgroup namespace and root")
+NSDELEGATE = "nsdelegate"
+# what each report says of root inside
+INSIDE_MEANS = "held speaks of cgroup files alone, and is seen and not proved"
 
 
 def some(names: Sequence[str]) -> str:
@@ -47,6 +52,23 @@ def differs_line(each: DiffersFinding) -> str:
 
 def above_line(each: AboveFinding) -> str:
     return f"above: {each.who}, below {each.handed}: {some(each.subtrees)}"
+
+
+def inside_line(each: RootInside) -> str:
+    """The line of a container of root's, without what may change from run to run."""
+    return f"root-inside {each.path}: {inside_text(each)}"
+
+
+def inside_text(each: RootInside) -> str:
+    """By what a container of root's is held, or what lets it out."""
+    if not each.held:
+        return f"not held: {'; '.join(each.why)}"
+    return f"held{' by' if each.why[0] == NSDELEGATE else ':'} {'; '.join(each.why)}"
+
+
+def inside_count(each: RootInside) -> str:
+    """How many processes a container has, and by what it is known."""
+    return f"{each.processes} process{'' if each.processes == 1 else 'es'}, by {' and '.join(each.by)}"
 
 
 def acceptance_line(each: Acceptance) -> str:

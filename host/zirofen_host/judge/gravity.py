@@ -53,13 +53,19 @@ def worst(found: Iterable[Gravity]) -> Gravity:
     return min(found, key=lambda each: each.rank, default=Gravity.CONTAINED)
 
 
+def is_empty(report: Report) -> bool:
+    """Whether neither anything to ask nor a container of root's was found."""
+    return not report.asked and not report.containers
+
+
 def gravities_in(report: Report) -> Iterator[Gravity]:
     """Of each thing that a report tells of."""
     yield from (of_answer(each.answer) for each in report.entries if each.accepted is ABSENT)
     yield from (Gravity.ESCAPES for each in report.opened if each.accepted is ABSENT)
     yield from map(of_fault, report.faults)
     yield from (Gravity.FAULT for each in (*report.unseen, *report.snapshot) if each.kind == FAILED)
-    if not report.asked:
+    yield from (Gravity.ESCAPES for each in report.containers if not each.held and each.accepted is ABSENT)
+    if is_empty(report):
         yield Gravity.NOTHING_ASKED
     if report.version_1:
         yield Gravity.NOT_LOOKED_AT

@@ -167,6 +167,24 @@ class AboveFinding:
 
 
 @dataclass(frozen=True)
+class RootInside:
+    """Processes of root's in a container, all of one cgroup, and whether cgroup files are kept from them; seen, and not proved."""
+    path: str
+    processes: int
+    # what they have that isn't PID 1's
+    by: Tuple[str, ...]
+    held: bool
+    # what holds them, or else what lets them out
+    why: Tuple[str, ...]
+    # a word for each of what lets them out
+    ways: Tuple[str, ...]
+    changes: Tuple[str, ...]
+    # of the container, what to set
+    setting: Optional[str]
+    accepted: Union[str, Absent] = ABSENT
+
+
+@dataclass(frozen=True)
 class ShownList:
     """An escape's lines as a page shows them, where they aren't those of the program or may not run, and why."""
     subtree: str
@@ -285,6 +303,8 @@ class Report:
     # the controllers whose limits are those of version 1, which aren't looked at
     version_1: Tuple[str, ...]
     lists: Tuple[ShownList, ...]
+    # where there are some
+    root_inside: Union[Tuple[RootInside, ...], Absent] = ABSENT
     # the host itself, where the report is to be whole
     users: Union[Tuple[ReportUser, ...], Absent] = ABSENT
     groups: Union[Tuple[ReportGroup, ...], Absent] = ABSENT
@@ -295,3 +315,8 @@ class Report:
     accepted: Union[bool, Absent] = ABSENT
     # what somebody accepts one by one, where they do
     acceptances: Union[Tuple[Acceptance, ...], Absent] = ABSENT
+
+    @property
+    def containers(self) -> Tuple[RootInside, ...]:
+        """Those whose processes are root's."""
+        return () if isinstance(self.root_inside, Absent) else self.root_inside

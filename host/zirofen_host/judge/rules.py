@@ -3,17 +3,22 @@ from dataclasses import dataclass
 from typing import Dict, Iterator, Optional, Tuple, Union
 
 from zirofen_host.collect.looks import FAILED
+from zirofen_host.collect.model import OWNER
 from zirofen_host.judge.finding_lines import NOTHING_ASKED as NOTHING_ASKED_LINE
-from zirofen_host.judge.finding_lines import acceptance_line, differs_line, entry_line, fault_line, opened_line, version_1_line
-from zirofen_host.judge.gravity import ACCEPTED, Gravity, of_answer, of_fault
+from zirofen_host.judge.finding_lines import (INSIDE_MEANS, acceptance_line, differs_line, entry_line, fault_line, inside_line,
+                                              opened_line, version_1_line)
+from zirofen_host.judge.gravity import ACCEPTED, Gravity, is_empty, of_answer, of_fault
 from zirofen_host.judge.judged import OVER, UNKNOWN
-from zirofen_host.judge.model import (ABSENT, Absent, DiffersFinding, EntryFinding, OpenedFinding, Report, Whom, Within)
+from zirofen_host.judge.model import (ABSENT, Absent, DiffersFinding, EntryFinding, OpenedFinding, Report, RootInside, Whom, Within)
 from zirofen_host.profile import LIMIT_FILES
 
 NOTHING_ASKED, VERSION_1, DIFFERS = "nothing-asked", "version-1", "differs"
 # a look's kind: limits that a unit's next start doesn't bring back
 RESTART = "restart"
 OPENED, OPENED_DIRECTORY = "opened", "opened/dir"
+ROOT_INSIDE, ROOT_HELD = "root-inside", "root-inside/held"
+# whom a container lets out
+ROOT = Whom(OWNER, 0, "root(0)", ())
 # the guard that stands on an entry, by the entry's name; what is no entry has its own word
 GUARDS: Dict[str, str] = {"cgroup.procs": "common-ancestor", "cgroup.subtree_control": "parent-control", "dir": "parent-dir",
                           **{name: "limit-file" for name in LIMIT_FILES}, OVER: OVER, UNKNOWN: UNKNOWN}
@@ -45,19 +50,23 @@ def made_rules() -> Iterator[Rule]:
                "itself. Seen by the helper, and not proved.")
     yield Rule(OPENED_DIRECTORY, Gravity.ESCAPES, "Somebody writes a directory in which a service manager will make what others run in. "
                "Seen by the helper, and not proved.")
+    yield Rule(ROOT_INSIDE, Gravity.ESCAPES, "Processes of root's in a container get at cgroup files outside of it. Seen by the helper, "
+               "and not proved.")
+    yield Rule(ROOT_HELD, Gravity.CONTAINED, "Processes of root's in a container don't get at cgroup files outside of it. It speaks of "
+               "cgroup files alone, and is seen by the helper, and not proved.")
     yield Rule(DIFFERS, Gravity.CONTAINED, "What was handed over isn't as a service manager leaves it. It isn't counted.")
     yield Rule("fault", Gravity.FAULT, "There is no answer for a subtree or for somebody.")
     yield Rule("fault/own", Gravity.OWN_FAULT, "There is no answer for a subtree, which is the making of those alone who hold it.")
     yield Rule(FAILED, Gravity.FAULT, "A look at the host failed; all else stands.")
     yield Rule(VERSION_1, Gravity.NOT_LOOKED_AT, "Limits are in the hands of cgroup v1, and weren't looked at.")
     yield Rule("acceptance", Gravity.STALE, "An acceptance is over, meets nothing, or what it is of got worse.")
-    yield Rule(NOTHING_ASKED, Gravity.NOTHING_ASKED, "Nothing was found to ask.")
+    yield Rule(NOTHING_ASKED, Gravity.NOTHING_ASKED, "Nothing was found to ask: neither a delegation nor a container of root's.")
 
 
 RULES: Dict[str, Rule] = {rule.id: rule for rule in made_rules()}
 # what somebody may accept by itself
 ACCEPTABLE = tuple(rule.id for rule in RULES.values()
-                   if rule.id.partition("/")[0] in (OPENED, *(word for word, _ in PROVED.values())))
+                   if rule.id == ROOT_INSIDE or rule.id.partition("/")[0] in (OPENED, *(word for word, _ in PROVED.values())))
 
 
 @dataclass(frozen=True)
@@ -102,10 +111,18 @@ def of_differs(each: DiffersFinding) -> Finding:
     return Finding(RULES[DIFFERS], each.path, "", differs_line(each), changes=each.changes, setting=each.setting)
 
 
+def of_inside(each: RootInside) -> Finding:
+    """A container of root's; its entry is what lets it out."""
+    return Finding(RULES[ROOT_HELD if each.held else ROOT_INSIDE], each.path, " ".join(each.ways) or "held", inside_line(each),
+                   () if each.held else (ROOT,), example=(INSIDE_MEANS,), changes=each.changes, setting=each.setting,
+                   accepted=each.accepted)
+
+
 def findings_of(report: Report) -> Iterator[Finding]:
     """Everything that a report tells of, in its order; a fault once for each subtree that it is of."""
     yield from map(of_entry, report.entries)
     yield from map(of_opened, report.opened)
+    yield from map(of_inside, report.containers)
     for fault in report.faults:
         rule = RULES["fault" if of_fault(fault) is Gravity.FAULT else "fault/own"]
         yield from (Finding(rule, path, "", fault_line(fault, [path])) for path in fault.subtrees)
@@ -118,5 +135,5 @@ def findings_of(report: Report) -> Iterator[Finding]:
     if not isinstance(report.acceptances, Absent):
         yield from (Finding(RULES["acceptance"], each.path, each.entry, acceptance_line(each)) for each in report.acceptances
                     if each.state != ACCEPTED)
-    if not report.asked:
+    if is_empty(report):
         yield Finding(RULES[NOTHING_ASKED], "", "", NOTHING_ASKED_LINE)

@@ -23,6 +23,7 @@ def named_in(report: Report) -> Iterator[str]:
     yield from (each.path for each in report.opened)
     yield from (each.path for each in report.entries)
     yield from (each.path for each in report.differs)
+    yield from (each.path for each in report.containers)
     yield from (path for entry in report.entries for path in entry.subtrees)
     yield from (path for above in report.above for path in above.subtrees)
     if not isinstance(report.processes, Absent):

@@ -6,7 +6,7 @@ from zirofen_host.collect.looks import FAILED
 from zirofen_host.judge.finding_lines import acceptance_line, version_1_line
 from zirofen_host.judge.gravity import ACCEPTED as STANDS
 from zirofen_host.judge.model import Told
-from zirofen_host.show import words
+from zirofen_host.show import insides, words
 from zirofen_host.show.finding import Place, id_of
 from zirofen_host.show.markup import code, items, text
 from zirofen_host.show.view import Host, present
@@ -22,6 +22,7 @@ def against(host: Host, at: Place) -> Iterator[str]:
     if faulty:
         without = {path for each in report.faults for path in each.subtrees}
         yield f'<a href="#{id_of(at, faulty[0])}">{words.count(len(without), "delegation")} without an answer</a> for somebody.'
+    yield from insides.against(host, at)
     for each in report.unseen:
         if each.kind == FAILED:
             yield f"A look failed: {code(each.place)} {text(each.text)}"

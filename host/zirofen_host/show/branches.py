@@ -108,6 +108,8 @@ class Branches:
             if limits:
                 yield ", ".join(f"{text(file)} {text(value)}" for file, value in limits)
         for number, finding in self.host.notes.get(path, ()):
+            if finding.key == "root_inside":
+                yield f'<a class="{css(finding.kind)}" href="#{id_of(self.at, number)}">root inside</a>'
             if finding.key == "entries":
                 names = ", ".join(map(entry_of, finding.parts))
                 let_in = f"{names} let{'s' if len(finding.parts) == 1 else ''} in {words.who(whom_of(finding.parts[0]))}"

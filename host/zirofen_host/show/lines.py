@@ -7,10 +7,11 @@ from zirofen_host.fault import FAULT
 from zirofen_host.installed import MANUAL
 from zirofen_host.judge.acceptances import accepted_subtrees
 from zirofen_host.judge.baseline import KINDS
-from zirofen_host.judge.finding_lines import (NOTHING_ASKED, SHOWN, above_line, acceptance_line, differs_line, entry_line, fault_line,
-                                              opened_line, version_1_line, whom_text)
+from zirofen_host.judge.finding_lines import (INSIDE_MEANS, NOTHING_ASKED, SHOWN, above_line, acceptance_line, differs_line, entry_line,
+                                              fault_line, inside_count, inside_line, opened_line, version_1_line, whom_text)
+from zirofen_host.judge.gravity import is_empty
 from zirofen_host.judge.model import (ABSENT, AboveFinding, Absent, Comparison, Difference, DiffersFinding, EntryFinding,
-                                      OpenedFinding, Report, Subtree, Told)
+                                      OpenedFinding, Report, RootInside, Subtree, Told)
 from zirofen_host.show.folded import GRAVITY, Part, counted, folded
 
 # how far the table's columns are filled up; a longer word stands out
@@ -22,7 +23,7 @@ VERSION_1 = " [v1]"
 # lines of each kind of what no answer looks at, for what one person made
 TOLD = 4
 # what brings changes and a setting
-Mended = Union[EntryFinding, OpenedFinding, DiffersFinding, Difference]
+Mended = Union[EntryFinding, OpenedFinding, DiffersFinding, RootInside, Difference]
 One = TypeVar("One")
 # the table's columns, and what stands below them
 Row = Tuple[str, str, str, str, Sequence[str]]
@@ -138,6 +139,14 @@ def place_text(each: Told) -> str:
     return ": ".join(word for word in (each.kind, each.place, each.text) if word)
 
 
+def inside_lines(report: Report) -> Iterator[str]:
+    """The containers of root's, each with what to set where it isn't held."""
+    for each in report.containers:
+        if each.accepted is ABSENT:
+            yield f"{inside_line(each)} ({inside_count(each)})"
+            yield from what_to_change([each])
+
+
 def told_lines(found: Iterable[Told], is_each: bool) -> Iterator[str]:
     """What no answer looks at; of what somebody made, so many lines of each kind."""
     told = list(found)
@@ -184,7 +193,14 @@ def sum_line(report: Report) -> str:
     """All of it in one line: how many subtrees were asked of, and how many of them stand how."""
     counts = Counter(standings(report).values())
     told = f"{sum(counts.values())} asked: {counted(counts) or 'nothing'}"
-    return "; ".join(filter(None, (said_first(report, report.status), told)))
+    return "; ".join(filter(None, (said_first(report, report.status), told, inside_sum(report))))
+
+
+def inside_sum(report: Report) -> str:
+    """How many containers of root's there are, and how they stand."""
+    counts = Counter("accepted" if each.accepted is not ABSENT else "held" if each.held else "not held" for each in report.containers)
+    told = ", ".join(f"{counts[word]} {word}" for word in ("not held", "accepted", "held") if counts[word])
+    return f"{sum(counts.values())} with root inside: {told}" if counts else ""
 
 
 def standings(report: Report) -> Dict[str, str]:
@@ -209,13 +225,18 @@ def lines_of(report: Report, is_each: bool = False) -> Iterator[str]:
     """The report as it is printed."""
     if report.subtrees:
         yield from table(report, is_each)
-    if not report.asked:
+    if is_empty(report):
         yield NOTHING_ASKED
     found = list(finding_lines(report, is_each))
     if found:
         yield ""
         yield "What lets somebody in, each once; opened and differs were seen by this helper and aren't proved:"
         yield from found
+    insides = list(inside_lines(report))
+    if insides:
+        yield ""
+        yield f"Containers whose processes are root's; {INSIDE_MEANS}:"
+        yield from insides
     if not isinstance(report.acceptances, Absent) and report.acceptances:
         yield ""
         yield "What was accepted, each for a reason and until a day; what isn't so any more is counted:"
@@ -262,6 +283,8 @@ def comparison_lines(report: Report, compared: Comparison, is_each: bool = False
                            for each in compared.stand if not isinstance(each.within, Absent) and each.changes), is_each)
     if not isinstance(report.acceptances, Absent):
         yield from map(acceptance_line, report.acceptances)
+    if any(each.what == "root-inside" for _, found in by_kind(compared) for each in found):
+        yield INSIDE_MEANS
     if not any(found for _, found in by_kind(compared)):
         yield f"nothing is new, worse, changed or gone since {compared.time or compared.file}"
     first = said_first(report, compared.status)

@@ -6,8 +6,8 @@ from string import Template
 from typing import Dict, List, NamedTuple, Sequence, Tuple
 
 from zirofen_host import output
-from zirofen_host.judge.model import Absent, Difference, Report
-from zirofen_host.show import against, chart, groups, words
+from zirofen_host.judge.model import Absent, Difference, Report, RootInside
+from zirofen_host.show import against, chart, groups, insides, words
 from zirofen_host.show.branches import Branches
 from zirofen_host.show.finding import Place
 from zirofen_host.show.lines import by_kind
@@ -67,9 +67,7 @@ class HostPage:
         if self.kind == ESCAPES:
             return f"{number} of {every} can be broken by somebody whom {'it' if number == 1 else 'they'} should hold."
         if self.kind == OPENED:
-            limits = sum(len(each.parts) for each in self.host.findings if each.kind == OPENED)
-            return (f"{words.count(limits, 'limit stands', 'limits stand')} open to somebody, and {contained} of {every} "
-                    f"{'is' if contained == 1 else 'are'} shown to be contained.")
+            return f"{self.opened()}, and {contained} of {every} {'is' if contained == 1 else 'are'} shown to be contained."
         if self.kind == UNSETTLED:
             return (f"{number} of {every} {they_are} not settled: an entry stands open, and nothing was found that breaks the "
                     "subtree.")
@@ -78,6 +76,8 @@ class HostPage:
                     f"{'is' if contained == 1 else 'are'} shown to be contained.")
         if self.kind == FAULT:
             return f"{number} of {every} {'has' if number == 1 else 'have'} no answer for somebody."
+        if self.kind == NOT_ASKED and self.host.root_inside:
+            return f"No delegation was found, and {words.count(len(self.host.root_inside), 'container')} of root's."
         if self.kind == NOT_ASKED:
             return "Nothing was found to ask: no subtree and user of which containment could be asked."
         if contained < delegations:
@@ -86,6 +86,16 @@ class HostPage:
         if delegations == 1:
             return "The one delegation is shown to be contained: nobody who was asked can break it, whatever they do."
         return f"All {every} are shown to be contained: nobody who was asked can break one, whatever they do."
+
+    def opened(self) -> str:
+        """What stands open beside the answers."""
+        parts = [part for each in self.host.findings if each.kind == OPENED for part in each.parts]
+        insides = sum(isinstance(each, RootInside) for each in parts)
+        limits = len(parts) - insides
+        found = [f"{words.count(limits, 'limit stands', 'limits stand')} open to somebody"] if limits else []
+        found += [f"root in {words.count(insides, 'container')} isn't held"] if insides else []
+        told = ", ".join(found)
+        return told[:1].upper() + told[1:]
 
     def open_kinds(self) -> str:
         kinds = [(kind, sum(each.kind == kind for each in self.host.findings)) for kind in COUNTED]
@@ -101,7 +111,8 @@ class HostPage:
                       delegations_word=words.noun(delegations, "delegation"), open_word=words.noun(open_findings, "finding"),
                       open_kinds=text(self.open_kinds()), findings=findings or paragraph("There are none."),
                       baseline=self.baseline(), tree="\n".join(Branches(self.host, self.at).parts()), signs=self.signs(),
-                      expected=self.expected(), unseen=self.unseen(), table=Table(self.host, self.at).html(),
+                      insides=insides.html(self.host, self.at), expected=self.expected(), unseen=self.unseen(),
+                      table=Table(self.host, self.at).html(),
                       against=against.html(self.host, self.at), chart=picture,
                       chart_link=f' <a href="#{self.at.id}-chart">Picture</a>' if picture else "",
                       host=text(self.name), source=self.source())

@@ -10,7 +10,8 @@ from zirofen_host import ending, progress
 from zirofen_host.arguments import LEAST_WIDTH
 from zirofen_host.collect import bounded
 from zirofen_host.fault import Fault, plain
-from zirofen_host.judge.model import DiffersFinding, Report
+from zirofen_host.judge.finding_lines import INSIDE_MEANS, inside_text
+from zirofen_host.judge.model import DiffersFinding, Report, RootInside
 from zirofen_host.options import TreeOptions
 from zirofen_host.profile import is_inside, is_root, text_of
 from zirofen_host.show import words
@@ -109,11 +110,15 @@ class Drawer:
         limits = self.host.limits(path) if path in self.host.standing else []
         if limits:
             yield ", ".join(f"{file} {value}" for file, value in limits)
+        if path in self.host.root_inside and self.host.root_inside[path].held:
+            yield f"root inside, {inside_text(self.host.root_inside[path])}"
         for _, finding in self.host.notes.get(path, ()):
             names, first = list(map(entry_of, finding.parts)), finding.parts[0]
             sign = SIGNS[finding.kind][self.drawing.is_ascii] if finding.kind in SIGNS else "~"
             if isinstance(first, DiffersFinding):
                 yield f"{sign} {' '.join(first.entries)} not as a service manager leaves it"
+            elif isinstance(first, RootInside):
+                yield f"{sign} root inside, {inside_text(first)}"
             else:
                 why = accepted_of(first)
                 yield (f"{sign} {' '.join(names)} let{'s' if len(names) == 1 else ''} in {words.who(whom_of(first))}"
@@ -133,6 +138,8 @@ class Drawer:
             if kind in seen:
                 sign = SIGNS[kind][self.drawing.is_ascii]
                 yield from self.wrapped("", f"{sign} {kind}: {words.MEANINGS[kind]}")
+        if any(is_inside(path, self.drawing.only) for path in self.host.root_inside):
+            yield from self.wrapped("", f"root inside: {INSIDE_MEANS}")
         if any(finding.kind in COUNTED for finding in self.host.findings):
             yield from self.wrapped("", "What to change: zirofen-host check, or zirofen-host page of its --json.")
 

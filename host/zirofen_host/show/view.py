@@ -8,13 +8,13 @@ from typing import Callable, Dict, Iterator, List, Mapping, Optional, Sequence, 
 from zirofen_host.collect.model import Value
 from zirofen_host.collect.walk import OWNERS_MARK
 from zirofen_host.judge.model import (Absent, DiffersFinding, EntryFinding, FaultFinding, HeldBy, OpenedFinding, Owner, Report,
-                                      ReportCgroup, ReportFile, ReportProcess, ReportUser, Subtree, Whom)
+                                      ReportCgroup, ReportFile, ReportProcess, ReportUser, RootInside, Subtree, Whom)
 from zirofen_host.profile import CONTROL_FILES, HANDED_OVER, LIMIT_FILES, ancestors, is_usual, parent_of
 from zirofen_host.show import words
 from zirofen_host.show.lines import alike, entry_in_common, opened_in_common
 from zirofen_host.show.words import ABOVE, ACCEPTED, CONTAINED, ESCAPES, FAULT, NOT_ASKED, OPENED, STANDINGS, UNSETTLED, visible
 
-Part = Union[EntryFinding, OpenedFinding, FaultFinding, DiffersFinding]
+Part = Union[EntryFinding, OpenedFinding, FaultFinding, DiffersFinding, RootInside]
 SomePart = TypeVar("SomePart", bound=Part)
 One = TypeVar("One")
 Made = TypeVar("Made")
@@ -138,6 +138,7 @@ class Host:
         """What to mend: entries at one place that let in the same to the same are one; the gravest first."""
         report = self.report
         found = [*grouped("entries", report.entries, entry_in_common), *grouped("opened", report.opened, opened_in_common),
+                 *(Grouped(OPENED, "root_inside", (number,), (each,)) for number, each in enumerate(report.containers) if not each.held),
                  *grouped("faults", report.faults, lambda each: (each.fault, each.subtrees)),
                  *grouped("differs", report.differs, lambda each: each.path)]
         return sorted(found, key=lambda each: (*STANDINGS, DIFFERS).index(each.kind))
@@ -200,13 +201,19 @@ class Host:
 
     @cached_property
     def told(self) -> Set[str]:
-        """The cgroups that aren't folded: delegations with what is inside them, marks, findings, and what is above these."""
-        return {"/", *self.standing, *self.notes, *self.ways, *self.inside}
+        """The cgroups that aren't folded: delegations with what is inside them, marks, findings, containers of root's, and what is
+        above these."""
+        return {"/", *self.standing, *self.notes, *self.ways, *self.inside, *self.root_inside}
 
     @cached_property
     def ways(self) -> Set[str]:
         """What is above a delegation, a mark or a finding."""
-        return {above for path in {*self.standing, *self.notes} for above in ancestors(path)}
+        return {above for path in {*self.standing, *self.notes, *self.root_inside} for above in ancestors(path)}
+
+    @cached_property
+    def root_inside(self) -> Mapping[str, RootInside]:
+        """The containers of root's."""
+        return {each.path: each for each in self.report.containers}
 
     def split(self, path: str) -> Tuple[List[str], List[str]]:
         """What is told below a cgroup, and all that is folded there."""

@@ -1,0 +1,103 @@
+"""Containers of root's: whether cgroup files are kept from processes of root's in one, by what, and what lets them out.
+
+Seen on the host, and not proved. It speaks of cgroup files alone, and of nothing else that such a process gets at.
+"""
+import shlex
+from typing import Iterable, Iterator, NamedTuple, Optional, Sequence, Tuple
+
+from zirofen_host.collect.inside import ADMIN, MODULE, PTRACE, RAWIO
+from zirofen_host.collect.model import CgroupMount, Inside
+from zirofen_host.judge.checked import Checked
+from zirofen_host.judge.finding_lines import NSDELEGATE
+from zirofen_host.judge.model import RootInside
+from zirofen_host.profile import shown, text_of
+
+NOTHING_TO_WRITE = "it writes no mount of cgroups, and has no CAP_SYS_ADMIN"
+
+
+class Way(NamedTuple):
+    """What lets a container out, or would if nothing else held it: a word for it, what it is, and what to set."""
+    word: str
+    told: str
+    # a command on the host, or else what its manager sets for the container: a capability that it goes without, or another thing
+    change: Optional[str] = None
+    capability: Optional[str] = None
+    setting: Optional[str] = None
+
+
+def by_capability(name: str, told: str) -> Way:
+    return Way(f"CAP_{name}", f"{told} (CAP_{name})", capability=f"CAP_{name}")
+
+
+def with_host_pids(name: str, told: str) -> Way:
+    return Way(f"CAP_{name}-host-pids", f"{told} (CAP_{name}, the host's PIDs)", setting="a PID namespace of its own")
+
+
+def beside(found: Inside) -> Iterator[Way]:
+    """What lets it out whatever holds its cgroup files."""
+    if found.is_cut:
+        yield Way("unknown", "not all of it was looked at", setting="fewer mounts or fewer cgroups")
+    if MODULE in found.capabilities:
+        yield by_capability(MODULE, "it loads code into the kernel")
+    if RAWIO in found.capabilities:
+        yield by_capability(RAWIO, "it writes the machine's memory")
+    if PTRACE in found.capabilities and found.has_host_pids:
+        yield with_host_pids(PTRACE, "it acts in the host's processes")
+
+
+def by_mounts(found: Inside) -> Iterator[Way]:
+    """What is missing for it to have nothing that it writes by."""
+    writable = [mount for mount in found.mounts if mount.is_writable]
+    if writable:
+        yield Way("mount", f"it writes {tops_of(writable)}", setting=f"{places_of(writable)} read-only")
+    if ADMIN in found.capabilities:
+        yield by_capability(ADMIN, "it mounts cgroups as it likes")
+
+
+def by_namespace(found: Inside, mount: str, has_nsdelegate: bool) -> Iterator[Way]:
+    """What is missing for nsdelegate to hold it."""
+    if not has_nsdelegate:
+        yield Way(NSDELEGATE, "nsdelegate is off", change=f"mount -o remount,nsdelegate {shlex.quote(mount)}")
+    if not found.has_own_namespace:
+        yield Way("namespace", "its cgroup namespace is the host's", setting="a cgroup namespace of its own")
+    above = [each for each in found.mounts if each.is_above]
+    if above:
+        yield Way("above", f"it sees what is above its cgroup namespace: {tops_of(above)}", setting=f"no mount at {places_of(above)}")
+    if ADMIN in found.capabilities and found.has_host_pids:
+        yield with_host_pids(ADMIN, "it enters the host's namespaces")
+
+
+def places_of(mounts: Iterable[CgroupMount]) -> str:
+    return ", ".join(shown(each.place) for each in mounts)
+
+
+def tops_of(mounts: Iterable[CgroupMount]) -> str:
+    """Which cgroup stands where."""
+    return ", ".join(f"{shown(text_of(each.top))} at {shown(each.place)}" for each in mounts)
+
+
+def judged(found: Inside, mount: str, has_nsdelegate: bool) -> RootInside:
+    """A container, with what holds it or else what lets it out. To set is what lets it out in any case, and the less of what either
+    of the two that could hold it is missing."""
+    free, mounts, spaces = list(beside(found)), list(by_mounts(found)), list(by_namespace(found, mount, has_nsdelegate))
+    kept = [*([] if spaces else [NSDELEGATE]), *([] if mounts else [NOTHING_TO_WRITE])]
+    if kept and not free:
+        return RootInside(text_of(found.path), found.processes, found.by, True, tuple(kept), (), (), None)
+    ways = [*free, *([] if kept else [*mounts, *spaces])]
+    wanted = [*free, *([] if kept else min(spaces, mounts, key=len))]
+    return RootInside(text_of(found.path), found.processes, found.by, False, tuple(way.told for way in ways),
+                      tuple(way.word for way in ways), tuple(way.change for way in wanted if way.change), setting_of(wanted))
+
+
+def setting_of(wanted: Sequence[Way]) -> Optional[str]:
+    """What a container's manager sets."""
+    capabilities = [way.capability for way in wanted if way.capability]
+    found = [*([f"without {', '.join(capabilities)}"] if capabilities else []),
+             *dict.fromkeys(way.setting for way in wanted if way.setting)]
+    return "; ".join(found) or None
+
+
+def findings(checked: Checked) -> Tuple[RootInside, ...]:
+    snapshot = checked.snapshot
+    has_nsdelegate = "nsdelegate" in snapshot.mount_options
+    return tuple(judged(each, snapshot.mount, has_nsdelegate) for each in snapshot.inside)
