@@ -258,8 +258,8 @@ class DescriptorsTest(ThreeTest):
         found = self.counted(self.report)
         self.others(found)
         self.assertEqual(self.told(found, "descriptor"), [
-            self.text.format(""), "alice(1000): more than 16 open files that /proc tells much of are in their processes: not all were looked "
-            "at"])
+            self.text.format(""), "alice(1000): more than 16 open files that /proc tells much of are in their processes: not all were "
+            "looked at"])
         self.assertLess(self.bytes, 150000)
 
 

@@ -58,8 +58,8 @@ def descriptors(checked: Checked) -> Iterator[Told]:
             held[pids[pid], path, name, is_sure].add(pid)
     for (uid, path, name, is_sure), of in sorted(held.items()):
         perhaps = "" if is_sure else "perhaps "
-        yield of_user(checked, "descriptor", uid, f"{name} at {path} is {perhaps}open for writing in process {numbers(of)}, and they may not "
-                      "open it now")
+        yield of_user(checked, "descriptor", uid, f"{name} at {path} is {perhaps}open for writing in process {numbers(of)}, and they may "
+                      "not open it now")
     for uid, why in looked.unlooked:
         yield of_user(checked, "descriptor", uid, why)
 

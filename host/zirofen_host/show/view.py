@@ -100,7 +100,7 @@ def whom_of(part: Part) -> Tuple[Whom, ...]:
 
 def accepted_of(part: Part) -> Optional[str]:
     """Why a finding isn't counted, where somebody accepted it."""
-    why = part.accepted if isinstance(part, (EntryFinding, OpenedFinding)) else None
+    why = part.accepted if isinstance(part, (EntryFinding, OpenedFinding, RootInside)) else None
     return None if isinstance(why, Absent) else why
 
 
@@ -138,7 +138,8 @@ class Host:
         """What to mend: entries at one place that let in the same to the same are one; the gravest first."""
         report = self.report
         found = [*grouped("entries", report.entries, entry_in_common), *grouped("opened", report.opened, opened_in_common),
-                 *(Grouped(OPENED, "root_inside", (number,), (each,)) for number, each in enumerate(report.containers) if not each.held),
+                 *(Grouped(OPENED if accepted_of(each) is None else ACCEPTED, OPENED, "root_inside", (number,), (each,))
+                   for number, each in enumerate(report.containers) if not each.held),
                  *grouped("faults", report.faults, lambda each: (each.fault, each.subtrees)),
                  *grouped("differs", report.differs, lambda each: each.path)]
         return sorted(found, key=lambda each: (*STANDINGS, DIFFERS).index(each.kind))
