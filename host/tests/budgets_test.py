@@ -314,12 +314,11 @@ class LinesTest(ThreeTest):
                                                                              "memory.high": 0o602 | number & 0o70})
         found = self.report()
         self.others(found)
-        self.assertLessEqual(len([words for words in self.called() if words[0] == "advise"]), 64)
-        with mock.patch.object(bounded, "ADVICE", 2):
-            found = self.report()
-        self.others(found)
-        (told,) = self.told(found, "advice")
-        self.assertRegex(told, "^: what to change isn't told of [0-9]+ entries: the program is asked 2 times")
+        self.assertEqual(len([words for words in self.called() if words[0] == "advise" and "--pairs" in words]), 1)
+        self.assertEqual(self.told(found, "advice"), [])
+        with mock.patch.object(bounded, "ADVICE", 0):
+            (told,) = self.told(self.report(), "advice")
+        self.assertRegex(told, "^: what to change isn't told of [0-9]+ entries: the program is asked 0 times, once in each text")
 
     def test_the_sum(self):
         self.host.cgroup("/odd", owners=owned(1003))

@@ -78,18 +78,30 @@ def audit(delegations, users, subtrees, is_all):
     return 1 if 1 in statuses else max(statuses)
 
 
-def advise(delegations, user, subtree):
-    found = list(failing(delegations, user, subtree))
-    for each, entry in found:
-        by, path = user.class_of(entry), text_of(each.path)
-        print(f"fails {each.guard} {path} {each.name} {entry.uid}:{entry.gid} {entry.mode:03o} {by}")
-        if by == "owner":
+def advise(delegations, pairs):
+    met = {}
+    for user, subtree in pairs:
+        for each, entry in failing(delegations, user, subtree):
+            met.setdefault((each.path, each.name), (each, entry, []))[2].append(user)
+    for each, entry, users in met.values():
+        path, classes = text_of(each.path), {user.class_of(entry) for user in users}
+        for by in ("owner", "group", "others"):
+            if by in classes:
+                print(f"fails {each.guard} {path} {each.name} {entry.uid}:{entry.gid} {entry.mode:03o} {by}")
+        if "owner" in classes:
             print(f"chown {path} {each.name} 0:{entry.gid}")
-        else:
-            print(f"chmod {path} {each.name} {entry.mode & (0o757 if by == 'group' else 0o775):03o}")
-    if not found:
+        inside = {entry.gid in user.gids for user in users}
+        mode = entry.mode & (0o757 if True in inside else 0o777) & (0o775 if False in inside else 0o777)
+        if mode != entry.mode:
+            print(f"chmod {path} {each.name} {mode:03o}")
+    if not met:
         print("contained")
-    return 1 if found else 0
+    return 1 if met else 0
+
+
+def pairs_in(file):
+    with open(file, encoding="ascii") as text:
+        return [(user_of(user), subtree) for _, user, subtree in (line.split() for line in text)]
 
 
 @functools.lru_cache(maxsize=8)
@@ -108,8 +120,10 @@ def main(words):
     with open(os.environ["CALLS"], "a", encoding="ascii") as calls:
         calls.write(" ".join(words) + "\n")
     if words[-1] == "--help":
-        print("Commands:\n  check   x\n  audit   x\n" + ("  advise  x\n" if can("advise") else "")
-              if len(words) == 1 else "Options:\n  --tree <FILE>\n" + ("  --all  x\n" if can("all") else ""))
+        if words[0] == "advise" and not can("advise"):
+            return fault("fault: usage")
+        known = {"audit": "  --all  x\n" if can("all") else "", "advise": "  --pairs <FILE>  x\n"}
+        print("Options:\n  --tree <FILE>\n" + known.get(words[0], ""))
         return 0
     if words == ["--version"]:
         print("made-up 1.0")
@@ -129,9 +143,10 @@ def main(words):
         return 0
     if words[0] == "audit":
         return audit(delegations, given["--uid"], given["--subtree"], is_all)
-    user = User(int(given["--uid"][0]), tuple(map(int, given.get("--gid", ()))))
     if words[0] == "advise":
-        return advise(delegations, user, given["--subtree"][0])
+        pairs = pairs_in(given["--pairs"][0])
+        return fault("fault: subtree missing") if any(path.endswith("/odd") for _, path in pairs) else advise(delegations, pairs)
+    user = User(int(given["--uid"][0]), tuple(map(int, given.get("--gid", ()))))
     status, lines = answer(delegations, user, given["--subtree"][0])
     print("\n".join(lines))
     return status

@@ -40,6 +40,10 @@ def second_check(_program, text, user, top):
     return commands.answer_lines(answer)[0], answer[1] if answer[0] == "escapes" else []
 
 
+def second_advice(_program, text, pairs):
+    return asking.changes_in(rules.advice(texts.tree_of(text.encode()), pairs))
+
+
 class KernelTest(unittest.TestCase):
     def compared(self, turn=None):
         """Of each case of operations that was recorded what it differs by, as a wrong program's where there is one."""
@@ -155,12 +159,30 @@ class KernelTest(unittest.TestCase):
         self.assertEqual(self.asked(asking.advise, ["contained"]), [])
         lines = ["fails common-ancestor / cgroup.procs 0:50 664 group", "chmod / cgroup.procs 644"]
         self.assertEqual(self.asked(asking.advise, lines), lines[1:])
+        with unittest.mock.patch.object(asking, "report_of", return_value=lines):
+            self.assertEqual(asking.advise_pairs("", "", [((1000, (5,)), ("a",)), ((7, ()), ())]), lines[1:])
+        self.assertEqual([asking.listed(user) for user in ((7, ()), (1000, (5, 6)))], ["7", "1000:5,6"])
         with unittest.mock.patch.object(asking, "asked", return_value=["pair 1000:5 /a", "unsettled parent-dir /"]):
             self.assertEqual(asking.contained("", "", [(1000, (5,))], [("a",), ("b",)]), [("b",)])
 
     def asked(self, ask, lines):
         with unittest.mock.patch.object(asking, "asked", return_value=lines):
             return ask("", "", (1000, (5,)), ("a",))
+
+    def test_advice_for_pairs_holds_in_the_model(self):
+        found = []
+        with unittest.mock.patch.object(asking, "check", second_check), unittest.mock.patch.object(asking, "advise_pairs", second_advice):
+            for number in range(60):
+                rng = random.Random(f"pairs {number}")
+                found += advice.cases_of_pairs(rng, None, *making.random_tree(rng))
+        for case in found:
+            states = [advice.changed(case.state, case.mends)]
+            for user, step in case.steps + case.tries:
+                if step[0] in rules.BARS:
+                    states.append(rules.step(states[-1], user, step)[0])
+            self.assertEqual(rules.verdict(states, case.subtrees[0]), "kept")
+        self.assertGreater(max(len({user for user, _ in case.tries}) for case in found), 1)
+        self.assertGreater(len(found), 10)
 
     def test_too_few_answers_are_a_difference(self):
         case, answers, record = recorded("operations")[0]

@@ -1,4 +1,5 @@
 """Pairs of a user and a subtree that isn't contained, and cases in which what the program advises is carried out."""
+import itertools
 import random
 from dataclasses import replace
 
@@ -9,6 +10,8 @@ from trials import spelling, trees
 
 # so many operations are tried after the changes and the escape
 TRIES = 24
+# so many pairs at most are advised on at once
+MOST_PAIRS = 5
 # so many cases of each wrong program
 WRONG_CASES = 6
 USER = (1000, (5,))
@@ -60,7 +63,33 @@ def cases_of(rng, program, tree, text, state):
 
 
 def random_cases(rng, program):
-    return cases_of(rng, program, *making.random_tree(rng))
+    made = making.random_tree(rng)
+    return cases_of_pairs(rng, program, *made) if rng.random() < 0.5 else cases_of(rng, program, *made)
+
+
+def random_pairs(rng, tree, state):
+    """Some users, each with some subtrees."""
+    users = [tree.user, *(making.group_user(trees.user_of(rng)) for _ in range(rng.choice([1, 1, 2])))]
+    tops = list({tree.subtree, *rng.sample([path for path in state.cgroups if path], k=1)})
+    pairs = list(dict.fromkeys(itertools.product(users, tops)))
+    return rng.sample(pairs, k=min(len(pairs), rng.randrange(2, MOST_PAIRS + 1)))
+
+
+def cases_of_pairs(rng, program, tree, text, state):
+    """Of each pair that isn't contained a case in which what is advised for several at once is carried out before its escape and
+    operations of all who are named with its subtree."""
+    pairs = random_pairs(rng, tree, state)
+    mends = asking.advise_pairs(program, text, pairs)
+    found = []
+    for user, top in pairs if mends and len(pairs) > 1 else ():
+        steps = [(user, step) for step in asking.check(program, text, user, top)[1]]
+        after = changed(state, mends)
+        for _, step in steps:
+            after = rules.step(after, user, step)[0]
+        users = list({other: None for other, subtree in pairs if subtree == top})
+        if steps:
+            found.append(making.Case("advice", text, steps, [top], state, mends, making.tries_of(rng, tree, after, users, TRIES)))
+    return found
 
 
 def bare_tree():

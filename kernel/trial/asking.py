@@ -60,13 +60,30 @@ def check(program, text, user, top):
 
 def advise(program, text, user, top):
     """The lines of the changes, and none where the pair is contained."""
-    lines = asked(program, text, "advise", *words_of(user), "--subtree", text_of(top))
+    return changes_in(asked(program, text, "advise", *words_of(user), "--subtree", text_of(top)))
+
+
+def advise_pairs(program, text, pairs):
+    """The lines of the changes for some pairs at once, and none where all are contained."""
+    with tempfile.TemporaryDirectory() as room:
+        named = os.path.join(room, "pairs")
+        with open(named, "w") as out:
+            out.writelines(f"pair {listed(user)} {text_of(top)}\n" for user, top in pairs)
+        return changes_in(report_of(program, text, "advise", "--pairs", named))
+
+
+def changes_in(lines):
     return [line for line in lines if line.split(" ")[0] in CHANGES]
+
+
+def listed(user):
+    """A user as `audit` takes them."""
+    return ":".join([str(user[0]), *([",".join(map(str, user[1]))] if user[1] else [])])
 
 
 def contained(program, text, users, tops):
     """The subtrees that are contained against all of these users."""
-    words = [word for uid, gids in users for word in ("--uid", f"{uid}:{','.join(map(str, gids))}")]
+    words = [word for user in users for word in ("--uid", listed(user))]
     words += [word for top in tops for word in ("--subtree", text_of(top))]
-    listed = [line.split(" ")[2] for line in asked(program, text, "audit", "--all", *words) if line.startswith("pair ")]
-    return [top for top in tops if top not in set(map(rules.path_of, listed))]
+    found = [line.split(" ")[2] for line in asked(program, text, "audit", "--all", *words) if line.startswith("pair ")]
+    return [top for top in tops if top not in set(map(rules.path_of, found))]

@@ -105,12 +105,13 @@ def compare_advice(program, case, record):
     """Holds a kernel's states against the changes: they are made and no more, the program says contained, and nothing breaks."""
     if not script.is_whole(case, record):
         return Advised([f"not built or carried out: {record.faults[:3]}, {len(record.states)} states"], "", 0)
-    (user, _), top, count = (case.steps + case.tries)[0], case.subtrees[0], len(case.mends)
+    users, top, count = dict.fromkeys(user for user, _ in case.steps + case.tries), case.subtrees[0], len(case.mends)
     faults = [f"{line}: {errno.errorcode.get(number, number)}" for line, number in zip(case.mends, record.numbers) if number]
     faults += [each.what for each in changes_differences(case, case.mends, record)]
-    said, _ = asking.check(program, advice.text_of_state(record.states[count]), user, top)
-    if said != "contained":
-        faults.append(f"after the changes check says {said}")
+    for user in users:
+        said, _ = asking.check(program, advice.text_of_state(record.states[count]), user, top)
+        if said != "contained":
+            faults.append(f"after the changes check says {said}")
     verdict = break_of(case, record, top)
     if verdict != "kept":
         faults.append(f"after the changes {verdict}")

@@ -10,7 +10,7 @@ from .documents import Fault
 from .rules import text_of
 from .texts import LAST_ID, tree_of
 
-MOST_GIDS, MOST_STEPS, LONGEST_LINE = 32, 65536, 8192
+MOST_GIDS, MOST_STEPS, LONGEST_LINE, LONGEST_PAIRS = 32, 65536, 8192, 16777216
 NUMBER = r"0|[1-9][0-9]*"
 # a number of the command line
 PLAIN = r"\+?[0-9]+"
@@ -21,7 +21,7 @@ OPTIONS = {
     "audit": {"--tree": "", "--uid": "must again", "--subtree": "must again", "--all": "flag"},
     "replay": {"--tree": "", "--uid": "must", "--gid": "again", "--ops": "must", "--subtree": ""},
     "upgrade": {"--tree": ""},
-    "advise": {"--tree": "", "--uid": "must again", "--gid": "again", "--subtree": "must again"},
+    "advise": {"--tree": "", "--uid": "again", "--gid": "again", "--subtree": "again", "--pairs": ""},
 }
 
 
@@ -97,6 +97,31 @@ def lines_of(data):
         yield operation
 
 
+def pairs_of(data):
+    """Each pair of a user and a subtree that a text names; raises the fault that ends them."""
+    *lines, end = data[:LONGEST_PAIRS].split(b"\n")
+    pairs = []
+    for number, line in enumerate(lines, 1):
+        if line.startswith(b"pair "):
+            pairs.append(pair_of(line[len(b"pair "):]))
+            if pairs[-1] is None:
+                raise Fault(f"line {number} bad-word")
+    if len(data) > LONGEST_PAIRS:
+        raise Fault(f"line {len(lines) + 1} too-long")
+    if end:
+        raise Fault(f"line {len(lines) + 1} cut")
+    return pairs
+
+
+def pair_of(words):
+    """The pair of a user, a space and a path, or None."""
+    try:
+        user, _, path = words.decode("ascii").partition(" ")
+        return None if rules.path_of(path) is None else (listed_user(user), path)
+    except (UnicodeDecodeError, Fault):
+        return None
+
+
 # Command lines
 
 
@@ -114,6 +139,8 @@ class Call:
             given = self.given.get(option, [])
             if "must" in kind and not given or "again" not in kind and len(given) > 1:
                 raise Fault("usage")
+        if self.command == "advise" and ("--pairs" in self.given) == ("--uid" in self.given or "--subtree" in self.given):
+            raise Fault("usage")
         self.users = self.read_users()
         self.pid = plain_number(self.given["--pid"][0]) if self.command == "may" else None
 
@@ -133,6 +160,12 @@ class Call:
             return [listed_user(word) for word in self.given["--uid"]]
         if self.command == "upgrade":
             return []
+        if self.command == "advise" and "--pairs" in self.given:
+            if "--gid" in self.given:
+                raise Fault("usage")
+            return []
+        if self.command == "advise" and not ("--uid" in self.given and "--subtree" in self.given):
+            raise Fault("usage")
         if self.command == "advise" and not (len(self.given["--uid"]) == 1 and re.fullmatch(PLAIN, self.given["--uid"][0])):
             if "--gid" in self.given:
                 raise Fault("usage")
@@ -178,18 +211,25 @@ def report(words, stdin, files, lines):
     call = Call(words)
     files = {**files, "-": stdin}
     named = "-" if call.one("--tree") is None else call.one("--tree")
-    if named == call.one("--ops") == "-":
+    if "-" == named in (call.one("--ops"), call.one("--pairs")):
         raise Fault("usage")
     tree = files.get(named)
     if not isinstance(tree, bytes) or call.command == "replay" and files.get(call.one("--ops")) is None:
         raise Fault("read")
-    test_arguments(call)
+    subtrees = call.subtrees()
+    if call.one("--pairs") is not None:
+        text = files.get(call.one("--pairs"))
+        if not isinstance(text, bytes):
+            raise Fault("read")
+        pairs = pairs_of(text)
+        call.users, subtrees = [user for user, _ in pairs], [path for _, path in pairs]
+    test_arguments(call, subtrees)
     state = tree_of(tree)
-    tops = [subtree_of(state, word) for word in call.subtrees()]
+    tops = [subtree_of(state, word) for word in subtrees]
     return REPORTS[call.command](call, state, tops, files, lines)
 
 
-def test_arguments(call):
+def test_arguments(call, subtrees):
     for uid, gids in call.users:
         if uid == 0:
             raise Fault("uid")
@@ -197,7 +237,7 @@ def test_arguments(call):
             raise Fault("gid")
     if call.pid is not None and not 1 <= call.pid <= rules.LAST_PID:
         raise Fault("pid")
-    if any(rules.path_of(word) is None for word in [*call.given.get("--to", []), *call.subtrees()]):
+    if any(rules.path_of(word) is None for word in [*call.given.get("--to", []), *subtrees]):
         raise Fault("path")
 
 
@@ -263,7 +303,7 @@ def replay(call, state, tops, files, lines):
 
 
 def advise(call, state, tops, _files, lines):
-    pairs = itertools.product(call.users, tops)
+    pairs = zip(call.users, tops) if "--pairs" in call.given else itertools.product(call.users, tops)
     lines += rules.advice(state, list(dict.fromkeys(pairs)))
     if lines:
         return 1

@@ -6,7 +6,7 @@ from second import commands, documents, rules, texts
 from second.rules import text_of
 from trials import faults, spelling, trees
 
-TREE, OPS = "tree.toml", "list.ops"
+TREE, OPS, PAIRS = "tree.toml", "list.ops", "list.pairs"
 
 
 @dataclass
@@ -52,11 +52,16 @@ def random_case(seed, number, known):
     case = Case(MAKERS[command](rng, tree, state_of(data)))
     if command.startswith("replay"):
         case.files[OPS] = operations(rng, tree, data, case.words)
+    if command == "advise --pairs":
+        case.files[PAIRS] = pair_lines(rng, tree, state_of(data))
     if rng.random() < 0.5:
         case.stdin = data
     else:
         case.files[TREE] = data
         case.words[1:1] = ["--tree", TREE]
+        if PAIRS in case.files and rng.random() < 0.3:
+            case.stdin = case.files.pop(PAIRS)
+            case.words[case.words.index(PAIRS)] = "-"
     if rng.random() < 0.15:
         for _ in range(rng.choice([1, 1, 1, 2, 3])):
             turn_words(rng, case)
@@ -121,6 +126,38 @@ def advise_words(rng, tree, state):
     return words + (["--gid", "5"] if rng.random() < 0.05 else [])
 
 
+def pairs_words(_rng, _tree, _state):
+    return ["advise", "--pairs", PAIRS]
+
+
+def pair_lines(rng, tree, state):
+    """Lines of pairs among others, as `audit --all` prints them, and at times one that is none."""
+    below = [path for path in tree.rows if path]
+    lines = []
+    for _ in range(rng.choice([0, 1, 1, 2, 2, 3, 5])):
+        user = listed_user(rng, *rng.choice([tree.user, trees.user_of(rng), other_user(rng, tree)]))
+        top = text_of(rng.choice(below)) if below and rng.random() < 0.5 else subtree_word(rng, tree, state)
+        if rules.path_of(top) is not None or rng.random() < 0.05:
+            lines.append(f"pair {user} {top}".encode())
+        lines += rng.choice([[], [b"escapes", b"move 7 /"], [b"unsettled parent-dir /"], [b"# by hand", b"", b"pairs /"], lines[:1]])
+    if rng.random() < 0.16:
+        lines.insert(rng.randrange(len(lines) + 1), bad_pair(rng, lines))
+    if rng.random() < 0.006:
+        lines.append(b"#" * (commands.LONGEST_PAIRS - sum(len(line) + 1 for line in lines) - rng.choice([1, 1, 0])))
+    return b"".join(line + b"\n" for line in lines) + (rng.choice([b"pair 1000 /a", b"x"]) if rng.random() < 0.04 else b"")
+
+
+def bad_pair(rng, lines):
+    """A line that begins as a pair's and is none, or whose user or subtree is at fault."""
+    near = next((line for line in lines if line.startswith(b"pair ")), b"pair 1000 /a")
+    many = ",".join(map(str, range(rng.choice([32, 33])))).encode()
+    return rng.choice([
+        b"pair ", b"pair  ", near + b" ", near + b"\r", near.replace(b" ", b"  ", 1), near + b"/", near + b"\0", b"pair /a", b"pair 1000",
+        b"pair 1000 ", b"pair 1000 a", b"pair 1000: /a", b"pair 1000:5, /a", b"pair +1000 /a", b"pair 4294967296 /a", b"pair x /a",
+        b"pair 1000 /\xc3\xa9", b"pair 1000 /\xff", b"pair \xff /a", b"pair 1000 /cgroup.procs", b"pair 1000 /" + b"a" * 256,
+        b"pair 0 /a", b"pair 1000:" + many + b" /a", b"pair 1000 /", b"pair 1000 /nowhere"])
+
+
 def audit_words(rng, tree, state):
     words, users, tops = ["audit"], rng.choice([1, 1, 2, 3, 4]), rng.choice([1, 1, 2, 3])
     below = [path for path in tree.rows if path]
@@ -162,8 +199,9 @@ def upgrade_words(_rng, _tree, _state):
 
 
 MAKERS = {"may": may_words, "check": check_words, "audit": audit_words, "audit --all": all_words, "advise": advise_words,
+          "advise --pairs": pairs_words,
           "replay": replay_words, "replay alone": replay_alone_words, "upgrade": upgrade_words}
-WEIGHTS = {"may": 14, "check": 30, "audit": 12, "audit --all": 12, "advise": 14, "replay": 28, "replay alone": 6, "upgrade": 7}
+WEIGHTS = {"may": 14, "check": 30, "audit": 12, "audit --all": 12, "advise": 14, "advise --pairs": 12, "replay": 28, "replay alone": 6, "upgrade": 7}
 
 
 # Operations
@@ -385,7 +423,7 @@ def join_option(rng, case):
 
 
 def no_file(rng, case):
-    given = [option for option in ("--tree", "--ops") if option in case.words] or ["--tree"]
+    given = [option for option in ("--tree", "--ops", "--pairs") if option in case.words] or ["--tree"]
     replace_after(rng, case, rng.choice(given), rng.choice(["none.toml", "folder", "none/none", ""]))
 
 

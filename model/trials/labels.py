@@ -21,7 +21,7 @@ bad-controller cgroup, bad-entry cgroup, bad-value cgroup, duplicate cgroup, no-
 no-such-file cgroup, bad-pid process, bad-entry process, duplicate-pid process, no-such-place process, internal-process process"""
 FAULTS = ["usage", "uid", "gid", "pid", "path", "subtree root", "subtree missing", "line too-long", "line cut", "line bad-word",
           "too-many-steps", "read", "write", *("tree " + name for name in re.split(r",\s+", TREE_FAULTS))]
-STATUSES = {"may": 2, "check": 3, "audit": 3, "audit --all": 3, "replay": 2, "upgrade": 1, "advise": 2}
+STATUSES = {"may": 2, "check": 3, "audit": 3, "audit --all": 3, "replay": 2, "upgrade": 1, "advise": 2, "advise --pairs": 2}
 
 
 def wanted(known):
@@ -43,7 +43,7 @@ def wanted(known):
 def labels_of(case, expected):
     """The labels of a case with the lines, the status and the fault that it should give."""
     lines, status, fault = expected
-    name = " ".join(case.words[:1] + ["--all"] * ("--all" in case.words)) if case.words else ""
+    name = " ".join(case.words[:1] + [word for word in ("--all", "--pairs") if word in case.words])
     found = [f"{name}: status {status}"] if name in STATUSES else []
     if fault:
         found.append(re.sub(r"(cgroup|process|line) \d+", r"\1", fault))
@@ -110,4 +110,4 @@ def advise_labels(_case, lines):
     return sorted(found)
 
 
-LABELS = {"may": may_labels, "check": check_labels, "advise": advise_labels}
+LABELS = {"may": may_labels, "check": check_labels, "advise": advise_labels, "advise --pairs": advise_labels}

@@ -13,12 +13,13 @@ SECONDS = 60
 
 
 def known_commands(program):
-    """The commands that a program lists in its help, and `audit --all` where its help has it."""
+    """The commands that a program lists in its help, and `audit --all` and `advise --pairs` where their help has them."""
     lines = help_of(program)
     listed = lines[lines.index("Commands:") + 1:]
     names = {line.split()[0] for line in listed[:listed.index("")]} & commands.OPTIONS.keys()
-    if any(re.search(r"--all\b", line) for line in help_of(program, "audit")):
-        names |= {"audit --all"}
+    for command, option in (("audit", "--all"), ("advise", "--pairs")):
+        if command in names and any(re.search(rf"{option}\b", line) for line in help_of(program, command)):
+            names |= {f"{command} {option}"}
     return frozenset(names)
 
 

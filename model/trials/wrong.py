@@ -115,9 +115,14 @@ OF_COMMANDS = {
     "33 groups are taken": ("if len(gids) > MOST_GIDS:", "if len(gids) > MOST_GIDS + 1:"),
     "the path is tested before the PID": (PID_BOUND, PID_BOUND + ' and rules.path_of(call.one("--to")) is not None'),
     "PID 4194303 is a fault": (PID_BOUND, PID_BOUND.replace("<= rules", "< rules")),
-    "words are tested before files are read": ("    tree = files.get(named)\n", "    test_arguments(call)\n    tree = files.get(named)\n"),
+    "words are tested before files are read": ("    tree = files.get(named)\n", "    test_arguments(call, call.subtrees())\n    tree = files.get(named)\n"),
     "of the subtrees the root is a fault first": (
-        "for word in call.subtrees()]\n    return", 'for word in sorted(call.subtrees(), key=lambda word: word != "/")]\n    return'),
+        "for word in subtrees]\n    return", 'for word in sorted(subtrees, key=lambda word: word != "/")]\n    return'),
+    "advises all users of pairs with all their subtrees": ('zip(call.users, tops) if "--pairs" in call.given else ', ""),
+    "a line is a pair's that begins with the word": ('line.startswith(b"pair ")', 'line.startswith(b"pair")'),
+    "a line of pairs that is cut is passed over": (
+        '    if end:\n        raise Fault(f"line {len(lines) + 1} cut")\n    return pairs', "    return pairs"),
+    "16777216 bytes of pairs are too many": ("    if len(data) > LONGEST_PAIRS:", "    if len(data) >= LONGEST_PAIRS:"),
     "audit goes by subtree first": (
         f"user, top in {USERS}", "top, user in itertools.product(dict.fromkeys(tops), dict.fromkeys(call.users))"),
     "audit asks who is named again": (USERS, USERS.replace("dict.fromkeys(call.users)", "call.users")),

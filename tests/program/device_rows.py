@@ -58,6 +58,15 @@ FAULTS = (
     ("replay --tree - --uid 1000 --ops {bad}", "line 2 bad-word", "ok"),
     ("replay --uid 1000 --ops -", "usage", ""),
     ("replay --uid 1000 --ops {long}", "line 2 too-long", "ok"),
+    ("advise --uid 1000", "usage", ""),
+    ("advise --pairs {pairs} --subtree /c0", "usage", ""),
+    ("advise --pairs -", "usage", ""),
+    ("advise --pairs {no_pair}", "line 2 bad-word", ""),
+    ("advise --pairs {cut_pair}", "line 2 cut", ""),
+    ("advise --pairs {pair_of_root}", "uid", ""),
+    ("advise --pairs {pair_of_many}", "gid", ""),
+    ("advise --pairs {pair_missing}", "subtree missing", ""),
+    ("advise --pairs {folder}/missing", "read", ""),
     ("replay --uid 1000 --ops {many}", "too-many-steps", "|".join(65536 * ["refused no-such-process 99"])),
 )
 
@@ -99,6 +108,12 @@ OPERATIONS = {
     "bad": "exit 11\nmkdir c0\n",
     "long": "exit 11\n" + 8193 * "x",
     "many": 65537 * "exit 99\n",
+    "pairs": "pair 1001:1001 /c0\nescapes\nset /c0 memory.max max\npair 1000 /c1\npair 1001:1001 /c0\n",
+    "no_pair": "escapes\npair 1000:5, /c0\n",
+    "cut_pair": "pair 1000 /c0\npair 1000 /c",
+    "pair_of_root": "pair 1000 /c0\npair 0 /c0\n",
+    "pair_of_many": f"pair 1000:{','.join(33 * ['7'])} /c0\n",
+    "pair_missing": "pair 1000 /c0\npair 1000 /zz\n",
 }
 
 # commands of which what they write where nothing fails is the row, each on the tree of examples/NAME.toml
@@ -111,6 +126,9 @@ ASKED = (
     ("delegation-over-limit", "advise --uid 1000 --subtree /c0", 1),
     ("delegation-ancestor-group", "advise --uid 1000 --gid 50 --subtree /c0", 1),
     ("delegation-second-user", "advise --uid 1000 --uid 1001:1001 --subtree /c0 --subtree /c1", 1),
+    ("delegation", "advise --pairs {none}", 0),
+    ("delegation-second-user", "advise --pairs {pairs}", 1),
+    ("delegation-second-user", "advise --tree {tree} --pairs {pairs}", 1),
     ("delegation", "audit --all --uid 1000 --uid 1001 --subtree /c0 --subtree /c1", 0),
     ("delegation-second-user", "audit --all --tree {tree} --uid 1000 --uid 1001 --subtree /c0 --subtree /c1", 1),
     ("delegation-parent-directory", "audit --all --uid 1000 --uid 1001 --subtree /c0 --subtree /c1", 2),
@@ -132,7 +150,7 @@ def ended(program, words, tree):
 
 def knows(program, words):
     """Whether the program has a command, and the option behind it where there is one."""
-    words = [word for word in words[:2] if word == words[0] or word == "--all"]
+    words = [words[0], *(word for word in words if word in ("--all", "--pairs"))]
     told = ended(program, [words[0], "--help"], None)
     return told.returncode == 0 and all(word.encode() in told.stdout for word in words[1:])
 
@@ -192,7 +210,7 @@ def rows_of(program, top, folder):
     rows += [asked(program, "help", words.split(), None, 0) for words in HELP]
     for tree, words, status in ASKED:
         file = file_of(top, tree)
-        words = words.format(tree=file).split()
+        words = words.format(tree=file, **names).split()
         if knows(program, words):
             rows.append(asked(program, words[0], words, None if "--tree" in words else file, status))
     return rows

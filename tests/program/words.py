@@ -100,6 +100,13 @@ def rows():
         yield ["advise", "--uid", word, "--gid", "5", "--subtree", "/c0"], True
     yield ["advise", "--uid", "1000", "--uid", "1001", "--gid", "5", "--subtree", "/c0"], True
     yield ["advise", "--uid", "1000", "--gid", "5", "--subtree", "/c0", "--subtree", "/c1"], False
+    pairs = ["advise", "--pairs", os.devnull]
+    yield pairs, False
+    yield ["advise", "--tree", TREE, "--pairs", "-"], False
+    yield from ((words, True) for words in (
+        ["advise"], ["advise", "--uid", "1000"], ["advise", "--subtree", "/c0"], ["advise", "--gid", "5", "--subtree", "/c0"],
+        ["advise", "--pairs", "-"], ["advise", "--tree", "-", "--pairs", "-"], [*pairs, "--uid", "1000"], [*pairs, "--gid", "5"],
+        [*pairs, "--subtree", "/c0"], [*pairs, *pairs[1:]], [*pairs, "--uid", "1000", "--subtree", "/c0"], ["audit", *pairs[1:]]))
     for word in NOT_LISTED:
         yield ["audit", "--uid", word, "--subtree", "/c0"], True
         yield ["advise", "--uid", word, "--subtree", "/c0"], True
@@ -122,14 +129,18 @@ def names():
 
 def dashes():
     """`-` is standard input, and `./-` a file of that name."""
-    tree, ops = read(DELEGATION), b"move 11 /c0/c01\n"
-    files = {"tree": tree, "-": tree, "ops": ops}
+    tree, ops, pairs = read(DELEGATION), b"move 11 /c0/c01\n", b"pair 1000 /c0\nescapes\npair 1000:7,8 /c1\n"
+    files = {"tree": tree, "-": tree, "ops": ops, "pairs": pairs}
+    advise = ["advise", "--pairs"]
     for words, given, output in ((CHECK, tree, b"contained\n"), ([*CHECK, "--tree", "-"], tree, b"contained\n"),
                                  ([*CHECK, "--tree=-"], tree, b"contained\n"), ([*CHECK, "--tree", "./-"], b"", b"contained\n"),
                                  (["audit", *CHECK[1:], "--tree", "-"], tree, b"contained\n"),
                                  ([*REPLAY, "-", "--tree", "tree"], ops, b"ok\n"),
                                  ([*REPLAY, "-", "--tree", "./-"], ops, b"ok\n"),
-                                 ([*REPLAY, "ops", "--tree", "-"], tree, b"ok\n"), ([*REPLAY, "-", "--tree", "tree"], b"", b"")):
+                                 ([*REPLAY, "ops", "--tree", "-"], tree, b"ok\n"), ([*REPLAY, "-", "--tree", "tree"], b"", b""),
+                                 ([*advise, "-", "--tree", "tree"], pairs, b"contained\n"),
+                                 ([*advise, "pairs"], tree, b"contained\n"), ([*advise, "pairs", "--tree", "-"], tree, b"contained\n"),
+                                 ([*advise, "-", "--tree=./-"], b"", b"contained\n")):
         yield Answered(words, given, output, files=files)
 
 

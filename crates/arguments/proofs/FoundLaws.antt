@@ -81,6 +81,15 @@ module _ (f g : Found) (same : rows_of f ≡ rows_of g) where
     subtrees = sym (words_same (codes "subtree")) ∙ h.subtrees;
     some_user = λ none. h.some_user (words_same (codes "uid") ∙ none);
     some_subtree = λ none. h.some_subtree (words_same (codes "subtree") ∙ none);
+    no_pairs = sym (first_same (codes "pairs")) ∙ h.no_pairs;
+  }
+  holds_same (request.AdvisePairs advise) h = record {
+    tree = h.tree ∙ file_same (codes "tree");
+    pairs = h.pairs ∙ file_same (codes "pairs");
+    some_pairs = λ none. h.some_pairs (first_same (codes "pairs") ∙ none);
+    no_user = sym (words_same (codes "uid")) ∙ h.no_user;
+    no_group = sym (words_same (codes "gid")) ∙ h.no_group;
+    no_subtree = sym (words_same (codes "subtree")) ∙ h.no_subtree;
   }
   holds_same (request.Replay replay) h = record {
     tree = h.tree ∙ file_same (codes "tree");

@@ -1,5 +1,5 @@
 mod CommandLaws
 mod FoundLaws
 mod GivenLaws
-mod UserWordLaws
+pub mod UserWordLaws
 mod WordLaws

@@ -57,21 +57,22 @@ id_read {E} word (Err e) h = sym (id_none word (λ p. h ((p.1, own.to word p.0),
 abbrev pub with_front : {A : Type 0} → List A → Option (List A) → Option (List A)
 with_front front read = option_map (λ others. front ++ others) read
 
-abbrev words_by : List ℕ → Option (List ℕ × List ℕ) → List (List ℕ)
-words_by text None = text ∷ []
-words_by text (Some parts) = parts.0 ∷ slice_split is_comma parts.1
+module _ (test : ℕ → Bool) where
+  abbrev pub pieces_by : List ℕ → Option (List ℕ × List ℕ) → List (List ℕ)
+  pieces_by text None = text ∷ []
+  pieces_by text (Some parts) = parts.0 ∷ slice_split test parts.1
 
--- the words of a text, by whether it is cut at a comma
-split_by : (text : List ℕ) (cut : Option (List ℕ × List ℕ)) → cut_at is_comma text ≡ cut → slice_split is_comma text ≡ words_by text cut
-split_by text cut is =
-    let at = position_or_len is_comma text in
-    cond_both (nat_lt at (length text)) (Some (before_first is_comma text, after_first is_comma text)) None
-    (λ found. slice_split is_comma text ≡ words_by text found)
-    (λ there. slice_split_first is_comma text 0 (ltb-true at (length text) there))
-    (λ none.
-    let whole = ltb-false at (length text) none in
-    slice_split_none is_comma text (λ k d s. fails_before_first is_comma text k d (omega (arith, whole))))
-    ∙ ap (words_by text) is
+  -- the pieces of a text, by whether it is cut at a byte
+  pub split_by : (text : List ℕ) (cut : Option (List ℕ × List ℕ)) → cut_at test text ≡ cut → slice_split test text ≡ pieces_by text cut
+  split_by text cut is =
+      let at = position_or_len test text in
+      cond_both (nat_lt at (length text)) (Some (before_first test text, after_first test text)) None
+      (λ found. slice_split test text ≡ pieces_by text found)
+      (λ there. slice_split_first test text 0 (ltb-true at (length text) there))
+      (λ none.
+      let whole = ltb-false at (length text) none in
+      slice_split_none test text (λ k d s. fails_before_first test text k d (omega (arith, whole))))
+      ∙ ap (pieces_by text) is
 
 -- a step of the loop over the words
 pub ids_more : (front text : List ℕ) (parts : List ℕ × List ℕ) (id : ℕ) (read : Option (List ℕ)) → cut_at is_comma text ≡ Some parts
@@ -85,7 +86,7 @@ ids_more front text parts id read e f h =
     ]
     ∙ ap (λ (first : Option ℕ).
     with_front front (option_and_then (λ i. option_map (λ ids. i ∷ ids) (ids_at (slice_split is_comma parts.1))) first)) (sym f)
-    ∙ ap (λ (ws : List (List ℕ)). with_front front (ids_at ws)) (sym (split_by text (Some parts) e))
+    ∙ ap (λ (ws : List (List ℕ)). with_front front (ids_at ws)) (sym (split_by is_comma text (Some parts) e))
     ∙ h
 
 -- the last word
@@ -93,7 +94,7 @@ pub ids_last : (front text : List ℕ) (id : ℕ) (read : Option (List ℕ)) →
     → with_front front (ids_at (slice_split is_comma text)) ≡ read → read ≡ Some (front ++ (id ∷ []))
 ids_last front text id read e f h =
     sym h
-    ∙ ap (λ (ws : List (List ℕ)). with_front front (ids_at ws)) (split_by text None e)
+    ∙ ap (λ (ws : List (List ℕ)). with_front front (ids_at ws)) (split_by is_comma text None e)
     ∙ ap (λ (first : Option ℕ). with_front front (option_and_then (λ i. Some (i ∷ [])) first)) f
 
 -- a word that is no id
@@ -101,7 +102,7 @@ pub ids_bad : (front text : List ℕ) (parts : List ℕ × List ℕ) (read : Opt
     → id_at parts.0 ≡ None → with_front front (ids_at (slice_split is_comma text)) ≡ read → read ≡ None
 ids_bad front text parts read e f h =
     sym h
-    ∙ ap (λ (ws : List (List ℕ)). with_front front (ids_at ws)) (split_by text (Some parts) e)
+    ∙ ap (λ (ws : List (List ℕ)). with_front front (ids_at ws)) (split_by is_comma text (Some parts) e)
     ∙ ap (λ (first : Option ℕ).
     with_front front (option_and_then (λ i. option_map (λ ids. i ∷ ids) (ids_at (slice_split is_comma parts.1))) first)) f
 
@@ -109,7 +110,7 @@ pub ids_last_bad : (front text : List ℕ) (read : Option (List ℕ)) → cut_at
     → with_front front (ids_at (slice_split is_comma text)) ≡ read → read ≡ None
 ids_last_bad front text read e f h =
     sym h
-    ∙ ap (λ (ws : List (List ℕ)). with_front front (ids_at ws)) (split_by text None e)
+    ∙ ap (λ (ws : List (List ℕ)). with_front front (ids_at ws)) (split_by is_comma text None e)
     ∙ ap (λ (first : Option ℕ). with_front front (option_and_then (λ i. Some (i ∷ [])) first)) f
 
 pub ok_or_some : {E : Type 0} (o : Option ℕ) (x : ℕ) (fault : E) → Ok x ≡ ok_or o fault → o ≡ Some x

@@ -61,6 +61,7 @@ module _ (words : List Text) (m : ArgMatches) (rows : subcommand_rows_of m ≡ s
   made (request.Check check) fits h = (h.0, fits, met _ h.0 h.1 h.2, h.3)
   made (request.Audit audit) fits h = (h.0, fits, met _ h.0 h.1 h.2, h.3)
   made (request.Advise advise) fits h = (h.0, fits, met _ h.0 h.1 h.2, h.3)
+  made (request.AdvisePairs advise) fits h = (h.0, fits, met _ h.0 h.1 h.2, h.3)
   made (request.Replay replay) fits h = (h.0, fits, met _ h.0 h.1 h.2, h.3)
   made (request.Upgrade upgrade) fits h = (h.0, fits, met _ h.0 h.1 h.2, h.3)
 
@@ -78,6 +79,7 @@ module _ (words : List Text) (m : ArgMatches) (rows : subcommand_rows_of m ≡ s
   of_made (request.Check check) fits h = (h.0, named _ h.0 h.2, own _ h.0 h.2, h.3)
   of_made (request.Audit audit) fits h = (h.0, named _ h.0 h.2, own _ h.0 h.2, h.3)
   of_made (request.Advise advise) fits h = (h.0, named _ h.0 h.2, own _ h.0 h.2, h.3)
+  of_made (request.AdvisePairs advise) fits h = (h.0, named _ h.0 h.2, own _ h.0 h.2, h.3)
   of_made (request.Replay replay) fits h = (h.0, named _ h.0 h.2, own _ h.0 h.2, h.3)
   of_made (request.Upgrade upgrade) fits h = (h.0, named _ h.0 h.2, own _ h.0 h.2, h.3)
 

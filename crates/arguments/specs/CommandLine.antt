@@ -45,10 +45,14 @@ audit_command = command_with (codes "audit")
     (word_option (codes "tree") ∷ repeated (needed (word_option (codes "uid"))) ∷ repeated (needed (word_option (codes "subtree")))
     ∷ flag (codes "all") ∷ [])
 
+-- by users and subtrees, or by pairs of them
+abbrev pub advise_named : Shape
+advise_named = command_with (codes "advise")
+    (word_option (codes "tree") ∷ repeated (word_option (codes "uid")) ∷ repeated (number_option (codes "gid"))
+    ∷ repeated (word_option (codes "subtree")) ∷ [])
+
 abbrev pub advise_command : Shape
-advise_command = command_with (codes "advise")
-    (word_option (codes "tree") ∷ repeated (needed (word_option (codes "uid"))) ∷ repeated (number_option (codes "gid"))
-    ∷ repeated (needed (word_option (codes "subtree"))) ∷ [])
+advise_command = record advise_named { rules = advise_named.rules ++ word_option (codes "pairs") ∷ [] }
 
 abbrev pub replay_command : Shape
 replay_command = command_with (codes "replay") (of_user ++ needed (word_option (codes "ops")) ∷ word_option (codes "subtree") ∷ [])

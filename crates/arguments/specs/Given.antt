@@ -8,13 +8,15 @@ use Rattle.clap.specs.Words.{rows_of, subcommand_rows_of}
 use Rattle.clap.specs.declared.parser.matches.ArgMatches.{ArgMatches}
 use Rattle.clap.specs.declared.parser.matches.Found.{Found}
 use Rattle.arguments.specs.UserWords.{id_at, all_read, user_at}
+use Rattle.arguments.specs.declared.named_pair.NamedPair.{NamedPair}
 use Rattle.arguments.specs.declared.named_user.NamedUser.{NamedUser}
 use Rattle.arguments.specs.declared.request.May.{May}
 use Rattle.arguments.specs.declared.request.Check.{Check}
 use Rattle.arguments.specs.declared.request.Audit.{Audit}
 use Rattle.arguments.specs.declared.request.Advise.{Advise}
+use Rattle.arguments.specs.declared.request.AdvisePairs.{AdvisePairs}
 use Rattle.arguments.specs.declared.request.Sources.{Sources}
-use Rattle.arguments.specs.declared.request.Sources.TheVariants.{Files, TreeGiven, OpsGiven}
+use Rattle.arguments.specs.declared.request.Sources.TheVariants.{Files, TreeGiven, OtherGiven}
 use Rattle.arguments.specs.declared.request.Replay.{Replay}
 use Rattle.arguments.specs.declared.request.Upgrade.{Upgrade}
 use Rattle.arguments.specs.declared.request.Request.{Request}
@@ -36,20 +38,20 @@ file_named word = cond (pointwise nat_eq word (codes "-")) None (Some word)
 abbrev pub file_at : Found → List ℕ → Option (List ℕ)
 file_at found name = option_and_then file_named (first_value found name)
 
--- both the tree and the operations are to come from standard input
-abbrev pub NamesNoFile : Found → Type 0
-NamesNoFile found = (file_at found (codes "tree") ≡ None) × (file_at found (codes "ops") ≡ None)
+-- both the tree and the text of another option are to come from standard input
+abbrev pub NamesNoFile : Found → List ℕ → Type 0
+NamesNoFile found option = (file_at found (codes "tree") ≡ None) × (file_at found option ≡ None)
 
--- the file of the tree, and that of the operations; where there is none it is standard input
+-- the file of the tree, and that of the other text; where there is none it is standard input
 abbrev pub tree_file : Sources → Option (List ℕ)
-tree_file (Files tree ops) = Some tree.now
-tree_file (TreeGiven ops) = None
-tree_file (OpsGiven tree) = Some tree.now
+tree_file (Files tree other) = Some tree.now
+tree_file (TreeGiven other) = None
+tree_file (OtherGiven tree) = Some tree.now
 
-abbrev pub ops_file : Sources → Option (List ℕ)
-ops_file (Files tree ops) = Some ops.now
-ops_file (TreeGiven ops) = Some ops.now
-ops_file (OpsGiven tree) = None
+abbrev pub other_file : Sources → Option (List ℕ)
+other_file (Files tree other) = Some other.now
+other_file (TreeGiven other) = Some other.now
+other_file (OtherGiven tree) = None
 
 abbrev pub number_at : Found → List ℕ → Option ℕ
 number_at found name = option_and_then number_read (one_text found name)
@@ -86,6 +88,9 @@ advised_given found = option_and_then (users_beside (words_at found (codes "uid"
 abbrev pub ids_of : NamedUser → ℕ × List ℕ
 ids_of user = (user.uid, user.gids.items)
 
+abbrev pub ids_of_pair : NamedPair → (ℕ × List ℕ) × List ℕ
+ids_of_pair pair = (ids_of pair.user, pair.subtree.now)
+
 -- whether a flag is there, of which `clap` says `true` or `false`
 abbrev pub IsFlag : Option (List ℕ) → Bool → Type 0
 IsFlag said flag = (said ≡ Some (codes "true") → flag ≡ true) × (said ≡ Some (codes "false") → flag ≡ false)
@@ -116,13 +121,23 @@ pub record IsAdvise (found : Found) (advise : Advise) : Type 0 where
   pub tree : option_map (λ file. file.now) advise.tree ≡ file_at found (codes "tree")
   pub users : advised_given found ≡ Some (map ids_of advise.users.items)
   pub subtrees : words_at found (codes "subtree") ≡ map (λ subtree. subtree.now) advise.subtrees.items
-  -- and there is one of each
+  -- and there is one of each, and no text of pairs
   pub some_user : words_at found (codes "uid") ≢ []
   pub some_subtree : words_at found (codes "subtree") ≢ []
+  pub no_pairs : first_value found (codes "pairs") ≡ None
+
+-- of the pairs that a text names, and of nobody else
+pub record IsAdvisePairs (found : Found) (advise : AdvisePairs) : Type 0 where
+  pub tree : tree_file advise.sources ≡ file_at found (codes "tree")
+  pub pairs : other_file advise.sources ≡ file_at found (codes "pairs")
+  pub some_pairs : first_value found (codes "pairs") ≢ None
+  pub no_user : words_at found (codes "uid") ≡ []
+  pub no_group : words_at found (codes "gid") ≡ []
+  pub no_subtree : words_at found (codes "subtree") ≡ []
 
 pub record IsReplay (found : Found) (replay : Replay) : Type 0 where
   pub tree : tree_file replay.sources ≡ file_at found (codes "tree")
-  pub ops : ops_file replay.sources ≡ file_at found (codes "ops")
+  pub ops : other_file replay.sources ≡ file_at found (codes "ops")
   pub user : user_given found ≡ Some (ids_of replay.user)
   pub subtree : option_map (λ path. path.now) replay.subtree ≡ first_value found (codes "subtree")
 
@@ -135,6 +150,7 @@ command_of (request.May may) = Some (codes "may")
 command_of (request.Check check) = Some (codes "check")
 command_of (request.Audit audit) = Some (codes "audit")
 command_of (request.Advise advise) = Some (codes "advise")
+command_of (request.AdvisePairs advise) = Some (codes "advise")
 command_of (request.Replay replay) = Some (codes "replay")
 command_of (request.Upgrade upgrade) = Some (codes "upgrade")
 
@@ -144,6 +160,7 @@ Holds found (request.May may) = IsMay found may
 Holds found (request.Check check) = IsCheck found check
 Holds found (request.Audit audit) = IsAudit found audit
 Holds found (request.Advise advise) = IsAdvise found advise
+Holds found (request.AdvisePairs advise) = IsAdvisePairs found advise
 Holds found (request.Replay replay) = IsReplay found replay
 Holds found (request.Upgrade upgrade) = IsUpgrade found upgrade
 

@@ -1,4 +1,4 @@
--- The words that name users. Own.
+-- The words that name users, and users with subtrees. Own.
 use Rattle.std.specs.Prelude.{ℕ, ◌^◌, Bool, ◌==◌, ◌&&◌, nat_lt, cond, List, [], ◌∷◌, length, Option, Some, None, option_and_then}
 use Rattle.std.specs.Option.{option_map}
 use Rattle.std.specs.List.{position_or_len, before_first, after_first, slice_split}
@@ -10,6 +10,9 @@ is_comma b = b == 44
 
 abbrev pub is_colon : ℕ → Bool
 is_colon b = b == 58
+
+abbrev pub is_space : ℕ → Bool
+is_space b = b == 32
 
 -- what is before the first byte of a kind, and what is behind it
 abbrev pub cut_at : (ℕ → Bool) → List ℕ → Option (List ℕ × List ℕ)
@@ -42,3 +45,7 @@ user_alone word = option_map (λ uid. (uid, [])) (id_at word)
 -- A user is UID, or UID:GID,GID..
 abbrev pub user_at : List ℕ → Option (ℕ × List ℕ)
 user_at word = elim (cut_at is_colon word) [ None ↦ user_alone word | Some parts ↦ user_with parts ]
+
+-- A user, a space, and what names a subtree, which isn't looked into.
+abbrev pub pair_at : List ℕ → Option ((ℕ × List ℕ) × List ℕ)
+pair_at words = option_and_then (λ parts. option_map (λ user. (user, parts.1)) (user_at parts.0)) (cut_at is_space words)

@@ -2,7 +2,7 @@
 ghost use Rattle.std.specs.Prelude.{◌≡◌, [], ◌∷◌, IfOk, codes};
 ghost use Rattle.clap.specs.Words.{app_of};
 ghost use Rattle.arguments.specs.Building.{IsOption, IsCommand};
-ghost use Rattle.arguments.specs.CommandLine.{word_option, number_option, needed, program_command, command_with, of_user, may_command, subtree_command, audit_command, advise_command, replay_command, upgrade_command, command_line};
+ghost use Rattle.arguments.specs.CommandLine.{word_option, number_option, needed, program_command, command_with, of_user, may_command, subtree_command, audit_command, advise_named, advise_command, replay_command, upgrade_command, command_line};
 
 use clap::{Arg, ArgAction, Command, value_parser};
 use std::alloc::{AllocError, Global};
@@ -73,6 +73,8 @@ Status: 0 contained, 1 a guard fails, 3 a fault
 them in has a line `fails` with the guard, where it stands, its owner, its mode and by what they reach it: `owner`, `group` or
 `others`, a line for each. Below stand the changes that mend it for all of them, and at the end those of limits. With all of
 them made every subtree is contained against every user; ask again after changes that were asked apart.
+With --pairs each subtree is asked about the users alone who are named with it: a line `pair UID PATH` or `pair UID:GID,GID.. PATH`
+of each pair, among others that are passed over, and none of --uid, --gid and --subtree beside it.
 Don't follow it where a user is meant to have what is named, since it was handed to them: then the question was the wrong one.
 An owner that a service manager sets comes back with the unit: change the unit.
 A user is UID or UID:GID,GID.. in decimal digits, with up to 32 gids, of which the first is the primary one; of one user alone
@@ -202,6 +204,15 @@ fn audit_command<'a>(alloc: Global) -> Result<Command<'a>, AllocError>
 fn advise_command<'a>(alloc: Global) -> Result<Command<'a>, AllocError>
     ensures { IfOk result (IsCommand advise_command) }
 {
+    advise_named(alloc)?.arg(word_argument(alloc, "pairs", "FILE").help(
+        "Pairs in place of --uid and --subtree, one a line, as audit --all prints them; - is standard input, and then the tree's text is a file",
+    ))
+}
+
+/// The command `advise`, but for the text of pairs.
+fn advise_named<'a>(alloc: Global) -> Result<Command<'a>, AllocError>
+    ensures { IfOk result (IsCommand advise_named) }
+{
     Command::new(alloc, "advise")
         .about("Says what to change so that every subtree is contained against every user")
         .after_help(ADVISE_HELP)
@@ -209,7 +220,6 @@ fn advise_command<'a>(alloc: Global) -> Result<Command<'a>, AllocError>
         .arg(
             word_argument(alloc, "uid", "UID[:GID,GID..]")
                 .action(ArgAction::Append)
-                .required(true)
                 .help("A user and their groups, once or more"),
         )?
         .arg(
@@ -219,7 +229,6 @@ fn advise_command<'a>(alloc: Global) -> Result<Command<'a>, AllocError>
         )?
         .arg(
             subtree_argument(alloc)
-                .required(true)
                 .action(ArgAction::Append)
                 .help("The top of a subtree, once or more"),
         )

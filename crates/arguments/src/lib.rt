@@ -3,6 +3,7 @@
 
 mod command;
 pub mod fault;
+pub mod named_pair;
 pub mod named_user;
 pub mod request;
 pub mod usage;

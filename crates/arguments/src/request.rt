@@ -1,10 +1,11 @@
 //! What the command line asks for.
-ghost use Rattle.std.specs.Prelude.{◌≡◌, ◌≢◌, ◌⊎◌, [], Some, None, IfOk, IfErr, MatchResult, codes, map, ok_or, string_bytes};
+ghost use Rattle.std.specs.Prelude.{◌≡◌, ◌≢◌, ◌⊎◌, [], Some, None, IfOk, IfErr, MatchBool, MatchResult, codes, map, ok_or, string_bytes};
 ghost use Rattle.std.specs.Option.{option_map};
 ghost use Rattle.clap.specs.Matches.{found_of, first_value, values_left};
 ghost use Rattle.arguments.specs.UserWords.{all_read, user_at};
-ghost use Rattle.arguments.specs.Given.{number_read, words_at, file_named, file_at, NamesNoFile, number_at, numbers_at, user_given, users_given, plain_number, users_beside, advised_given, ids_of, IsMay, IsCheck, IsAudit, IsAdvise, tree_file, ops_file, IsReplay, IsUpgrade, command_of, Holds, IsOf};
+ghost use Rattle.arguments.specs.Given.{number_read, words_at, file_named, file_at, NamesNoFile, number_at, numbers_at, user_given, users_given, plain_number, users_beside, advised_given, ids_of, IsMay, IsCheck, IsAudit, IsAdvise, IsAdvisePairs, tree_file, other_file, IsReplay, IsUpgrade, command_of, Holds, IsOf};
 ghost use Rattle.arguments.specs.Words.{Makes, IsNone};
+ghost use Rattle.arguments.specs.declared.request.AdvisePairs.{AdvisePairs};
 ghost use Rattle.arguments.specs.declared.request.Request.{Request};
 
 use crate::command::command;
@@ -24,6 +25,7 @@ pub enum Request<'a> {
     Check(Check<'a>),
     Audit(Audit<'a>),
     Advise(Advise<'a>),
+    AdvisePairs(AdvisePairs<'a>),
     Replay(Replay<'a>),
     Upgrade(Upgrade<'a>),
 }
@@ -73,10 +75,23 @@ impl<'a> Request<'a> {
             "may" => Ok(Request::May(May::from_matches(alloc, given)?)),
             "check" => Ok(Request::Check(Check::from_matches(alloc, given)?)),
             "audit" => Ok(Request::Audit(Audit::from_matches(alloc, given)?)),
-            "advise" => Ok(Request::Advise(Advise::from_matches(alloc, given)?)),
+            "advise" => Request::of_advise(alloc, given),
             "replay" => Ok(Request::Replay(Replay::from_matches(alloc, given)?)),
             "upgrade" => Ok(Request::Upgrade(Upgrade::from_matches(given))),
             _ => Err(ArgumentsFault::Usage),
+        }
+    }
+
+    /// The request of `advise`, which is of the pairs of a text where one is named.
+    fn of_advise(alloc: Global, given: &ArgMatches<'a>) -> Result<Request<'a>, ArgumentsFault>
+        ensures name { IfOk result (λ asked. command_of asked ≡ Some (codes "advise")) }
+        ensures given { IfOk result (Holds (found_of given.now)) }
+        ensures fault { IfErr result (λ fault. fault ≢ ArgumentsFault.NoMemory
+            → (asked : Request) → command_of asked ≡ Some (codes "advise") → Holds (found_of given.now) asked → ⊥) }
+    {
+        match given.get_str("pairs") {
+            None => Ok(Request::Advise(Advise::from_matches(alloc, given)?)),
+            Some(_) => Ok(Request::AdvisePairs(AdvisePairs::from_matches(given)?)),
         }
     }
 }
@@ -166,8 +181,9 @@ pub struct Advise<'a> {
 }
 
 impl<'a> Advise<'a> {
-    /// What was given to the command.
+    /// What was given to the command, where no text of pairs is named.
     fn from_matches(alloc: Global, matches: &ArgMatches<'a>) -> Result<Advise<'a>, ArgumentsFault>
+        requires { first_value (found_of matches.now) (codes "pairs") ≡ None }
         ensures given { IfOk result (IsAdvise (found_of matches.now)) }
         ensures fault { IfErr result (λ fault. fault ≢ ArgumentsFault.NoMemory → (advised_given (found_of matches.now) ≡ None)
             ⊎ (words_at (found_of matches.now) (codes "uid") ≡ [])
@@ -178,6 +194,30 @@ impl<'a> Advise<'a> {
             tree: file_of(matches, "tree"),
             users: users_beside(alloc, words, numbers(alloc, matches, "gid")?)?,
             subtrees: given(matches, "subtree")?.to_vec(alloc)?,
+        })
+    }
+}
+
+/// Pairs of a user and a subtree that a text names: what to change so that every subtree is contained against the users named
+/// with it.
+#[derive(Clone, Copy, Debug, PartialEq, Eq)]
+pub struct AdvisePairs<'a> {
+    pub sources: Sources<'a>,
+}
+
+impl<'a> AdvisePairs<'a> {
+    /// What was given to the command, where a text of pairs is named: beside it no user and no subtree.
+    fn from_matches(matches: &ArgMatches<'a>) -> Result<AdvisePairs<'a>, ArgumentsFault>
+        requires { first_value (found_of matches.now) (codes "pairs") ≢ None }
+        ensures { MatchResult result
+            (IsAdvisePairs (found_of matches.now))
+            (λ fault. (asked : AdvisePairs) → IsAdvisePairs (found_of matches.now) asked → ⊥) }
+    {
+        if is_given(matches, "uid") || is_given(matches, "gid") || is_given(matches, "subtree") {
+            return Err(ArgumentsFault::Usage);
+        }
+        Ok(AdvisePairs {
+            sources: Sources::from_matches(matches, "pairs")?,
         })
     }
 }
@@ -199,28 +239,28 @@ impl<'a> Upgrade<'a> {
     }
 }
 
-/// Where a replay's tree and its operations are read from: standard input is one of the two at most.
+/// Where a tree and a text beside it, of operations or of pairs, are read from: standard input is one of the two at most.
 #[derive(Clone, Copy, Debug, PartialEq, Eq)]
 pub enum Sources<'a> {
-    /// A file of the tree, and one of the operations.
+    /// A file of the tree, and one of the other text.
     Files(&'a str, &'a str),
-    /// The tree from standard input, and a file of the operations.
+    /// The tree from standard input, and a file of the other text.
     TreeGiven(&'a str),
-    /// A file of the tree, and the operations from standard input.
-    OpsGiven(&'a str),
+    /// A file of the tree, and the other text from standard input.
+    OtherGiven(&'a str),
 }
 
 impl<'a> Sources<'a> {
-    /// The files that the options name.
-    fn from_matches(matches: &ArgMatches<'a>) -> Result<Sources<'a>, ArgumentsFault>
+    /// The files that `--tree` and another option name.
+    fn from_matches(matches: &ArgMatches<'a>, option: &str) -> Result<Sources<'a>, ArgumentsFault>
         ensures tree { IfOk result (λ sources. tree_file sources ≡ file_at (found_of matches.now) (codes "tree")) }
-        ensures ops { IfOk result (λ sources. ops_file sources ≡ file_at (found_of matches.now) (codes "ops")) }
-        ensures fault { IfErr result (λ fault. NamesNoFile (found_of matches.now)) }
+        ensures other { IfOk result (λ sources. other_file sources ≡ file_at (found_of matches.now) option.now) }
+        ensures fault { IfErr result (λ fault. NamesNoFile (found_of matches.now) option.now) }
     {
-        match (file_of(matches, "tree"), file_of(matches, "ops")) {
-            (Some(tree), Some(ops)) => Ok(Sources::Files(tree, ops)),
-            (None, Some(ops)) => Ok(Sources::TreeGiven(ops)),
-            (Some(tree), None) => Ok(Sources::OpsGiven(tree)),
+        match (file_of(matches, "tree"), file_of(matches, option)) {
+            (Some(tree), Some(other)) => Ok(Sources::Files(tree, other)),
+            (None, Some(other)) => Ok(Sources::TreeGiven(other)),
+            (Some(tree), None) => Ok(Sources::OtherGiven(tree)),
             (None, None) => Err(ArgumentsFault::Usage),
         }
     }
@@ -230,18 +270,18 @@ impl<'a> Sources<'a> {
         ensures { option_map (λ file. file.now) result ≡ tree_file self.entry }
     {
         match self {
-            Sources::Files(tree, _) | Sources::OpsGiven(tree) => Some(tree),
+            Sources::Files(tree, _) | Sources::OtherGiven(tree) => Some(tree),
             Sources::TreeGiven(_) => None,
         }
     }
 
-    /// The file of the operations, where it isn't standard input.
-    pub fn ops(self) -> Option<&'a str>
-        ensures { option_map (λ file. file.now) result ≡ ops_file self.entry }
+    /// The file of the other text, where it isn't standard input.
+    pub fn other(self) -> Option<&'a str>
+        ensures { option_map (λ file. file.now) result ≡ other_file self.entry }
     {
         match self {
-            Sources::Files(_, ops) | Sources::TreeGiven(ops) => Some(ops),
-            Sources::OpsGiven(_) => None,
+            Sources::Files(_, other) | Sources::TreeGiven(other) => Some(other),
+            Sources::OtherGiven(_) => None,
         }
     }
 }
@@ -259,10 +299,10 @@ impl<'a> Replay<'a> {
     fn from_matches(alloc: Global, matches: &ArgMatches<'a>) -> Result<Replay<'a>, ArgumentsFault>
         ensures given { IfOk result (IsReplay (found_of matches.now)) }
         ensures fault { IfErr result (λ fault. fault ≢ ArgumentsFault.NoMemory → (user_given (found_of matches.now) ≡ None)
-            ⊎ NamesNoFile (found_of matches.now)) }
+            ⊎ NamesNoFile (found_of matches.now) (codes "ops")) }
     {
         Ok(Replay {
-            sources: Sources::from_matches(matches)?,
+            sources: Sources::from_matches(matches, "ops")?,
             user: user_of(alloc, matches)?,
             subtree: matches.get_str("subtree"),
         })
@@ -360,6 +400,13 @@ fn given<'m, 'a>(matches: &'m ArgMatches<'a>, name: &str) -> Result<&'m [&'a str
         Some(words) if !words.is_empty() => Ok(words),
         _ => Err(ArgumentsFault::Usage),
     }
+}
+
+/// Whether an option was given anything.
+fn is_given(matches: &ArgMatches<'_>, name: &str) -> bool
+    ensures { MatchBool result (words_at (found_of matches.now) name.now ≢ []) (words_at (found_of matches.now) name.now ≡ []) }
+{
+    given(matches, name).is_ok()
 }
 
 fn number(matches: &ArgMatches<'_>, name: &str) -> Result<u32, ArgumentsFault>

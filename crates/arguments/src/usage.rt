@@ -3,13 +3,16 @@ use crate::command::command;
 use clap::{ArgMatches, Error};
 use std::alloc::{AllocError, Global};
 
-const USERS: &str =
-    "a user of audit and advise is UID or UID:GID,GID.. in decimal digits, with no spaces, and --gid
-stands beside one plain --uid of advise alone";
+const USERS: &str = "a user of audit is UID or UID:GID,GID.. in decimal digits, with no spaces";
 
 const ONE_INPUT: &str =
     "standard input is read once, and both the tree and the operations are to come from it:
 name a file for one of them; a file of the name - is ./-";
+
+const ADVISED: &str =
+    "advise takes users and subtrees, --uid and --subtree once or more each, or pairs of them alone, --pairs;
+of these and the tree one at most comes from standard input; a user is UID or UID:GID,GID.. in decimal digits,
+with no spaces, and --gid stands beside one plain --uid alone";
 
 /// What is wrong with the words of a command line that is no request, mostly in clap's words: which word it is, the nearest
 /// command or option, and the usage. Nothing where help is asked for.
@@ -24,6 +27,7 @@ pub fn usage_text<'a>(alloc: Global, words: &'a [String]) -> Result<Option<Strin
 fn beside_clap(matches: &ArgMatches<'_>) -> &'static str {
     match matches.subcommand_name() {
         Some("replay") => ONE_INPUT,
+        Some("advise") => ADVISED,
         _ => USERS,
     }
 }

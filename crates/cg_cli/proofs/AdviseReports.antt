@@ -1,6 +1,7 @@
 -- What the advice says of users and subtrees, by what was found.
 use Rattle.std.proofs.Common.{◌≡◌, ◌≢◌, ℕ, suc, ◌+◌, ◌<◌, true, false, Bool, cond, ◌&&◌, List, [], ◌∷◌, ◌++◌, map, length, take, drop, get_or, take-suc, add-one, append_assoc, Option, Some, None, Result, Ok, Err, refl, ap, sym, subst, ◌∙◌, arith}
-use Rattle.std.specs.Prelude.{is_none}
+use Rattle.std.specs.Prelude.{is_none, IfOk, IsOk}
+use Rattle.std.specs.Option.{option_map}
 use Rattle.std.specs.Result.{IsErrAnd}
 use Rattle.std.specs.List.{All, AllByRecursion, Contains, flat_map, list_all, prefix_len}
 use Rattle.std.proofs.lemmas.Bool.{and_parts}
@@ -28,13 +29,13 @@ use Rattle.cg_advice.specs.Ways.{pair_of}
 use Rattle.cg_advice.specs.declared.pair.Pair.{Pair as PairOfBoth}
 use Rattle.cg_advice.proofs.Gathering.{one_more, flat_more}
 use Rattle.cg_format.specs.Readings.{Reading}
-use Rattle.cg_cli.specs.Advising.{lines_report, pair_with, all_pairs, advised, advice_report, advise_report}
+use Rattle.cg_cli.specs.Advising.{lines_report, pair_with, all_pairs, advised, advice_report, named_report, advise_report}
 use Rattle.cg_cli.specs.Asking.{named_read, IsMet, IsKeptOnce}
 use Rattle.cg_cli.specs.Audits.{users_read, paths_read}
 use Rattle.cg_cli.specs.Containment.{in_call}
 use Rattle.cg_cli.specs.May.{tree_read}
 use Rattle.cg_cli.specs.Once.{same_user}
-use Rattle.cg_cli.specs.Reports.{Said, Reports, fault_report, report_on, takes_memory}
+use Rattle.cg_cli.specs.Reports.{Report, Reports, fault_report, report_on, takes_memory}
 use Rattle.cg_cli.specs.declared.fault.CliFault.{CliFault}
 use Rattle.cg_cli.proofs.NamedReads.{regrouped}
 use Rattle.cg_cli.proofs.ReportLaws.{handed_on, call_takes, report_takes, met_reports}
@@ -76,6 +77,41 @@ subtrees_more user subtrees i subtree begun old new within is so_far more =
     more ∙ ap (λ l. l ++ (pair_with user subtree ∷ [])) so_far
     ∙ append_assoc begun (map (pair_with user) (take i subtrees)) (pair_with user subtree ∷ [])
     ∙ ap (λ l. begun ++ l) (sym (one_more (pair_with user) subtrees i subtree within is))
+
+-- the subtrees of pairs are those that their definition names
+pub each_there : (st : State) (pairs : List PairOfBoth) (named : List Pair) → map pair_of pairs ≡ named
+    → AllByRecursion (λ (pair : Pair). IsSubtree st pair.subtree) named → All (λ pair. IsSubtree st pair.subtree.now) pairs
+each_there st pairs named are subs =
+    All-from_recursion (λ pair. IsSubtree st pair.subtree.now) pairs
+    (unmapped pairs (subst (AllByRecursion (λ (pair : Pair). IsSubtree st pair.subtree)) (sym are) subs))
+  where
+    unmapped : (ps : List PairOfBoth) → AllByRecursion (λ (pair : Pair). IsSubtree st pair.subtree) (map pair_of ps)
+        → AllByRecursion (λ (p : PairOfBoth). IsSubtree st p.subtree.now) ps
+    unmapped [] all = tt
+    unmapped (p ∷ ps) all = (all.0, unmapped ps all.1)
+
+-- where nothing is to be changed no guard of a pair fails
+pub each_passes : {A : Type 0} (test : A → Bool) (xs : List A) → list_all test xs ≡ true → AllByRecursion (λ x. test x ≡ true) xs
+each_passes test [] all = tt
+each_passes test (x ∷ xs) all =
+    let parts = and_parts (test x) (list_all test xs) all in (parts.0, each_passes test xs parts.1)
+
+pub no_failures : (failed : List Failed) → is_none (first failed) ≡ true → failed ≡ []
+no_failures [] h = refl
+no_failures (x ∷ xs) h = cc
+
+-- what is said of what was found
+pub nothing_found : {X E : Type 0} (items : X → List ℕ) (found : Result (Option X) E) (lines : Option (List ℕ)) → IsOk found
+    → IfOk found (λ lines. lines ≡ None) → IfOk found (λ lines_found. option_map items lines_found ≡ lines) → None ≡ lines
+nothing_found items (Ok found) lines ok none is = ap (option_map items) (sym none) ∙ is
+nothing_found items (Err fault) lines ok none is = let never : ⊥ = cc in absurd never
+
+pub all_guarded : (st : State) (pairs : List Pair) → None ≡ advice_lines st pairs → list_all (is_pair_guarded st) pairs ≡ true
+all_guarded st pairs nothing = by_test (list_all (is_pair_guarded st) pairs) nothing
+  where
+    by_test : (b : Bool) → None ≡ cond b None (Some (pairs_lines st pairs)) → b ≡ true
+    by_test true is = refl
+    by_test false is = let never : ⊥ = cc in absurd never
 
 module _ (st : State) (subtrees : List Names) where
   pub guarded_pairs : (users : List Identity)
@@ -125,14 +161,7 @@ module _ (st : State) (subtrees : List Names) where
     pub pairs_there : (users : List Identity) (pairs : List PairOfBoth) → map pair_of pairs ≡ all_pairs users subtrees
         → All (λ pair. IsSubtree st pair.subtree.now) pairs
     pairs_there users pairs are =
-        All-from_recursion (λ pair. IsSubtree st pair.subtree.now) pairs
-        (unmapped pairs (subst (AllByRecursion (λ (pair : Pair). IsSubtree st pair.subtree)) (sym are)
-        (subs_of users (recursion_from_All (IsSubtree st) subtrees sub_at))))
-      where
-        unmapped : (ps : List PairOfBoth) → AllByRecursion (λ (pair : Pair). IsSubtree st pair.subtree) (map pair_of ps)
-            → AllByRecursion (λ (p : PairOfBoth). IsSubtree st p.subtree.now) ps
-        unmapped [] all = tt
-        unmapped (p ∷ ps) all = (all.0, unmapped ps all.1)
+        each_there st pairs (all_pairs users subtrees) are (subs_of users (recursion_from_All (IsSubtree st) subtrees sub_at))
 
     -- where there is nothing to change all are contained
     pub contained-unadvised : (users : List Identity) → (subtrees ≢ [] → IsWellFormed st)
@@ -140,23 +169,10 @@ module _ (st : State) (subtrees : List Names) where
     contained-unadvised users formed nothing some =
         guarded-are-contained st users subtrees formed sub_at hold some
       where
-        all_guarded : (b : Bool) → None ≡ cond b None (Some (pairs_lines st (all_pairs users subtrees))) → b ≡ true
-        all_guarded true nothing = refl
-        all_guarded false nothing = let never : ⊥ = cc in absurd never
-
-        each_passes : {A : Type 0} (test : A → Bool) (xs : List A) → list_all test xs ≡ true → AllByRecursion (λ x. test x ≡ true) xs
-        each_passes test [] all = tt
-        each_passes test (x ∷ xs) all =
-            let parts = and_parts (test x) (list_all test xs) all in (parts.0, each_passes test xs parts.1)
-
-        no_failures : (failed : List Failed) → is_none (first failed) ≡ true → failed ≡ []
-        no_failures [] h = refl
-        no_failures (x ∷ xs) h = cc
-
         of_all : AllByRecursion (λ user. is_guarded_of_all st subtrees user ≡ true) users
         of_all =
             each_passes (is_guarded_of_all st subtrees) users (sym (guarded_pairs users)
-            ∙ all_guarded (list_all (is_pair_guarded st) (all_pairs users subtrees)) nothing)
+            ∙ all_guarded st (all_pairs users subtrees) nothing)
 
         hold : (user : Identity) → Contains users user → All (GuardsHold st user) subtrees
         hold user among =
@@ -173,34 +189,45 @@ of_lines : (found : Option (List ℕ)) → takes_memory (lines_report found).end
 of_lines None = refl
 of_lines (Some lines) = refl
 
-pub advice_takes : (st : State) (users : List Identity) (subtrees : List Names)
-    → takes_memory (advice_report st users subtrees).ending ≡ true
-advice_takes st users subtrees =
-    report_takes (in_call (advised st users subtrees)) lines_report of_lines (call_takes (advised st users subtrees))
+pub advice_takes : (st : State) (subtrees : List Names) (pairs : List Pair)
+    → takes_memory (advice_report st subtrees pairs).ending ≡ true
+advice_takes st subtrees pairs =
+    report_takes (in_call (advised st subtrees pairs)) lines_report of_lines (call_takes (advised st subtrees pairs))
 
-module _ (tree : Reading) (given : List (ℕ × List ℕ)) (texts : List (List ℕ)) where
+module _ (report : State → List Identity → List Names → Report)
+    (takes : (st : State) (users : List Identity) (subtrees : List Names) → takes_memory (report st users subtrees).ending ≡ true)
+    (tree : Reading) (given : List (ℕ × List ℕ)) (texts : List (List ℕ)) where
   abbrev read : Result (List Identity × List Names × State) CliFault
   read = named_read given texts tree
 
-  abbrev of_all_read : List Identity × List Names × State → Said ℕ
-  of_all_read all = advice_report all.2 (once same_user all.0) (once same_path all.1)
-
-  by_all : advise_report tree given texts ≡ report_on read of_all_read
+  by_all : named_report report tree given texts ≡ report_on read (λ all. report all.2 all.0 all.1)
   by_all =
       regrouped (λ X found next. report_on found next) fault_report (λ X x next. refl) (λ X fault next. refl)
-      (λ users subtrees st. advice_report st (once same_user users) (once same_path subtrees)) (users_read given) (paths_read texts)
-      (tree_read tree)
+      (λ users subtrees st. report st users subtrees) (users_read given) (paths_read texts) (tree_read tree)
 
   -- a fault before the tree is asked
   pub fault_said : (fault : CliFault) → IsMet read fault → (known : Option (List ℕ)) (result : Result ℕ CliFault)
-      → IsErrAnd result (λ found. found ≡ fault) → Reports (advise_report tree given texts) known known result
+      → IsErrAnd result (λ found. found ≡ fault) → Reports (named_report report tree given texts) known known result
   fault_said fault met known result is =
-      handed_on (Reports (advise_report tree given texts) known known) fault result is
-      (subst (λ report. Reports report known known (Err fault)) (sym by_all)
-      (met_reports read of_all_read (λ all. advice_takes all.2 (once same_user all.0) (once same_path all.1)) fault met known))
+      handed_on (Reports (named_report report tree given texts) known known) fault result is
+      (subst (λ said. Reports said known known (Err fault)) (sym by_all)
+      (met_reports read (λ all. report all.2 all.0 all.1) (λ all. takes all.2 all.0 all.1) fault met known))
 
-  module _ (users : List Identity) (subtrees : List Names) (st : State) (kept : IsKeptOnce read users subtrees st) where
-    pub said_of_kept : advise_report tree given texts ≡ advice_report st users subtrees
-    said_of_kept =
-        by_all ∙ ap (λ found. report_on found of_all_read) kept.is
-        ∙ (λ i. advice_report st (sym kept.of_users i) (sym kept.of_subtrees i))
+  pub said_of_read : (users : List Identity) (subtrees : List Names) (st : State) → read ≡ Ok (users, subtrees, st)
+      → named_report report tree given texts ≡ report st users subtrees
+  said_of_read users subtrees st is = by_all ∙ ap (λ found. report_on found (λ all. report all.2 all.0 all.1)) is
+
+-- of users and subtrees each of whom counts once
+abbrev pub once_report : State → List Identity → List Names → Report
+once_report st users subtrees =
+    advice_report st (once same_path subtrees) (all_pairs (once same_user users) (once same_path subtrees))
+
+pub once_takes : (st : State) (users : List Identity) (subtrees : List Names) → takes_memory (once_report st users subtrees).ending ≡ true
+once_takes st users subtrees = advice_takes st (once same_path subtrees) (all_pairs (once same_user users) (once same_path subtrees))
+
+pub said_of_kept : (tree : Reading) (given : List (ℕ × List ℕ)) (texts : List (List ℕ)) (users : List Identity) (subtrees : List Names)
+    (st : State) → IsKeptOnce (named_read given texts tree) users subtrees st
+    → advise_report tree given texts ≡ advice_report st subtrees (all_pairs users subtrees)
+said_of_kept tree given texts users subtrees st kept =
+    said_of_read once_report once_takes tree given texts kept.all_users kept.all_subtrees st kept.is
+    ∙ (λ i. advice_report st (sym kept.of_subtrees i) (all_pairs (sym kept.of_users i) (sym kept.of_subtrees i)))

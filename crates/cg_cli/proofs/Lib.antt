@@ -6,6 +6,7 @@ mod ReplayReads
 pub mod CheckReports
 pub mod AdviseReports
 pub mod AdvisedTrees
+pub mod NamedPairs
 mod EachRead
 pub mod AuditStatus
 pub mod AuditOnce

@@ -1,6 +1,6 @@
 -- The report of the advice for users and subtrees. Own.
-use Rattle.std.specs.Prelude.{ℕ, List, map, Option, Some, None, Result, Ok, codes}
-use Rattle.std.specs.List.{Contains, flat_map}
+use Rattle.std.specs.Prelude.{ℕ, List, [], ◌∷◌, map, Option, Some, None, Result, Ok, codes}
+use Rattle.std.specs.List.{All, Contains, filter, flat_map}
 use Rattle.cg_cgroup.specs.Paths.{Names, same_path}
 use Rattle.cg_cgroup.specs.Identity.{Identity}
 use Rattle.cg_cgroup.specs.Users.{IsUser}
@@ -9,6 +9,7 @@ use Rattle.cg_model.specs.Guards.{IsSubtree}
 use Rattle.cg_model.specs.Advised.{AreCountable}
 use Rattle.cg_model.specs.Clauses.{first}
 use Rattle.cg_model.specs.Once.{once}
+use Rattle.cg_model.specs.Several.{AreContained}
 use Rattle.cg_model.specs.Mends.{Pair}
 use Rattle.cg_model.specs.declared.fault.CheckFault.{CheckFault}
 use Rattle.cg_advice.specs.AdviceLines.{advice_lines}
@@ -35,20 +36,46 @@ pair_with user subtree = record { user = user; subtree = subtree }
 abbrev pub all_pairs : List Identity → List Names → List Pair
 all_pairs users subtrees = flat_map (λ user. map (pair_with user) subtrees) users
 
--- the first fault of the subtrees, in the order of their list, or the advice
-abbrev pub advised : State → List Identity → List Names → Result (Option (List ℕ)) CheckFault
-advised st users subtrees = unless_fault (first (flat_map (subtree_faults st) subtrees)) (advice_lines st (all_pairs users subtrees))
+-- the users and the subtrees of two lists that stand at the same place
+abbrev pub paired : List Identity → List Names → List Pair
+paired [] subtrees = []
+paired (user ∷ users) [] = []
+paired (user ∷ users) (subtree ∷ subtrees) = pair_with user subtree ∷ paired users subtrees
 
-abbrev pub advice_report : State → List Identity → List Names → Report
-advice_report st users subtrees = report_on (in_call (advised st users subtrees)) lines_report
+-- the first fault of the subtrees, in the order of their list, or the advice for pairs
+abbrev pub advised : State → List Names → List Pair → Result (Option (List ℕ)) CheckFault
+advised st subtrees pairs = unless_fault (first (flat_map (subtree_faults st) subtrees)) (advice_lines st pairs)
 
--- All users are looked at first, each with his uid before his gids; then all paths, the tree's text, and whether the
--- subtrees are ones that can be checked. Who and what is named again counts once.
-abbrev pub advise_report : Reading → List (ℕ × List ℕ) → List (List ℕ) → Report
-advise_report tree given texts =
+abbrev pub advice_report : State → List Names → List Pair → Report
+advice_report st subtrees pairs = report_on (in_call (advised st subtrees pairs)) lines_report
+
+-- What is said of users and subtrees once they, a tree's text and the subtrees are read: all users are looked at first, each with
+-- their uid before their gids; then all paths, the tree's text, and whether the subtrees are ones that can be checked.
+abbrev pub named_report : (State → List Identity → List Names → Report) → Reading → List (ℕ × List ℕ) → List (List ℕ) → Report
+named_report report tree given texts =
     report_on (users_read given) (λ users.
     report_on (paths_read texts) (λ subtrees.
-    report_on (tree_read tree) (λ st. advice_report st (once same_user users) (once same_path subtrees))))
+    report_on (tree_read tree) (λ st. report st users subtrees)))
+
+-- Every user with every subtree. Who and what is named again counts once.
+abbrev pub advise_report : Reading → List (ℕ × List ℕ) → List (List ℕ) → Report
+advise_report tree given texts =
+    named_report (λ st users subtrees.
+    advice_report st (once same_path subtrees) (all_pairs (once same_user users) (once same_path subtrees))) tree given texts
+
+-- Pairs of a user and a subtree, each as it is named. A pair that is named again changes nothing.
+abbrev pub advise_pairs_report : Reading → List ((ℕ × List ℕ) × List ℕ) → Report
+advise_pairs_report tree given =
+    named_report (λ st users subtrees. advice_report st subtrees (paired users subtrees)) tree
+    (map (λ pair. pair.0) given) (map (λ pair. pair.1) given)
+
+-- the users named with a subtree
+abbrev pub named_with : List Pair → Names → List Identity
+named_with pairs subtree = map (λ pair. pair.user) (filter (λ pair. same_path pair.subtree subtree) pairs)
+
+-- Each subtree that pairs name is contained against all users named with it, together.
+abbrev pub AreContainedAsNamed : State → List Pair → Type 0
+AreContainedAsNamed st pairs = All (λ pair. AreContained st (named_with pairs pair.subtree) (pair.subtree ∷ [])) pairs
 
 -- A user who isn't root, and a subtree whose counts are numbers that its limits may have.
 pub record IsAdvisable (st : State) (pair : Pair) : Type 0 where

@@ -13,3 +13,4 @@ pub mod Once
 pub mod AllPairs
 pub mod Asking
 pub mod Advising
+pub mod Pairs

@@ -1,5 +1,5 @@
 //! What to change so that every subtree is contained against every user.
-ghost use Rattle.std.specs.Prelude.{◌≡◌, ◌≢◌, ◌++◌, List, [], map, Ok, Err, None, IfOk, OnOk, MatchResult};
+ghost use Rattle.std.specs.Prelude.{◌≡◌, ◌≢◌, ◌++◌, List, [], map, Ok, Err, None, IfOk, OnOk, IsOk, MatchResult};
 ghost use Rattle.std.specs.List.{flat_map};
 ghost use Rattle.std.specs.Option.{option_map};
 ghost use Rattle.cg_cgroup.specs.Identity.{Identity};
@@ -12,7 +12,7 @@ ghost use Rattle.cg_format.specs.Readings.{OnText};
 ghost use Rattle.cg_format.specs.TextOf.{IsTextOf};
 ghost use Rattle.cg_advice.specs.AdviceLines.{advice_lines};
 ghost use Rattle.cg_advice.specs.Ways.{pair_of};
-ghost use Rattle.cg_cli.specs.Advising.{contained_line, pair_with, all_pairs, advised, advice_report, advise_report};
+ghost use Rattle.cg_cli.specs.Advising.{contained_line, lines_report, pair_with, all_pairs, advised, advice_report, advise_report};
 ghost use Rattle.cg_cli.specs.Audits.{users_read, paths_read};
 ghost use Rattle.cg_cli.specs.Reports.{Reports};
 
@@ -72,21 +72,33 @@ fn advised<H: Hierarchy + Drop>(
     subtrees: &[Path],
 ) -> Result<(Vec<u8>, u8), CheckFault>
     ensures said { MatchResult result
-        (λ said. advice_report (H.state tree.now) users.now subtrees.now ≡ record { text = said.0.items; ending = Ok said.1 })
-        (λ fault. fault ≢ CheckFault.NoMemory → advised (H.state tree.now) users.now subtrees.now ≡ Err fault) }
+        (λ said. advice_report (H.state tree.now) subtrees.now (all_pairs users.now subtrees.now) ≡ record { text = said.0.items; ending = Ok said.1 })
+        (λ fault. fault ≢ CheckFault.NoMemory → advised (H.state tree.now) subtrees.now (all_pairs users.now subtrees.now) ≡ Err fault) }
     ensures contained { IfOk result (λ said. said.1 ≡ 0 → users.now ≢ []
         → AreContained (H.state tree.now) users.now subtrees.now) }
 {
     if let Some(fault) = first_fault(tree, subtrees) {
         return Err(fault);
     }
-    match advice(alloc, tree, users, subtrees) {
+    match said_of(alloc, advice(alloc, tree, users, subtrees)) {
         Err(NoMemory) => Err(CheckFault::NoMemory),
-        Ok(Some(lines)) => Ok((lines, 1)),
-        Ok(None) => match contained_line(alloc) {
-            Err(NoMemory) => Err(CheckFault::NoMemory),
-            Ok(line) => Ok((line, 0)),
-        },
+        Ok(said) => Ok(said),
+    }
+}
+
+/// What is said where the advice was found, and the status.
+pub(crate) fn said_of(
+    alloc: Global,
+    found: Result<Option<Vec<u8>>, NoMemory>,
+) -> Result<(Vec<u8>, u8), NoMemory>
+    ensures said { IfOk result (λ said. IfOk found (λ found. lines_report (option_map (λ text. text.items) found)
+        ≡ record { text = said.0.items; ending = Ok said.1 })) }
+    ensures found { IsOk result → IsOk found }
+    ensures contained { IfOk result (λ said. said.1 ≡ 0 → IfOk found (λ found. found ≡ None)) }
+{
+    match found? {
+        Some(lines) => Ok((lines, 1)),
+        None => Ok((contained_line(alloc)?, 0)),
     }
 }
 

@@ -7,7 +7,7 @@ ghost use Rattle.cg_model.specs.States.{State};
 ghost use Rattle.cg_model.specs.WellFormed.{IsWellFormed};
 ghost use Rattle.cg_model.specs.Several.{AreContained};
 ghost use Rattle.cg_model.specs.Mends.{Pair, advised};
-ghost use Rattle.cg_cli.specs.Advising.{IsAdvisable, AreNamed};
+ghost use Rattle.cg_cli.specs.Advising.{AreContainedAsNamed, IsAdvisable, AreNamed};
 ghost use Rattle.cg_format.specs.declared.fault.TreeFault.TheVariants.{NoMemory as MemoryFault, TooLong};
 ghost use Rattle.cg_print.specs.Carried.{IsCarried, IsTooLong};
 
@@ -20,9 +20,12 @@ use cg_tree::hierarchy::Hierarchy;
 use std::alloc::Global;
 
 /// With the changes of the advice for pairs made subtrees are contained against users, all of them together, where each of
-/// the users is named with each of the subtrees, and none of those named has more cgroups and levels than a limit can say.
+/// the users is named with each of the subtrees, and none of those named has more cgroups and levels than a limit can say. So each
+/// subtree is contained against all users named with it.
 pub fn advised_are_contained()
-    ensures { (st : State) (pairs : List Pair) (users : List Identity) (subtrees : List Names)
+    ensures as_named { (st : State) (pairs : List Pair)
+        → IsWellFormed st → All (IsAdvisable st) pairs → AreContainedAsNamed (advised st pairs) pairs }
+    ensures all { (st : State) (pairs : List Pair) (users : List Identity) (subtrees : List Names)
         → IsWellFormed st → All (IsAdvisable st) pairs → AreNamed pairs users subtrees → users ≢ []
         → AreContained (advised st pairs) users subtrees }
 {}

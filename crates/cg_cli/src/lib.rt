@@ -2,6 +2,7 @@
 #![tactic(auto)]
 
 pub mod advise;
+pub mod advise_pairs;
 pub mod arguments;
 pub mod audit;
 pub mod audit_all;

@@ -23,6 +23,7 @@ mod line;
 mod reader;
 mod run;
 
+pub use line::line_end;
 pub use reader::replay_from;
 
 /// Replays operations and writes a line for each: its outcome. Where a subtree is named, a last line says whether it was

@@ -9,16 +9,18 @@ pub(crate) fn tree_of<'a>(request: &Request<'a>) -> Option<&'a str> {
         Request::Check(request) => request.tree,
         Request::Audit(request) => request.tree,
         Request::Advise(request) => request.tree,
+        Request::AdvisePairs(request) => request.sources.tree(),
         Request::Replay(request) => request.sources.tree(),
         Request::Upgrade(request) => request.tree,
         _ => None,
     }
 }
 
-/// The file of the operations, where one is named.
-pub(crate) fn operations_of<'a>(request: &Request<'a>) -> Option<&'a str> {
+/// The file of the operations or the pairs, where one is named.
+pub(crate) fn other_of<'a>(request: &Request<'a>) -> Option<&'a str> {
     match request {
-        Request::Replay(request) => request.sources.ops(),
+        Request::AdvisePairs(request) => request.sources.other(),
+        Request::Replay(request) => request.sources.other(),
         _ => None,
     }
 }

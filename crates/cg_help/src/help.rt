@@ -4,7 +4,7 @@ ghost use Rattle.std.specs.Option.{option_map_or};
 ghost use Rattle.cg_help.specs.Help.{IsHelp, has_help};
 
 use crate::files::{read_again, why_unread};
-use crate::given::{operations_of, paths_of, tree_of};
+use crate::given::{other_of, paths_of, tree_of};
 use crate::paths::{why_missing, why_no_path};
 use crate::shown::{indented, quoted};
 use crate::trees::{first_missing, tree_said};
@@ -23,7 +23,7 @@ pub struct Seen<'w, 'i, 'l> {
     pub words: Option<&'w [String]>,
     /// What standard input gave, where all of it was kept.
     pub input: Option<&'i [u8]>,
-    /// The operation line at which a replay ended, as far as it was read.
+    /// The line of operations or pairs at which the command ended, as far as it was read.
     pub line: Option<&'l [u8]>,
 }
 
@@ -121,7 +121,7 @@ fn fault_said<F: Files>(
             None => Ok(None),
         },
         CliFault::Read => unread(alloc, files, request),
-        CliFault::Line { .. } => line_said(alloc, seen),
+        CliFault::Line { .. } => line_said(alloc, request, seen),
         CliFault::TooManySteps => plainly(alloc, "a replay takes at most 65536 operations"),
         _ => Ok(None),
     }
@@ -172,7 +172,7 @@ fn tree_bytes<F: Files>(
     }
 }
 
-/// Which file can't be read: the tree's is opened before that of the operations.
+/// Which file can't be read: the tree's is opened before that of the operations or pairs.
 fn unread<F: Files>(
     alloc: Global,
     files: &F,
@@ -183,33 +183,44 @@ fn unread<F: Files>(
             return Ok(Some(why));
         }
     }
-    match operations_of(request) {
+    match other_of(request) {
         Some(name) => why_unread(alloc, files, name),
         None => Ok(None),
     }
 }
 
-/// The operation line at which the replay ended.
-fn line_said(alloc: Global, seen: Seen<'_, '_, '_>) -> Result<Option<String>, NoMemory> {
+/// The line of operations or pairs at which it ended.
+fn line_said(
+    alloc: Global,
+    request: &Request<'_>,
+    seen: Seen<'_, '_, '_>,
+) -> Result<Option<String>, NoMemory> {
     let Some(line) = seen.line else {
         return Ok(None);
     };
     match std::str::from_utf8(line) {
-        Ok(line) => line_and_form(alloc, line),
+        Ok(line) => line_and_form(alloc, line, form_of(request, line)),
         Err(_) => plainly(alloc, "the line isn't UTF-8"),
     }
 }
 
-fn line_and_form(alloc: Global, line: &str) -> Result<Option<String>, NoMemory> {
+fn line_and_form(alloc: Global, line: &str, form: &str) -> Result<Option<String>, NoMemory> {
     let shown = quoted(alloc, line)?;
-    let form = form_of(line);
     Ok(Some(format!(in alloc;
         "the line is '{shown}'\n{form}, with one space between words and a newline behind"
     )?))
 }
 
+/// What a line looks like that begins as this one.
+fn form_of(request: &Request<'_>, line: &str) -> &'static str {
+    match request {
+        Request::AdvisePairs(_) => "pair UID PATH, or pair UID:GID,GID.. PATH",
+        _ => operation_form(line),
+    }
+}
+
 /// What an operation's line looks like that begins as this one.
-fn form_of(line: &str) -> &'static str {
+fn operation_form(line: &str) -> &'static str {
     match first_word(line) {
         "move" => "move PID PATH",
         "control" => "control PATH +CONTROLLER -CONTROLLER ..",

@@ -17,7 +17,7 @@ use Rattle.cg_cli.specs.Replaying.{Reporting, Replays, ReplaysFrom}
 use Rattle.cg_cli.specs.Reports.{Report, Reports}
 use Rattle.cg_cli.specs.declared.fault.CliFault.{CliFault}
 use Rattle.cg_cli.specs.declared.fault.CliFault.TheVariants.{Read, Write, NoMemory}
-use Rattle.commands.specs.Requests.{Files, IsUnread, AuditSays, OnTree, replay_said, ReplaysOver, CarriesOut}
+use Rattle.commands.specs.Requests.{Files, IsUnread, AuditSays, OnTree, pairs_said, OnPairs, replay_said, ReplaysOver, CarriesOut}
 
 pub Appends-Keeps : (old mid new : Option (List ℕ)) (bs : List ℕ) → Appends old mid bs → Keeps mid new → Appends old new bs
 Appends-Keeps None mid new bs a k = tt
@@ -50,6 +50,21 @@ OnTree-Keeps : (known : Option (List ℕ)) (before after : Reading → Type 0) (
     → OnTree known after old new result
 OnTree-Keeps known before after old mid new result passed (inl h) k = inl (h.0, h.1, (h.2.0, h.2.1, passed h.2.0 h.2.2))
 OnTree-Keeps known before after old mid new result passed (inr h) k = inr (IsUnread-Keeps old mid new result h k)
+
+OnPairs-Keeps : (known pairs old mid new : Option (List ℕ)) (result : Result ℕ CliFault) → OnPairs known pairs old mid result
+    → Keeps mid new → OnPairs known pairs old new result
+OnPairs-Keeps known pairs old mid new result (inl h) k =
+    inl (
+      h.0,
+      h.1,
+      h.2,
+      h.3,
+      elim h.4 [
+        | inl said ↦ inl (said.0, said.1, Reports-Keeps (pairs_said h.1 said.0) old mid new result said.2 k)
+        | inr none ↦ inr (IsUnread-Keeps old mid new result none k)
+      ],
+    )
+OnPairs-Keeps known pairs old mid new result (inr h) k = inr (IsUnread-Keeps old mid new result h k)
 
 ReportsPairs-Keeps : (pairs : Result (List Listed) CliFault) (old mid new : Option (List ℕ)) (result : Result ℕ CliFault)
     → ReportsPairs pairs old mid result → Keeps mid new → ReportsPairs pairs old new result
@@ -107,6 +122,7 @@ CarriesOut-Keeps (request.Audit audit) files given old mid new result h k =
     OnTree-Keeps _ _ _ old mid new result (λ tree said. AuditSays-Keeps audit old mid new result tree said k) h k
 CarriesOut-Keeps (request.Advise advise) files given old mid new result h k =
     OnTree-Keeps _ _ _ old mid new result (λ tree said. Reports-Keeps _ old mid new result said k) h k
+CarriesOut-Keeps (request.AdvisePairs advise) files given old mid new result h k = OnPairs-Keeps _ _ old mid new result h k
 CarriesOut-Keeps (request.Replay replay) files given old mid new result h k =
     OnTree-Keeps _ _ _ old mid new result (λ tree said. ReplaysOver-Keeps _ (replay_said replay tree) old mid new result said k) h k
 CarriesOut-Keeps (request.Upgrade upgrade) files given old mid new result h k =

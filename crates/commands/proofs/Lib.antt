@@ -1,5 +1,6 @@
 pub mod BufferedLaws
 mod FaultLaws
+mod PairLaws
 mod ProgramLaws
 mod RequestLaws
 mod RunLaws

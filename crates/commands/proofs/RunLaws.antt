@@ -2,7 +2,7 @@
 use Rattle.std.proofs.Common.{◌≡◌, ◌∙◌, ℕ, List, [], ◌++◌, ap, sym, refl, subst, inl, inr, append-nil}
 use Rattle.std.specs.Prelude.{◌≢◌, Option, Some, None, Result, Ok, Err, IfOk, IsOk, IsErr, OnOk}
 use Rattle.std.specs.Io.Buffered.{writer_buffer, writer_inner, writer_contents}
-use Rattle.std.specs.Io.KnownBytes.{Keeps, append_known}
+use Rattle.std.specs.Io.KnownBytes.{append_known}
 use Rattle.std.specs.declared.io.buffered.BufWriter.{BufWriter}
 use Rattle.arguments.specs.Words.{Makes, IsNone}
 use Rattle.arguments.specs.declared.fault.ArgumentsFault.{ArgumentsFault}

@@ -1,3 +1,4 @@
 pub mod Faults
+pub mod PairLines
 pub mod Requests
 pub mod Runs

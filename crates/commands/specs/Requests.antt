@@ -3,7 +3,7 @@ use Rattle.std.specs.Prelude.{◌≡◌, ◌⊎◌, ℕ, List, map, take, Option
 use Rattle.std.specs.Option.{option_map}
 use Rattle.std.specs.Borrow.{Bor}
 use Rattle.std.specs.Io.KnownBytes.{Keeps}
-use Rattle.arguments.specs.Given.{ids_of, tree_file, ops_file}
+use Rattle.arguments.specs.Given.{ids_of, tree_file, other_file}
 use Rattle.arguments.specs.declared.request.May.{May}
 use Rattle.arguments.specs.declared.request.Check.{Check}
 use Rattle.arguments.specs.declared.request.Audit.{Audit}
@@ -16,13 +16,14 @@ use Rattle.cg_cli.specs.May.{may_report}
 use Rattle.cg_cli.specs.Containment.{check_report}
 use Rattle.cg_cli.specs.Audits.{audit_report}
 use Rattle.cg_cli.specs.AllPairs.{all_report, ReportsPairs}
-use Rattle.cg_cli.specs.Advising.{advise_report}
+use Rattle.cg_cli.specs.Advising.{advise_report, advise_pairs_report}
 use Rattle.cg_cli.specs.Upgrades.{Upgrades}
 use Rattle.cg_cli.specs.Replays.{closed, lines_report}
 use Rattle.cg_cli.specs.Replaying.{Reporting, ReplaysFrom}
-use Rattle.cg_cli.specs.Reports.{Report, Reports}
+use Rattle.cg_cli.specs.Reports.{Report, Reports, report_on}
 use Rattle.cg_cli.specs.declared.fault.CliFault.{CliFault}
 use Rattle.cg_cli.specs.declared.fault.CliFault.TheVariants.{Read, NoMemory}
+use Rattle.commands.specs.PairLines.{pairs_read}
 
 -- ---- what there is to read
 
@@ -46,6 +47,10 @@ name_of file = option_map (λ name. name.now) file
 abbrev pub IsTree : Option (List ℕ) → List ℕ → Type 0
 IsTree known tree = IfSome known (λ bytes. tree ≡ take most_bytes bytes)
 
+-- The text of pairs, likewise.
+abbrev pub ArePairs : Option (List ℕ) → List ℕ → Type 0
+ArePairs known text = IsTree known text
+
 -- ---- the report of a request's own words on what the text of a tree is read as
 
 abbrev pub may_said : May → Reading → Report
@@ -56,6 +61,10 @@ check_said check tree = check_report tree check.user.uid check.user.gids.items c
 
 abbrev pub advise_said : Advise → Reading → Report
 advise_said advise tree = advise_report tree (map ids_of advise.users.items) (map (λ subtree. subtree.now) advise.subtrees.items)
+
+-- the first fault of the lines of a text, or the report on the pairs that they name
+abbrev pub pairs_said : List ℕ → Reading → Report
+pairs_said text tree = report_on (pairs_read text) (λ pairs. advise_pairs_report tree pairs)
 
 -- the first pair that isn't contained, or each of them
 abbrev pub AuditSays : Audit → Option (List ℕ) → Option (List ℕ) → Result ℕ CliFault → Reading → Type 0
@@ -81,6 +90,15 @@ OnTree known answers old new result = ((tree : List ℕ) × IsTree known tree ×
 abbrev pub ReportsOnTree : Option (List ℕ) → (Reading → Report) → Option (List ℕ) → Option (List ℕ) → Result ℕ CliFault → Type 0
 ReportsOnTree known said old new result = OnTree known (λ tree. Reports (said tree) old new result) old new result
 
+-- The report on the pairs of a text and the text of a tree.
+abbrev pub ReportsOnPairs : List ℕ → List ℕ → Option (List ℕ) → Option (List ℕ) → Result ℕ CliFault → Type 0
+ReportsOnPairs tree text old new result = OnText tree (λ read. Reports (pairs_said text read) old new result) ⊎ IsUnread old new result
+
+-- What is answered on both, of what they are read as.
+abbrev pub OnPairs : Option (List ℕ) → Option (List ℕ) → Option (List ℕ) → Option (List ℕ) → Result ℕ CliFault → Type 0
+OnPairs known pairs old new result =
+    ((tree : List ℕ) × (text : List ℕ) × IsTree known tree × ArePairs pairs text × ReportsOnPairs tree text old new result) ⊎ IsUnread old new result
+
 -- The report of operations over what a reader had to give, of which some may be left.
 abbrev pub ReplaysOver : Option (List ℕ) → Reporting → Option (List ℕ) → Option (List ℕ) → Result ℕ CliFault → Type 0
 ReplaysOver before said old new result = ((left : Option (List ℕ)) × ReplaysFrom closed said before left old new result) ⊎ IsUnread old new result
@@ -100,8 +118,10 @@ CarriesOut (request.Audit audit) files given old new result =
     OnTree (source files (name_of audit.tree) given) (AuditSays audit old new result) old new result
 CarriesOut (request.Advise advise) files given old new result =
     ReportsOnTree (source files (name_of advise.tree) given) (advise_said advise) old new result
+CarriesOut (request.AdvisePairs advise) files given old new result =
+    OnPairs (source files (tree_file advise.sources) given) (source files (other_file advise.sources) given) old new result
 CarriesOut (request.Upgrade upgrade) files given old new result =
     OnTree (source files (name_of upgrade.tree) given) (Upgrades old new result) old new result
 CarriesOut (request.Replay replay) files given old new result =
-    ReplaysOnTree (source files (tree_file replay.sources) given) (source files (ops_file replay.sources) given) (replay_said replay)
+    ReplaysOnTree (source files (tree_file replay.sources) given) (source files (other_file replay.sources) given) (replay_said replay)
     old new result

@@ -1,16 +1,22 @@
 //! A request is carried out: its tree is read, its files are opened, and one call answers.
 ghost use Rattle.std.specs.Prelude.{◌≡◌, ◌⊎◌, ℕ, List, map, Ok, IfOk, IfErr, MatchBool};
 ghost use Rattle.cg_format.specs.Readings.{OnText};
+ghost use Rattle.cg_cli.specs.Pairs.{pair_given};
 ghost use Rattle.cg_cli.specs.AllPairs.{all_report, ReportsPairs};
 ghost use Rattle.cg_cli.specs.Audits.{audit_report};
 ghost use Rattle.cg_cli.specs.Reports.{Reports};
 ghost use Rattle.cg_cli.specs.Upgrades.{Upgrades};
-ghost use Rattle.arguments.specs.Given.{ids_of, tree_file, ops_file};
-ghost use Rattle.commands.specs.Requests.{source, name_of, IsTree, may_said, check_said, advise_said, AuditSays, OnTree, ReportsOnTree, replay_said, ReplaysOver, ReplaysOnTree, CarriesOut};
+ghost use Rattle.arguments.specs.Given.{ids_of, ids_of_pair, tree_file, other_file};
+ghost use Rattle.commands.specs.Requests.{source, name_of, IsTree, may_said, check_said, advise_said, AuditSays, OnTree, ReportsOnTree, ArePairs, ReportsOnPairs, OnPairs, replay_said, ReplaysOver, ReplaysOnTree, CarriesOut};
 
+use crate::pairs::{line_at, read_pairs};
+use arguments::named_pair::NamedPair;
 use arguments::named_user::NamedUser;
-use arguments::request::{Advise, Audit, Check, May, Replay, Request, Sources, Upgrade};
+use arguments::request::{
+    Advise, AdvisePairs, Audit, Check, May, Replay, Request, Sources, Upgrade,
+};
 use cg_cli::advise::advise_bytes;
+use cg_cli::advise_pairs::{PairIds, advise_pairs_bytes};
 use cg_cli::arguments::UserIds;
 use cg_cli::audit::audit_bytes;
 use cg_cli::audit_all::audit_all_bytes;
@@ -45,6 +51,7 @@ pub(crate) fn carried_out<F: Files, I: Read + Drop, W: Write>(
         Request::Check(request) => check(alloc, request, files, input, out),
         Request::Audit(request) => audit(alloc, request, files, input, out),
         Request::Advise(request) => advise(alloc, request, files, input, out),
+        Request::AdvisePairs(asked) => advise_pairs(alloc, *asked, files, input, line, out),
         Request::Replay(asked) => replay(alloc, Replaying { asked, line }, files, input, out),
         Request::Upgrade(request) => upgrade(alloc, request, files, input, out),
     }
@@ -114,6 +121,103 @@ fn advise<F: Files, I: Read + Drop, W: Write>(
     )
 }
 
+/// Advises on the pairs of a text. Where one of its lines ends it, `line` is that line.
+fn advise_pairs<F: Files, I: Read + Drop, W: Write>(
+    alloc: Global,
+    asked: AdvisePairs<'_>,
+    files: &F,
+    input: I,
+    line: &mut Option<Vec<u8>>,
+    out: &mut W,
+) -> Result<u8, CliFault>
+    ensures { OnPairs (source (F.given files.now) (tree_file asked.entry.sources) (I.remaining input))
+        (source (F.given files.now) (other_file asked.entry.sources) (I.remaining input))
+        (W.contents out.old) (W.contents out.new) result }
+{
+    let texts = both_texts(alloc, asked.sources, files, input)?;
+    advised(
+        alloc,
+        texts.tree.as_slice(),
+        texts.other.as_slice(),
+        line,
+        out,
+    )
+}
+
+/// A tree's text, and one beside it.
+#[derive(Drop)]
+struct Texts {
+    tree: Vec<u8>,
+    other: Vec<u8>,
+}
+
+/// The text of a tree, and then the one beside it.
+fn both_texts<F: Files, I: Read + Drop>(
+    alloc: Global,
+    sources: Sources<'_>,
+    files: &F,
+    input: I,
+) -> Result<Texts, CliFault>
+    ensures tree { IfOk result (λ texts. IsTree (source (F.given files.now) (tree_file sources.entry) (I.remaining input)) texts.tree.items) }
+    ensures other { IfOk result (λ texts. ArePairs (source (F.given files.now) (other_file sources.entry) (I.remaining input)) texts.other.items) }
+    ensures fault { IfErr result (λ fault. (fault ≡ CliFault.Read) ⊎ (fault ≡ CliFault.NoMemory)) }
+{
+    match sources {
+        Sources::Files(tree, other) => {
+            let tree = file_text(alloc, files, tree)?;
+            let other = file_text(alloc, files, other)?;
+            Ok(Texts { tree, other })
+        }
+        Sources::TreeGiven(other) => {
+            let tree = tree_text(alloc, files, None, input)?;
+            let other = file_text(alloc, files, other)?;
+            Ok(Texts { tree, other })
+        }
+        Sources::OtherGiven(tree) => {
+            let tree = file_text(alloc, files, tree)?;
+            let other = tree_text(alloc, files, None, input)?;
+            Ok(Texts { tree, other })
+        }
+    }
+}
+
+/// Advises on the pairs of a text and the text of a tree.
+fn advised<W: Write>(
+    alloc: Global,
+    tree: &[u8],
+    text: &[u8],
+    line: &mut Option<Vec<u8>>,
+    out: &mut W,
+) -> Result<u8, CliFault>
+    ensures { ReportsOnPairs tree.now text.now (W.contents out.old) (W.contents out.new) result }
+{
+    match read_pairs(alloc, text) {
+        Err(fault) => {
+            *line = line_at(alloc, text, &fault);
+            Err(fault)
+        }
+        Ok(pairs) => {
+            let pairs = pair_ids(alloc, pairs.as_slice())?;
+            advise_pairs_bytes(alloc, tree, pairs.as_slice(), out)
+        }
+    }
+}
+
+/// The pairs as a call takes them.
+fn pair_ids<'a>(alloc: Global, pairs: &'a [NamedPair<'a>]) -> Result<Vec<PairIds<'a>>, CliFault>
+    ensures pairs { IfOk result (λ all. map pair_given all.items ≡ map ids_of_pair pairs.now) }
+    ensures fault { IfErr result (λ fault. fault ≡ CliFault.NoMemory) }
+{
+    let mut all = Vec::new(alloc);
+    for pair in pairs {
+        all.push(PairIds {
+            user: ids(&pair.user),
+            subtree: pair.subtree,
+        })?;
+    }
+    Ok(all)
+}
+
 fn audit<F: Files, I: Read + Drop, W: Write>(
     alloc: Global,
     asked: &Audit<'_>,
@@ -181,7 +285,7 @@ fn replay<F: Files, I: Read + Drop, W: Write>(
     out: &mut W,
 ) -> Result<u8, CliFault>
     ensures { ReplaysOnTree (source (F.given files.now) (tree_file of.entry.asked.now.sources) (I.remaining input))
-        (source (F.given files.now) (ops_file of.entry.asked.now.sources) (I.remaining input)) (replay_said of.entry.asked.now)
+        (source (F.given files.now) (other_file of.entry.asked.now.sources) (I.remaining input)) (replay_said of.entry.asked.now)
         (W.contents out.old) (W.contents out.new) result }
 {
     match of.asked.sources {
@@ -193,7 +297,7 @@ fn replay<F: Files, I: Read + Drop, W: Write>(
             let tree = tree_text(alloc, files, None, input)?;
             replay_file(alloc, tree.as_slice(), of, files, ops, out)
         }
-        Sources::OpsGiven(tree) => {
+        Sources::OtherGiven(tree) => {
             let tree = file_text(alloc, files, tree)?;
             replayed(alloc, tree.as_slice(), of, input, out)
         }

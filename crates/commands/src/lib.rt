@@ -3,5 +3,6 @@
 
 mod carried;
 pub mod fault;
+mod pairs;
 pub mod program;
 pub mod run;

@@ -1,6 +1,6 @@
 -- With the changes that one advice prints all that was named is contained.
 use Rattle.std.proofs.Common.{◌≡◌, ◌≢◌, ℕ, Bool, true, false, cond, nat_eq, List, [], ◌∷◌, map, Option, Some, None, Result, Ok, Err, ⊎_elim, refl, ap, sym, ◌∙◌, subst, get_or, arith}
-use Rattle.std.specs.List.{All, AllByRecursion, Contains, flat_map}
+use Rattle.std.specs.List.{All, AllByRecursion, Contains, flat_map, list_all}
 use Rattle.std.proofs.lemmas.List.Elements.{All-from_recursion, recursion_from_All, Contains-append_right, Contains-append_cases}
 use Rattle.cg_cgroup.specs.Paths.{Names, same_path}
 use Rattle.cg_cgroup.specs.Users.{is_user, IsUser}
@@ -12,13 +12,13 @@ use Rattle.cg_model.specs.Guards.{IsSubtree}
 use Rattle.cg_model.specs.Checks.{subtree_faults}
 use Rattle.cg_model.specs.Several.{AreContained}
 use Rattle.cg_model.specs.Once.{once}
-use Rattle.cg_model.specs.Mends.{advised}
+use Rattle.cg_model.specs.Mends.{Pair, advised}
 use Rattle.cg_model.specs.Advised.{AreCountable}
 use Rattle.cg_steps.proofs.Lists.{all-append}
 use Rattle.cg_steps.proofs.OnceLaws.{all-once}
 use Rattle.cg_check.proofs.Checking.{no_fault}
 use Rattle.cg_check.proofs.Pairs.{none-element}
-use Rattle.cg_advice.specs.AdviceLines.{pairs_lines}
+use Rattle.cg_advice.specs.AdviceLines.{is_pair_guarded, pairs_lines, advice_lines}
 use Rattle.cg_cli.specs.Arguments.{or_fault, user_read}
 use Rattle.cg_cli.specs.Audits.{read_before, users_read, paths_read}
 use Rattle.cg_cli.specs.Once.{same_user}
@@ -50,7 +50,7 @@ user_ok uid gids who is = by_tests (nat_eq uid 0) (is_user (record { uid = uid; 
     by_tests false true same h = subst IsUser (same_Ok h) same
     by_tests false false same h = let never : ⊥ = cc in absurd never
 
-users_are : (given : List (ℕ × List ℕ)) (users : List Identity) → users_read given ≡ Ok users → AllByRecursion IsUser users
+pub users_are : (given : List (ℕ × List ℕ)) (users : List Identity) → users_read given ≡ Ok users → AllByRecursion IsUser users
 users_are [] [] is = tt
 users_are [] (user ∷ users) is = let never : ⊥ = cc in absurd never
 users_are (ids ∷ given) users is =
@@ -85,6 +85,22 @@ are_named users subtrees user subtree among path =
 
 -- ---- the advice
 
+pub are_subtrees : (st : State) (paths : List Names) → first (flat_map (subtree_faults st) paths) ≡ None → All (AreCountable st) paths
+    → AllByRecursion (λ path. IsSubtree st path × AreCountable st path) paths
+are_subtrees st paths clear countable =
+    recursion_from_All (λ path. IsSubtree st path × AreCountable st path) paths
+    (λ k d within. (no_fault st (get_or paths k d) (sym (none-element (subtree_faults st) paths k d within clear)), countable k d within))
+
+pub lines_are : (st : State) (pairs : List Pair) (found : Option (List ℕ)) → advice_lines st pairs ≡ found
+    → (lines_report found).ending ≡ Ok 1 → (lines_report found).text ≡ pairs_lines st pairs
+lines_are st pairs found is = by_test (list_all (is_pair_guarded st) pairs) found is
+  where
+    by_test : (b : Bool) (found : Option (List ℕ)) → cond b None (Some (pairs_lines st pairs)) ≡ found
+        → (lines_report found).ending ≡ Ok 1 → (lines_report found).text ≡ pairs_lines st pairs
+    by_test b None same h = let never : ⊥ = cc in absurd never
+    by_test true (Some lines) same h = let never : ⊥ = cc in absurd never
+    by_test false (Some lines) same h = cc
+
 module _ (st : State) (given : List (ℕ × List ℕ)) (words : List (List ℕ)) (users : List Identity) (subtrees : List Names)
     (formed : IsWellFormed st) (of_users : users_read given ≡ Ok users) (of_paths : paths_read words ≡ Ok subtrees)
     (some : users ≢ []) (is : (advise_report (Ok st) given words).ending ≡ Ok 1) (countable : All (AreCountable st) subtrees) where
@@ -94,27 +110,16 @@ module _ (st : State) (given : List (ℕ × List ℕ)) (words : List (List ℕ))
   abbrev ss : List Names
   ss = once same_path subtrees
 
-  subs : first (flat_map (subtree_faults st) ss) ≡ None → AllByRecursion (λ path. IsSubtree st path × AreCountable st path) ss
-  subs clear =
-      let few = All-from_recursion (AreCountable st) ss
-      (all-once (AreCountable st) same_path subtrees (recursion_from_All (AreCountable st) subtrees countable)) in
-      recursion_from_All (λ path. IsSubtree st path × AreCountable st path) ss
-      (λ k d within. (no_fault st (get_or ss k d) (sym (none-element (subtree_faults st) ss k d within clear)), few k d within))
-
-  lines_are : (found : Option (List ℕ)) (b : Bool) → cond b None (Some (pairs_lines st (all_pairs us ss))) ≡ found
-      → (lines_report found).ending ≡ Ok 1 → (lines_report found).text ≡ pairs_lines st (all_pairs us ss)
-  lines_are None b same h = let never : ⊥ = cc in absurd never
-  lines_are (Some lines) true same h = let never : ⊥ = cc in absurd never
-  lines_are (Some lines) false same h = cc
-
   pub changed_are_contained : ((advise_report (Ok st) given words).text ≡ pairs_lines st (all_pairs us ss))
       × AreContained (advised st (all_pairs us ss)) users subtrees
   changed_are_contained =
-      let found = advice_found st given words users subtrees formed of_users of_paths 1 is in (
-        found.3 ∙ lines_are found.0 _ found.2 found.4,
+      let found = advice_found st given words users subtrees formed of_users of_paths 1 is in
+      let few = All-from_recursion (AreCountable st) ss
+      (all-once (AreCountable st) same_path subtrees (recursion_from_All (AreCountable st) subtrees countable)) in (
+        found.3 ∙ lines_are st (all_pairs us ss) found.0 found.2 found.4,
         contained_once users subtrees (advised st (all_pairs us ss))
             (contained-advised st (all_pairs us ss) us ss formed
             (All-from_recursion (IsAdvisable st) (all_pairs us ss)
-            (are_advisable st ss (subs found.1) us (all-once IsUser same_user users (users_are given users of_users))))
+            (are_advisable st ss (are_subtrees st ss found.1 few) us (all-once IsUser same_user users (users_are given users of_users))))
             (are_named us ss) (λ empty. some_once same_user same_user-is users some empty)),
       )

@@ -1,6 +1,7 @@
 mod StatusLaws
 mod ListedLaws
 mod AdviceLaws
+mod PairedLaws
 mod ReplayedLaws
 mod MayLaws
 mod ProgramLaws

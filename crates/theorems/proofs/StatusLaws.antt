@@ -16,6 +16,7 @@ use Rattle.cg_model.specs.Checks.{subtree_faults, checked, all_checked}
 use Rattle.cg_model.specs.Several.{AreContained}
 use Rattle.cg_model.specs.Listed.{Listed, listed}
 use Rattle.cg_model.specs.Once.{once}
+use Rattle.cg_model.specs.Mends.{Pair}
 use Rattle.cg_model.specs.declared.operation.Op.{Op}
 use Rattle.cg_model.specs.declared.answer.Answer.{Answer}
 use Rattle.cg_model.specs.declared.answer.Answer.TheVariants.{Contained, Escapes, Unsettled}
@@ -69,6 +70,32 @@ module _ (st : State) (uid : ℕ) (gids : List ℕ) (user : Identity) (word : Li
   pub throughout_by_status : (ops : List Op) → IsHeldThroughout st (by_user user ops) subtree
   throughout_by_status = (contained-is_throughout st user subtree).0 contained_by_status
 
+-- ---- the advice for pairs
+
+-- what is found, where no subtree has a fault, and what is said of it
+abbrev pub IsFound : State → List Names → List Pair → Report → ℕ → Type 0
+IsFound st subtrees pairs report status =
+    (found : Option (List ℕ)) × (first (flat_map (subtree_faults st) subtrees) ≡ None) × (advice_lines st pairs ≡ found)
+    × (report.text ≡ (lines_report found).text) × ((lines_report found).ending ≡ Ok status)
+
+pub found_of_pairs : (st : State) (subtrees : List Names) (pairs : List Pair) (report : Report)
+    → report ≡ advice_report st subtrees pairs → (status : ℕ) → report.ending ≡ Ok status → IsFound st subtrees pairs report status
+found_of_pairs st subtrees pairs report is_report status is =
+    let one =
+    report_ok (in_call (advice_of st subtrees pairs)) lines_report status (ap (λ (r : Report). r.ending) (sym is_report) ∙ is) in
+    let found = found_is (advice_of st subtrees pairs) one.0 one.1 in
+    let stated = unfaulted (first (flat_map (subtree_faults st) subtrees)) (advice_lines st pairs) one.0 found in (
+      one.0,
+      stated.0,
+      stated.1,
+      ap (λ (r : Report). r.text) (is_report ∙ ap (λ answer. report_on (in_call answer) lines_report) found),
+      one.2,
+    )
+
+pub no_lines : (found : Option (List ℕ)) → (lines_report found).ending ≡ Ok 0 → found ≡ None
+no_lines None is = refl
+no_lines (Some lines) is = cc
+
 -- ---- several users
 
 -- no pair is told as contained
@@ -114,30 +141,21 @@ module _ (st : State) (given : List (ℕ × List ℕ)) (words : List (List ℕ))
       (found_is _ pairs (sym listing_is ∙ is)) in
       (sym stated.1, all-unlisted st (once same_user users) (once same_path subtrees) stated.0 (λ _. formed))
 
-  advice_is : advise_report (Ok st) given words ≡ advice_report st (once same_user users) (once same_path subtrees)
+  advice_is : advise_report (Ok st) given words
+      ≡ advice_report st (once same_path subtrees) (all_pairs (once same_user users) (once same_path subtrees))
   advice_is =
       ap (λ u. report_on u (λ users. report_on (paths_read words)
-      (λ subtrees. advice_report st (once same_user users) (once same_path subtrees))))
+      (λ subtrees. advice_report st (once same_path subtrees) (all_pairs (once same_user users) (once same_path subtrees)))))
       of_users
-      ∙ ap (λ p. report_on p (λ subtrees. advice_report st (once same_user users) (once same_path subtrees))) of_paths
+      ∙ ap (λ p. report_on p (λ subtrees.
+      advice_report st (once same_path subtrees) (all_pairs (once same_user users) (once same_path subtrees)))) of_paths
 
-  -- what is found, where no subtree has a fault, and what is said of it
   pub advice_found : (status : ℕ) → (advise_report (Ok st) given words).ending ≡ Ok status
-      → (found : Option (List ℕ)) × (first (flat_map (subtree_faults st) (once same_path subtrees)) ≡ None)
-      × (advice_lines st (all_pairs (once same_user users) (once same_path subtrees)) ≡ found)
-      × ((advise_report (Ok st) given words).text ≡ (lines_report found).text) × ((lines_report found).ending ≡ Ok status)
-  advice_found status is =
-      let us = once same_user users in
-      let ss = once same_path subtrees in
-      let one = report_ok (in_call (advice_of st us ss)) lines_report status (ap (λ (r : Report). r.ending) (sym advice_is) ∙ is) in
-      let found = found_is (advice_of st us ss) one.0 one.1 in
-      let stated = unfaulted (first (flat_map (subtree_faults st) ss)) (advice_lines st (all_pairs us ss)) one.0 found in (
-        one.0,
-        stated.0,
-        stated.1,
-        ap (λ (r : Report). r.text) (advice_is ∙ ap (λ answer. report_on (in_call answer) lines_report) found),
-        one.2,
-      )
+      → IsFound st (once same_path subtrees) (all_pairs (once same_user users) (once same_path subtrees))
+      (advise_report (Ok st) given words) status
+  advice_found =
+      found_of_pairs st (once same_path subtrees) (all_pairs (once same_user users) (once same_path subtrees))
+      (advise_report (Ok st) given words) advice_is
 
   pub all_contained_by_advice : users ≢ [] → (advise_report (Ok st) given words).ending ≡ Ok 0 → AreContained st users subtrees
   all_contained_by_advice some is =
@@ -145,7 +163,3 @@ module _ (st : State) (given : List (ℕ × List ℕ)) (words : List (List ℕ))
       contained_once users subtrees st
       (contained-unadvised st (once same_path subtrees) found.1 (once same_user users) (λ _. formed)
       (sym (found.2 ∙ no_lines found.0 found.4)) (some_once same_user same_user-is users some))
-    where
-      no_lines : (found : Option (List ℕ)) → (lines_report found).ending ≡ Ok 0 → found ≡ None
-      no_lines None is = refl
-      no_lines (Some lines) is = cc

@@ -51,7 +51,7 @@ ghost use Rattle.cg_cli.specs.Containment.{check_report};
 ghost use Rattle.cg_cli.specs.Audits.{users_read, paths_read, audit_report};
 ghost use Rattle.cg_cli.specs.Once.{same_user};
 ghost use Rattle.cg_cli.specs.AllPairs.{all_report, UnlistedAreContained};
-ghost use Rattle.cg_cli.specs.Advising.{all_pairs, advise_report, IsAdvisable, AreNamed};
+ghost use Rattle.cg_cli.specs.Advising.{all_pairs, paired, advise_report, advise_pairs_report, IsAdvisable, AreNamed, AreContainedAsNamed};
 ghost use Rattle.cg_cli.specs.declared.fault.CliFault.{CliFault};
 ghost use Rattle.cg_cli.specs.declared.fault.CliFault.TheVariants.{Line};
 ghost use Rattle.cg_lines.specs.declared.lines.fault.LineFault.TheVariants.{BadWord};
@@ -135,13 +135,15 @@ pub fn escapes_are_replayed()
         → (ops : List Op) × IsReplayed tree uid gids subtree ops }
 {}
 
-/// With the changes of the advice made the subtrees are contained against the users, all of them together; nobody gets in by them, and
-/// nothing else differs. Where `advise` ends with status 0 on a text they are contained as they are, and with status 1 it prints these
-/// changes.
+/// With the changes of the advice made the subtrees are contained against the users, all of them together, and of pairs each subtree
+/// against all users who are named with it; nobody gets in by them, and nothing else differs. Where `advise` ends with status 0 on a
+/// text they are contained as they are, and with status 1 it prints these changes.
 pub fn advice()
     ensures contained { (st : State) (pairs : List Pair) (users : List Identity) (subtrees : List Names)
         → IsWellFormed st → All (IsAdvisable st) pairs → AreNamed pairs users subtrees → users ≢ []
         → AreContained (advised st pairs) users subtrees }
+    ensures as_named { (st : State) (pairs : List Pair)
+        → IsWellFormed st → All (IsAdvisable st) pairs → AreContainedAsNamed (advised st pairs) pairs }
     ensures opens_nothing { (st : State) (pairs : List Pair) (other : Identity) (path : Names)
         → IsUser other → GuardsHold st other path → GuardsHold (advised st pairs) other path }
     ensures no_more { (st : State) (pairs : List Pair) → IsAdvised st (advised st pairs) pairs }
@@ -154,6 +156,17 @@ pub fn advice()
         → (advise_report (Ok st) given words).ending ≡ Ok 1 → All (AreCountable st) subtrees
         → ((advise_report (Ok st) given words).text ≡ pairs_lines st (all_pairs (once same_user users) (once same_path subtrees)))
         × AreContained (advised st (all_pairs (once same_user users) (once same_path subtrees))) users subtrees }
+    ensures pairs { (text : List ℕ) (st : State) (given : List ((ℕ × List ℕ) × List ℕ)) (users : List Identity) (subtrees : List Names)
+        → IsTextOf st text → users_read (map (λ pair. pair.0) given) ≡ Ok users
+        → paths_read (map (λ pair. pair.1) given) ≡ Ok subtrees
+        → (advise_pairs_report (Ok st) given).ending ≡ Ok 0
+        → AreContainedAsNamed st (paired users subtrees) }
+    ensures pairs_changed { (text : List ℕ) (st : State) (given : List ((ℕ × List ℕ) × List ℕ)) (users : List Identity) (subtrees : List Names)
+        → IsTextOf st text → users_read (map (λ pair. pair.0) given) ≡ Ok users
+        → paths_read (map (λ pair. pair.1) given) ≡ Ok subtrees
+        → (advise_pairs_report (Ok st) given).ending ≡ Ok 1 → All (AreCountable st) subtrees
+        → ((advise_pairs_report (Ok st) given).text ≡ pairs_lines st (paired users subtrees))
+        × AreContainedAsNamed (advised st (paired users subtrees)) (paired users subtrees) }
 {}
 
 /// A text has a state exactly where it has no fault, and one at most. What is written of a state is one text, and it has that state

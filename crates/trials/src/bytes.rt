@@ -5,6 +5,7 @@ use crate::said::{Said, wants_memory};
 use crate::trial::{Ended, Trial};
 use crate::words::Words;
 use cg_cli::advise::advise_bytes;
+use cg_cli::advise_pairs::{PairIds, advise_pairs_bytes};
 use cg_cli::arguments::UserIds;
 use cg_cli::audit::audit_bytes;
 use cg_cli::audit_all::audit_all_bytes;
@@ -24,6 +25,7 @@ enum Call<'a> {
     May(UserIds<'a>, u32, &'a str),
     Check(UserIds<'a>, &'a str),
     Advise(UserIds<'a>, &'a str),
+    AdvisePairs(Vec<PairIds<'a>>),
     Upgrade,
     Audit(Vec<UserIds<'a>>, Vec<&'a str>),
     AuditAll(Vec<UserIds<'a>>, Vec<&'a str>),
@@ -37,6 +39,7 @@ impl Call<'_> {
             Call::May(user, pid, to) => may_bytes(alloc, tree, *user, *pid, to, out),
             Call::Check(user, subtree) => check_bytes(alloc, tree, *user, subtree, out),
             Call::Advise(user, subtree) => { advise_bytes(alloc, tree, &[*user], &[*subtree], out) }
+            Call::AdvisePairs(pairs) => advise_pairs_bytes(alloc, tree, pairs.as_slice(), out),
             Call::Upgrade => upgrade_bytes(alloc, tree, out),
             Call::AuditAll(users, subtrees) => {
                 audit_all_bytes(alloc, tree, users.as_slice(), subtrees.as_slice(), out)
@@ -96,11 +99,24 @@ fn audited<'a>(
     Ok((users, subtrees))
 }
 
+/// The pairs of words, a uid and a path by turns.
+fn paired<'a>(alloc: Global, words: &mut Words<'a>) -> Result<Vec<PairIds<'a>>, Stopped> {
+    let mut pairs = Vec::new(alloc);
+    while let Ok(uid) = words.id() {
+        pairs.push(PairIds {
+            user: user(uid),
+            subtree: words.next()?,
+        })?;
+    }
+    Ok(pairs)
+}
+
 fn call_told<'a>(alloc: Global, words: &mut Words<'a>) -> Result<Call<'a>, Stopped> {
     match words.next()? {
         "may" => Ok(Call::May(user(words.id()?), words.id()?, words.next()?)),
         "check" => Ok(Call::Check(user(words.id()?), words.next()?)),
         "advise" => Ok(Call::Advise(user(words.id()?), words.next()?)),
+        "advise_pairs" => Ok(Call::AdvisePairs(paired(alloc, words)?)),
         "upgrade" => Ok(Call::Upgrade),
         "audit" => {
             let (users, subtrees) = audited(alloc, words.rest())?;

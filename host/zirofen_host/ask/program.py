@@ -1,6 +1,6 @@
 """Asking the program of users and subtrees: every pair that isn't contained, and what to change.
 
-`audit --all` and `advise` are used where the program's --help has them. Where there is no `audit --all`, `audit` is asked,
+`audit --all` and `advise --pairs` are used where the program's --help has them. Where there is no `audit --all`, `audit` is asked,
 which tells the first pair that isn't contained, again and again from behind the pair that was told.
 """
 import os
@@ -178,9 +178,11 @@ class Program:
             left = left[left.index(path) + 1:]
         return found
 
-    def advise(self, user: User, subtree: CgroupPath) -> List[Advice]:
-        """What fails for a user and a subtree, each with its changes, as words; Refused is for the caller."""
-        ended = self.run("advise", "--tree", self.tree, *user_words(user), "--subtree", text_of(subtree))
+    def advise(self, pairs: Sequence[Pair]) -> List[Advice]:
+        """What fails for pairs of a user and a subtree, each with its changes, as words; Refused is for the caller."""
+        file = f"{self.tree}.{os.urandom(8).hex()}.pairs"
+        output.make(file, "".join(f"pair {user_word(user)} {text_of(subtree)}\n" for user, subtree in pairs).encode("ascii"))
+        ended = self.run("advise", "--tree", self.tree, "--pairs", file)
         lines = [tuple(line.split(" ")) for line in ended.lines]
         starts = [number for number, words in enumerate(lines) if words[0] == "fails"]
         return [Advice(lines[start][1:], tuple(lines[start + 1:end])) for start, end in zip(starts, [*starts[1:], len(lines)])]
@@ -189,9 +191,8 @@ class Program:
 def abilities_of(path: str) -> Abilities:
     """What the program can do, by what it says of itself."""
     program = Program(path, "")
-    audit, whole = help_of(program, "audit"), help_of(program)
-    return Abilities("--all" in audit.split(), any(line.split()[:1] == ["advise"] for line in whole.splitlines()),
-                     version_of(program))
+    audit, advise = help_of(program, "audit"), help_of(program, "advise")
+    return Abilities("--all" in audit.split(), "--pairs" in advise.split(), version_of(program))
 
 
 def help_of(program: Program, *words: str) -> str:

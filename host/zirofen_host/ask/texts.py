@@ -10,11 +10,11 @@ from itertools import accumulate
 from typing import AbstractSet, Callable, Dict, Iterable, List, Mapping, Sequence, Set, Tuple
 
 from zirofen_host import output, progress
-from zirofen_host.ask.model import Advice, Question
+from zirofen_host.ask.model import Advice, Pair, Question
 from zirofen_host.ask.program import Answered, Program
 from zirofen_host.collect import snapshot as snapshots
 from zirofen_host.collect.looks import Looks
-from zirofen_host.collect.model import Note, Placed, Snapshot, Tree, User
+from zirofen_host.collect.model import Note, Placed, Snapshot, Tree
 from zirofen_host.collect.tree import head_text, in_order, process_text, row_text
 from zirofen_host.fault import Fault
 from zirofen_host.options import Options
@@ -222,8 +222,9 @@ class Programs:
                     refused.update(dict.fromkeys(text.subtrees, str(fault)))
         return found, refused
 
-    def advise(self, user: User, subtree: CgroupPath) -> List[Advice]:
-        return self.of[subtree].advise(user, subtree)
+    def advise(self, pairs: Sequence[Pair]) -> List[Advice]:
+        """What is advised for pairs of one text."""
+        return self.of[pairs[0].subtree].advise(pairs)
 
 
 def write(texts: Texts, options: Options, folder: str, snapshot: Snapshot) -> Programs:

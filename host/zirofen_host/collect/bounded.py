@@ -76,7 +76,7 @@ USERS = Budget("uids to ask of", 4096)
 RUNS = Budget("questions that differ in whom they ask of", 256)
 # of the lines of a report, for what is below a holder's own delegation
 LINES = Budget("lines", 16)
-# runs of the program for advice, of a whole host
+# runs of the program for advice, of a whole host, one in each text
 ADVICE = 64
 # lists of operations in which other processes are tried, each by one run
 REPLAYS = 16

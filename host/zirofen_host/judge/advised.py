@@ -1,67 +1,48 @@
-"""What to change: the program is asked for advice once for each run of entries that are alike, and at most so many times."""
+"""What to change: the program is asked for advice once in each text, of all pairs that are told of there."""
 from collections import defaultdict
 from dataclasses import dataclass
 from itertools import chain, zip_longest
-from typing import DefaultDict, Dict, Iterable, Iterator, List, Mapping, NamedTuple, Optional, Sequence, Set, Tuple, Union
+from typing import DefaultDict, Dict, Iterable, Iterator, List, Mapping, Sequence, Tuple, Union
 
 from zirofen_host.ask.model import Advice, Pair
 from zirofen_host.ask.program import Refused, at_once
 from zirofen_host.collect import bounded
-from zirofen_host.collect.model import Entry, User
+from zirofen_host.collect.model import User
 from zirofen_host.fault import Fault
 from zirofen_host.judge.checked import Checked
-from zirofen_host.judge.judged import LetsIn, Place, class_of, failing
+from zirofen_host.judge.judged import LetsIn, Place
 from zirofen_host.judge.shell import Change
-from zirofen_host.profile import CgroupPath, path_of, text_of
-
-
-class Alike(NamedTuple):
-    """Entries for which the advice is the same but for the path: by name, owner and mode, and by which class somebody gets in.
-    What is no entry is like nothing else."""
-    name: str
-    entry: Optional[Entry]
-    by: str
-    path: Optional[CgroupPath]
+from zirofen_host.profile import CgroupPath, path_of
 
 
 @dataclass(frozen=True)
 class Advised:
-    """What to change of entries that are alike, the pairs of which no advice was given, by why, and how many entries weren't
-    asked about."""
-    changes: Mapping[Alike, Sequence[Change]]
+    """What to change of each entry, for all whom it lets in; the pairs of which no advice was given, by why; and of how many
+    entries nothing is told."""
+    changes: Mapping[Place, Sequence[Change]]
     faults: Mapping[Tuple[User, str], Sequence[CgroupPath]]
     unasked: int = 0
 
-    def changes_of(self, found: LetsIn) -> List[Change]:
-        """The changes for one entry, by all classes that it lets in."""
-        path = text_of(found.place.path)
-        return [(words[0], path, *words[2:]) for by in found.pairs
-                for words in self.changes.get(alike_of(found.place, found.entry, by), ())]
-
-
-def alike_of(place: Place, entry: Optional[Entry], by: str) -> Alike:
-    return Alike(place.name, entry, by, None if entry else place.path)
+    def changes_of(self, found: LetsIn) -> Sequence[Change]:
+        """The changes for one entry."""
+        return self.changes.get(found.place, ())
 
 
 def advise(checked: Checked) -> Advised:
-    """Asks for advice, a pair for each run of entries that are alike."""
+    """Asks for advice, in each text of all its pairs at once."""
     faults = {key: list(subtrees) for key, subtrees in checked.judged.faults.items()}
     if not checked.answers.has_advise:
         return Advised({}, faults)
-    changes: Dict[Alike, List[Change]] = {}
-    pairs = pairs_to_advise(checked)
-    for pair, advice in zip(pairs, at_once(lambda pair: advice_of(checked, pair), pairs)):
+    changes: DefaultDict[Place, List[Change]] = defaultdict(list)
+    runs = runs_of(checked)
+    for pairs, advice in zip(runs, at_once(lambda pairs: advice_of(checked, pairs), runs)):
         if isinstance(advice, str):
-            faults.setdefault((pair.user, advice), []).append(pair.subtree)
+            for user, subtree in pairs:
+                faults.setdefault((user, advice), []).append(subtree)
             continue
-        told: Dict[Alike, List[Change]] = {}
         for place, changed in by_place(advice):
-            for other, entry in failing(checked.questions, pair):
-                if other == place:
-                    told.setdefault(alike_of(other, entry, class_of(pair.user, entry)[0]), []).extend(changed)
-        changes.update(told)
-    unasked = sum(not any(alike_of(found.place, found.entry, by) in changes for by in found.pairs)
-                  for found in checked.judged.entries.values())
+            changes[place].extend(changed)
+    unasked = sum(place not in changes for place in checked.judged.entries)
     return Advised(changes, faults, unasked)
 
 
@@ -71,24 +52,23 @@ def by_place(advice: Iterable[Advice]) -> Iterator[Tuple[Place, Sequence[Change]
         yield Place(path_of(fails[1]), fails[2] if len(fails) > 2 else fails[0]), changes
 
 
-def pairs_to_advise(checked: Checked) -> List[Pair]:
-    """A pair for each run of alike entries, no more than are asked about: first those of root's making, then of each person's in
-    turn, so that nobody keeps another from advice."""
-    covered: Set[Alike] = set()
-    by_maker: DefaultDict[int, List[Pair]] = defaultdict(list)
-    for place, found in checked.judged.entries.items():
-        for by, pair in found.pairs.items():
-            if alike_of(place, found.entry, by) not in covered:
-                by_maker[checked.holds.within(place.path) or 0].append(pair)
-                covered |= {alike_of(other, entry, class_of(pair.user, entry)[0]) for other, entry in failing(checked.questions, pair)}
-    in_turn = chain.from_iterable(zip_longest(*(pairs for maker, pairs in sorted(by_maker.items()) if maker)))
-    return [*by_maker[0], *(pair for pair in in_turn if pair)][:bounded.ADVICE]
+def runs_of(checked: Checked) -> List[List[Pair]]:
+    """The pairs of each text, of no more texts than are asked: first of what root made, then of each person's in turn, so that
+    nobody keeps another from advice."""
+    of_text: Dict[str, List[Pair]] = {}
+    for pair in checked.judged.let_in:
+        of_text.setdefault(checked.programs.of[pair.subtree].tree, []).append(pair)
+    by_maker: DefaultDict[int, List[List[Pair]]] = defaultdict(list)
+    for pairs in of_text.values():
+        by_maker[min(checked.holds.within(pair.subtree) or 0 for pair in pairs)].append(pairs)
+    in_turn = chain.from_iterable(zip_longest(*(runs for maker, runs in sorted(by_maker.items()) if maker)))
+    return [*by_maker[0], *(pairs for pairs in in_turn if pairs)][:bounded.ADVICE]
 
 
-def advice_of(checked: Checked, pair: Pair) -> Union[str, List[Advice]]:
-    """What the program advises for a pair, or the line of its fault."""
+def advice_of(checked: Checked, pairs: Sequence[Pair]) -> Union[str, List[Advice]]:
+    """What the program advises for pairs of one text, or the line of its fault."""
     try:
-        advice = checked.programs.advise(*pair)
+        advice = checked.programs.advise(pairs)
         for _, changes in advice:
             checked.commands(changes)
         return advice

@@ -53,8 +53,6 @@ class LetsIn:
     whom: Tuple[LetIn, ...]
     # of those inside one another the outermost, in the order of their tree
     subtrees: Tuple[CgroupPath, ...]
-    # a pair of each class that it lets in, to be advised of
-    pairs: Mapping[str, Pair]
 
 
 @dataclass(frozen=True)
@@ -65,11 +63,15 @@ class Judged:
     # by uid and the topmost place that is theirs
     above: Mapping[Tuple[int, CgroupPath], Set[CgroupPath]]
     own: Mapping[Tuple[int, CgroupPath], Own]
+    # those that some entry lets in, to be advised of
+    let_in: Sequence[Pair]
 
 
 def judge(questions: Questions, answers: Answers) -> Judged:
     found = uncontained(questions, answers)
-    return Judged(entries_of(questions, found), faults_of(found), above_of(questions, answers, found), own_of(questions, found))
+    let_in = [each for each in found if each.answer.status != FAULT and not each.handed]
+    return Judged(entries_of(questions, let_in), faults_of(found), above_of(questions, answers, found), own_of(questions, found),
+                  [each.pair for each in let_in])
 
 
 def uncontained(questions: Questions, answers: Answers) -> List[Uncontained]:
@@ -107,13 +109,12 @@ def above_of(questions: Questions, answers: Answers, found: Iterable[Uncontained
     return above
 
 
-def entries_of(questions: Questions, found: Iterable[Uncontained]) -> Mapping[Place, LetsIn]:
+def entries_of(questions: Questions, let_in: Iterable[Uncontained]) -> Mapping[Place, LetsIn]:
     """What each answer that counts rests on."""
     by_place: DefaultDict[Place, List[Uncontained]] = defaultdict(list)
-    for each in found:
-        if each.answer.status != FAULT and not each.handed:
-            for place, _ in failing(questions, each.pair):
-                by_place[place].append(each)
+    for each in let_in:
+        for place, _ in failing(questions, each.pair):
+            by_place[place].append(each)
     return {place: lets_in(questions, place, some) for place, some in by_place.items()}
 
 
@@ -121,18 +122,16 @@ def lets_in(questions: Questions, place: Place, found: Sequence[Uncontained]) ->
     """What lets somebody in by the answers that rest on it, which come in the order of the tree."""
     entry = None if place.name in (OVER, UNKNOWN) else questions.delegations.entry(*place)
     uids: DefaultDict[Tuple[str, Optional[int]], Set[int]] = defaultdict(set)
-    pairs: Dict[str, Pair] = {}
     subtrees: List[CgroupPath] = []
     for pair, _, _ in found:
         by, number = class_of(pair.user, entry)
         uids[by, number].add(pair.user.uid)
-        pairs.setdefault(by, pair)
         if not subtrees or not is_inside(pair.subtree, subtrees[-1]):
             subtrees.append(pair.subtree)
     status = worst({answer.status for _, answer, _ in found})
     gravest = next(each for each in found if each.answer.status == status)
     whom = sorted(LetIn(by, number, frozenset(of)) for (by, number), of in uids.items())
-    return LetsIn(place, entry, gravest.pair, gravest.answer, tuple(whom), tuple(subtrees), pairs)
+    return LetsIn(place, entry, gravest.pair, gravest.answer, tuple(whom), tuple(subtrees))
 
 
 def class_of(user: User, entry: Optional[Entry]) -> Tuple[str, Optional[int]]:

@@ -6,7 +6,7 @@ from typing import AbstractSet, Callable, Dict, Iterable, Iterator, List, Option
 
 from zirofen_host import output
 from zirofen_host.ask.delegations import Delegations
-from zirofen_host.ask.model import Answer, Holders
+from zirofen_host.ask.model import Answer, Holders, Pair
 from zirofen_host.ask.program import Program, Refused, abilities_of, answer_of, user_words, worst
 from zirofen_host.ask.questions import holders_of, with_groups
 from zirofen_host.ask.spoiled import changed_in, is_spared
@@ -113,7 +113,7 @@ def answer(one: One, user: User, too_many: int) -> Answer:
 def changes(one: One, user: User) -> Iterator[str]:
     """What fails, with the commands that change it."""
     try:
-        advice = one.program.advise(user, one.path)
+        advice = one.program.advise([Pair(user, one.path)])
     except Refused as refused:
         raise refused.fault() from None
     for fails, changed in advice:

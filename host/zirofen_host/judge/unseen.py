@@ -212,4 +212,4 @@ def processes(checked: Checked) -> Iterator[Told]:
 def not_advised(advised: Advised) -> Iterator[Told]:
     if advised.unasked:
         yield Told("advice", "", f"what to change isn't told of {advised.unasked} entries: the program is asked {bounded.ADVICE} times, "
-                   "once for all that are alike. Ask again after these changes")
+                   "once in each text. Ask again after these changes")

@@ -1,12 +1,16 @@
-//! `advise_bytes` on rows worked out by hand, and at writers that fail and dawdle; `check` has its faults.
+//! `advise_bytes` and `advise_pairs_bytes` on rows worked out by hand, and at writers that fail and dawdle; `check` has its faults.
 use super::answers_written::Written;
-use super::calls::{Call, expect};
+use super::calls::{Call, expect, expect_fault};
 use crate::tests::users::{USER, user};
+use cg_cli::advise_pairs::PairIds;
+use cg_cli::fault::CliFault;
+use cg_model::fault::CheckFault;
 use std::alloc::Global;
 use std::process::Abort;
 use std::test::Fail;
 
 /// What is said of user 1000 and `/a/b`, below which are `/a/b/c` and `/a/b/c/d`. What isn't named is root's.
+#[derive(Drop)]
 struct Row {
     pub root: &'static str,
     pub parent: &'static str,
@@ -238,6 +242,59 @@ fn what_several_reach_is_taken_from_all(rt: HostRuntime) -> Result<(), Fail> {
         let call = Call::Advise(&users, &["/a/b", "/a/b/c", "/a/b"]);
         expect(&rt, rt.alloc(), text.as_bytes(), call, row.report, 1);
     }
+    Ok(())
+}
+
+fn pair(uid: u32, gids: &'static [u32], subtree: &'static str) -> PairIds<'static> {
+    PairIds {
+        user: user(uid, gids),
+        subtree,
+    }
+}
+
+/// `/a` is 1000's, and `/a/b` 1001's, who may write the files of its group.
+const HANDED_ON: Row = Row {
+    parent: "dir = { uid = 1000 }\n[cgroup.files]\n\"cgroup.procs\" = { uid = 1000 }\n\"cgroup.subtree_control\" = { uid = 1000 }\n",
+    subtree: "[cgroup.files]\n\"memory.max\" = { gid = 50, mode = 0o664 }\n",
+    report: "fails limit-file /a/b memory.max 0:50 664 group\nchmod /a/b memory.max 644\n",
+    ..NO_REASON
+};
+
+#[test]
+fn of_pairs_nobody_is_asked_of_the_others_subtrees(rt: HostRuntime) -> Result<(), Fail> {
+    let text = HANDED_ON.text(rt.alloc())?;
+    let pairs = [pair(1000, &[], "/a"), pair(1001, &[50], "/a/b")];
+    let call = Call::AdvisePairs(&pairs);
+    expect(&rt, rt.alloc(), text.as_bytes(), call, HANDED_ON.report, 1);
+    let again = [pairs[0], pairs[1], pairs[1], pairs[0]];
+    let call = Call::AdvisePairs(&again);
+    expect(&rt, rt.alloc(), text.as_bytes(), call, HANDED_ON.report, 1);
+    let users = [user(1000, &[]), user(1001, &[50])];
+    let all =
+        "fails common-ancestor /a cgroup.procs 1000:0 644 owner\nchown /a cgroup.procs 0:0\nfails parent-control /a cgroup.subtree_control 1000:0 644 owner\nchown /a cgroup.subtree_control 0:0\nfails parent-dir /a dir 1000:0 755 owner\nchown /a dir 0:0\nfails limit-file /a/b memory.max 0:50 664 group\nchmod /a/b memory.max 644\n";
+    let call = Call::Advise(&users, &["/a", "/a/b"]);
+    expect(&rt, rt.alloc(), text.as_bytes(), call, all, 1);
+    let call = Call::AdvisePairs(&[]);
+    expect(&rt, rt.alloc(), text.as_bytes(), call, "contained\n", 0);
+    Ok(())
+}
+
+#[test]
+fn faults_of_pairs_come_in_the_order_of_an_audit(rt: HostRuntime) -> Result<(), Fail> {
+    let text = HANDED_ON.text(rt.alloc())?;
+    let pairs = [
+        pair(1000, &[], "/nowhere"),
+        pair(1000, &[], "a"),
+        pair(0, &[], "/a"),
+    ];
+    let rest = &pairs[..2];
+    let call = Call::AdvisePairs(&pairs);
+    expect_fault(&rt, rt.alloc(), text.as_bytes(), call, CliFault::Uid);
+    let call = Call::AdvisePairs(rest);
+    expect_fault(&rt, rt.alloc(), b"", call, CliFault::BadPath);
+    let missing = CliFault::Subtree(CheckFault::NoSuchSubtree);
+    let call = Call::AdvisePairs(&rest[..1]);
+    expect_fault(&rt, rt.alloc(), text.as_bytes(), call, missing);
     Ok(())
 }
 

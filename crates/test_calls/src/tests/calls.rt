@@ -1,6 +1,7 @@
 //! The calls over bytes as values, and what is expected of one.
 use crate::tests::readers::Pieces;
 use cg_cli::advise::advise_bytes;
+use cg_cli::advise_pairs::{PairIds, advise_pairs_bytes};
 use cg_cli::arguments::UserIds;
 use cg_cli::audit::audit_bytes;
 use cg_cli::audit_all::audit_all_bytes;
@@ -21,6 +22,7 @@ pub enum Call<'a> {
     Audit(&'a [UserIds<'a>], &'a [&'a str]),
     AuditAll(&'a [UserIds<'a>], &'a [&'a str]),
     Advise(&'a [UserIds<'a>], &'a [&'a str]),
+    AdvisePairs(&'a [PairIds<'a>]),
     Upgrade,
     Replay(UserIds<'a>, Option<&'a str>, &'a [u8]),
     ReplayFrom(UserIds<'a>, Option<&'a str>, &'a [u8]),
@@ -34,6 +36,7 @@ impl Call<'_> {
             Call::Audit(users, subtrees) => audit_bytes(alloc, tree, users, subtrees, out),
             Call::AuditAll(users, subtrees) => audit_all_bytes(alloc, tree, users, subtrees, out),
             Call::Advise(users, subtrees) => advise_bytes(alloc, tree, users, subtrees, out),
+            Call::AdvisePairs(pairs) => advise_pairs_bytes(alloc, tree, pairs, out),
             Call::Upgrade => upgrade_bytes(alloc, tree, out),
             Call::Replay(user, subtree, ops) => replay_bytes(alloc, tree, user, subtree, ops, out),
             Call::ReplayFrom(user, subtree, ops) => {

@@ -1,8 +1,8 @@
 use Rattle.std.proofs.Common.{Ok, map, ap, sym, ◌∙◌, subst}
-use Rattle.cg_cli.specs.Advising.{lines_report, advice_report}
+use Rattle.cg_cli.specs.Advising.{lines_report, all_pairs, advice_report}
 use Rattle.cg_cli.specs.Containment.{in_call}
 use Rattle.cg_cli.specs.Reports.{Report, Reports, report_on}
-use Rattle.cg_cli.proofs.AdviseReports.{advice_takes, fault_said, said_of_kept}
+use Rattle.cg_cli.proofs.AdviseReports.{advice_takes, once_report, once_takes, fault_said, said_of_kept}
 use Rattle.cg_cli.proofs.AuditReports.{contained_means}
 use Rattle.cg_cli.proofs.NamedReads.{kept_as}
 use Rattle.cg_cli.proofs.ReadingOf.{reading_of, is_reading, reading_is, on_text}
@@ -11,7 +11,8 @@ use Rattle.cg_cli.proofs.advise.advise_bytes.Goals as goal
 
 pub returns-in_err-named-clause-report : goal.returns-in_err-named-clause-report
 returns-in_err-named-clause-report g c = on_text c.args.tree.now (λ read is.
-    fault_said read (map (λ user. (user.uid, user.gids.now)) c.args.users.now) (map (λ subtree. subtree.now) c.args.subtrees.now)
+    fault_said once_report once_takes read (map (λ user. (user.uid, user.gids.now)) c.args.users.now)
+    (map (λ subtree. subtree.now) c.args.subtrees.now)
     c.in_err-named.field-0.0 (c.in_err-named.ensures read is) (g.W.Write.contents c.args.out.now)
     c.from_residual.result c.from_residual.ensures.1)
 
@@ -25,7 +26,8 @@ returns-in_err-said-clause-report g c =
     subst (λ (r : Report). Reports r known known c.from_residual-in_err-said.result)
     (sym (said_of_kept read (map (λ user. (user.uid, user.gids.now)) c.args.users.now) (map (λ subtree. subtree.now) c.args.subtrees.now)
     users subtrees st (kept_as (c.in_ok-named.ensures read is) c.as_slice.ensures.value c.as_slice-2.ensures.value)))
-    (subtree_fault (advice_report st users subtrees) (advice_takes st users subtrees) c.in_err-said.field-0.0
+    (subtree_fault (advice_report st subtrees (all_pairs users subtrees)) (advice_takes st subtrees (all_pairs users subtrees))
+    c.in_err-said.field-0.0
     (λ other. ap (λ found. report_on (in_call found) lines_report) (c.in_err-said.ensures.said other))
     known c.from_residual-in_err-said.result c.from_residual-in_err-said.ensures.1))
 

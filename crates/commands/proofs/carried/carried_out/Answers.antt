@@ -20,3 +20,6 @@ returns-in-Advise g c = rw c.in-Advise.is c.advise.ensures
 
 pub returns-in-Upgrade : goal.returns-in-Upgrade
 returns-in-Upgrade g c = rw c.in-Upgrade.is c.upgrade.ensures
+
+pub returns-in-AdvisePairs : goal.returns-in-AdvisePairs
+returns-in-AdvisePairs g c = rw c.in-AdvisePairs.is c.advise_pairs.ensures

@@ -13,11 +13,11 @@ returns-in_err-tree-in-TreeGiven g c =
     c.from_residual-in_err-tree-in-TreeGiven.result c.from_residual-in_err-tree-in-TreeGiven.ensures.1
     c.in_err-tree-in-TreeGiven.ensures.fault)
 
-pub returns-in_err-tree-in-OpsGiven : goal.returns-in_err-tree-in-OpsGiven
-returns-in_err-tree-in-OpsGiven g c =
-    inr (unread_by (g.W.Write.contents c.args.out.now) c.in_err-tree-in-OpsGiven.field-0.0
-    c.from_residual-in_err-tree-in-OpsGiven.result c.from_residual-in_err-tree-in-OpsGiven.ensures.1
-    c.in_err-tree-in-OpsGiven.ensures.fault)
+pub returns-in_err-tree-in-OtherGiven : goal.returns-in_err-tree-in-OtherGiven
+returns-in_err-tree-in-OtherGiven g c =
+    inr (unread_by (g.W.Write.contents c.args.out.now) c.in_err-tree-in-OtherGiven.field-0.0
+    c.from_residual-in_err-tree-in-OtherGiven.result c.from_residual-in_err-tree-in-OtherGiven.ensures.1
+    c.in_err-tree-in-OtherGiven.ensures.fault)
 
 pub returns-in_ok-tree-in-Files : goal.returns-in_ok-tree-in-Files
 returns-in_ok-tree-in-Files g c =
@@ -29,7 +29,7 @@ returns-in_ok-tree-in-TreeGiven g c =
     let said = rw c.as_slice-in-TreeGiven.ensures.value at c.replay_file-in-TreeGiven.ensures in
     rw c.in-TreeGiven.is (inl (c.in_ok-tree-in-TreeGiven.tree.items, c.in_ok-tree-in-TreeGiven.ensures.text, said))
 
-pub returns-in_ok-tree-in-OpsGiven : goal.returns-in_ok-tree-in-OpsGiven
-returns-in_ok-tree-in-OpsGiven g c =
-    let said = rw c.as_slice-in-OpsGiven.ensures.value at c.replayed.ensures in
-    rw c.in-OpsGiven.is (inl (c.in_ok-tree-in-OpsGiven.tree.items, c.in_ok-tree-in-OpsGiven.ensures.text, said))
+pub returns-in_ok-tree-in-OtherGiven : goal.returns-in_ok-tree-in-OtherGiven
+returns-in_ok-tree-in-OtherGiven g c =
+    let said = rw c.as_slice-in-OtherGiven.ensures.value at c.replayed.ensures in
+    rw c.in-OtherGiven.is (inl (c.in_ok-tree-in-OtherGiven.tree.items, c.in_ok-tree-in-OtherGiven.ensures.text, said))

@@ -1,0 +1,63 @@
+-- The pairs of a user and a subtree that the lines of a text name. Own.
+use Rattle.std.specs.Prelude.{ℕ, ◌+◌, Bool, true, false, nat_eq, nat_lt, cond, List, [], ◌∷◌, ◌++◌, length, take, drop, codes, Option, Some, None, option_and_then, Result, Ok, Err}
+use Rattle.std.specs.Cmp.Lexicographic.{pointwise}
+use Rattle.std.specs.List.{slice_split}
+use Rattle.std.specs.Option.{option_map}
+use Rattle.std.specs.Str.{is_utf8}
+use Rattle.cg_cgroup.specs.Paths.{path_at}
+use Rattle.cg_format.specs.TreeTexts.{longest_text}
+use Rattle.cg_lines.specs.declared.lines.fault.LineFault.TheVariants.{TooLong, BadWord, Cut}
+use Rattle.arguments.specs.UserWords.{pair_at}
+use Rattle.cg_cli.specs.AllPairs.{read_then}
+use Rattle.cg_cli.specs.Replays.{is_newline}
+use Rattle.cg_cli.specs.declared.fault.CliFault.{CliFault}
+use Rattle.cg_cli.specs.declared.fault.CliFault.TheVariants.{Line}
+
+-- a uid and gids, and the path of a subtree
+abbrev pub GivenPair : Type 0
+GivenPair = (ℕ × List ℕ) × List ℕ
+
+-- A pair, where what names the subtree is a path.
+abbrev pub with_path : GivenPair → Option GivenPair
+with_path pair = option_map (λ path. pair) (path_at pair.1)
+
+abbrev pub words_read : List ℕ → Option GivenPair
+words_read words = cond (is_utf8 words) (option_and_then with_path (pair_at words)) None
+
+-- a line that begins as one that names a pair
+abbrev pub is_pair_line : List ℕ → Bool
+is_pair_line line = pointwise nat_eq (take 5 line) (codes "pair ")
+
+-- Lines have numbers from 1. `done` is how many stand before.
+
+-- what the words of a line say behind its first
+abbrev pub one_read : ℕ → Option GivenPair → Result (List GivenPair) CliFault
+one_read done None = Err (Line (done + 1) BadWord)
+one_read done (Some pair) = Ok (pair ∷ [])
+
+-- the pair of a line; none where it doesn't begin as one
+abbrev pub line_read : ℕ → List ℕ → Result (List GivenPair) CliFault
+line_read done line = cond (is_pair_line line) (one_read done (words_read (drop 5 line))) (Ok [])
+
+-- The end: nothing stands behind the last newline, or a line that was cut, or is more than is looked at.
+abbrev pub text_end_read : Bool → ℕ → List ℕ → Result (List GivenPair) CliFault
+text_end_read true done rest = Err (Line (done + 1) TooLong)
+text_end_read false done [] = Ok []
+text_end_read false done (b ∷ bs) = Err (Line (done + 1) Cut)
+
+-- pairs before those of others
+abbrev pub followed_by : Result (List GivenPair) CliFault → Result (List GivenPair) CliFault → Result (List GivenPair) CliFault
+followed_by front back = read_then front (λ pairs. read_then back (λ others. Ok (pairs ++ others)))
+
+-- All pieces but the last are lines. The first fault ends them.
+abbrev pub pieces_read : Bool → ℕ → List (List ℕ) → Result (List GivenPair) CliFault
+pieces_read long done [] = Ok []
+pieces_read long done (piece ∷ pieces) =
+    elim pieces [
+      | [] ↦ text_end_read long done piece
+      | next ∷ others ↦ followed_by (line_read done piece) (pieces_read long (done + 1) pieces)
+    ]
+
+-- The pairs of a text, in the order of its lines.
+abbrev pub pairs_read : List ℕ → Result (List GivenPair) CliFault
+pairs_read text = pieces_read (nat_lt longest_text (length text)) 0 (slice_split is_newline (take longest_text text))

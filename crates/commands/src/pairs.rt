@@ -1,0 +1,159 @@
+//! The pairs of a user and a subtree that the lines of a text name.
+ghost use Rattle.std.specs.Prelude.{◌≡◌, ◌≢◌, ◌+◌, ◌<◌, ◌++◌, ◌∷◌, List, [], map, length, Some, None, Ok, Err, IfErr, IfSome, OnOk, MatchOption, MatchResult};
+ghost use Rattle.std.specs.List.{slice_split};
+ghost use Rattle.arguments.specs.Given.{ids_of_pair};
+ghost use Rattle.cg_cli.specs.Replays.{is_newline};
+ghost use Rattle.cg_cli.specs.declared.fault.CliFault.TheVariants.{Line};
+ghost use Rattle.cg_lines.specs.declared.lines.fault.LineFault.TheVariants.{BadWord};
+ghost use Rattle.commands.specs.PairLines.{GivenPair, words_read, line_read, text_end_read, pieces_read, pairs_read};
+
+use arguments::fault::ArgumentsFault;
+use arguments::named_pair::NamedPair;
+use cg_cgroup::path::{Path, PathFault};
+use cg_cli::fault::CliFault;
+use cg_cli::replay::line_end;
+use cg_lines::lines::LineFault;
+use std::alloc::Global;
+use std::str;
+
+/// How many bytes of a text are looked at, as many as a tree's text may have.
+const LONGEST_TEXT: usize = 16_777_216;
+
+/// The pairs of a text, in the order of its lines. A line that doesn't begin as one that names a pair is passed over.
+///
+/// # Errors
+/// `Line` with the number of the first line that begins so and names no pair (`BadWord`), that has no newline (`Cut`) or in which
+/// more stands than is looked at (`TooLong`); `NoMemory` where an allocation was refused.
+pub(crate) fn read_pairs<'a>(alloc: Global, text: &'a [u8]) -> Result<Vec<NamedPair<'a>>, CliFault>
+    ensures pairs { MatchResult result
+        (λ pairs. pairs_read text.now ≡ Ok (map ids_of_pair pairs.items))
+        (λ fault. fault ≢ CliFault.NoMemory → pairs_read text.now ≡ Err fault) }
+    ensures read { IfErr result (λ fault. fault ≢ CliFault.Write) }
+{
+    if text.len() > LONGEST_TEXT {
+        pairs_of(alloc, &text[..LONGEST_TEXT], true)
+    } else {
+        pairs_of(alloc, text, false)
+    }
+}
+
+/// The pairs of the lines of a text's front, where that is looked at.
+fn pairs_of<'a>(
+    alloc: Global,
+    front: &'a [u8],
+    is_long: bool,
+) -> Result<Vec<NamedPair<'a>>, CliFault>
+    requires { length front.now < LONGEST_TEXT + 1 }
+    ensures pairs { MatchResult result
+        (λ pairs. pieces_read is_long 0 (slice_split is_newline front.now) ≡ Ok (map ids_of_pair pairs.items))
+        (λ fault. fault ≢ CliFault.NoMemory → pieces_read is_long 0 (slice_split is_newline front.now) ≡ Err fault) }
+    ensures read { IfErr result (λ fault. fault ≢ CliFault.Write) }
+{
+    let mut pairs = Vec::new(alloc);
+    let mut rest = front;
+    let mut done = 0;
+    while let Some((line, others)) = cut_at_newline(rest) {
+        push_line(alloc, &mut pairs, done, line)?;
+        done += 1;
+        rest = others;
+    }
+    test_end(is_long, done, rest)?;
+    Ok(pairs)
+}
+
+/// The pair of a line, behind some, where the line begins as one that names a pair.
+fn push_line<'a>(
+    alloc: Global,
+    pairs: &mut Vec<NamedPair<'a>>,
+    done: u32,
+    line: &'a [u8],
+) -> Result<(), CliFault>
+    requires { done < LONGEST_TEXT + 1 }
+    ensures pairs { OnOk result ((more : List GivenPair) × (line_read done line.now ≡ Ok more)
+        × (map ids_of_pair pairs.new.items ≡ map ids_of_pair pairs.old.items ++ more)) }
+    ensures fault { IfErr result (λ fault. fault ≢ CliFault.NoMemory → line_read done line.now ≡ Err fault) }
+    ensures read { IfErr result (λ fault. fault ≢ CliFault.Write) }
+{
+    if let Some(words) = line.strip_prefix(b"pair ") {
+        pairs.push(pair_at(alloc, done + 1, words)?)?;
+    }
+    Ok(())
+}
+
+/// The pair that the words of a line name.
+fn pair_at<'a>(alloc: Global, number: u32, words: &'a [u8]) -> Result<NamedPair<'a>, CliFault>
+    ensures pair { MatchResult result
+        (λ pair. words_read words.now ≡ Some (ids_of_pair pair))
+        (λ fault. fault ≢ CliFault.NoMemory → (words_read words.now ≡ None) × (fault ≡ Line number BadWord)) }
+    ensures read { IfErr result (λ fault. fault ≢ CliFault.Write) }
+{
+    match pair_of(alloc, words) {
+        Ok(pair) => Ok(pair),
+        Err(ArgumentsFault::Usage) => Err(CliFault::Line {
+            number,
+            fault: LineFault::BadWord,
+        }),
+        Err(ArgumentsFault::NoMemory) => Err(CliFault::NoMemory),
+    }
+}
+
+/// The pair of words that are text, whose subtree is a path.
+fn pair_of<'a>(alloc: Global, words: &'a [u8]) -> Result<NamedPair<'a>, ArgumentsFault>
+    ensures { MatchResult result
+        (λ pair. words_read words.now ≡ Some (ids_of_pair pair))
+        (λ fault. fault ≢ ArgumentsFault.NoMemory → words_read words.now ≡ None) }
+{
+    let Ok(words) = str::from_utf8(words) else {
+        return Err(ArgumentsFault::Usage);
+    };
+    let pair = NamedPair::from_words(alloc, words)?;
+    match Path::parse(alloc, pair.subtree) {
+        Ok(_) => Ok(pair),
+        Err(PathFault::BadPath) => Err(ArgumentsFault::Usage),
+        Err(PathFault::NoMemory) => Err(ArgumentsFault::NoMemory),
+    }
+}
+
+/// Whether a text ends behind its last newline.
+fn test_end(is_long: bool, done: u32, rest: &[u8]) -> Result<(), CliFault>
+    requires { done < LONGEST_TEXT + 1 }
+    ensures end { MatchResult result
+        (λ _. text_end_read is_long done rest.now ≡ Ok [])
+        (λ fault. text_end_read is_long done rest.now ≡ Err fault) }
+    ensures read { IfErr result (λ fault. fault ≢ CliFault.Write) }
+{
+    let fault = if is_long {
+        LineFault::TooLong
+    } else if rest.is_empty() {
+        return Ok(());
+    } else {
+        LineFault::Cut
+    };
+    Err(CliFault::Line {
+        number: done + 1,
+        fault,
+    })
+}
+
+/// What is before the first newline, and what is behind it.
+fn cut_at_newline(bytes: &[u8]) -> Option<(&[u8], &[u8])>
+    ensures pieces { MatchOption result (slice_split is_newline bytes.now ≡ bytes.now ∷ [])
+        (λ parts. slice_split is_newline bytes.now ≡ parts.0.now ∷ slice_split is_newline parts.1.now) }
+    ensures less { IfSome result (λ parts. length parts.1.now < length bytes.now) }
+{
+    let end = line_end(bytes);
+    if end == bytes.len() {
+        return None;
+    }
+    Some((&bytes[..end], &bytes[end + 1..]))
+}
+
+/// The line of a text that a fault names.
+pub(crate) fn line_at(alloc: Global, text: &[u8], fault: &CliFault) -> Option<Vec<u8>> {
+    let CliFault::Line { number, .. } = fault else {
+        return None;
+    };
+    let place = usize::try_from(*number).ok()?.checked_sub(1)?;
+    let line = text.split(|byte| *byte == b'\n').nth(place)?;
+    Vec::from_slice(alloc, line).ok()
+}
