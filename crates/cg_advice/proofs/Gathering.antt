@@ -106,7 +106,7 @@ iff_same true c there back = sym (there refl)
 iff_same false true there back = back refl
 iff_same false false there back = refl
 
-same_name-refl : (name : List ℕ) → same_name name name ≡ true
+pub same_name-refl : (name : List ℕ) → same_name name name ≡ true
 same_name-refl name = (bytes_decides name name).1 refl
 
 pub same_named : (name other : EntryName) → same_name (entry_text name) (entry_text other) ≡ same_entry name other
@@ -143,14 +143,14 @@ keyed_same_place key each other is =
 
 -- ---- what is kept of each entry
 
-or_none : (b : Bool) → b || false ≡ b
+pub or_none : (b : Bool) → b || false ≡ b
 or_none true = refl
 or_none false = refl
 
-one_way : {A : Type 0} (test : A → Bool) (xs : List A) (x : A) → list_any test (xs ++ x ∷ []) ≡ list_any test xs || test x
+pub one_way : {A : Type 0} (test : A → Bool) (xs : List A) (x : A) → list_any test (xs ++ x ∷ []) ≡ list_any test xs || test x
 one_way test xs x = list_any-append test xs (x ∷ []) ∙ ap (λ b. list_any test xs || b) (or_none (test x))
 
-ways_more : (all : List Entering) (x : Entering) → ways_among (all ++ x ∷ []) ≡ ways_with (ways_among all) x.user x.at.entry
+pub ways_more : (all : List Entering) (x : Entering) → ways_among (all ++ x ∷ []) ≡ ways_with (ways_among all) x.user x.at.entry
 ways_more all x = λ i. record {
   owner = one_way (λ each. is_by Owner each.at.entry each.user) all x i;
   group = one_way (λ each. is_by Group each.at.entry each.user) all x i;

@@ -4,3 +4,4 @@ pub mod Running
 pub mod Advising
 pub mod Gathering
 pub mod Written
+pub mod Thinning

@@ -1,3 +1,4 @@
 pub mod AdviceLines
 pub mod Advised
 pub mod Ways
+pub mod Thinned

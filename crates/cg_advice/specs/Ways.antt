@@ -48,6 +48,12 @@ ways_with ways user entry = record {
   outside = ways.outside || not (in_group user entry.gid);
 }
 
+-- whether they say all of an entry that one more user would add
+abbrev pub tells : Ways → Identity → Entry → Bool
+tells ways user entry =
+    cond (owns user entry) ways.owner (cond (in_group user entry.gid) ways.group ways.others)
+    && cond (in_group user entry.gid) ways.inside ways.outside
+
 -- those of some users at an entry
 abbrev pub ways_of : List Identity → Entry → Ways
 ways_of users entry = record {

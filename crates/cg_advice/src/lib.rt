@@ -6,5 +6,7 @@ mod gathered;
 pub mod laws;
 pub mod mend;
 pub mod pair;
+mod stand;
+mod table;
 pub mod text;
 pub mod ways;

@@ -1,6 +1,7 @@
 //! Users and subtrees that are to be contained against them, and who gets in.
 ghost use Rattle.cg_advice.specs.AdviceLines.{IsShown};
 
+use crate::ways::Ways;
 use cg_cgroup::path::Path;
 use cg_cgroup::user::User;
 use cg_model::guard::GuardedEntry;
@@ -18,4 +19,13 @@ pub struct Entrant<'a> {
     pub pair: Pair<'a>,
     pub at: GuardedEntry,
     ghost shown: { IsShown pair.subtree.now at },
+}
+
+/// An entry on which a guard of a subtree stands, and by what those get in who were met there.
+#[derive(Clone, Copy)]
+pub struct Stand<'a> {
+    pub subtree: &'a Path,
+    pub at: GuardedEntry,
+    pub ways: Ways,
+    ghost shown: { IsShown subtree.now at },
 }

@@ -8,15 +8,18 @@ ghost use Rattle.cg_model.specs.Once.{once};
 ghost use Rattle.cg_lines.specs.OperationLines.{mode_word};
 ghost use Rattle.cg_cgroup.specs.declared.files.Limit.TheVariants.{At};
 ghost use Rattle.cg_model.specs.Clauses.{unless};
-ghost use Rattle.cg_model.specs.Mends.{same_place, subtrees_of};
+ghost use Rattle.cg_model.specs.Mends.{same_place};
 ghost use Rattle.cg_model.specs.declared.mend.Mend.TheVariants.{Set};
 ghost use Rattle.cg_advice.specs.AdviceLines.{owner_word, mend_line, mend_lines, fails_line, over_line, over_lines, is_pair_guarded, advice_lines, IsShown, len_of};
 ghost use Rattle.cg_advice.specs.Ways.{pair_of, entering, has_way, lines_by, gathered_lines};
+ghost use Rattle.cg_advice.specs.Thinned.{path_of};
+ghost use Rattle.cg_cgroup.specs.Paths.{same_path};
 
 use crate::entrants::entrants;
 use crate::gathered::{Gathered, key_of};
 use crate::mend::{chmod_of, chown_of, class_name};
 use crate::pair::{Entrant, Pair};
+use crate::table::Table;
 use crate::ways::Ways;
 use cg_cgroup::files::{Limit, LimitFile};
 use cg_cgroup::memory::NoMemory;
@@ -49,9 +52,9 @@ pub fn advice_lines<H: Hierarchy>(
         return Ok(None);
     }
     let mut text = Vec::new(alloc);
-    let entrants = entrants(alloc, tree, pairs)?;
-    push_entries(alloc, &mut text, entrants.as_slice())?;
-    push_all_limits(alloc, &mut text, tree, pairs)?;
+    let met = entrants(alloc, tree, pairs)?;
+    push_entries(alloc, &mut text, met.entrants.as_slice())?;
+    push_all_limits(alloc, &mut text, tree, met.tables.as_slice())?;
     Ok(Some(text))
 }
 
@@ -127,17 +130,17 @@ fn push_all_limits<H: Hierarchy>(
     alloc: Global,
     text: &mut Vec<u8>,
     tree: &H,
-    pairs: &[Pair<'_>],
+    tables: &[Table<'_>],
 ) -> Result<(), NoMemory>
-    requires { All (λ pair. IsSubtree (H.state tree.now) pair.subtree.now) pairs.now }
+    requires { All (λ table. has_row (H.state tree.now) (path_of table) ≡ true) tables.now }
     ensures { OnOk result (text.new.items ≡ text.old.items
-        ++ flat_map (over_lines (H.state tree.now)) (subtrees_of (map pair_of pairs.now))) }
+        ++ flat_map (over_lines (H.state tree.now)) (once same_path (map path_of tables.now))) }
 {
     let mut seen = BTreeSet::new(alloc);
-    for pair in pairs {
-        let is_new = seen.insert(pair.subtree)?;
+    for table in tables {
+        let is_new = seen.insert(table.subtree)?;
         if is_new {
-            push_limits(alloc, text, tree, pair.subtree)?;
+            push_limits(alloc, text, tree, table.subtree)?;
         }
     }
     Ok(())

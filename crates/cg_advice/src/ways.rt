@@ -1,6 +1,6 @@
 //! By what users get in at an entry.
 ghost use Rattle.std.specs.Prelude.{◌≡◌};
-ghost use Rattle.cg_advice.specs.Ways.{no_ways, ways_with, has_way};
+ghost use Rattle.cg_advice.specs.Ways.{no_ways, ways_with, tells, has_way};
 
 use cg_cgroup::user::{Entry, User};
 use cg_model::mend::Class;
@@ -48,6 +48,22 @@ impl Ways {
             inside: self.inside || inside,
             outside: self.outside || !inside,
         }
+    }
+
+    /// Whether these say all of an entry that one more user would add.
+    pub fn tells(self, user: &User, entry: &Entry) -> bool
+        ensures { result ≡ tells self user.now entry.now }
+    {
+        let inside = user.in_group(entry.gid);
+        let class = if user.owns(entry) {
+            self.owner
+        } else if inside {
+            self.group
+        } else {
+            self.others
+        };
+        let side = if inside { self.inside } else { self.outside };
+        class && side
     }
 
     /// Whether one gets in by a class.

@@ -5,30 +5,29 @@ use Rattle.std.specs.BTreeSet.{contains}
 use Rattle.cg_cgroup.specs.Paths.{Names, path_cmp, same_path}
 use Rattle.cg_model.specs.Once.{once}
 use Rattle.cg_advice.specs.AdviceLines.{over_lines}
-use Rattle.cg_advice.specs.declared.pair.Pair.{Pair}
-use Rattle.cg_advice.proofs.Gathering.{one_more, tied_paths, subtrees_all, AreWritten, written_first, written_again}
+use Rattle.cg_advice.specs.Thinned.{path_of}
+use Rattle.cg_advice.proofs.Gathering.{one_more, tied_paths, AreWritten, written_first, written_again}
 use Rattle.cg_advice.proofs.text.push_all_limits.Goals as goal
 use Rattle.cg_advice.proofs.text.push_all_limits.Goals.{then-is_new+in_ok-push_limits, else-is_new}
 
-pub loop-pair-preserved : goal.loop-pair-preserved
-loop-pair-preserved g c =
+pub loop-table-preserved : goal.loop-table-preserved
+loop-table-preserved g c =
     let lines = over_lines (g.H.Hierarchy.state c.args.tree.now) in
-    let path = λ (pair : Pair). pair.subtree.now in
-    let front = map path (take c.loop-pair.pair-index c.args.pairs.now) in
-    let key = c.pair-item.result.subtree in
+    let front = map path_of (take c.loop-table.table-index c.args.tables.now) in
+    let key = c.table-item.result.subtree in
     let cmp = λ (a b : Bor Names). path_cmp a.now b.now in
     let meets = λ (key : Bor Names) (path : Names). same_path path key.now in
     subst (λ l. AreWritten lines same_path meets c.if-is_new.text.items c.args.text.now.items l (contains cmp c.insert.new.self))
-    (sym (one_more path c.args.pairs.now c.loop-pair.pair-index c.pair-item.result c.loop-pair-test.true c.pair-item.is))
+    (sym (one_more path_of c.args.tables.now c.loop-table.table-index c.table-item.result c.loop-table-test.true c.table-item.is))
     (elim c.if-is_new.branch [
       | then-is_new+in_ok-push_limits w ↦
-          written_first lines same_path meets c.loop-pair.text.items c.args.text.now.items front (contains cmp c.loop-pair.seen)
-          (contains cmp c.insert.new.self) (λ q. is_eq (cmp key q)) key.now key c.in_ok-is_new.is_new c.loop-pair.invariant
+          written_first lines same_path meets c.loop-table.text.items c.args.text.now.items front (contains cmp c.loop-table.seen)
+          (contains cmp c.insert.new.self) (λ q. is_eq (cmp key q)) key.now key c.in_ok-is_new.is_new c.loop-table.invariant
           (λ q. tied_paths key.now q.now) (λ other. refl) c.in_ok-is_new.ensures.updates.0 c.in_ok-is_new.ensures.added w.if-is_new.true
           c.if-is_new.text.items (ap (λ v. v.items) w.text-is ∙ w.in_ok-push_limits.ensures)
       | else-is_new w ↦
-          written_again lines same_path meets c.loop-pair.text.items c.args.text.now.items front (contains cmp c.loop-pair.seen)
-          (contains cmp c.insert.new.self) (λ q. is_eq (cmp key q)) key.now key c.in_ok-is_new.is_new c.loop-pair.invariant
+          written_again lines same_path meets c.loop-table.text.items c.args.text.now.items front (contains cmp c.loop-table.seen)
+          (contains cmp c.insert.new.self) (λ q. is_eq (cmp key q)) key.now key c.in_ok-is_new.is_new c.loop-table.invariant
           (λ q. tied_paths key.now q.now) (λ other. refl) c.in_ok-is_new.ensures.updates.0 c.in_ok-is_new.ensures.added w.if-is_new.false
           c.if-is_new.text.items (ap (λ v. v.items) w.text-is)
     ])
@@ -36,7 +35,6 @@ loop-pair-preserved g c =
 pub returns : goal.returns
 returns g c =
     let lines = over_lines (g.H.Hierarchy.state c.args.tree.now) in
-    c.loop-pair.invariant.lines
-    ∙ ap (λ pairs. c.args.text.now.items ++ flat_map lines (once same_path (map (λ (pair : Pair). pair.subtree.now) pairs)))
-    (take_all c.loop-pair.pair-index c.args.pairs.now c.loop-pair-test.false)
-    ∙ ap (λ paths. c.args.text.now.items ++ flat_map lines (once same_path paths)) (subtrees_all c.args.pairs.now)
+    c.loop-table.invariant.lines
+    ∙ ap (λ tables. c.args.text.now.items ++ flat_map lines (once same_path (map path_of tables)))
+    (take_all c.loop-table.table-index c.args.tables.now c.loop-table-test.false)

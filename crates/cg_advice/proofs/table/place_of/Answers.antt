@@ -1,0 +1,36 @@
+use Rattle.std.proofs.Common.{◌≡◌, ap, sym, ◌∙◌, map, true, length, arith}
+use Rattle.cg_cgroup.specs.Paths.{Names}
+use Rattle.cg_advice.specs.Thinned.{path_of, is_of}
+use Rattle.cg_advice.specs.declared.table.Table.{Table}
+use Rattle.std.specs.Prelude.{List, ℕ}
+use Rattle.cg_advice.proofs.Thinning.{is_of_at, named_again, pushed_at, named_pushed}
+use Rattle.cg_advice.proofs.table.place_of.Goals as goal
+
+pub returns-then-is_of-clause-place : goal.returns-then-is_of-clause-place
+returns-then-is_of-clause-place g c =
+    is_of_at c.args.tables.now.items c.args.guess c.args.subtree.now
+    (ap (λ tables. is_of tables c.args.guess c.args.subtree.now) (sym c.as_slice.ensures.value) ∙ sym c.is_of.ensures ∙ c.if-is_of.true)
+
+pub returns-then-is_of-clause-named : goal.returns-then-is_of-clause-named
+returns-then-is_of-clause-named g c = λ paths named.
+    named_again (map path_of c.args.tables.now.items) paths c.args.subtree.now c.args.guess (returns-then-is_of-clause-place g c) named
+
+pub returns-then-is_of-2-clause-place : goal.returns-then-is_of-2-clause-place
+returns-then-is_of-2-clause-place g c =
+    is_of_at c.args.tables.now.items c.unwrap_or-known.result c.args.subtree.now
+    (ap (λ tables. is_of tables c.unwrap_or-known.result c.args.subtree.now) (sym c.as_slice-2.ensures.value) ∙ sym c.is_of-2.ensures
+    ∙ c.if-is_of-2.true)
+
+pub returns-then-is_of-2-clause-named : goal.returns-then-is_of-2-clause-named
+returns-then-is_of-2-clause-named g c = λ paths named.
+    named_again (map path_of c.args.tables.now.items) paths c.args.subtree.now c.unwrap_or-known.result
+    (returns-then-is_of-2-clause-place g c) named
+
+pub returns-clause-place : goal.returns-clause-place
+returns-clause-place g c =
+    pushed_at c.args.tables.now.items c.push.new.self.items _ c.len-place.result
+    (omega (arith, c.len-place.ensures, c.as_slice.ensures.len, ap length c.as_slice.ensures.value)) c.in_ok-push.ensures.items
+
+pub returns-clause-named : goal.returns-clause-named
+returns-clause-named g c = λ paths named.
+    named_pushed c.args.tables.now.items c.push.new.self.items _ paths c.in_ok-push.ensures.items named
