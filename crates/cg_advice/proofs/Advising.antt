@@ -15,15 +15,15 @@ use Rattle.cg_cgroup.specs.declared.files.Limit.TheVariants.{At}
 use Rattle.cg_cgroup.specs.declared.files.LimitFile.{LimitFile}
 use Rattle.cg_cgroup.specs.declared.files.LimitFile.TheVariants.{MaxDescendants, MaxDepth}
 use Rattle.cg_cgroup.specs.declared.files.EntryName.{EntryName}
-use Rattle.cg_cgroup.proofs.PathOrder.{same_path-is, same_path_refl}
+use Rattle.cg_cgroup.proofs.PathOrder.{same_path_refl}
 use Rattle.cg_cgroup.proofs.CgroupLaws.{same_entry-refl}
 use Rattle.cg_model.specs.States.{State, row_at, entry_at, value_at, paths_of, count_below, depth_below}
 use Rattle.cg_model.specs.WellFormed.{IsWellFormed, enabled_at}
 use Rattle.cg_steps.proofs.StateCounts.{paths_of-with_mode, paths_of-with_value, count_below-same_paths, depth_below-same_paths}
 use Rattle.cg_steps.proofs.StateEntries.{enabled_at-with_mode, enabled_at-with_value}
 use Rattle.cg_steps.proofs.FormedLaws.{formed-with_mode, formed-with_value}
-use Rattle.cg_steps.proofs.Lists.{all-append, all-flat_map, all-each, all-both}
-use Rattle.cg_steps.proofs.OnceLaws.{all-once, all-filter}
+use Rattle.cg_steps.proofs.Lists.{all-append, all-each, all-both}
+use Rattle.cg_steps.proofs.OnceLaws.{all-once}
 use Rattle.cg_model.specs.Clauses.{unless, present}
 use Rattle.cg_steps.proofs.ClauseLaws.{no_parts, no_unless, none_each, each_none}
 use Rattle.cg_steps.proofs.LimitLaws.{fits_in, descendants-limit, depth-limit}

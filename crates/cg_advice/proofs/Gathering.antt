@@ -1,6 +1,6 @@
 -- Who gets in, and by what, gathered one after another.
-use Rattle.std.proofs.Common.{◌≡◌, ℕ, zero, suc, ◌+◌, ◌<◌, ◌≤◌, Bool, true, false, cond, ◌&&◌, ◌||◌, not, Bor, List, [], ◌∷◌, ◌++◌, append_assoc, append-nil, map, length, take, drop, get_or, filter, take-suc, add-one, refl, sym, ap, ◌∙◌, arith, Option, Some, None, option_and_then}
-use Rattle.std.specs.Prelude.{slice_get, unwrap_or, is_some, is_none}
+use Rattle.std.proofs.Common.{◌≡◌, ℕ, zero, suc, ◌+◌, ◌<◌, Bool, true, false, cond, ◌&&◌, ◌||◌, not, List, [], ◌∷◌, ◌++◌, append_assoc, append-nil, map, length, take, get_or, filter, take-suc, add-one, refl, sym, ap, ◌∙◌, arith, Option, Some, None}
+use Rattle.std.specs.Prelude.{unwrap_or, is_some, is_none}
 use Rattle.std.specs.List.{flat_map, list_any, list_all, AllByRecursion}
 use Rattle.std.specs.Ordering.{nat_cmp, is_eq}
 use Rattle.std.specs.Cmp.{both_tied}
@@ -12,7 +12,7 @@ use Rattle.std.proofs.lemmas.List.Elements.{filter-append}
 use Rattle.std.proofs.lemmas.List.Folds.{list_any-append}
 use Rattle.cg_cgroup.specs.Paths.{Names, path_cmp, same_path, same_name}
 use Rattle.cg_cgroup.specs.Identity.{Identity}
-use Rattle.cg_cgroup.specs.Users.{reaches, in_group}
+use Rattle.cg_cgroup.specs.Users.{in_group}
 use Rattle.cg_cgroup.specs.Files.{entry_text, same_entry}
 use Rattle.cg_cgroup.specs.declared.user.Entry.{Entry}
 use Rattle.cg_cgroup.specs.declared.files.EntryName.{EntryName}
@@ -21,20 +21,14 @@ use Rattle.cg_cgroup.proofs.CgroupLaws.{same_entry-true, same_entry-refl}
 use Rattle.cg_cgroup.proofs.NameLaws.{entry_names}
 use Rattle.cg_model.specs.States.{State}
 use Rattle.cg_model.specs.Once.{once}
-use Rattle.cg_model.specs.Clauses.{unless}
-use Rattle.cg_model.specs.Guards.{guarded_entries, standing}
-use Rattle.cg_model.specs.declared.guard.GuardedEntry.{GuardedEntry}
 use Rattle.cg_model.specs.Mended.{is_by}
-use Rattle.cg_model.specs.declared.mend.Class.{Class}
 use Rattle.cg_model.specs.declared.mend.Class.TheVariants.{Owner, Group, Others}
-use Rattle.cg_model.specs.Mends.{Pair as Named, Entrant as Entering, if_reached, reached_of, reached, entrant, entrants_of, entrants, is_at, same_place, users_at, met, subtrees_of}
-use Rattle.cg_guards.proofs.TableWalk.{walk_turn, drop_all}
+use Rattle.cg_model.specs.Mends.{Pair as Named, Entrant as Entering, entrants, is_at, same_place, users_at, met, subtrees_of}
 use Rattle.cg_steps.proofs.OnceLaws.{once_more, all-once}
 use Rattle.cg_steps.proofs.Lists.{all-each}
 use Rattle.cg_advice.specs.AdviceLines.{entry_lines, over_lines, pairs_lines}
-use Rattle.cg_advice.specs.Ways.{no_ways, ways_with, ways_of, ways_among, ways_at, AreGathered, Key, key_cmp, is_keyed, pair_of, lines_by, gathered_lines}
+use Rattle.cg_advice.specs.Ways.{no_ways, ways_with, ways_among, ways_at, AreGathered, Key, key_cmp, is_keyed, lines_by, gathered_lines}
 use Rattle.cg_advice.specs.declared.ways.Ways.{Ways}
-use Rattle.cg_advice.specs.declared.pair.Pair.{Pair}
 use Rattle.cg_advice.proofs.Running.{IsThere, entrants-there, this-there}
 
 pub map-append : {A B : Type 0} (g : A → B) (xs ys : List A) → map g (xs ++ ys) ≡ map g xs ++ map g ys
@@ -50,54 +44,6 @@ one_more g xs i x within is =
 
 pub flat_more : {A B : Type 0} (f : A → List B) (xs : List A) (x : A) → flat_map f (xs ++ x ∷ []) ≡ flat_map f xs ++ f x
 flat_more f xs x = flat_map-append f xs (x ∷ []) ∙ ap (λ l. flat_map f xs ++ l) (append-nil (f x))
-
--- what was made of a list so far, and of one more
-pub made_more : {A B C : Type 0} (f : B → List C) (g : A → B) (xs : List A) (i : ℕ) (x : A) (old new : List C) → i < length xs
-    → x ≡ get_or xs i x → old ≡ flat_map f (map g (take i xs)) → new ≡ old ++ f (g x) → new ≡ flat_map f (map g (take (i + 1) xs))
-made_more f g xs i x old new within is so_far more =
-    more ∙ ap (λ l. l ++ f (g x)) so_far
-    ∙ sym (ap (flat_map f) (one_more g xs i x within is) ∙ flat_more f (map g (take i xs)) (g x))
-
--- ---- those of a pair, one guarded entry after another
-
-module _ (st : State) (pair : Named) (place : ℕ) (front : List Entering) where
-  abbrev left : ℕ → List GuardedEntry
-  left n = flat_map (reached_of st pair.user pair.subtree) (drop n (guarded_entries pair.subtree))
-
-  pub none_met : None ≡ option_and_then (standing st pair.subtree) (slice_get (guarded_entries pair.subtree) place)
-      → front ++ map (entrant pair) (left (place + 1)) ≡ front ++ map (entrant pair) (left place)
-  none_met is =
-      ap (λ rest. front ++ map (entrant pair) rest)
-      (sym (walk_turn st pair.subtree (if_reached pair.user) (guarded_entries pair.subtree) place None is))
-
-  module _ (at : GuardedEntry) (is : Some at ≡ option_and_then (standing st pair.subtree) (slice_get (guarded_entries pair.subtree) place))
-    where
-      here : (b : Bool) → reaches pair.user at.entry ≡ b
-          → left place ≡ cond b (at ∷ []) [] ++ left (place + 1)
-      here b gets_in =
-          walk_turn st pair.subtree (if_reached pair.user) (guarded_entries pair.subtree) place (Some at) is
-          ∙ ap (λ l. l ++ left (place + 1)) (by b gets_in)
-        where
-          by : (b : Bool) → reaches pair.user at.entry ≡ b → if_reached pair.user at ≡ cond b (at ∷ []) []
-          by true gets_in = ap (λ r. unless (not r) at) gets_in
-          by false gets_in = ap (λ r. unless (not r) at) gets_in
-
-      pub one_met : (new : List Entering) → reaches pair.user at.entry ≡ true → new ≡ front ++ (entrant pair at ∷ [])
-          → new ++ map (entrant pair) (left (place + 1)) ≡ front ++ map (entrant pair) (left place)
-      one_met new gets_in is_new =
-          ap (λ l. l ++ map (entrant pair) (left (place + 1))) is_new
-          ∙ append_assoc front (entrant pair at ∷ []) (map (entrant pair) (left (place + 1)))
-          ∙ ap (λ rest. front ++ map (entrant pair) rest) (sym (here true gets_in))
-
-      pub one_kept_off : reaches pair.user at.entry ≡ false
-          → front ++ map (entrant pair) (left (place + 1)) ≡ front ++ map (entrant pair) (left place)
-      one_kept_off off = ap (λ rest. front ++ map (entrant pair) rest) (sym (here false off))
-
-  pub none_left : length (guarded_entries pair.subtree) ≤ place → front ++ map (entrant pair) (left place) ≡ front
-  none_left all =
-      ap (λ gs. front ++ map (entrant pair) (flat_map (reached_of st pair.user pair.subtree) gs))
-      (drop_all (guarded_entries pair.subtree) place all)
-      ∙ append-nil front
 
 -- ---- keys
 
@@ -256,11 +202,6 @@ module _ {X K : Type 0} (lines_of : X → List ℕ) (same : X → X → Bool) (m
 
 pub tied_paths : (path other : Names) → is_eq (path_cmp path other) ≡ same_path path other
 tied_paths path other = sym (lists_ties (slice_cmp nat_cmp) texts_ties path other)
-
--- all that is taken of a list, by something of each
-pub subtrees_all : (pairs : List Pair) → map (λ pair. pair.subtree.now) pairs ≡ map (λ (named : Named). named.subtree) (map pair_of pairs)
-subtrees_all [] = refl
-subtrees_all (pair ∷ pairs) = ap (λ l. pair.subtree.now ∷ l) (subtrees_all pairs)
 
 -- ---- a test of each
 

@@ -1,6 +1,6 @@
 -- What changes do to one entry and to one value, one change after another.
 use Rattle.std.proofs.Common.{◌≡◌, ℕ, Bool, true, false, cond, ◌&&◌, ◌||◌, not, nat_eq, List, [], ◌∷◌, ◌++◌, map, length, take, take_all, refl, sym, ap, ◌∙◌, arith, Option, Some, None, option_map}
-use Rattle.std.specs.List.{flat_map, list_any, filter, AllByRecursion}
+use Rattle.std.specs.List.{flat_map, list_any, AllByRecursion}
 use Rattle.std.proofs.lemmas.Bool.{eqb-true, and_parts}
 use Rattle.std.proofs.lemmas.Option.{same_Some}
 use Rattle.cg_cgroup.specs.Paths.{Names, same_path}
@@ -14,18 +14,18 @@ use Rattle.cg_cgroup.specs.declared.files.Limit.TheVariants.{At}
 use Rattle.cg_cgroup.specs.declared.files.LimitFile.TheVariants.{MaxDescendants, MaxDepth}
 use Rattle.cg_cgroup.specs.declared.files.LimitFile.{LimitFile}
 use Rattle.cg_cgroup.specs.declared.files.EntryName.{EntryName}
-use Rattle.cg_cgroup.proofs.PathOrder.{same_path-is, same_path_refl}
-use Rattle.cg_cgroup.proofs.CgroupLaws.{same_entry-true, same_entry-refl}
+use Rattle.cg_cgroup.proofs.PathOrder.{same_path-is}
+use Rattle.cg_cgroup.proofs.CgroupLaws.{same_entry-true}
 use Rattle.cg_model.specs.States.{State, entry_at, value_at, count_below, depth_below}
 use Rattle.cg_steps.proofs.StateEntries.{entry_at-with_mode, entry_at-with_value, value_at-with_mode, value_at-with_value}
-use Rattle.cg_steps.proofs.Lists.{all-flat_map, all-present, all-each}
+use Rattle.cg_steps.proofs.Lists.{all-flat_map, all-each}
 use Rattle.cg_steps.proofs.OnceLaws.{any-once, all-once, filter-none}
 use Rattle.cg_model.specs.Clauses.{unless, present}
 use Rattle.cg_model.specs.Limits.{fits_descendants, fits_depth}
 use Rattle.cg_model.specs.Guards.{Guarded, guarded_entry, guarded_entries, found}
 use Rattle.cg_model.specs.declared.guard.GuardedEntry.{GuardedEntry}
 use Rattle.cg_model.specs.Mended.{given_uid, shut_mode, mended}
-use Rattle.cg_model.specs.Mends.{Pair, Entrant, entrant, entrants_of, entrants, is_at, same_place, users_at, users_with, if_reached, reached_of, reached, chown_of, chmod_of, entry_mends, descendants_of, depth_of, limit_mends, Change, changes_at, entry_changes, limit_changes, met, subtrees_of, mends, owned_by, made_one, made, advised}
+use Rattle.cg_model.specs.Mends.{Pair, Entrant, entrant, entrants_of, entrants, is_at, same_place, users_at, users_with, if_reached, reached_of, reached, chown_of, chmod_of, entry_mends, descendants_of, depth_of, Change, changes_at, entry_changes, limit_changes, met, subtrees_of, mends, owned_by, made_one, made, advised}
 use Rattle.cg_model.specs.Advised.{raised, is_named}
 use Rattle.cg_advice.specs.Advised.{all_but_limits}
 use Rattle.cg_model.specs.declared.mend.Mend.{Mend}

@@ -1,5 +1,5 @@
 -- Those who get in without those who get in by nothing new.
-use Rattle.std.proofs.Common.{◌≡◌, ℕ, zero, suc, ◌+◌, ◌<◌, ◌≤◌, Bool, true, false, cond, ◌&&◌, ◌||◌, not, List, [], ◌∷◌, ◌++◌, append_assoc, append-nil, map, length, take, drop, get_or, filter, set, add-one, refl, sym, ap, ◌∙◌, subst, arith, Option, Some, None, option_and_then}
+use Rattle.std.proofs.Common.{◌≡◌, ℕ, zero, suc, ◌+◌, ◌<◌, ◌≤◌, Bool, true, false, cond, ◌&&◌, ◌||◌, not, List, [], ◌∷◌, ◌++◌, append_assoc, append-nil, map, length, take, drop, get_or, filter, set, refl, sym, ap, ◌∙◌, subst, arith, Option, Some, None, option_and_then}
 use Rattle.std.specs.Prelude.{slice_get, unwrap_or}
 use Rattle.std.specs.Option.{option_map}
 use Rattle.std.proofs.lemmas.Option.{slice_get-map}
@@ -8,7 +8,7 @@ use Rattle.std.proofs.lemmas.Bool.{and_parts, and_from, not-true}
 use Rattle.std.specs.Vec.{with_items}
 use Rattle.std.proofs.lemmas.List.{map-append, length-map, with_items_is}
 use Rattle.std.proofs.lemmas.List.Concat.{flat_map-append}
-use Rattle.std.proofs.lemmas.List.Elements.{filter-append, All-weaker, All-set, All-push, All-get_or, All-nil}
+use Rattle.std.proofs.lemmas.List.Elements.{filter-append, All-weaker, All-set, All-get_or}
 use Rattle.std.specs.Cmp.Lexicographic.{bytes_decides}
 use Rattle.cg_cgroup.specs.Paths.{Names, same_path, same_name}
 use Rattle.cg_cgroup.specs.Identity.{Identity}
@@ -26,13 +26,13 @@ use Rattle.cg_model.specs.declared.mend.Class.TheVariants.{Owner, Group, Others}
 use Rattle.cg_model.specs.Mends.{Pair as Named, Entrant as Entering, if_reached, reached_of, entrant, entrants_of, entrants, same_place}
 use Rattle.cg_guards.proofs.TableWalk.{walk_turn, drop_all}
 use Rattle.cg_steps.proofs.OnceLaws.{once_more}
-use Rattle.cg_advice.specs.Ways.{Key, is_keyed, ways_at, ways_among, ways_with, tells, no_ways, lines_by, gathered_lines}
+use Rattle.cg_advice.specs.Ways.{Key, is_keyed, ways_at, ways_among, ways_with, tells, lines_by, gathered_lines}
 use Rattle.cg_advice.specs.AdviceLines.{over_lines, pairs_lines}
 use Rattle.cg_advice.specs.declared.ways.Ways.{Ways}
 use Rattle.cg_advice.specs.declared.pair.Stand.{Stand}
 use Rattle.cg_advice.specs.declared.table.Table.{Table}
 use Rattle.cg_advice.specs.Thinned.{IsThin, IsThinned, AreNamed, Spot, spots_of, spots, spot_of, entered, entered_at, key_at, AreAmong, IsKnown, is_new, joined, AreMet, path_of, is_of, IsTable, HasMet}
-use Rattle.cg_advice.proofs.Gathering.{one_way, ways_more, or_none, IsKeyOf, keyed_same_place, same_name-refl, flat_more, all_written}
+use Rattle.cg_advice.proofs.Gathering.{one_way, ways_more, IsKeyOf, keyed_same_place, same_name-refl, flat_more, all_written}
 
 -- ---- lists with the same first ones
 
@@ -81,18 +81,6 @@ both_bits : (a b p : Bool) → (a ≡ true → b ≡ true) → a || p ≡ true �
 both_bits true b p h is = ap (λ c. c || p) (h refl)
 both_bits false true p h is = refl
 both_bits false false p h is = is
-
-pub none_among : (all : Ways) → AreAmong no_ways all
-none_among all = record {
-  owner = λ is. absurd (no is);
-  group = λ is. absurd (no is);
-  others = λ is. absurd (no is);
-  inside = λ is. absurd (no is);
-  outside = λ is. absurd (no is);
-}
-  where
-    no : false ≡ true → ⊥
-    no is = cc
 
 module _ (some all : Ways) (among : AreAmong some all) (user : Identity) (entry : Entry) where
   -- with one more of the second, and of both
@@ -305,16 +293,6 @@ flat_turn f g (y ∷ ys) (suc i) x within is =
     rw e (ap (λ l. f (g y) ++ l) (flat_turn f g ys i x (omega (arith, within)) is)
     ∙ sym (append_assoc (f (g y)) (flat_map f (take i (map g ys))) (f (g x))))
 
--- before the first
-pub met_none : (user : Identity) (before : List Entering) (old : List Stand) (spots : List Spot)
-    → AreMet user before before old old (take 0 spots)
-met_none user before old spots = record {
-  same = refl;
-  known = λ known. known;
-  kept = λ other known. known;
-  thinned = λ known all thinned. subst (IsThinned before) (sym (append-nil all)) thinned;
-}
-
 module _ (user : Identity) (before after more : List Entering) (old new : List Stand) (place : ℕ) (stand : Stand)
     (within : place < length new) (is : stand ≡ get_or new place stand)
     (so_far : AreMet user before after old new (take place (map spot_of old)))
@@ -421,14 +399,6 @@ module _ (st : State) (pairs : List Named) (pair : Named) (found more : List Ent
         (subst (AreNamed (map path_of tables)) (sym (map-append (λ pair. pair.subtree) pairs (pair ∷ []))) named);
   }
 
--- none yet
-pub none_met_yet : (st : State) → HasMet st [] [] []
-none_met_yet st = record {
-  thinned = record { thin = record { first = refl; met = λ q. refl }; ways = λ q. refl };
-  formed = All-nil (IsTable st []);
-  named = record { first = refl; met = λ q. refl };
-}
-
 -- ---- what is written of them
 
 -- the lines of those who get in by something new are the lines of all
@@ -476,12 +446,6 @@ module _ (st : State) (subtree : Names) (place : ℕ) (stands : List Stand) wher
       ∙ append-nil (map spot_of stands)
 
 -- ---- a table is looked for, or made
-
--- nobody was met at entries yet
-pub none_known : (all : List Entering) (stands : List Stand) → All (λ stand. stand.ways ≡ no_ways) stands → All (IsKnown all) stands
-none_known all stands none =
-    All-weaker (λ stand. stand.ways ≡ no_ways) (IsKnown all)
-    (λ stand is. subst (λ ways. AreAmong ways (ways_at (key_at stand.subtree.now stand.at) all)) (sym is) (none_among _)) stands none
 
 -- a subtree that is named again
 pub named_again : (tables paths : List Names) (path : Names) (place : ℕ) → slice_get tables place ≡ Some path → AreNamed tables paths

@@ -1,9 +1,7 @@
 -- How an answer is found: nobody has to believe it.
 -- What the changes of the advice leave of a tree.
-use Rattle.std.specs.Prelude.{◌≡◌, Bool, not, List, ◌++◌, filter, map}
-use Rattle.std.specs.List.{flat_map, AllByRecursion}
-use Rattle.cg_cgroup.specs.Paths.{Names, same_path}
-use Rattle.cg_cgroup.specs.Identity.{Identity}
+use Rattle.std.specs.Prelude.{not, List, ◌++◌, filter}
+use Rattle.std.specs.List.{flat_map}
 use Rattle.cg_model.specs.States.{State}
 use Rattle.cg_model.specs.Mends.{Pair, Entrant, entrants, same_place, met, subtrees_of, entry_changes, limit_changes, made}
 

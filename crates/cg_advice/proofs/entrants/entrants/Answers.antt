@@ -1,4 +1,4 @@
-use Rattle.std.proofs.Common.{sym, subst, ap, refl, map, take, length, slice_set, arith, ◌<◌}
+use Rattle.std.proofs.Common.{sym, subst, refl, map, take, length, slice_set, arith, ◌<◌}
 use Rattle.std.specs.Vec.{with_items}
 use Rattle.cg_advice.specs.Ways.{pair_of, entering}
 use Rattle.std.proofs.lemmas.List.{length-map}

@@ -1,8 +1,5 @@
-use Rattle.std.proofs.Common.{◌≡◌, ap, sym, ◌∙◌, map, true, length, arith}
-use Rattle.cg_cgroup.specs.Paths.{Names}
+use Rattle.std.proofs.Common.{ap, sym, ◌∙◌, map, length, arith}
 use Rattle.cg_advice.specs.Thinned.{path_of, is_of}
-use Rattle.cg_advice.specs.declared.table.Table.{Table}
-use Rattle.std.specs.Prelude.{List, ℕ}
 use Rattle.cg_advice.proofs.Thinning.{is_of_at, named_again, pushed_at, named_pushed}
 use Rattle.cg_advice.proofs.table.place_of.Goals as goal
 

@@ -1,4 +1,4 @@
-use Rattle.std.proofs.Common.{ap, sym, ◌∙◌, ◌++◌, cond, map, Some, None}
+use Rattle.std.proofs.Common.{ap, ◌∙◌, ◌++◌, cond, map, Some, None}
 use Rattle.std.specs.List.{flat_map}
 use Rattle.cg_cgroup.specs.Paths.{same_path}
 use Rattle.cg_model.specs.Once.{once}
