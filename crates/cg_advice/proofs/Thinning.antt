@@ -31,7 +31,7 @@ use Rattle.cg_advice.specs.AdviceLines.{over_lines, pairs_lines}
 use Rattle.cg_advice.specs.declared.ways.Ways.{Ways}
 use Rattle.cg_advice.specs.declared.pair.Stand.{Stand}
 use Rattle.cg_advice.specs.declared.table.Table.{Table}
-use Rattle.cg_advice.specs.Thinned.{IsThin, IsThinned, AreNamed, Spot, spots_of, spots, spot_of, entered, entered_at, key_at, AreAmong, IsKnown, is_new, joined, AreMet, path_of, is_of, IsTable, HasMet}
+use Rattle.cg_advice.specs.Thinned.{IsThin, IsThinned, AreNamed, Spot, spots_of, spots, spot_of, entered, entered_at, key_at, AreAmong, IsKnown, is_new, joined, AreMet, path_of, is_table_of, IsTable, HaveEntered}
 use Rattle.cg_advice.proofs.Gathering.{one_way, ways_more, IsKeyOf, keyed_same_place, same_name-refl, flat_more, all_written}
 
 -- ---- lists with the same first ones
@@ -169,7 +169,8 @@ module _ (x : Entering) where
   own_key = record { path = refl; name = refl }
 
   keyed_own : is_keyed own x ≡ true
-  keyed_own = and_from (same_path (take x.at.len x.subtree) (take x.at.len x.subtree)) (same_name (entry_text x.at.name) (entry_text x.at.name))
+  keyed_own =
+      and_from (same_path (take x.at.len x.subtree) (take x.at.len x.subtree)) (same_name (entry_text x.at.name) (entry_text x.at.name))
       (same_path_refl (take x.at.len x.subtree)) (same_name-refl (entry_text x.at.name))
 
   -- whichever key is its
@@ -222,7 +223,8 @@ module _ (x : Entering) where
         thin = thin_kept same_place is_keyed found all x own (λ other. keyed_same_place own x other own_key) thinned.thin met_all
             (λ q met. sym (λ i. list_any (λ each. keyed_alike q met each i) all) ∙ met_all);
         ways = λ q.
-            sym (ways_same q (is_keyed q x) refl) ∙ (λ i. cond (is_keyed q x) (ways_with (thinned.ways q i) x.user x.at.entry) (thinned.ways q i))
+            sym (ways_same q (is_keyed q x) refl)
+            ∙ (λ i. cond (is_keyed q x) (ways_with (thinned.ways q i) x.user x.at.entry) (thinned.ways q i))
             ∙ sym (ways_one_more q all x);
       }
 
@@ -299,7 +301,8 @@ module _ (user : Identity) (before after more : List Entering) (old new : List S
     (found : more ≡ after ++ cond (is_new stand user) (entered user (spot_of stand) ∷ []) []) (later : Stand)
     (spot : spot_of later ≡ spot_of stand) (ways : later.ways ≡ joined stand user) where
   known_on : (other : Stand) → IsKnown after other → IsKnown more other
-  known_on other known = subst (λ l. IsKnown l other) (sym found) (known_more other after (is_new stand user) (entered user (spot_of stand)) known)
+  known_on other known =
+      subst (λ l. IsKnown l other) (sym found) (known_more other after (is_new stand user) (entered user (spot_of stand)) known)
 
   stand_known : All (IsKnown before) old → IsKnown after stand
   stand_known known = subst (IsKnown after) (sym is) (All-get_or (IsKnown after) new place stand within (so_far.known known))
@@ -353,7 +356,8 @@ entered_spots st pair (guarded ∷ gs) =
     by false at = refl
 
     one : (found : Option GuardedEntry)
-        → flat_map (entered_at pair.user) (present found (λ at. (pair.subtree, at) ∷ [])) ≡ map (entrant pair) (present found (if_reached pair.user))
+        → flat_map (entered_at pair.user) (present found (λ at. (pair.subtree, at) ∷ []))
+        ≡ map (entrant pair) (present found (if_reached pair.user))
     one None = refl
     one (Some at) = by (reaches pair.user at.entry) at
 
@@ -380,7 +384,7 @@ module _ (st : State) (pairs : List Named) (pair : Named) (found more : List Ent
   flat_one : flat_map (entrants_of st) (pairs ++ pair ∷ []) ≡ entrants st pairs ++ entrants_of st pair
   flat_one = flat_more (entrants_of st) pairs pair
 
-  pub pair_met : HasMet st (pairs ++ pair ∷ []) more (set tables place after)
+  pub pair_met : HaveEntered st (pairs ++ pair ∷ []) more (set tables place after)
   pair_met = record {
     thinned =
         subst (IsThinned more) (ap (λ l. entrants st pairs ++ l) pair_entrants ∙ sym flat_one)
@@ -410,7 +414,7 @@ lines_thinned found all thinned =
 
 -- all parts of the text
 pub all_thinned : (st : State) (pairs : List Named) (found : List Entering) (tables : List Table) (start one all : List ℕ) → start ≡ []
-    → HasMet st pairs found tables
+    → HaveEntered st pairs found tables
     → one ≡ start ++ flat_map (gathered_lines found) (once same_place found)
     → all ≡ one ++ flat_map (over_lines st) (once same_path (map path_of tables)) → all ≡ pairs_lines st pairs
 all_thinned st pairs found tables start one all empty met is_one is_all =
@@ -427,7 +431,8 @@ module _ (st : State) (subtree : Names) (place : ℕ) (stands : List Stand) wher
   pub no_stand : None ≡ option_and_then (standing st subtree) (slice_get (guarded_entries subtree) place)
       → map spot_of stands ++ left (place + 1) ≡ map spot_of stands ++ left place
   no_stand is =
-      ap (λ rest. map spot_of stands ++ rest) (sym (walk_turn st subtree (λ at. (subtree, at) ∷ []) (guarded_entries subtree) place None is))
+      ap (λ rest. map spot_of stands ++ rest)
+      (sym (walk_turn st subtree (λ at. (subtree, at) ∷ []) (guarded_entries subtree) place None is))
 
   pub one_stand : (at : GuardedEntry) → Some at ≡ option_and_then (standing st subtree) (slice_get (guarded_entries subtree) place)
       → (stand : Stand) → spot_of stand ≡ (subtree, at) → (new : List Stand) → new ≡ stands ++ stand ∷ []
@@ -472,9 +477,9 @@ pub named_first : (tables paths : List Names) (path : Names) → AreNamed tables
 named_first tables paths path named =
     thin_more same_path (λ key other. same_path other key) tables paths path path (λ other. refl) named
 
-pub is_of_at : (tables : List Table) (place : ℕ) (path : Names) → is_of tables place path ≡ true
+pub is_table_at : (tables : List Table) (place : ℕ) (path : Names) → is_table_of tables place path ≡ true
     → slice_get (map path_of tables) place ≡ Some path
-is_of_at tables place path is =
+is_table_at tables place path is =
     slice_get-map path_of tables place
     ∙ elim (slice_get tables place) as
     (λ found. unwrap_or (option_map (λ table. same_path (path_of table) path) found) false ≡ true → option_map path_of found ≡ Some path) [

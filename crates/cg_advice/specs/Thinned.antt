@@ -92,8 +92,8 @@ pub record AreMet (user : Identity) (before after : List Entering) (old new : Li
 abbrev pub path_of : Table → Names
 path_of table = table.subtree.now
 
-abbrev pub is_of : List Table → ℕ → Names → Bool
-is_of tables place subtree = unwrap_or (option_map (λ table. same_path (path_of table) subtree) (slice_get tables place)) false
+abbrev pub is_table_of : List Table → ℕ → Names → Bool
+is_table_of tables place subtree = unwrap_or (option_map (λ table. same_path (path_of table) subtree) (slice_get tables place)) false
 
 pub record IsTable (st : State) (all : List Entering) (table : Table) : Type 0 where
   pub subtree : IsSubtree st (path_of table)
@@ -101,7 +101,7 @@ pub record IsTable (st : State) (all : List Entering) (table : Table) : Type 0 w
   pub known : All (IsKnown all) table.stands.items
 
 -- Who was met of some pairs, and the tables of their subtrees.
-pub record HasMet (st : State) (pairs : List Named) (found : List Entering) (tables : List Table) : Type 0 where
+pub record HaveEntered (st : State) (pairs : List Named) (found : List Entering) (tables : List Table) : Type 0 where
   pub thinned : IsThinned found (entrants st pairs)
   pub formed : All (IsTable st found) tables
   pub named : AreNamed (map path_of tables) (map (λ pair. pair.subtree) pairs)

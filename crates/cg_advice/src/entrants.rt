@@ -3,7 +3,7 @@ ghost use Rattle.std.specs.Prelude.{map, IfOk};
 ghost use Rattle.std.specs.List.{All};
 ghost use Rattle.cg_model.specs.Guards.{IsSubtree};
 ghost use Rattle.cg_advice.specs.Ways.{pair_of, entering};
-ghost use Rattle.cg_advice.specs.Thinned.{HasMet};
+ghost use Rattle.cg_advice.specs.Thinned.{HaveEntered};
 
 use crate::pair::{Entrant, Pair};
 use crate::stand::enter_all;
@@ -28,7 +28,7 @@ pub fn entrants<'a, H: Hierarchy>(
     pairs: &[Pair<'a>],
 ) -> Result<Met<'a>, NoMemory>
     requires { All (λ pair. IsSubtree (H.state tree.now) pair.subtree.now) pairs.now }
-    ensures { IfOk result (λ met. HasMet (H.state tree.now) (map pair_of pairs.now) (map entering met.entrants.items) met.tables.items) }
+    ensures { IfOk result (λ met. HaveEntered (H.state tree.now) (map pair_of pairs.now) (map entering met.entrants.items) met.tables.items) }
 {
     let mut entrants = Vec::new(alloc);
     let mut tables: Vec<Table<'a>> = Vec::new(alloc);

@@ -5,7 +5,7 @@ ghost use Rattle.cg_cgroup.specs.Paths.{Names, is_root};
 ghost use Rattle.cg_model.specs.Guards.{IsSubtree};
 ghost use Rattle.cg_model.specs.Mends.{Entrant as Entering};
 ghost use Rattle.cg_advice.specs.Ways.{no_ways};
-ghost use Rattle.cg_advice.specs.Thinned.{spot_of, spots, path_of, is_of, IsTable, AreNamed};
+ghost use Rattle.cg_advice.specs.Thinned.{spot_of, spots, path_of, is_table_of, IsTable, AreNamed};
 
 use crate::pair::Stand;
 use crate::ways::Ways;
@@ -42,11 +42,11 @@ pub fn place_of<'a, H: Hierarchy>(
     ensures named { OnOk result ((paths : List Names) → AreNamed (map path_of tables.old.items) paths
         → AreNamed (map path_of tables.new.items) (paths ++ subtree.now ∷ [])) }
 {
-    if is_of(tables.as_slice(), guess, subtree) {
+    if is_table_of(tables.as_slice(), guess, subtree) {
         return Ok(guess);
     }
     let known = places.get(&subtree).copied().unwrap_or(guess);
-    if is_of(tables.as_slice(), known, subtree) {
+    if is_table_of(tables.as_slice(), known, subtree) {
         return Ok(known);
     }
     let place = tables.len();
@@ -57,8 +57,8 @@ pub fn place_of<'a, H: Hierarchy>(
 }
 
 /// Whether the table of a place is a subtree's.
-fn is_of(tables: &[Table<'_>], place: usize, subtree: &Path) -> bool
-    ensures { result ≡ is_of tables.now place subtree.now }
+fn is_table_of(tables: &[Table<'_>], place: usize, subtree: &Path) -> bool
+    ensures { result ≡ is_table_of tables.now place subtree.now }
 {
     match tables.get(place) {
         Some(table) => table.subtree == subtree,

@@ -11,7 +11,8 @@ pub loop-place-init : goal.loop-place-init
 loop-place-init g c =
     let st = g.H.Hierarchy.state c.args.tree.now in (
       ap (λ l. map spot_of l ++ spots st c.args.subtree.now) c.new-stands.ensures.items,
-      subst (All (λ (stand : Stand). stand.ways ≡ no_ways)) (sym c.new-stands.ensures.items) (All-nil (λ (stand : Stand). stand.ways ≡ no_ways)),
+      subst (All (λ (stand : Stand). stand.ways ≡ no_ways)) (sym c.new-stands.ensures.items)
+          (All-nil (λ (stand : Stand). stand.ways ≡ no_ways)),
     )
 
 pub loop-place-preserved-in_default : goal.loop-place-preserved-in_default
