@@ -31,7 +31,7 @@ use Rattle.cg_advice.specs.AdviceLines.{over_lines, pairs_lines}
 use Rattle.cg_advice.specs.declared.ways.Ways.{Ways}
 use Rattle.cg_advice.specs.declared.pair.Stand.{Stand}
 use Rattle.cg_advice.specs.declared.table.Table.{Table}
-use Rattle.cg_advice.specs.Thinned.{IsThin, IsThinned, AreNamed, Spot, spots_of, spots, spot_of, entered, entered_at, key_at, AreAmong, IsKnown, is_new, joined, AreMet, path_of, is_table_of, IsTable, HaveEntered}
+use Rattle.cg_advice.specs.Thinned.{IsThin, IsThinned, AreTabled, Spot, spots_of, spots, spot_of, entered, entered_at, key_at, AreAmong, IsKnown, is_new, joined, AreMet, table_path, is_table_of, IsTable, HaveEntered}
 use Rattle.cg_advice.proofs.Gathering.{one_way, ways_more, IsKeyOf, keyed_same_place, same_name-refl, flat_more, all_written}
 
 -- ---- lists with the same first ones
@@ -362,9 +362,9 @@ entered_spots st pair (guarded ∷ gs) =
     one (Some at) = by (reaches pair.user at.entry) at
 
 module _ (st : State) (pairs : List Named) (pair : Named) (found more : List Entering) (tables : List Table) (place : ℕ)
-    (table after : Table) (within : place < length tables) (is : table ≡ get_or tables place table) (path : path_of table ≡ pair.subtree)
-    (same : path_of after ≡ path_of table) (thinned : IsThinned found (entrants st pairs)) (formed : All (IsTable st found) tables)
-    (named : AreNamed (map path_of tables) (map (λ pair. pair.subtree) pairs ++ pair.subtree ∷ []))
+    (table after : Table) (within : place < length tables) (is : table ≡ get_or tables place table) (path : table_path table ≡ pair.subtree)
+    (same : table_path after ≡ table_path table) (thinned : IsThinned found (entrants st pairs)) (formed : All (IsTable st found) tables)
+    (named : AreTabled (map table_path tables) (map (λ pair. pair.subtree) pairs ++ pair.subtree ∷ []))
     (met : AreMet pair.user found more table.stands.items after.stands.items (map spot_of table.stands.items)) where
   here_formed : IsTable st found table
   here_formed = subst (IsTable st found) (sym is) (All-get_or (IsTable st found) tables place table within formed)
@@ -398,9 +398,9 @@ module _ (st : State) (pairs : List Named) (pair : Named) (found more : List Ent
         })
         (All-weaker (IsTable st found) (IsTable st more) formed_on tables formed);
     named =
-        subst (λ l. AreNamed l (map (λ pair. pair.subtree) (pairs ++ pair ∷ [])))
-        (sym (set_alike path_of tables place table after within is same))
-        (subst (AreNamed (map path_of tables)) (sym (map-append (λ pair. pair.subtree) pairs (pair ∷ []))) named);
+        subst (λ l. AreTabled l (map (λ pair. pair.subtree) (pairs ++ pair ∷ [])))
+        (sym (set_alike table_path tables place table after within is same))
+        (subst (AreTabled (map table_path tables)) (sym (map-append (λ pair. pair.subtree) pairs (pair ∷ []))) named);
   }
 
 -- ---- what is written of them
@@ -416,7 +416,7 @@ lines_thinned found all thinned =
 pub all_thinned : (st : State) (pairs : List Named) (found : List Entering) (tables : List Table) (start one all : List ℕ) → start ≡ []
     → HaveEntered st pairs found tables
     → one ≡ start ++ flat_map (gathered_lines found) (once same_place found)
-    → all ≡ one ++ flat_map (over_lines st) (once same_path (map path_of tables)) → all ≡ pairs_lines st pairs
+    → all ≡ one ++ flat_map (over_lines st) (once same_path (map table_path tables)) → all ≡ pairs_lines st pairs
 all_thinned st pairs found tables start one all empty met is_one is_all =
     all_written st pairs (entrants st pairs) start one all empty refl
     (is_one ∙ ap (λ l. start ++ l) (lines_thinned found (entrants st pairs) met.thinned))
@@ -453,8 +453,8 @@ module _ (st : State) (subtree : Names) (place : ℕ) (stands : List Stand) wher
 -- ---- a table is looked for, or made
 
 -- a subtree that is named again
-pub named_again : (tables paths : List Names) (path : Names) (place : ℕ) → slice_get tables place ≡ Some path → AreNamed tables paths
-    → AreNamed tables (paths ++ path ∷ [])
+pub named_again : (tables paths : List Names) (path : Names) (place : ℕ) → slice_get tables place ≡ Some path → AreTabled tables paths
+    → AreTabled tables (paths ++ path ∷ [])
 named_again tables paths path place is named =
     let there : list_any (λ other. same_path other path) paths ≡ true =
     sym (named.met path) ∙ any_at (λ other. same_path other path) tables place path is (same_path_refl path) in
@@ -473,41 +473,42 @@ named_again tables paths path place is named =
         either false = refl
 
 -- and one that is named first
-pub named_first : (tables paths : List Names) (path : Names) → AreNamed tables paths → AreNamed (tables ++ path ∷ []) (paths ++ path ∷ [])
+pub named_first : (tables paths : List Names) (path : Names) → AreTabled tables paths → AreTabled (tables ++ path ∷ []) (paths ++ path ∷ [])
 named_first tables paths path named =
     thin_more same_path (λ key other. same_path other key) tables paths path path (λ other. refl) named
 
 pub is_table_at : (tables : List Table) (place : ℕ) (path : Names) → is_table_of tables place path ≡ true
-    → slice_get (map path_of tables) place ≡ Some path
+    → slice_get (map table_path tables) place ≡ Some path
 is_table_at tables place path is =
-    slice_get-map path_of tables place
+    slice_get-map table_path tables place
     ∙ elim (slice_get tables place) as
-    (λ found. unwrap_or (option_map (λ table. same_path (path_of table) path) found) false ≡ true → option_map path_of found ≡ Some path) [
+    (λ found. unwrap_or (option_map (λ table. same_path (table_path table) path) found) false ≡ true
+    → option_map table_path found ≡ Some path) [
       | None ↦ λ no. let never : ⊥ = cc in absurd never
-      | Some table ↦ λ same. ap Some (same_path-is (path_of table) path same)
+      | Some table ↦ λ same. ap Some (same_path-is (table_path table) path same)
     ] is
 
-pub path_at : (tables : List Table) (place : ℕ) (path : Names) → slice_get (map path_of tables) place ≡ Some path
-    → (table : Table) → table ≡ get_or tables place table → path_of table ≡ path
+pub path_at : (tables : List Table) (place : ℕ) (path : Names) → slice_get (map table_path tables) place ≡ Some path
+    → (table : Table) → table ≡ get_or tables place table → table_path table ≡ path
 path_at [] place path is table here = cc
-path_at (one ∷ tables) zero path is table here = let same : path_of one ≡ path = cc in ap path_of here ∙ same
+path_at (one ∷ tables) zero path is table here = let same : table_path one ≡ path = cc in ap table_path here ∙ same
 path_at (one ∷ tables) (suc place) path is table here = path_at tables place path is table here
 
 pub pushed_at : (tables new : List Table) (table : Table) (place : ℕ) → place ≡ length tables → new ≡ tables ++ table ∷ []
-    → slice_get (map path_of new) place ≡ Some (path_of table)
-pushed_at tables new table place last pushed = ap (λ ts. slice_get (map path_of ts) place) pushed ∙ at_end tables place last
+    → slice_get (map table_path new) place ≡ Some (table_path table)
+pushed_at tables new table place last pushed = ap (λ ts. slice_get (map table_path ts) place) pushed ∙ at_end tables place last
   where
-    at_end : (ts : List Table) (n : ℕ) → n ≡ length ts → slice_get (map path_of (ts ++ table ∷ [])) n ≡ Some (path_of table)
+    at_end : (ts : List Table) (n : ℕ) → n ≡ length ts → slice_get (map table_path (ts ++ table ∷ [])) n ≡ Some (table_path table)
     at_end [] zero is = refl
     at_end [] (suc n) is = absurd (omega (arith, is))
     at_end (t ∷ ts) zero is = absurd (omega (arith, is))
     at_end (t ∷ ts) (suc n) is = at_end ts n (omega (arith, is))
 
 pub named_pushed : (tables new : List Table) (table : Table) (paths : List Names) → new ≡ tables ++ table ∷ []
-    → AreNamed (map path_of tables) paths → AreNamed (map path_of new) (paths ++ path_of table ∷ [])
+    → AreTabled (map table_path tables) paths → AreTabled (map table_path new) (paths ++ table_path table ∷ [])
 named_pushed tables new table paths pushed named =
-    subst (λ l. AreNamed l (paths ++ path_of table ∷ [])) (sym (ap (map path_of) pushed ∙ map-append path_of tables (table ∷ [])))
-    (named_first (map path_of tables) paths (path_of table) named)
+    subst (λ l. AreTabled l (paths ++ table_path table ∷ [])) (sym (ap (map table_path) pushed ∙ map-append table_path tables (table ∷ [])))
+    (named_first (map table_path tables) paths (table_path table) named)
 
 -- ---- a table's entries written back
 

@@ -31,8 +31,8 @@ pub record IsThinned (found all : List Entering) : Type 0 where
   pub ways : (key : Key) → ways_at key found ≡ ways_at key all
 
 -- of the subtrees that pairs name
-abbrev pub AreNamed : List Names → List Names → Type 0
-AreNamed found all = IsThin same_path (λ key path. same_path path key) found all
+abbrev pub AreTabled : List Names → List Names → Type 0
+AreTabled found all = IsThin same_path (λ key path. same_path path key) found all
 
 -- ---- entries on which guards stand
 
@@ -89,19 +89,19 @@ pub record AreMet (user : Identity) (before after : List Entering) (old new : Li
 
 -- ---- tables
 
-abbrev pub path_of : Table → Names
-path_of table = table.subtree.now
+abbrev pub table_path : Table → Names
+table_path table = table.subtree.now
 
 abbrev pub is_table_of : List Table → ℕ → Names → Bool
-is_table_of tables place subtree = unwrap_or (option_map (λ table. same_path (path_of table) subtree) (slice_get tables place)) false
+is_table_of tables place subtree = unwrap_or (option_map (λ table. same_path (table_path table) subtree) (slice_get tables place)) false
 
 pub record IsTable (st : State) (all : List Entering) (table : Table) : Type 0 where
-  pub subtree : IsSubtree st (path_of table)
-  pub spots : map spot_of table.stands.items ≡ spots st (path_of table)
+  pub subtree : IsSubtree st (table_path table)
+  pub spots : map spot_of table.stands.items ≡ spots st (table_path table)
   pub known : All (IsKnown all) table.stands.items
 
 -- Who was met of some pairs, and the tables of their subtrees.
 pub record HaveEntered (st : State) (pairs : List Named) (found : List Entering) (tables : List Table) : Type 0 where
   pub thinned : IsThinned found (entrants st pairs)
   pub formed : All (IsTable st found) tables
-  pub named : AreNamed (map path_of tables) (map (λ pair. pair.subtree) pairs)
+  pub named : AreTabled (map table_path tables) (map (λ pair. pair.subtree) pairs)

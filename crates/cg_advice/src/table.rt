@@ -5,7 +5,7 @@ ghost use Rattle.cg_cgroup.specs.Paths.{Names, is_root};
 ghost use Rattle.cg_model.specs.Guards.{IsSubtree};
 ghost use Rattle.cg_model.specs.Mends.{Entrant as Entering};
 ghost use Rattle.cg_advice.specs.Ways.{no_ways};
-ghost use Rattle.cg_advice.specs.Thinned.{spot_of, spots, path_of, is_table_of, IsTable, AreNamed};
+ghost use Rattle.cg_advice.specs.Thinned.{spot_of, spots, table_path, is_table_of, IsTable, AreTabled};
 
 use crate::pair::Stand;
 use crate::ways::Ways;
@@ -36,11 +36,11 @@ pub fn place_of<'a, H: Hierarchy>(
     subtree: &'a Path,
 ) -> Result<usize, NoMemory>
     requires { IsSubtree (H.state tree.now) subtree.now }
-    ensures place { IfOk result (λ place. slice_get (map path_of tables.new.items) place ≡ Some subtree.now) }
+    ensures place { IfOk result (λ place. slice_get (map table_path tables.new.items) place ≡ Some subtree.now) }
     ensures tables { OnOk result ((all : List Entering) → All (IsTable (H.state tree.now) all) tables.old.items
         → All (IsTable (H.state tree.now) all) tables.new.items) }
-    ensures named { OnOk result ((paths : List Names) → AreNamed (map path_of tables.old.items) paths
-        → AreNamed (map path_of tables.new.items) (paths ++ subtree.now ∷ [])) }
+    ensures named { OnOk result ((paths : List Names) → AreTabled (map table_path tables.old.items) paths
+        → AreTabled (map table_path tables.new.items) (paths ++ subtree.now ∷ [])) }
 {
     if is_table_of(tables.as_slice(), guess, subtree) {
         return Ok(guess);

@@ -12,7 +12,7 @@ ghost use Rattle.cg_model.specs.Mends.{same_place};
 ghost use Rattle.cg_model.specs.declared.mend.Mend.TheVariants.{Set};
 ghost use Rattle.cg_advice.specs.AdviceLines.{owner_word, mend_line, mend_lines, fails_line, over_line, over_lines, is_pair_guarded, advice_lines, IsShown, len_of};
 ghost use Rattle.cg_advice.specs.Ways.{pair_of, entering, has_way, lines_by, gathered_lines};
-ghost use Rattle.cg_advice.specs.Thinned.{path_of};
+ghost use Rattle.cg_advice.specs.Thinned.{table_path};
 ghost use Rattle.cg_cgroup.specs.Paths.{same_path};
 
 use crate::entrants::entrants;
@@ -132,9 +132,9 @@ fn push_all_limits<H: Hierarchy>(
     tree: &H,
     tables: &[Table<'_>],
 ) -> Result<(), NoMemory>
-    requires { All (λ table. has_row (H.state tree.now) (path_of table) ≡ true) tables.now }
+    requires { All (λ table. has_row (H.state tree.now) (table_path table) ≡ true) tables.now }
     ensures { OnOk result (text.new.items ≡ text.old.items
-        ++ flat_map (over_lines (H.state tree.now)) (once same_path (map path_of tables.now))) }
+        ++ flat_map (over_lines (H.state tree.now)) (once same_path (map table_path tables.now))) }
 {
     let mut seen = BTreeSet::new(alloc);
     for table in tables {

@@ -3,7 +3,7 @@ use Rattle.std.specs.Vec.{with_items}
 use Rattle.cg_advice.specs.Ways.{pair_of, entering}
 use Rattle.std.proofs.lemmas.List.{length-map}
 use Rattle.std.proofs.lemmas.Option.{slice_get_within}
-use Rattle.cg_advice.specs.Thinned.{path_of, HaveEntered}
+use Rattle.cg_advice.specs.Thinned.{table_path, HaveEntered}
 use Rattle.cg_advice.specs.declared.table.Table.{Table}
 use Rattle.cg_advice.proofs.Gathering.{one_more}
 use Rattle.cg_advice.proofs.Thinning.{path_at, length_met, met_written, pair_met}
@@ -22,8 +22,8 @@ loop-pair-preserved g c =
     let after : Table = record { subtree = table.subtree; stands = with_items table.stands stands } in
     let old = c.as_mut_slice.result.now in
     let longer = length_met pair.user found more old stands _ c.in_ok-enter_all.ensures in
-    let there = slice_get_within (map path_of tables) c.in_ok-place.place pair.subtree c.in_ok-place.ensures.place in
-    let within : c.in_ok-place.place < length tables = omega (arith, there, length-map tables path_of) in
+    let there = slice_get_within (map table_path tables) c.in_ok-place.place pair.subtree c.in_ok-place.ensures.place in
+    let within : c.in_ok-place.place < length tables = omega (arith, there, length-map tables table_path) in
     subst (λ named. HaveEntered st named more (slice_set tables c.in_ok-place.place after))
     (sym (one_more pair_of c.args.pairs.now c.loop-pair.pair-index c.pair-item.result c.loop-pair-test.true c.pair-item.is))
     (pair_met st pairs pair found more tables c.in_ok-place.place table after within c.index_mut-table.ensures.value

@@ -1,5 +1,5 @@
 use Rattle.std.proofs.Common.{ap, sym, ◌∙◌, map, length, arith}
-use Rattle.cg_advice.specs.Thinned.{path_of, is_table_of}
+use Rattle.cg_advice.specs.Thinned.{table_path, is_table_of}
 use Rattle.cg_advice.proofs.Thinning.{is_table_at, named_again, pushed_at, named_pushed}
 use Rattle.cg_advice.proofs.table.place_of.Goals as goal
 
@@ -11,7 +11,7 @@ returns-then-is_table_of-clause-place g c =
 
 pub returns-then-is_table_of-clause-named : goal.returns-then-is_table_of-clause-named
 returns-then-is_table_of-clause-named g c = λ paths named.
-    named_again (map path_of c.args.tables.now.items) paths c.args.subtree.now c.args.guess
+    named_again (map table_path c.args.tables.now.items) paths c.args.subtree.now c.args.guess
     (returns-then-is_table_of-clause-place g c) named
 
 pub returns-then-is_table_of-2-clause-place : goal.returns-then-is_table_of-2-clause-place
@@ -22,7 +22,7 @@ returns-then-is_table_of-2-clause-place g c =
 
 pub returns-then-is_table_of-2-clause-named : goal.returns-then-is_table_of-2-clause-named
 returns-then-is_table_of-2-clause-named g c = λ paths named.
-    named_again (map path_of c.args.tables.now.items) paths c.args.subtree.now c.unwrap_or-known.result
+    named_again (map table_path c.args.tables.now.items) paths c.args.subtree.now c.unwrap_or-known.result
     (returns-then-is_table_of-2-clause-place g c) named
 
 pub returns-clause-place : goal.returns-clause-place

@@ -5,7 +5,7 @@ use Rattle.cg_model.specs.Once.{once}
 use Rattle.cg_model.specs.Mends.{same_place}
 use Rattle.cg_advice.specs.AdviceLines.{over_lines, pairs_lines}
 use Rattle.cg_advice.specs.Ways.{pair_of, entering, gathered_lines}
-use Rattle.cg_advice.specs.Thinned.{path_of}
+use Rattle.cg_advice.specs.Thinned.{table_path}
 use Rattle.cg_advice.proofs.Thinning.{all_thinned}
 use Rattle.cg_advice.proofs.text.advice_lines.Goals as goal
 
@@ -20,5 +20,5 @@ returns-clause-lines g c =
     ∙ ap (λ those. c.new-text.result.items ++ flat_map (gathered_lines (map entering those)) (once same_place (map entering those)))
     c.as_slice.ensures.value)
     (c.in_ok-push_all_limits.ensures
-    ∙ ap (λ tables. entries ++ flat_map (over_lines st) (once same_path (map path_of tables))) c.as_slice-2.ensures.value))
+    ∙ ap (λ tables. entries ++ flat_map (over_lines st) (once same_path (map table_path tables))) c.as_slice-2.ensures.value))
     ∙ ap (λ guarded. cond guarded None (Some (pairs_lines st pairs))) c.if-are_guarded.ensures

@@ -5,7 +5,7 @@ use Rattle.std.specs.BTreeSet.{contains}
 use Rattle.cg_cgroup.specs.Paths.{Names, path_cmp, same_path}
 use Rattle.cg_model.specs.Once.{once}
 use Rattle.cg_advice.specs.AdviceLines.{over_lines}
-use Rattle.cg_advice.specs.Thinned.{path_of}
+use Rattle.cg_advice.specs.Thinned.{table_path}
 use Rattle.cg_advice.proofs.Gathering.{one_more, tied_paths, AreWritten, written_first, written_again}
 use Rattle.cg_advice.proofs.text.push_all_limits.Goals as goal
 use Rattle.cg_advice.proofs.text.push_all_limits.Goals.{then-is_new+in_ok-push_limits, else-is_new}
@@ -13,12 +13,12 @@ use Rattle.cg_advice.proofs.text.push_all_limits.Goals.{then-is_new+in_ok-push_l
 pub loop-table-preserved : goal.loop-table-preserved
 loop-table-preserved g c =
     let lines = over_lines (g.H.Hierarchy.state c.args.tree.now) in
-    let front = map path_of (take c.loop-table.table-index c.args.tables.now) in
+    let front = map table_path (take c.loop-table.table-index c.args.tables.now) in
     let key = c.table-item.result.subtree in
     let cmp = λ (a b : Bor Names). path_cmp a.now b.now in
     let meets = λ (key : Bor Names) (path : Names). same_path path key.now in
     subst (λ l. AreWritten lines same_path meets c.if-is_new.text.items c.args.text.now.items l (contains cmp c.insert.new.self))
-    (sym (one_more path_of c.args.tables.now c.loop-table.table-index c.table-item.result c.loop-table-test.true c.table-item.is))
+    (sym (one_more table_path c.args.tables.now c.loop-table.table-index c.table-item.result c.loop-table-test.true c.table-item.is))
     (elim c.if-is_new.branch [
       | then-is_new+in_ok-push_limits w ↦
           written_first lines same_path meets c.loop-table.text.items c.args.text.now.items front (contains cmp c.loop-table.seen)
@@ -36,5 +36,5 @@ pub returns : goal.returns
 returns g c =
     let lines = over_lines (g.H.Hierarchy.state c.args.tree.now) in
     c.loop-table.invariant.lines
-    ∙ ap (λ tables. c.args.text.now.items ++ flat_map lines (once same_path (map path_of tables)))
+    ∙ ap (λ tables. c.args.text.now.items ++ flat_map lines (once same_path (map table_path tables)))
     (take_all c.loop-table.table-index c.args.tables.now c.loop-table-test.false)

@@ -2,11 +2,11 @@ use Rattle.std.proofs.Common.{Bor, map, take}
 use Rattle.std.specs.BTreeSet.{contains}
 use Rattle.cg_cgroup.specs.Paths.{Names, path_cmp, same_path}
 use Rattle.cg_advice.specs.AdviceLines.{over_lines}
-use Rattle.cg_advice.specs.Thinned.{path_of}
+use Rattle.cg_advice.specs.Thinned.{table_path}
 use Rattle.cg_advice.proofs.Gathering.{AreWritten}
 use Rattle.cg_advice.proofs.text.push_all_limits.Given as goal
 
 abbrev pub invariant-loop-table : goal.invariant-loop-table
 invariant-loop-table g l =
     AreWritten (over_lines (g.H.Hierarchy.state l.tree)) same_path (λ (key : Bor Names) path. same_path path key.now) l.text.items
-    l.fn.text.items (map path_of (take l.table-index l.tables)) (contains (λ (a b : Bor Names). path_cmp a.now b.now) l.seen)
+    l.fn.text.items (map table_path (take l.table-index l.tables)) (contains (λ (a b : Bor Names). path_cmp a.now b.now) l.seen)
