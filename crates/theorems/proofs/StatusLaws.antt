@@ -43,7 +43,7 @@ use Rattle.cg_escapes.proofs.EscapeReplays.{report_ok, found_is, status_is, unfa
 
 -- ---- one user
 
-zero_status : (found : Answer) → answer_status found ≡ 0 → found ≡ Contained
+pub zero_status : (found : Answer) → answer_status found ≡ 0 → found ≡ Contained
 zero_status Contained is = refl
 zero_status (Escapes ops) is = cc
 zero_status (Unsettled failed) is = cc
