@@ -7,18 +7,22 @@ use Rattle.cg_cgroup.specs.Identity.{Identity}
 use Rattle.cg_cgroup.proofs.Options.{same_some}
 use Rattle.cg_model.specs.States.{State}
 use Rattle.cg_model.specs.Clauses.{first}
-use Rattle.cg_model.specs.Held.{IsContained}
+use Rattle.cg_model.specs.Held.{by_user, IsContained}
+use Rattle.cg_model.specs.Throughout.{IsHeldThroughout}
 use Rattle.cg_model.specs.Guards.{IsSubtree}
 use Rattle.cg_model.specs.Escapes.{first_escape}
 use Rattle.cg_model.specs.Answers.{answer_from, answer}
 use Rattle.cg_model.specs.Checks.{subtree_faults, unless_fault, checked}
-use Rattle.cg_model.specs.declared.answer.Answer.TheVariants.{Contained}
+use Rattle.cg_model.specs.declared.answer.Answer.{Answer}
+use Rattle.cg_model.specs.declared.answer.Answer.TheVariants.{Contained, Escapes, Unsettled}
 use Rattle.cg_model.specs.declared.fault.CheckFault.{CheckFault}
+use Rattle.cg_model.specs.declared.operation.Op.{Op}
 use Rattle.cg_format.specs.Readings.{Reading, IsReading}
 use Rattle.cg_format.specs.TextOf.{IsTextOf}
 use Rattle.cg_format.proofs.OneState.{one_state}
 use Rattle.cg_format.proofs.ReadingLaws.{one_reading}
 use Rattle.cg_laws.proofs.RunLaws.{contained-guarded}
+use Rattle.cg_laws.proofs.ThroughoutLaws.{contained-is_throughout}
 use Rattle.cg_check.proofs.Checking.{no_fault, answer-guarded}
 use Rattle.cg_cli.specs.Arguments.{or_fault, user_read, path_read}
 use Rattle.cg_cli.specs.Containment.{in_call, answer_status, answer_report, subtree_report, check_report}
@@ -28,7 +32,6 @@ use Rattle.cg_cli.specs.declared.fault.CliFault.TheVariants.{Uid, Gids, BadPath}
 use Rattle.cg_cli.proofs.CheckReports.{report_is}
 use Rattle.cg_escapes.proofs.EscapeReplays.{report_ok, found_is, status_is, unfaulted}
 use Rattle.theorems.specs.Guarded.{NamesGuarded}
-use Rattle.theorems.proofs.StatusLaws.{zero_status}
 
 -- ---- what was read, and what words name
 
@@ -56,6 +59,11 @@ named_read uid gids user is = by_uid (nat_eq uid 0) refl
 state_read : (tree : Reading) (st : State) → tree_read tree ≡ Ok st → tree ≡ Ok st
 state_read (Ok one) st is = let same : one ≡ st = cc in ap Ok same
 state_read (Err fault) st is = let never : ⊥ = cc in absurd never
+
+zero_status : (found : Answer) → answer_status found ≡ 0 → found ≡ Contained
+zero_status Contained is = refl
+zero_status (Escapes ops) is = cc
+zero_status (Unsettled failed) is = cc
 
 no_faults : (st : State) (subtree : Names) → IsSubtree st subtree → first (subtree_faults st subtree) ≡ None
 no_faults st subtree there = rw (there.1, there.0) refl
@@ -110,3 +118,15 @@ module _ (text : List ℕ) (uid : ℕ) (gids word : List ℕ) where
         (no_faults st path named.there)
         ∙ ap (λ failed. report_on (in_call (unless_fault None (answer_from failed (first_escape st user path)))) (answer_report path))
         named.guarded
+
+-- ---- by the status
+
+module _ (text : List ℕ) (st : State) (uid : ℕ) (gids : List ℕ) (user : Identity) (word : List ℕ) (subtree : Names)
+    (of_text : IsTextOf st text) (of_user : user_of uid gids ≡ Some user) (of_path : path_at word ≡ Some subtree)
+    (is : (check_report (Ok st) uid gids word).ending ≡ Ok 0) where
+  pub contained_by_status : IsContained st user subtree
+  contained_by_status =
+      contained_as_named text uid gids word st user subtree (guarded_by_status text uid gids word (Ok st) of_text is) of_text of_user of_path
+
+  pub throughout_by_status : (ops : List Op) → IsHeldThroughout st (by_user user ops) subtree
+  throughout_by_status = (contained-is_throughout st user subtree).0 contained_by_status

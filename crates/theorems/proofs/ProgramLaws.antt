@@ -36,7 +36,8 @@ use Rattle.commands.specs.Runs.{IsFlushed, CarriesOutBuffered, LeadsTo, LiesBelo
 use Rattle.commands.specs.declared.fault.Fault.{Fault}
 use Rattle.commands.specs.declared.fault.Fault.TheVariants.{Usage, Cli}
 use Rattle.commands.proofs.BufferedLaws.{CarriesOut-Keeps}
-use Rattle.theorems.proofs.StatusLaws.{contained_by_status, all_contained_by_status}
+use Rattle.theorems.proofs.GuardedLaws.{contained_by_status}
+use Rattle.theorems.proofs.StatusLaws.{all_contained_by_status}
 
 -- ---- what lies in the first writer
 
@@ -145,8 +146,8 @@ module _ (files : Files) (given old new : Option (List ℕ)) (status : ℕ) wher
         text st of_known of_text carried in (
           report,
           λ zero user subtree of_user of_path.
-              contained_by_status st check.user.uid check.user.gids.items user check.subtree.now subtree of_text.says.formed of_user
-              of_path (report.0 ∙ ap Ok zero),
+              contained_by_status text st check.user.uid check.user.gids.items user check.subtree.now subtree of_text of_user of_path
+              (report.0 ∙ ap Ok zero),
         )
 
     pub advise_ended : (advise : Advise) → CarriesOut (request.Advise advise) files given old new (Ok status)
