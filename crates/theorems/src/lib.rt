@@ -82,11 +82,11 @@ pub fn one_user()
     ensures bytes { (text : List ℕ) (st : State) (uid : ℕ) (gids : List ℕ) (user : Identity) (word : List ℕ) (subtree : Names)
         → NamesGuarded text uid gids word → IsTextOf st text → user_of uid gids ≡ Some user → path_at word ≡ Some subtree
         → IsContained st user subtree }
-    ensures status { (text : List ℕ) (tree : Reading) (uid : ℕ) (gids : List ℕ) (word : List ℕ)
-        → IsReading text tree → (check_report tree uid gids word).ending ≡ Ok 0 → NamesGuarded text uid gids word }
-    ensures report { (text : List ℕ) (tree : Reading) (uid : ℕ) (gids : List ℕ) (word : List ℕ)
-        → IsReading text tree → NamesGuarded text uid gids word
-        → check_report tree uid gids word ≡ record { text = codes "contained\n"; ending = Ok 0 } }
+    ensures status { (text : List ℕ) (st : State) (uid : ℕ) (gids : List ℕ) (word : List ℕ)
+        → IsTextOf st text → (check_report (Ok st) uid gids word).ending ≡ Ok 0 → NamesGuarded text uid gids word }
+    ensures report { (text : List ℕ) (st : State) (uid : ℕ) (gids : List ℕ) (word : List ℕ)
+        → IsTextOf st text → NamesGuarded text uid gids word
+        → check_report (Ok st) uid gids word ≡ record { text = codes "contained\n"; ending = Ok 0 } }
 {}
 
 /// That a subtree is held over a run is the same said of the run's states and steps one by one, and so it is contained against a
