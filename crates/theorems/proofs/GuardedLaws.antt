@@ -126,7 +126,8 @@ module _ (text : List ℕ) (st : State) (uid : ℕ) (gids : List ℕ) (user : Id
     (is : (check_report (Ok st) uid gids word).ending ≡ Ok 0) where
   pub contained_by_status : IsContained st user subtree
   contained_by_status =
-      contained_as_named text uid gids word st user subtree (guarded_by_status text uid gids word (Ok st) of_text is) of_text of_user of_path
+      contained_as_named text uid gids word st user subtree (guarded_by_status text uid gids word (Ok st) of_text is) of_text of_user
+      of_path
 
   pub throughout_by_status : (ops : List Op) → IsHeldThroughout st (by_user user ops) subtree
   throughout_by_status = (contained-is_throughout st user subtree).0 contained_by_status
