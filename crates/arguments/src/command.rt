@@ -24,13 +24,14 @@ Example:
   zirofen may --tree examples/delegation.toml --uid 1000 --pid 11 --to /c0/c01
   granted";
 
-const CHECK: &str = "Says whether a subtree is contained against a user, whatever he does";
+const CHECK: &str =
+    "Says whether a subtree is shown to be contained against a user, whatever they do";
 
 const CHECK_HELP: &str = "\
 Status: 0 contained, 1 escapes, 2 unsettled, 3 a fault
-`contained` means that the subtree is held whatever the user does. `escapes` has below it operations of the user, one a
-line, that break it in turn; none where it is broken as it stands. `unsettled` names a guard that fails and where it
-stands, and none of the tries breaks anything.
+`contained` means that the subtree is held whatever the user does, where nobody else acts. `escapes` has below it operations
+of the user, one a line, that break it in turn; none where it is broken as it stands. `unsettled` names the first guard that
+fails and where it stands: nothing is shown, and none of the tries breaks anything.
 `fault: usage` means that the command line isn't as it says above.
 zirofen-tree(5) and zirofen(1), or docs/FORMATS.md, have the tree's format, and every line that is written.
 
@@ -41,11 +42,11 @@ Example:
 
 const AUDIT_HELP: &str = "\
 Status: 0 contained, 1 escapes, 2 unsettled, 3 a fault
-`contained` means that every subtree is held whatever all these users do, in whatever order. Else `pair` names the first
-user and subtree for which that isn't shown, and below it stands what `check` says of them, with its status.
-With --all every pair that isn't contained has these lines, by user and then subtree, and its line `pair` names the
-groups too; the status is 1 where one escapes, else 2 where one is unsettled. Users and subtrees that are named again count
-once.
+`contained` means that every subtree is held whatever all these users do, in whatever order, where nobody else acts. Else
+`pair` names the first user and subtree for which that isn't shown, and below it stands what `check` says of them, with its
+status.
+With --all every such pair has these lines, by user and then subtree, and its line `pair` names the groups too; the status
+is 1 where one escapes, else 2 where one is unsettled. Users and subtrees that are named again count once.
 A user is UID or UID:GID,GID.. in decimal digits, with up to 32 gids, of which the first is the primary one.
 `fault: usage` means that the command line isn't as it says above.
 zirofen-tree(5) and zirofen(1), or docs/FORMATS.md, have the tree's format, and every line that is written.
@@ -57,8 +58,9 @@ Example:
   set /c0 memory.max max";
 
 const REPLAY_HELP: &str = "\
-With --subtree a last line says `kept`, or `broken` with the step and what it broke of the subtree.
-Status: 0 where the operations came to their end and kept the subtree, 1 where they broke it, 3 a fault
+Each operation is tried in the tree that those before it leave, up to the first line that is none. With --subtree a last line
+says `kept`, or `broken` with the step and what it broke of the subtree.
+Status: 0 where the operations came to their end, and with --subtree kept it, 1 where they broke it, 3 a fault
 `fault: usage` means that the command line isn't as it says above.
 zirofen-tree(5) and zirofen(1), or docs/FORMATS.md, have the formats of the tree and of operations, and every line that is written.
 
@@ -90,7 +92,7 @@ Example:
 const UPGRADE_HELP: &str = "\
 Status: 0 the tree is written, 3 a fault
 The tree is written in format 2 with every key: what was left out becomes visible, and two trees can be compared line by
-line. It is the same tree, and upgraded again it is the same text.
+line. Unless it is longer than a tree's text may be, it is the same tree, and upgraded again it is the same text.
 `fault: usage` means that the command line isn't as it says above.
 docs/FORMATS.md of the repository has the tree's format, and every line that is written.
 
@@ -177,7 +179,7 @@ fn audit_command<'a>(alloc: Global) -> Result<Command<'a>, AllocError>
 {
     Command::new(alloc, "audit")
         .about(
-            "Says whether every subtree is contained against every user, whatever they do together",
+            "Says whether every subtree is shown to be contained against all users, whatever they do together",
         )
         .after_help(AUDIT_HELP)
         .arg(tree_argument(alloc))?
@@ -185,7 +187,7 @@ fn audit_command<'a>(alloc: Global) -> Result<Command<'a>, AllocError>
             word_argument(alloc, "uid", "UID[:GID,GID..]")
                 .action(ArgAction::Append)
                 .required(true)
-                .help("A user and his groups, once or more"),
+                .help("A user and their groups, once or more"),
         )?
         .arg(
             subtree_argument(alloc)
@@ -197,7 +199,7 @@ fn audit_command<'a>(alloc: Global) -> Result<Command<'a>, AllocError>
             Arg::new(alloc, "all")
                 .long("all")
                 .action(ArgAction::SetTrue)
-                .help("Every pair that isn't contained, and not the first alone"),
+                .help("Every pair that isn't shown to be contained, and not the first alone"),
         )
 }
 

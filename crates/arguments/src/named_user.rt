@@ -1,4 +1,4 @@
-//! A user, as the command line names him.
+//! A user, as the command line names them.
 ghost use Rattle.std.specs.Prelude.{◌≡◌, ◌≢◌, Some, None, MatchResult};
 ghost use Rattle.std.specs.Option.{ok_or, option_map};
 ghost use Rattle.std.specs.List.{slice_split};

@@ -122,7 +122,7 @@ impl<'a> May<'a> {
     }
 }
 
-/// A subtree and a user: whether it is contained against him.
+/// A subtree and a user: whether it is contained against them.
 #[derive(Drop)]
 pub struct Check<'a> {
     pub tree: Option<&'a str>,

@@ -349,7 +349,7 @@ fn replayed<O: Read + Drop, W: Write>(
     ended
 }
 
-/// The user as a call takes him.
+/// The user as a call takes them.
 fn ids(user: &NamedUser) -> UserIds<'_>
     ensures uid { result.uid ≡ user.now.uid }
     ensures gids { result.gids.now ≡ user.now.gids.items }

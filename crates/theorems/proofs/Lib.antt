@@ -1,4 +1,5 @@
 mod StatusLaws
+mod GuardedLaws
 mod ListedLaws
 mod AdviceLaws
 mod PairedLaws

@@ -1,7 +1,7 @@
--- What the program's status says, by the request that its words make.
-use Rattle.std.proofs.Common.{◌≡◌, ◌≢◌, ℕ, Bool, false, List, [], map, take, Option, Some, Result, Ok, Err, ap, ◌∙◌, subst, inl, inr, arith}
-use Rattle.std.specs.Prelude.{IsOk, IfSome, MatchBool}
-use Rattle.std.specs.Io.KnownBytes.{Appends, Keeps}
+-- What the program's status and its writers say, by the request that its words make.
+use Rattle.std.proofs.Common.{◌≡◌, ◌≢◌, ℕ, Bool, true, false, List, [], map, take, Option, Some, Result, Ok, Err, ap, ◌∙◌, subst, inl, inr, refl, arith}
+use Rattle.std.specs.Prelude.{None, IsOk, IfSome, MatchBool}
+use Rattle.std.specs.Io.KnownBytes.{Keeps}
 use Rattle.std.proofs.lemmas.List.{take_all}
 use Rattle.cg_cgroup.specs.Paths.{Names, path_at}
 use Rattle.cg_cgroup.specs.Users.{user_of}
@@ -12,21 +12,34 @@ use Rattle.cg_model.specs.Several.{AreContained}
 use Rattle.cg_format.specs.Readings.{Reading, IsReading}
 use Rattle.cg_format.specs.TextOf.{IsTextOf}
 use Rattle.cg_format.proofs.ReadingLaws.{one_reading}
-use Rattle.cg_cli.specs.Containment.{check_report}
-use Rattle.cg_cli.specs.Audits.{users_read, paths_read}
+use Rattle.cg_cli.specs.AllPairs.{all_report, ReportsPairs}
+use Rattle.cg_cli.specs.Audits.{users_read, paths_read, audit_report}
+use Rattle.cg_cli.specs.Replays.{closed, replay_report}
+use Rattle.cg_cli.specs.Replaying.{Reporting, Replays}
 use Rattle.cg_cli.specs.Reports.{Reports}
+use Rattle.cg_cli.specs.Upgrades.{Upgrades, IsNewText, upgrade_report}
 use Rattle.cg_cli.specs.declared.fault.CliFault.{CliFault}
+use Rattle.clap.specs.declared.error.Error.{Error}
 use Rattle.arguments.specs.Words.{Makes}
-use Rattle.arguments.specs.Given.{ids_of}
-use Rattle.arguments.specs.declared.request.Audit.{Audit}
+use Rattle.arguments.specs.Given.{ids_of, tree_file, ops_file}
+use Rattle.arguments.specs.declared.request.May.{May}
 use Rattle.arguments.specs.declared.request.Check.{Check}
+use Rattle.arguments.specs.declared.request.Audit.{Audit}
+use Rattle.arguments.specs.declared.request.Advise.{Advise}
+use Rattle.arguments.specs.declared.request.Upgrade.{Upgrade}
+use Rattle.arguments.specs.declared.request.Replay.{Replay}
 use Rattle.arguments.specs.declared.request.Request.{Request}
 use Rattle.arguments.specs.declared.request.Request.TheVariants as request
 use Rattle.streams.specs.declared.write.WriteFailed.{WriteFailed}
-use Rattle.commands.specs.Requests.{Files, IsUnread, source, name_of, check_said, AuditSays, OnTree, CarriesOut}
-use Rattle.commands.specs.Runs.{IsFlushed, LiesBelow, RunsTo}
-use Rattle.commands.proofs.BufferedLaws.{Appends-Keeps}
-use Rattle.theorems.proofs.StatusLaws.{contained_by_status, all_contained_by_status}
+use Rattle.commands.specs.Requests.{Files, IsUnread, source, name_of, may_said, check_said, advise_said, AuditSays, replay_said, OnTree, ReplaysOver, CarriesOut}
+use Rattle.commands.specs.Runs.{IsFlushed, CarriesOutBuffered, LeadsTo, LiesBelow, RunsTo}
+use Rattle.commands.specs.declared.fault.Fault.{Fault}
+use Rattle.commands.specs.declared.fault.Fault.TheVariants.{Usage, Cli}
+use Rattle.commands.proofs.BufferedLaws.{CarriesOut-Keeps}
+use Rattle.theorems.proofs.GuardedLaws.{contained_by_status}
+use Rattle.theorems.proofs.StatusLaws.{all_contained_by_status}
+
+-- ---- what lies in the first writer
 
 flushed_is : (ended : Result ℕ CliFault) (status : ℕ) → IsFlushed ended (Ok status) → ended ≡ Ok status
 flushed_is (Ok one) status (inl same) = cc
@@ -38,11 +51,45 @@ lies_whole : (written : Result (Unit {0}) WriteFailed) (said new : Option (List 
 lies_whole (Ok done) said new is below = below
 lies_whole (Err failed) said new is below = let never : ⊥ = cc in absurd never
 
+kept_on : (old said new : Option (List ℕ)) → Keeps old said → Keeps said new → Keeps old new
+kept_on None said new one other = tt
+kept_on (Some xs) None new one other = absurd one
+kept_on (Some xs) (Some ys) None one other = absurd other
+kept_on (Some xs) (Some ys) (Some zs) one other = other ∙ one
+
+module _ (words : List (List ℕ)) (files : Files) (given old said new : Option (List ℕ)) (keeps : Keeps said new) where
+  buffered_on : (asked : Request) (result : Result ℕ CliFault) → CarriesOutBuffered asked files given old said result
+      → CarriesOutBuffered asked files given old new result
+  buffered_on asked result it = (it.0, CarriesOut-Keeps asked files given old said new it.0 it.1 keeps, it.2)
+
+  leads_on : (fault : Fault) → LeadsTo words files given old said (Err fault) → LeadsTo words files given old new (Err fault)
+  leads_on Usage it = (it.0, kept_on old said new it.1 keeps)
+  leads_on (Cli fault) (inl it) = inl (it.0, it.1, buffered_on it.0 (Err fault) it.2)
+  leads_on (Cli fault) (inr it) = inr (it.0, kept_on old said new it.1 keeps)
+
+module _ (words : List (List ℕ)) (files : Files) (given old new : Option (List ℕ)) (written : Result (Unit {0}) WriteFailed) where
+  pub carried_by_status : (status : ℕ) → RunsTo words files given old new (Ok status) written
+      → (asked : Request) × Makes words asked × CarriesOut asked files given old new (Ok status)
+  carried_by_status status runs =
+      let keeps = lies_whole written runs.0 new runs.2.0 runs.3 in (
+        runs.1.0,
+        runs.1.1,
+        CarriesOut-Keeps runs.1.0 files given old runs.0 new (Ok status)
+            (subst (λ (ended : Result ℕ CliFault). CarriesOut runs.1.0 files given old runs.0 ended)
+            (flushed_is runs.1.2.0 status runs.1.2.2) runs.1.2.1) keeps,
+      )
+
+  pub led_to_fault : (fault : Fault) → RunsTo words files given old new (Err fault) written → IsOk written
+      → LeadsTo words files given old new (Err fault)
+  led_to_fault fault runs is =
+      leads_on words files given old runs.0 new (lies_whole written runs.0 new is runs.3) fault runs.1
+
+-- ---- what is answered on the text of a tree is answered on its state
+
 read_whole : {P : Type 0} (known new : Option (List ℕ)) (status : ℕ) → IsUnread known new (Ok status) → P
 read_whole known new status (inl never, keeps) = let none : ⊥ = cc in absurd none
 read_whole known new status (inr never, keeps) = let none : ⊥ = cc in absurd none
 
--- what is answered on the text of a tree is answered on its state
 module _ (answers : Reading → Type 0) (known old new : Option (List ℕ)) (status : ℕ) (text : List ℕ) (st : State)
     (of_known : known ≡ Some text) (of_text : IsTextOf st text) where
   of_state : (tree : List ℕ) → tree ≡ text → (read : Reading) → IsReading tree read → answers read → answers (Ok st)
@@ -60,60 +107,95 @@ module _ (answers : Reading → Type 0) (known old new : Option (List ℕ)) (sta
 first_alone : (A B : Type 0) (all : Bool) → all ≡ false → MatchBool all A B → B
 first_alone A B all is said = subst (λ b. MatchBool b A B) is said
 
-module _ (words : List (List ℕ)) (files : Files) (given old new : Option (List ℕ)) (status : ℕ)
-    (written : Result (Unit {0}) WriteFailed) (runs : RunsTo words files given old new (Ok status) written) where
-  abbrev said : Option (List ℕ)
-  said = runs.0
+each_alone : (A B : Type 0) (all : Bool) → all ≡ true → MatchBool all A B → A
+each_alone A B all is said = subst (λ b. MatchBool b A B) is said
 
-  abbrev asked : Request
-  asked = runs.1.0
+-- what is answered on the operations that there are
+on_operations : (said : Reporting) (known old new : Option (List ℕ)) (status : ℕ) (ops : List ℕ) → known ≡ Some ops
+    → ReplaysOver known said old new (Ok status) → Replays closed said ops old new (Ok status)
+on_operations said known old new status ops of_known (inl over) =
+    let replays = over.1 in
+    let same : replays.0 ≡ ops = subst (λ k. IfSome k (λ bytes. replays.0 ≡ bytes)) of_known replays.1 in
+    subst (λ bytes. Replays closed said bytes old new (Ok status)) same replays.2
+on_operations said known old new status ops of_known (inr unread) = read_whole old new status unread
 
-  carried : CarriesOut asked files given old said (Ok status)
-  carried =
-      subst (λ (ended : Result ℕ CliFault). CarriesOut asked files given old said ended) (flushed_is runs.1.2.0 status runs.1.2.2)
-      runs.1.2.1
+-- ---- command by command
 
-  of_check : (check : Check) (text : List ℕ) (st : State) (user : Identity) (subtree : Names) → asked ≡ request.Check check
-      → source files (name_of check.tree) given ≡ Some text → IsTextOf st text
-      → user_of check.user.uid check.user.gids.items ≡ Some user → path_at check.subtree.now ≡ Some subtree
-      → ((check_report (Ok st) check.user.uid check.user.gids.items check.subtree.now).ending ≡ Ok status)
-      × Appends old new (check_report (Ok st) check.user.uid check.user.gids.items check.subtree.now).text
-      × (status ≡ 0 → IsContained st user subtree)
-  of_check check text st user subtree is of_known of_text of_user of_path =
-      let report =
-      on_state (λ read. Reports (check_said check read) old said (Ok status)) (source files (name_of check.tree) given) old said status
-      text st of_known of_text (subst (λ (asked : Request). CarriesOut asked files given old said (Ok status)) is carried) in (
-        report.0,
-        Appends-Keeps old said new _ report.1 (lies_whole written said new runs.2.0 runs.3),
-        λ zero.
-            contained_by_status st check.user.uid check.user.gids.items user check.subtree.now subtree of_text.says.formed of_user
-            of_path (report.0 ∙ ap Ok zero),
-      )
+module _ (files : Files) (given old new : Option (List ℕ)) (status : ℕ) where
+  ok_same : (one other : ℕ) → ◌≡◌ {A = Result ℕ CliFault} (Ok one) (Ok other) → other ≡ one
+  ok_same one other same = cc
 
-  pub check_by_program : (asked : Request) × Makes words asked
-      × ((check : Check) (text : List ℕ) (st : State) (user : Identity) (subtree : Names) → asked ≡ request.Check check
-      → source files (name_of check.tree) given ≡ Some text → IsTextOf st text
-      → user_of check.user.uid check.user.gids.items ≡ Some user → path_at check.subtree.now ≡ Some subtree
-      → ((check_report (Ok st) check.user.uid check.user.gids.items check.subtree.now).ending ≡ Ok status)
-      × Appends old new (check_report (Ok st) check.user.uid check.user.gids.items check.subtree.now).text
-      × (status ≡ 0 → IsContained st user subtree))
-  check_by_program = (asked, runs.1.1, of_check)
+  pub help_ended : (help : Error) → CarriesOut (request.Help help) files given old new (Ok status) → status ≡ 0
+  help_ended help carried = ok_same 0 status carried.1.0
 
-  of_audit : (audit : Audit) (text : List ℕ) (st : State) (users : List Identity) (subtrees : List Names) → asked ≡ request.Audit audit
-      → audit.all ≡ false → source files (name_of audit.tree) given ≡ Some text → IsTextOf st text
-      → users_read (map ids_of audit.users.items) ≡ Ok users → paths_read (map (λ subtree. subtree.now) audit.subtrees.items) ≡ Ok subtrees
-      → users ≢ [] → status ≡ 0 → AreContained st users subtrees
-  of_audit audit text st users subtrees is first of_known of_text of_users of_paths some zero =
-      let answered =
-      on_state (AuditSays audit old said (Ok status)) (source files (name_of audit.tree) given) old said status text st of_known of_text
-      (subst (λ (asked : Request). CarriesOut asked files given old said (Ok status)) is carried) in
-      let report = first_alone _ _ audit.all first answered in
-      all_contained_by_status st (map ids_of audit.users.items) (map (λ subtree. subtree.now) audit.subtrees.items) users subtrees
-      of_text.says.formed of_users of_paths some (report.0 ∙ ap Ok zero)
+  module _ (text : List ℕ) (st : State) where
+    pub may_ended : (may : May) → CarriesOut (request.May may) files given old new (Ok status)
+        → source files (name_of may.tree) given ≡ Some text → IsTextOf st text → Reports (may_said may (Ok st)) old new (Ok status)
+    may_ended may carried of_known of_text =
+        on_state (λ read. Reports (may_said may read) old new (Ok status)) (source files (name_of may.tree) given) old new status text st
+        of_known of_text carried
 
-  pub audit_by_program : (asked : Request) × Makes words asked
-      × ((audit : Audit) (text : List ℕ) (st : State) (users : List Identity) (subtrees : List Names) → asked ≡ request.Audit audit
-      → audit.all ≡ false → source files (name_of audit.tree) given ≡ Some text → IsTextOf st text
-      → users_read (map ids_of audit.users.items) ≡ Ok users → paths_read (map (λ subtree. subtree.now) audit.subtrees.items) ≡ Ok subtrees
-      → users ≢ [] → status ≡ 0 → AreContained st users subtrees)
-  audit_by_program = (asked, runs.1.1, of_audit)
+    pub check_ended : (check : Check) → CarriesOut (request.Check check) files given old new (Ok status)
+        → source files (name_of check.tree) given ≡ Some text → IsTextOf st text
+        → Reports (check_said check (Ok st)) old new (Ok status)
+        × (status ≡ 0 → (user : Identity) (subtree : Names) → user_of check.user.uid check.user.gids.items ≡ Some user
+        → path_at check.subtree.now ≡ Some subtree → IsContained st user subtree)
+    check_ended check carried of_known of_text =
+        let report =
+        on_state (λ read. Reports (check_said check read) old new (Ok status)) (source files (name_of check.tree) given) old new status
+        text st of_known of_text carried in (
+          report,
+          λ zero user subtree of_user of_path.
+              contained_by_status text st check.user.uid check.user.gids.items user check.subtree.now subtree of_text of_user of_path
+              (report.0 ∙ ap Ok zero),
+        )
+
+    pub advise_ended : (advise : Advise) → CarriesOut (request.Advise advise) files given old new (Ok status)
+        → source files (name_of advise.tree) given ≡ Some text → IsTextOf st text → Reports (advise_said advise (Ok st)) old new (Ok status)
+    advise_ended advise carried of_known of_text =
+        on_state (λ read. Reports (advise_said advise read) old new (Ok status)) (source files (name_of advise.tree) given) old new status
+        text st of_known of_text carried
+
+    pub upgrade_ended : (upgrade : Upgrade) → CarriesOut (request.Upgrade upgrade) files given old new (Ok status)
+        → source files (name_of upgrade.tree) given ≡ Some text → IsTextOf st text
+        → (anew : List ℕ) × IsNewText st anew × Reports (upgrade_report (Ok st) anew) old new (Ok status)
+    upgrade_ended upgrade carried of_known of_text =
+        let upgrades =
+        on_state (Upgrades old new (Ok status)) (source files (name_of upgrade.tree) given) old new status text st of_known of_text
+        carried in
+        (upgrades.text, upgrades.written st refl (λ never. cc), upgrades.reports)
+
+    pub replay_ended : (replay : Replay) (ops : List ℕ) → CarriesOut (request.Replay replay) files given old new (Ok status)
+        → source files (tree_file replay.sources) given ≡ Some text → source files (ops_file replay.sources) given ≡ Some ops
+        → IsTextOf st text
+        → Reports (replay_report (Ok st) replay.user.uid replay.user.gids.items (name_of replay.subtree) ops) old new (Ok status)
+    replay_ended replay ops carried of_known of_ops of_text =
+        on_operations (replay_said replay (Ok st)) (source files (ops_file replay.sources) given) old new status ops of_ops
+        (on_state (λ read. ReplaysOver (source files (ops_file replay.sources) given) (replay_said replay read) old new (Ok status))
+        (source files (tree_file replay.sources) given) old new status text st of_known of_text carried)
+
+    module _ (audit : Audit) (carried : CarriesOut (request.Audit audit) files given old new (Ok status))
+        (of_known : source files (name_of audit.tree) given ≡ Some text) (of_text : IsTextOf st text) where
+      abbrev users : List (ℕ × List ℕ)
+      users = map ids_of audit.users.items
+
+      abbrev subtrees : List (List ℕ)
+      subtrees = map (λ subtree. subtree.now) audit.subtrees.items
+
+      audited : AuditSays audit old new (Ok status) (Ok st)
+      audited =
+          on_state (AuditSays audit old new (Ok status)) (source files (name_of audit.tree) given) old new status text st of_known of_text
+          carried
+
+      pub all_ended : audit.all ≡ true → ReportsPairs (all_report (Ok st) users subtrees) old new (Ok status)
+      all_ended each = each_alone _ _ audit.all each audited
+
+      pub audit_ended : audit.all ≡ false → Reports (audit_report (Ok st) users subtrees) old new (Ok status)
+          × (status ≡ 0 → (who : List Identity) (paths : List Names) → users_read users ≡ Ok who → paths_read subtrees ≡ Ok paths
+          → who ≢ [] → AreContained st who paths)
+      audit_ended first =
+          let report = first_alone _ _ audit.all first audited in (
+            report,
+            λ zero who paths of_users of_paths some.
+                all_contained_by_status st users subtrees who paths of_text.says.formed of_users of_paths some (report.0 ∙ ap Ok zero),
+          )

@@ -2,35 +2,24 @@
 use Rattle.std.proofs.Common.{◌≡◌, ◌≢◌, ℕ, List, [], ◌∷◌, Option, Some, None, Ok, refl, ap, sym, ◌∙◌}
 use Rattle.std.specs.Prelude.{unwrap_or}
 use Rattle.std.specs.List.{AllByRecursion, flat_map}
-use Rattle.cg_cgroup.specs.Paths.{Names, path_at, same_path}
-use Rattle.cg_cgroup.specs.Users.{user_of}
+use Rattle.cg_cgroup.specs.Paths.{Names, same_path}
 use Rattle.cg_cgroup.specs.Identity.{Identity}
 use Rattle.cg_model.specs.States.{State}
 use Rattle.cg_model.specs.WellFormed.{IsWellFormed}
 use Rattle.cg_model.specs.Clauses.{first}
-use Rattle.cg_model.specs.Held.{by_user, IsContained}
-use Rattle.cg_model.specs.Throughout.{IsHeldThroughout}
 use Rattle.cg_model.specs.Answers.{answer}
 use Rattle.cg_model.specs.AllAnswers.{pairs_from, all_answers}
-use Rattle.cg_model.specs.Checks.{subtree_faults, checked, all_checked}
+use Rattle.cg_model.specs.Checks.{subtree_faults, all_checked}
 use Rattle.cg_model.specs.Several.{AreContained}
 use Rattle.cg_model.specs.Listed.{Listed, listed}
 use Rattle.cg_model.specs.Once.{once}
 use Rattle.cg_model.specs.Mends.{Pair}
-use Rattle.cg_model.specs.declared.operation.Op.{Op}
-use Rattle.cg_model.specs.declared.answer.Answer.{Answer}
-use Rattle.cg_model.specs.declared.answer.Answer.TheVariants.{Contained, Escapes, Unsettled}
 use Rattle.cg_model.specs.declared.answer.AllAnswer.{AllAnswer}
 use Rattle.cg_model.specs.declared.answer.AllAnswer.TheVariants as all
-use Rattle.cg_laws.proofs.RunLaws.{contained-guarded}
-use Rattle.cg_laws.proofs.ThroughoutLaws.{contained-is_throughout}
-use Rattle.cg_check.proofs.Checking.{no_fault, answer-guarded}
 use Rattle.cg_check.proofs.AllContained.{are-contained}
 use Rattle.cg_check.proofs.ListedLaws.{all-unlisted}
 use Rattle.cg_cli.specs.Reports.{Report, report_on}
-use Rattle.cg_cli.specs.Arguments.{user_read, path_read}
-use Rattle.cg_cli.specs.May.{tree_read}
-use Rattle.cg_cli.specs.Containment.{in_call, answer_status, answer_report, subtree_report, check_report}
+use Rattle.cg_cli.specs.Containment.{in_call}
 use Rattle.cg_cli.specs.Audits.{users_read, paths_read, audit_status, audit_answer_report, pairs_report, audit_report}
 use Rattle.cg_cli.specs.Once.{same_user}
 use Rattle.cg_cli.specs.AllPairs.{read_then, pairs_found, all_report, UnlistedAreContained}
@@ -39,36 +28,7 @@ use Rattle.cg_advice.specs.AdviceLines.{advice_lines}
 use Rattle.cg_cli.proofs.AdviseReports.{contained-unadvised}
 use Rattle.cg_cli.proofs.AuditStatus.{IsNamed, named, status_is_contained}
 use Rattle.cg_cli.proofs.AuditOnce.{same_user-is, some_once, contained_once}
-use Rattle.cg_cli.proofs.CheckReports.{of_bytes}
 use Rattle.cg_escapes.proofs.EscapeReplays.{report_ok, found_is, status_is, unfaulted}
-
--- ---- one user
-
-zero_status : (found : Answer) → answer_status found ≡ 0 → found ≡ Contained
-zero_status Contained is = refl
-zero_status (Escapes ops) is = cc
-zero_status (Unsettled failed) is = cc
-
-module _ (st : State) (uid : ℕ) (gids : List ℕ) (user : Identity) (word : List ℕ) (subtree : Names) (formed : IsWellFormed st)
-    (of_user : user_of uid gids ≡ Some user) (of_path : path_at word ≡ Some subtree)
-    (is : (check_report (Ok st) uid gids word).ending ≡ Ok 0) where
-  pub contained_by_status : IsContained st user subtree
-  contained_by_status =
-      let who =
-      report_ok (user_read uid gids)
-      (λ user. report_on (path_read word) (λ path. report_on (tree_read (Ok st)) (λ st. subtree_report st user path))) 0 is in
-      let path = report_ok (path_read word) (λ path. report_on (tree_read (Ok st)) (λ st. subtree_report st who.0 path)) 0 who.2 in
-      let one = report_ok (in_call (checked st who.0 path.0)) (answer_report path.0) 0 path.2 in
-      let contained = zero_status one.0 (status_is (answer_status one.0) 0 one.2) in
-      let stated =
-      unfaulted (first (subtree_faults st path.0)) (answer st who.0 path.0) Contained
-      (found_is (checked st who.0 path.0) one.0 one.1 ∙ ap Ok contained) in
-      of_bytes (Ok st) uid gids word who.0 path.0 st who.1 path.1 refl IsContained
-      (contained-guarded st who.0 path.0 formed (no_fault st path.0 (sym stated.0)) (answer-guarded st who.0 path.0 stated.1))
-      st user subtree refl of_user of_path
-
-  pub throughout_by_status : (ops : List Op) → IsHeldThroughout st (by_user user ops) subtree
-  throughout_by_status = (contained-is_throughout st user subtree).0 contained_by_status
 
 -- ---- the advice for pairs
 

@@ -2,9 +2,8 @@
 //! does anything. Those of a tree say first what holds of a state, and then, as `bytes`, what a report on a text says of it.
 #![tactic(auto)]
 
-ghost use Rattle.std.specs.Prelude.{◌≡◌, ◌≢◌, ◌↔◌, ◌≤◌, ℕ, ◌+◌, false, List, [], ◌∷◌, ◌++◌, length, map, codes, Option, Some, None, Result, Ok, Err};
+ghost use Rattle.std.specs.Prelude.{◌≡◌, ◌≢◌, ◌↔◌, ◌≤◌, ℕ, ◌+◌, true, false, List, [], ◌∷◌, ◌++◌, length, map, codes, Option, Some, None, Result, Ok, Err, IsOk};
 ghost use Rattle.std.specs.List.{All, Contains};
-ghost use Rattle.std.specs.Io.KnownBytes.{Appends};
 ghost use Rattle.cg_cgroup.specs.Paths.{Names, path_at, same_path};
 ghost use Rattle.cg_cgroup.specs.Users.{IsUser, user_of};
 ghost use Rattle.cg_cgroup.specs.Identity.{Identity};
@@ -42,7 +41,7 @@ ghost use Rattle.cg_format.specs.TextFaults.{text_faults};
 ghost use Rattle.cg_format.specs.Readings.{Reading, IsReading};
 ghost use Rattle.cg_print.specs.Documents.{tree_document, IsSpelled};
 ghost use Rattle.cg_print.specs.Carried.{IsKept, IsCarried};
-ghost use Rattle.cg_cli.specs.Reports.{Report};
+ghost use Rattle.cg_cli.specs.Reports.{Reports};
 ghost use Rattle.cg_cli.specs.Arguments.{user_read, pid_read, path_read};
 ghost use Rattle.cg_cli.specs.May.{may_report};
 ghost use Rattle.cg_cli.specs.Courses.{verdict_status};
@@ -50,31 +49,44 @@ ghost use Rattle.cg_cli.specs.Replays.{is_newline, longest_line, outcome_of, rep
 ghost use Rattle.cg_cli.specs.Containment.{check_report};
 ghost use Rattle.cg_cli.specs.Audits.{users_read, paths_read, audit_report};
 ghost use Rattle.cg_cli.specs.Once.{same_user};
-ghost use Rattle.cg_cli.specs.AllPairs.{all_report, UnlistedAreContained};
+ghost use Rattle.cg_cli.specs.AllPairs.{all_report, ReportsPairs, UnlistedAreContained};
+ghost use Rattle.cg_cli.specs.Upgrades.{upgrade_report, IsNewText};
 ghost use Rattle.cg_cli.specs.Advising.{all_pairs, paired, advise_report, advise_pairs_report, IsAdvisable, AreNamed, AreContainedAsNamed};
 ghost use Rattle.cg_cli.specs.declared.fault.CliFault.{CliFault};
 ghost use Rattle.cg_cli.specs.declared.fault.CliFault.TheVariants.{Line};
 ghost use Rattle.cg_lines.specs.declared.lines.fault.LineFault.TheVariants.{BadWord};
 ghost use Rattle.cg_escapes.specs.EscapeLines.{HaveLines};
 ghost use Rattle.cg_escapes.specs.EscapeReplays.{IsReplayed};
+ghost use Rattle.theorems.specs.Guarded.{NamesGuarded};
+ghost use Rattle.clap.specs.declared.error.Error.{Error};
 ghost use Rattle.arguments.specs.Words.{Makes};
-ghost use Rattle.arguments.specs.Given.{ids_of};
-ghost use Rattle.arguments.specs.declared.request.Audit.{Audit};
+ghost use Rattle.arguments.specs.Given.{ids_of, tree_file, ops_file};
+ghost use Rattle.arguments.specs.declared.request.May.{May};
 ghost use Rattle.arguments.specs.declared.request.Check.{Check};
+ghost use Rattle.arguments.specs.declared.request.Audit.{Audit};
+ghost use Rattle.arguments.specs.declared.request.Advise.{Advise};
+ghost use Rattle.arguments.specs.declared.request.Upgrade.{Upgrade};
+ghost use Rattle.arguments.specs.declared.request.Replay.{Replay};
 ghost use Rattle.arguments.specs.declared.request.Request.{Request};
 ghost use Rattle.arguments.specs.declared.request.Request.TheVariants as request;
-ghost use Rattle.commands.specs.Requests.{Files, source, name_of};
-ghost use Rattle.commands.specs.Runs.{RunsTo};
+ghost use Rattle.commands.specs.Requests.{Files, source, name_of, may_said, check_said, advise_said, CarriesOut};
+ghost use Rattle.commands.specs.Runs.{LeadsTo, RunsTo};
+ghost use Rattle.commands.specs.declared.fault.Fault.{Fault};
 ghost use Rattle.streams.specs.declared.write.WriteFailed.{WriteFailed};
 
 /// Where the guards of a subtree hold for a user it is contained against them: whatever they do, in whatever order, nothing breaks it.
-/// Where `check` ends with status 0 on a text, the subtree is contained in the state that the text has.
+/// So it is in the state of a text, of which `check` says `contained`, and ends with status 0, exactly where they hold.
 pub fn one_user()
     ensures states { (st : State) (user : Identity) (subtree : Names)
         → IsWellFormed st → IsSubtree st subtree → GuardsHold st user subtree → IsContained st user subtree }
     ensures bytes { (text : List ℕ) (st : State) (uid : ℕ) (gids : List ℕ) (user : Identity) (word : List ℕ) (subtree : Names)
-        → IsTextOf st text → user_of uid gids ≡ Some user → path_at word ≡ Some subtree
-        → (check_report (Ok st) uid gids word).ending ≡ Ok 0 → IsContained st user subtree }
+        → NamesGuarded text uid gids word → IsTextOf st text → user_of uid gids ≡ Some user → path_at word ≡ Some subtree
+        → IsContained st user subtree }
+    ensures status { (text : List ℕ) (st : State) (uid : ℕ) (gids : List ℕ) (word : List ℕ)
+        → IsTextOf st text → (check_report (Ok st) uid gids word).ending ≡ Ok 0 → NamesGuarded text uid gids word }
+    ensures report { (text : List ℕ) (st : State) (uid : ℕ) (gids : List ℕ) (word : List ℕ)
+        → IsTextOf st text → NamesGuarded text uid gids word
+        → check_report (Ok st) uid gids word ≡ record { text = codes "contained\n"; ending = Ok 0 } }
 {}
 
 /// That a subtree is held over a run is the same said of the run's states and steps one by one, and so it is contained against a
@@ -218,22 +230,47 @@ pub fn may()
         → (may_report tree uid gids number word).ending ≡ Err fault → (may_report tree uid gids number word).text ≡ [] }
 {}
 
-/// Where the program ends with a command's status, its words make a request. Where that is a `check` of a text, the status and what
-/// lies in the first writer are those of the report on the state of the text; so with status 0 the subtree is contained. So with an
-/// `audit`, of all its users together.
+/// Where the program ends with a command's status, the request that its words make was carried out, and all that was said lies in the
+/// first writer; and so it does before a fault, where no write failed. Of each command: where the text that it is given has a state,
+/// the status and what was written are those of the report on that state.
 pub fn the_program()
-    ensures check { (words : List (List ℕ)) (files : Files) (given old new : Option (List ℕ)) (status : ℕ) (written : Result (Unit {0}) WriteFailed)
-        → RunsTo words files given old new (Ok status) written → (asked : Request) × Makes words asked
-        × ((check : Check) (text : List ℕ) (st : State) (user : Identity) (subtree : Names) → asked ≡ request.Check check
+    ensures carried_out { (words : List (List ℕ)) (files : Files) (given old new : Option (List ℕ)) (status : ℕ) (written : Result (Unit {0}) WriteFailed)
+        → RunsTo words files given old new (Ok status) written
+        → (asked : Request) × Makes words asked × CarriesOut asked files given old new (Ok status) }
+    ensures fault { (words : List (List ℕ)) (files : Files) (given old new : Option (List ℕ)) (fault : Fault) (written : Result (Unit {0}) WriteFailed)
+        → RunsTo words files given old new (Err fault) written → IsOk written → LeadsTo words files given old new (Err fault) }
+    ensures help { (help : Error) (files : Files) (given old new : Option (List ℕ)) (status : ℕ)
+        → CarriesOut (request.Help help) files given old new (Ok status) → status ≡ 0 }
+    ensures may { (may : May) (files : Files) (given old new : Option (List ℕ)) (status : ℕ) (text : List ℕ) (st : State)
+        → CarriesOut (request.May may) files given old new (Ok status)
+        → source files (name_of may.tree) given ≡ Some text → IsTextOf st text
+        → Reports (may_said may (Ok st)) old new (Ok status) }
+    ensures check { (check : Check) (files : Files) (given old new : Option (List ℕ)) (status : ℕ) (text : List ℕ) (st : State)
+        → CarriesOut (request.Check check) files given old new (Ok status)
         → source files (name_of check.tree) given ≡ Some text → IsTextOf st text
-        → user_of check.user.uid check.user.gids.items ≡ Some user → path_at check.subtree.now ≡ Some subtree
-        → ((check_report (Ok st) check.user.uid check.user.gids.items check.subtree.now).ending ≡ Ok status)
-        × Appends old new (check_report (Ok st) check.user.uid check.user.gids.items check.subtree.now).text
-        × (status ≡ 0 → IsContained st user subtree)) }
-    ensures audit { (words : List (List ℕ)) (files : Files) (given old new : Option (List ℕ)) (status : ℕ) (written : Result (Unit {0}) WriteFailed)
-        → RunsTo words files given old new (Ok status) written → (asked : Request) × Makes words asked
-        × ((audit : Audit) (text : List ℕ) (st : State) (users : List Identity) (subtrees : List Names) → asked ≡ request.Audit audit
-        → audit.all ≡ false → source files (name_of audit.tree) given ≡ Some text → IsTextOf st text
-        → users_read (map ids_of audit.users.items) ≡ Ok users → paths_read (map (λ subtree. subtree.now) audit.subtrees.items) ≡ Ok subtrees
-        → users ≢ [] → status ≡ 0 → AreContained st users subtrees) }
+        → Reports (check_said check (Ok st)) old new (Ok status)
+        × (status ≡ 0 → (user : Identity) (subtree : Names) → user_of check.user.uid check.user.gids.items ≡ Some user
+        → path_at check.subtree.now ≡ Some subtree → IsContained st user subtree) }
+    ensures audit { (audit : Audit) (files : Files) (given old new : Option (List ℕ)) (status : ℕ) (text : List ℕ) (st : State)
+        → CarriesOut (request.Audit audit) files given old new (Ok status) → audit.all ≡ false
+        → source files (name_of audit.tree) given ≡ Some text → IsTextOf st text
+        → Reports (audit_report (Ok st) (map ids_of audit.users.items) (map (λ subtree. subtree.now) audit.subtrees.items)) old new (Ok status)
+        × (status ≡ 0 → (users : List Identity) (subtrees : List Names) → users_read (map ids_of audit.users.items) ≡ Ok users
+        → paths_read (map (λ subtree. subtree.now) audit.subtrees.items) ≡ Ok subtrees → users ≢ [] → AreContained st users subtrees) }
+    ensures audit_all { (audit : Audit) (files : Files) (given old new : Option (List ℕ)) (status : ℕ) (text : List ℕ) (st : State)
+        → CarriesOut (request.Audit audit) files given old new (Ok status) → audit.all ≡ true
+        → source files (name_of audit.tree) given ≡ Some text → IsTextOf st text
+        → ReportsPairs (all_report (Ok st) (map ids_of audit.users.items) (map (λ subtree. subtree.now) audit.subtrees.items)) old new (Ok status) }
+    ensures advise { (advise : Advise) (files : Files) (given old new : Option (List ℕ)) (status : ℕ) (text : List ℕ) (st : State)
+        → CarriesOut (request.Advise advise) files given old new (Ok status)
+        → source files (name_of advise.tree) given ≡ Some text → IsTextOf st text
+        → Reports (advise_said advise (Ok st)) old new (Ok status) }
+    ensures upgrade { (upgrade : Upgrade) (files : Files) (given old new : Option (List ℕ)) (status : ℕ) (text : List ℕ) (st : State)
+        → CarriesOut (request.Upgrade upgrade) files given old new (Ok status)
+        → source files (name_of upgrade.tree) given ≡ Some text → IsTextOf st text
+        → (anew : List ℕ) × IsNewText st anew × Reports (upgrade_report (Ok st) anew) old new (Ok status) }
+    ensures replay { (replay : Replay) (files : Files) (given old new : Option (List ℕ)) (status : ℕ) (text ops : List ℕ) (st : State)
+        → CarriesOut (request.Replay replay) files given old new (Ok status)
+        → source files (tree_file replay.sources) given ≡ Some text → source files (ops_file replay.sources) given ≡ Some ops → IsTextOf st text
+        → Reports (replay_report (Ok st) replay.user.uid replay.user.gids.items (name_of replay.subtree) ops) old new (Ok status) }
 {}

@@ -1,5 +1,5 @@
 use Rattle.cg_laws.proofs.ThroughoutLaws.{held-is_throughout, contained-is_throughout}
-use Rattle.theorems.proofs.StatusLaws.{throughout_by_status}
+use Rattle.theorems.proofs.GuardedLaws.{throughout_by_status}
 use Rattle.theorems.proofs.held_is_every_state_and_step.Goals as goal
 
 pub returns : goal.returns
@@ -7,5 +7,5 @@ returns c = record {
   held = held-is_throughout;
   contained = contained-is_throughout;
   bytes = λ text st uid gids user word subtree ops of_text of_user of_path is.
-      throughout_by_status st uid gids user word subtree of_text.says.formed of_user of_path is ops;
+      throughout_by_status text st uid gids user word subtree of_text of_user of_path is ops;
 }

@@ -1,5 +1,18 @@
-use Rattle.theorems.proofs.ProgramLaws.{check_by_program, audit_by_program}
+use Rattle.theorems.proofs.ProgramLaws.{carried_by_status, led_to_fault, help_ended, may_ended, check_ended, audit_ended, all_ended, advise_ended, upgrade_ended, replay_ended}
 use Rattle.theorems.proofs.the_program.Goals as goal
 
 pub returns : goal.returns
-returns c = record { check = check_by_program; audit = audit_by_program }
+returns c = record {
+  carried_out = λ words files given old new status written. carried_by_status words files given old new written status;
+  fault = λ words files given old new fault written. led_to_fault words files given old new written fault;
+  help = λ help files given old new status. help_ended files given old new status help;
+  may = λ may files given old new status text st. may_ended files given old new status text st may;
+  check = λ check files given old new status text st. check_ended files given old new status text st check;
+  audit = λ audit files given old new status text st carried first of_known of_text.
+      audit_ended files given old new status text st audit carried of_known of_text first;
+  audit_all = λ audit files given old new status text st carried each of_known of_text.
+      all_ended files given old new status text st audit carried of_known of_text each;
+  advise = λ advise files given old new status text st. advise_ended files given old new status text st advise;
+  upgrade = λ upgrade files given old new status text st. upgrade_ended files given old new status text st upgrade;
+  replay = λ replay files given old new status text ops st. replay_ended files given old new status text st replay ops;
+}
