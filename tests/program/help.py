@@ -29,6 +29,7 @@ pid = 10
 uid = 1000
 at = '/c0'
 """
+NEWLINE = "\n"
 OPS = "set /c0 memory.max max\nmove 10 /c0\n"
 CHECK = ["check", "--uid", "1000", "--subtree", "/c0"]
 MAY = ["may", "--uid", "1000", "--pid", "10", "--to", "/c0"]
@@ -52,7 +53,7 @@ class Row:
         with tempfile.TemporaryDirectory() as folder:
             names = {"OPS": self.ops, "TREE": self.tree}
             for name, text in names.items():
-                with open(f"{folder}/{name}", "w", encoding="utf-8") as out:
+                with open(f"{folder}/{name}", "w", encoding="utf-8", errors="surrogateescape", newline="") as out:
                     out.write(text)
             words = [f"{folder}/{word}" if word in names else word for word in self.words]
             given = (self.tree if self.input is None else self.input).encode(errors="surrogateescape")
@@ -82,9 +83,12 @@ def command_lines():
     yield Row(CHECK[:1] + CHECK[3:], "usage", ["--uid <UID>"])
     yield Row(["check", "--user", *CHECK[2:]], "usage", ["unexpected argument '--user'"])
     yield Row(["check", "--uid", "1000", "--subtre", "/c0"], "usage", ["'--subtre'", "--subtree"])
-    yield Row(["check", "--uid", "alice", "--subtree", "/c0"], "usage", ["invalid value 'alice' for '--uid <UID>'"])
-    yield Row(["check", "--uid", "-5", "--subtree", "/c0"], "usage", ["-5"])
-    yield Row(["check", "--uid", "4294967296", "--subtree", "/c0"], "usage", ["4294967296"])
+    yield Row(["check", "--uid", "alice", "--subtree", "/c0"], "usage", ["invalid value 'alice' for '--uid <UID>'", "`id -u NAME`"])
+    yield Row(["check", "--uid", "-5", "--subtree", "/c0"], "usage", ["-5", "no uid, gid or PID is negative"])
+    yield Row(["check", "--uid", "4294967296", "--subtree", "/c0"], "usage", ["'4294967296'", "a number from 1 to 4294967295"])
+    yield Row(["check", "--uid", "12345678901234567890", "--subtree", "/c0"], "usage", ["a number from 1 to 4294967295"])
+    yield Row([*CHECK, "--gid", "5,6"], "usage", ["'5,6' for '--gid <GID>'", "one number from 0", "`id -G NAME`"])
+    yield Row(["may", "--uid", "1000", "--pid", "bash", "--to", "/c0"], "usage", ["'bash' for '--pid <PID>'", "`pgrep NAME`"])
     yield Row([*CHECK, "--uid", "1001"], "usage", ["--uid <UID>", "multiple times"])
     yield Row([*CHECK, "/c0"], "usage", ["unexpected argument '/c0'"])
     yield Row([*CHECK, "--tree"], "usage", ["a value is required for '--tree <FILE>'"])
@@ -94,6 +98,8 @@ def command_lines():
     yield Row([*CHECK, b"\xff"], "usage")
     yield Row(["check", "--uid", "1\n  0", "--subtree", "/c0"], "usage", ["1\\x0a  0"])
     yield Row(["audit", "--uid", "+1000", "--subtree", "/c0"], "usage", ["a user of audit"])
+    yield Row(["audit", "--uid", "alice", "--subtree", "/c0"], "usage", ["a user of audit", "`id -u NAME`"])
+    yield Row(["advise", "--uid", "1000:5, 6", "--subtree", "/c0"], "usage", ["a user of audit and advise", "no spaces"])
     yield Row([*REPLAY, "--tree", "TREE", "--tree", "TREE"], "usage", ["--tree <FILE>", "multiple times"])
     yield Row([*REPLAY[:4], "-"], "usage", BOTH)
     yield Row([*REPLAY[:4], "-", "--tree", "-"], "usage", BOTH)
@@ -117,6 +123,13 @@ def arguments():
     yield Row(subtree("/\x1b[2J"), "path", ["/\\x1b[2J"])
     yield Row(subtree("/"), "subtree root", ["root"])
     yield Row(subtree("/zz"), "subtree missing", ["/zz"])
+    yield Row(subtree("/c9"), "subtree missing", ["'/c9' has to be the path of a row of the tree; the nearest is '/c0'"])
+    yield Row(subtree("/C0"), "subtree missing", ["the nearest is '/c0'"])
+    yield Row([*CHECK, "--tree", "TREE"], "tree not-toml", ["gunzip -c"], "\x1f\udc8b\x08\0")
+    yield Row([*CHECK, "--tree", "TREE"], "tree not-toml", ["UTF-16", "iconv -f UTF-16"], "\udcff\udcfef\0o\0r\0m\0a\0t\0")
+    yield Row(CHECK, "tree not-toml", ["UTF-16"], "f\0o\0r\0m\0a\0t\0")
+    yield Row(CHECK, "tree shape top", ["nothing was given", "format = 2"], "")
+    yield Row(CHECK, "tree shape top", ["nothing was given"], "\r\n \n")
     yield Row(subtree("/sys/fs/cgroup/c0"), "subtree missing", ["/sys/fs/cgroup", "below"])
     yield Row([*CHECK, "--tree", "/none/tree.toml"], "read", ["/none/tree.toml"])
     yield Row([*CHECK, "--tree", "/"], "read", ["/"])
@@ -139,36 +152,75 @@ def edited(old, new):
     return TREE.replace(old, new)
 
 
+def place(text, key):
+    """The line and the column of what stands once in a text."""
+    before = text[:text.index(key)]
+    return f"line {before.count(NEWLINE) + 1}, column {len(before) - before.rfind(NEWLINE)}"
+
+
 def trees():
     def row(old, new, line, *helps):
         return Row(CHECK, f"tree {line}", helps, edited(old, new))
 
+    def at(key, old, new, line, *helps):
+        """A row whose help has the place of a key."""
+        text = edited(old, new)
+        if text.count(key) != 1:
+            raise ValueError(f"{key!r} stands {text.count(key)} times in the tree")
+        return Row(CHECK, f"tree {line}", [place(text, key), *helps], text)
+
     for dash in ([], ["--tree", "-"]):
-        yield Row([*CHECK, *dash], "tree not-toml", ["line 4"], edited('"pids"]\n', '"pids"\n'))
-    yield row("mode = 0o644", "mode = 0644", "not-toml", "line 11")
+        yield Row([*CHECK, *dash], "tree not-toml", ["line 4, column 1: missing comma", "4 | [[cgroup]]", "  | ^"], edited('"pids"]\n', '"pids"\n'))
+    yield at("0644", "mode = 0o644", "mode = 0644", "not-toml", "an octal number begins with 0o: write 0o644")
+    yield at("max }", "value = 4096", "value = max", "not-toml", 'max is a text: write "max"', "value = max } }")
+    yield row("pid = 10", "pid = \udcff", "not-toml", "line 14", "UTF-8")
+    yield row("pid = 10", "pid = '\x1b[2J", "not-toml", "line 14")
+    yield row("pid = 10", "pid = 12345678901234567890", "not-toml", "line 14, column 7", "number out of range")
     yield row("pid = 10", "pid = 10\npid = 11", "not-toml", "line")
     yield row("format = 2\n", "", "shape top", "format")
     yield row('controllers = ["cpu", "memory", "pids"]\n', "", "shape top", "controllers")
     yield row("format = 2", "format = 2\nuser = 5", "shape top", "user")
     yield row("format = 2", "format = 1", "shape cgroup 2", "/c0", "gid")
-    yield row("format = 2", "format = 3", "format", "2")
-    yield row("enabled =", "enable =", "shape cgroup 1", "enable")
+    yield at("format = 3", "format = 2", "format = 3", "format", "format is 1 or 2: write format = 2")
+    yield at("enable", "enabled =", "enable =", "shape cgroup 1", "row 1 of cgroup", "6 | enable = [", "  | ^", "enable: write enabled; left out, the cgroup enables no controller")
+    yield at("vlaue", "value = 4096", "vlaue = 4096", "shape cgroup 2", "/c0", "memory.max", "vlaue: write value; left out, it has its default value")
+    yield at("[cgroup.file]", "files = {", "[cgroup.file]\nx = {", "shape cgroup 2", "file: write files; left out, root owns each file", "11 | [cgroup.file]")
+    yield row("files = {", "[cgroup.files.'cgroup.prosc']\n[cgroup.x]\ny = {", "shape cgroup 2", "line")
+    yield row("files =", "file =", "shape cgroup 2", "/c0", "file: write files; left out, root owns each file, with mode 0o644")
+    yield row("mode = 0o644", "mod = 0o644", "shape cgroup 2", "cgroup.procs", "mod: write mode; left out, its mode is 0o644")
+    yield row("dir = { uid = 1000", "dir = { udi = 1000", "shape cgroup 2", "dir", "udi: write uid; left out, root owns it")
+    yield row('"memory.max" =', '"memroy.max" =', "shape cgroup 2", "write memory.max; left out, root owns it, with mode 0o644 and its default")
+    yield row('"memory.max" =', "memory.max =", "shape cgroup 2", "memory: a name with dots is quoted, as \"memory.max\"")
+    yield row("[[process]]", "[[proces]]", "shape top", "proces: write process; left out, the tree has no such process")
+    yield at("att", "at = '/c0'", "att = '/c0'", "shape process 1", "there is no key att: write at")
+    yield row("path = '/c0'", "path = '/c0'\nuid = 1000", "shape cgroup 2", "uid: left out, what it says counts in no answer; there are path")
     yield row("dir = { uid = 1000,", "dir = { uid = '1000',", "shape cgroup 2", "/c0", "uid")
-    yield row('"cpu", "memory", "pids"', '"cpu", "io"', "bad-controller top", "io")
-    yield row("path = '/c0'", "path = 'c0'", "bad-path cgroup 2", "row 2", "c0")
+    yield row('"cpu", "memory", "pids"', '"cpu", "io"', "bad-controller top", "'io'", "left out, its limits count in no answer")
+    yield at("path = 'c0'", "path = '/c0'", "path = 'c0'", "bad-path cgroup 2", "row 2", "c0")
     yield row('enabled = ["memory"]', 'enabled = ["cpuset"]', "bad-controller cgroup 1", "cpuset")
-    yield row("mode = 0o644", "mode = 644", "bad-entry cgroup 2", "/c0", "mode", "0o644")
-    yield row("value = 4096", "value = -1", "bad-value cgroup 2", "/c0", "memory.max")
+    yield row("mode = 0o644", "mode = 644", "bad-entry cgroup 2", "/c0", "cgroup.procs: mode 644 is decimal: write 0o644")
+    yield row("mode = 0o644", "mode = 0o2755", "bad-entry cgroup 2", "cgroup.procs: mode 0o2755 isn't one of 0 to 0o777")
+    yield row("mode = 0o644", "mode = 0x1_FF0", "bad-entry cgroup 2", "mode 0x1_FF0 isn't one of 0 to 0o777")
+    yield at("mode = ", "mode = 0o644", "mode = 1533", "bad-entry cgroup 2", "mode 1533 isn't one of 0 to 0o777", "row 2 of cgroup")
+    yield at("uid = 4294967296", "dir = { uid = 1000,", "dir = { uid = 4294967296,", "bad-entry cgroup 2", "dir: uid 4294967296 isn't one of 0 to 4294967295")
+    yield row("dir = { uid = 1000,", "dir.mode = -1\ndir = {", "not-toml", "line 11")
+    yield at("value = -1", "value = 4096", "value = -1", "bad-value cgroup 2", "/c0", "memory.max")
     yield row("value = 4096", "value = '4G'", "bad-value cgroup 2", "/c0", "memory.max", "4G")
     yield row('"memory.max" = { value = 4096 }', '"cpu.weight" = { value = 0 }', "bad-value cgroup 2", "cpu.weight doesn't accept 0: write 1 to 10000")
     yield row('"memory.max" = { value = 4096 }', '"cpu.weight" = { value = "max" }', "bad-value cgroup 2", "cpu.weight", "write 1 to 10000")
-    yield row('"memory.max" = { value = 4096 }', '"cpu.max" = { }', "shape cgroup 2", "/c0", "cpu.max: leave it out; there are cgroup.procs")
+    yield row('"memory.max" = { value = 4096 }', '"cpu.max" = { }', "shape cgroup 2", "/c0", "cpu.max: left out, what it says counts in no answer")
     yield row("path = '/c0'", "path = '/'", "duplicate cgroup 2", "/")
     yield row("path = '/'", "path = '/c1'", "no-root", "/")
-    yield row("path = '/c0'", "path = '/c1/c0'", "no-parent cgroup 2", "/c1")
-    yield row("path = '/c0'", "path = '/c0'\nenabled = ['cpu']", "top-down cgroup 2", "/c0", "cpu")
-    yield row('enabled = ["memory"]', "", "no-such-file cgroup 2", "/c0", "memory.max")
-    yield row("pid = 10", "pid = 0", "bad-pid process 1", "0")
+    yield row("path = '/c0'", "path = '/c1/c0'", "no-parent cgroup 2", "/c1", "line 9, column 1")
+    yield row("at = '/c0'", "at = '/C0'", "no-such-place process 1", "the nearest is '/c0'", "line 16, column 1, row 1 of process")
+    yield row('"cpu", "memory", "pids"', '"cpu", "memroy"', "bad-controller top", "'memroy' of controllers is no controller: write memory", "line 2, column 1, the top table")
+    # a place that the text has twice, or in another way
+    yield row("[[process]]\npid = 10\nuid = 1000\nat = '/c0'\n", "[[process]]\npid = 0\nuid = 1000\nat = '/c0'\n[[process]]\npid = 5\n", "shape process 2", "line 17, column 1, row 2 of process")
+    yield row("[[process]]\npid = 10", "[[process]]\n'pid' = 0", "bad-pid process 1", "line 14, column 1", "'pid' = 0")
+    yield row("controllers =", "process = [\n  { pid = 1, uid = 1, at = '/' }, # one\n  { pid = 0, uid = 1, at = '/' } ]\ncontrollers =", "not-toml", "duplicate key")
+    yield at("enabled = ['cpu']", "path = '/c0'", "path = '/c0'\nenabled = ['cpu']", "top-down cgroup 2", "/c0", "cpu")
+    yield at('"memory.max"', 'enabled = ["memory"]', "", "no-such-file cgroup 2", "/c0", "memory.max")
+    yield at("pid = 0", "pid = 10", "pid = 0", "bad-pid process 1", "pid 0 isn't one of 1 to 4194303")
     yield row("uid = 1000\nat", "uid = -1\nat", "bad-entry process 1", "-1")
     yield row("at = '/c0'", "at = '/c0'\n[[process]]\npid = 10\nuid = 5\nat = '/'", "duplicate-pid process 2", "10")
     yield row("at = '/c0'", "at = '/c1'", "no-such-place process 1", "/c1")
@@ -179,13 +231,21 @@ def operations():
     def row(ops, line, *helps):
         return Row(REPLAY, line, helps, TREE, ops)
 
-    yield row("mvoe 10 /c0\n", "line 1 bad-word", "mvoe 10 /c0", "an operation is move, control")
+    yield row("mvoe 10 /c0\n", "line 1 bad-word", "mvoe 10 /c0", "an operation is move, control", "'mvoe': write move")
+    yield row("remove /c0\n", "line 1 bad-word", "'remove' is none of move control mkdir rmdir set fork exit chmod")
+    yield row("set /c0 memroy.max max\n", "line 1 bad-word", "'memroy.max': write memory.max")
+    yield row("chmod /c0 cgroup.proc 644\n", "line 1 bad-word", "'cgroup.proc': write cgroup.procs")
+    yield row("control /c0 +memroy\n", "line 1 bad-word", "'memroy': write memory")
+    yield row("control /c0 +io\n", "line 1 bad-word", "'io' is none of cpu memory pids")
+    yield row("control /c0 +cpu -pisd\n", "line 1 bad-word", "'pisd': write pids")
     yield row("move 10 /c0\nmove 010 /c0\n", "line 2 bad-word", "move 010 /c0", "move PID PATH")
     yield row("move 10  /c0\n", "line 1 bad-word", "move 10  /c0", "one space between words")
     yield row("\n", "line 1 bad-word", "''")
     yield row("chmod /c0 dir 0755\n", "line 1 bad-word", "chmod /c0 dir 0755", "three octal digits")
     yield row("set /c0 cpu.max max\n", "line 1 bad-word", "cpu.max", "LIMITFILE")
-    yield row("move 10 /c0\r\n", "line 1 bad-word", "\\x0d")
+    yield row("move 10 /c0\r\n", "line 1 bad-word", "\\x0d", "a carriage return stands at its end")
+    yield row("\x1f\udc8b\x08\n", "line 1 bad-word", "gunzip -c")
+    yield row("\udcff\udcfem\0o\0v\0e\0\n", "line 1 bad-word", "UTF-16")
     yield row("move 10 /c0", "line 1 cut", "newline")
     yield row("x" * 8193 + "\n", "line 1 too-long", "xx..")
     long = "mkdir /c0/" + "a" * 200 + "\n"

@@ -5,9 +5,10 @@ ghost use Rattle.cg_help.specs.Help.{IsHelp, has_help};
 
 use crate::files::{read_again, why_unread};
 use crate::given::{other_of, paths_of, tree_of};
+use crate::lines::line_said;
 use crate::paths::{why_missing, why_no_path};
 use crate::shown::{indented, quoted};
-use crate::trees::{first_missing, tree_said};
+use crate::trees::{missing_said, tree_said};
 use arguments::request::Request;
 use arguments::usage::usage_text;
 use cg_cgroup::memory::NoMemory;
@@ -121,7 +122,10 @@ fn fault_said<F: Files>(
             None => Ok(None),
         },
         CliFault::Read => unread(alloc, files, request),
-        CliFault::Line { .. } => line_said(alloc, request, seen),
+        CliFault::Line { .. } => match seen.line {
+            Some(line) => Ok(Some(line_said(alloc, request, line)?)),
+            None => Ok(None),
+        },
         CliFault::TooManySteps => plainly(alloc, "a replay takes at most 65536 operations"),
         _ => Ok(None),
     }
@@ -136,7 +140,7 @@ fn first_bad_path(alloc: Global, request: &Request<'_>) -> Result<Option<String>
     Ok(None)
 }
 
-/// Which path is missing: the only one, or of several the first that no row has.
+/// Which path is missing, and which row's is the nearest: of several the first that no row has.
 fn missing_path<F: Files>(
     alloc: Global,
     files: &F,
@@ -144,15 +148,14 @@ fn missing_path<F: Files>(
     seen: Seen<'_, '_, '_>,
 ) -> Result<Option<String>, NoMemory> {
     let paths = paths_of(alloc, request)?;
-    if let [path] = paths.as_slice() {
-        return Ok(Some(why_missing(alloc, path)?));
+    if let Some(tree) = tree_bytes(alloc, files, request, seen)? {
+        if let Some(why) = missing_said(alloc, tree.as_slice(), paths.as_slice())? {
+            return Ok(Some(why));
+        }
     }
-    let Some(tree) = tree_bytes(alloc, files, request, seen)? else {
-        return Ok(None);
-    };
-    match first_missing(alloc, tree.as_slice(), paths.as_slice()) {
-        Some(path) => Ok(Some(why_missing(alloc, path)?)),
-        None => Ok(None),
+    match paths.as_slice() {
+        [path] => Ok(Some(why_missing(alloc, path)?)),
+        _ => Ok(None),
     }
 }
 
@@ -186,57 +189,5 @@ fn unread<F: Files>(
     match other_of(request) {
         Some(name) => why_unread(alloc, files, name),
         None => Ok(None),
-    }
-}
-
-/// The line of operations or pairs at which it ended.
-fn line_said(
-    alloc: Global,
-    request: &Request<'_>,
-    seen: Seen<'_, '_, '_>,
-) -> Result<Option<String>, NoMemory> {
-    let Some(line) = seen.line else {
-        return Ok(None);
-    };
-    match std::str::from_utf8(line) {
-        Ok(line) => line_and_form(alloc, line, form_of(request, line)),
-        Err(_) => plainly(alloc, "the line isn't UTF-8"),
-    }
-}
-
-fn line_and_form(alloc: Global, line: &str, form: &str) -> Result<Option<String>, NoMemory> {
-    let shown = quoted(alloc, line)?;
-    Ok(Some(format!(in alloc;
-        "the line is '{shown}'\n{form}, with one space between words and a newline behind"
-    )?))
-}
-
-/// What a line looks like that begins as this one.
-fn form_of(request: &Request<'_>, line: &str) -> &'static str {
-    match request {
-        Request::AdvisePairs(_) => "pair UID PATH, or pair UID:GID,GID.. PATH",
-        _ => operation_form(line),
-    }
-}
-
-/// What an operation's line looks like that begins as this one.
-fn operation_form(line: &str) -> &'static str {
-    match first_word(line) {
-        "move" => "move PID PATH",
-        "control" => "control PATH +CONTROLLER -CONTROLLER ..",
-        "mkdir" => "mkdir PATH",
-        "rmdir" => "rmdir PATH",
-        "set" => "set PATH LIMITFILE NUMBER, or max in place of the number",
-        "fork" => "fork PARENTPID CHILDPID",
-        "exit" => "exit PID",
-        "chmod" => "chmod PATH ENTRY MODE, of three octal digits",
-        _ => "an operation is move, control, mkdir, rmdir, set, fork, exit or chmod",
-    }
-}
-
-fn first_word(line: &str) -> &str {
-    match line.split_once(' ') {
-        Some((word, _)) => word,
-        None => line,
     }
 }

@@ -6,6 +6,11 @@
 mod files;
 mod given;
 pub mod help;
+mod input;
+mod lines;
+mod near;
 mod paths;
+mod position;
+mod scan;
 pub mod shown;
 mod trees;

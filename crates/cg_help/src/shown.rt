@@ -57,8 +57,13 @@ pub fn indented(alloc: Global, text: &str) -> Result<Vec<u8>, AllocError>
 
 /// A text as it is quoted: on one line, and cut where it is long.
 pub(crate) fn quoted(alloc: Global, text: &str) -> Result<String, AllocError> {
+    shown_bytes(alloc, text.as_bytes())
+}
+
+/// Bytes as they are quoted.
+pub(crate) fn shown_bytes(alloc: Global, bytes: &[u8]) -> Result<String, AllocError> {
     let mut quote = Vec::new(alloc);
-    for byte in text.as_bytes() {
+    for byte in bytes {
         if LONGEST_QUOTE <= quote.len() + 4 {
             quote.extend_from_slice(b"..")?;
             break;

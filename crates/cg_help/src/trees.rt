@@ -2,16 +2,22 @@
 mod entries;
 mod rows;
 mod shape;
+mod syntax;
 mod table;
 
+use crate::input::{is_blank, kind_said};
 use crate::paths::why_no_path;
+use crate::position::Position;
 use cg_text::tree::{Place, TreeFault};
 use entries::{entry_said, value_said};
-use rows::{controller_said, double_said, enabled_said, file_said, parent_said, place_said};
+use rows::{
+    controller_said, double_said, enabled_said, file_said, inner_said, nowhere_said, parent_said,
+};
 use shape::shape_said;
 use std::alloc::{AllocError, Global};
 use streams::kept::MOST_BYTES;
-use table::{RowAt, label, paths_of_rows, row, text_at};
+use syntax::syntax_said;
+use table::{RowAt, Said, label, paths_of_rows, row, text_at};
 use toml::Table;
 
 /// What is wrong with the text of a tree, which has this fault.
@@ -23,32 +29,52 @@ pub(crate) fn tree_said(
     if MOST_BYTES < bytes.len() {
         return Ok(None);
     }
+    if let Some(kind) = kind_said(bytes) {
+        return plainly(alloc, kind);
+    }
+    if is_blank(bytes) {
+        return plainly(alloc, "nothing was given: a tree begins with format = 2");
+    }
     match toml::table_from_slice(alloc, bytes) {
-        Ok(top) => fault_said(alloc, fault, &top),
+        Ok(top) => match std::str::from_utf8(bytes) {
+            Ok(text) => fault_said(alloc, fault, &top, text),
+            Err(_) => Ok(None),
+        },
         Err(error) if error.is_memory() => Ok(None),
-        Err(error) => Ok(Some(format!(in alloc; "{error}")?)),
+        Err(error) => Ok(Some(syntax_said(alloc, bytes, &error)?)),
     }
 }
 
-/// The first of these paths that no row of a tree's text has.
-pub(crate) fn first_missing<'a>(alloc: Global, bytes: &[u8], paths: &[&'a str]) -> Option<&'a str> {
+/// The first of these paths that no row of a tree's text has, and what may be wrong with it.
+pub(crate) fn missing_said(
+    alloc: Global,
+    bytes: &[u8],
+    paths: &[&str],
+) -> Result<Option<String>, AllocError> {
     if MOST_BYTES < bytes.len() {
-        return None;
+        return Ok(None);
     }
-    let top = toml::table_from_slice(alloc, bytes).ok()?;
-    let there = paths_of_rows(alloc, &top).ok()?;
+    let Ok(top) = toml::table_from_slice(alloc, bytes) else {
+        return Ok(None);
+    };
+    let there = paths_of_rows(alloc, &top)?;
     for path in paths {
         if !there.contains(*path) {
-            return Some(*path);
+            return Ok(Some(nowhere_said(alloc, &top, path)?));
         }
     }
-    None
+    Ok(None)
 }
 
-fn fault_said(alloc: Global, fault: TreeFault, top: &Table) -> Result<Option<String>, AllocError> {
+fn fault_said(
+    alloc: Global,
+    fault: TreeFault,
+    top: &Table,
+    text: &str,
+) -> Result<Option<String>, AllocError> {
     let place = match fault {
-        TreeFault::Format => return plainly(alloc, "format is 1 or 2: write format = 2"),
         TreeFault::NoRoot => return plainly(alloc, "no row of cgroup has path = '/'"),
+        TreeFault::Format => Place::Top,
         TreeFault::Shape(place)
         | TreeFault::BadController(place)
         | TreeFault::BadPath(place)
@@ -71,36 +97,63 @@ fn fault_said(alloc: Global, fault: TreeFault, top: &Table) -> Result<Option<Str
             _ => Ok(None),
         };
     };
-    match row_said(alloc, fault, &RowAt { top, place, keys })? {
-        Some(why) => Ok(Some(format!(in alloc; "{label}: {why}")?)),
+    let row = RowAt {
+        top,
+        place,
+        keys,
+        text,
+    };
+    match row_said(alloc, fault, &row)? {
+        Some(said) => Ok(Some(placed(alloc, label.as_str(), &row, &said)?)),
         None => Ok(None),
     }
 }
 
-/// What is wrong with a row, behind its name.
-fn row_said(
+/// What is wrong with a row, behind its place where there is one, and above the line that has it.
+fn placed(
+    alloc: Global,
+    label: &str,
+    row: &RowAt<'_>,
+    said: &Said<'_>,
+) -> Result<String, AllocError> {
+    let why = said.why.as_str();
+    match row.nearest_place(alloc, said.at.as_slice())? {
+        Some(offset) => {
+            let position = Position::at(row.text.as_bytes(), offset);
+            let (named, drawn) = (position.named(alloc)?, position.drawn(alloc)?);
+            format!(in alloc; "{named}, {label}: {why}\n{drawn}")
+        }
+        None => format!(in alloc; "{label}: {why}"),
+    }
+}
+
+/// What is wrong with a row, and where in it.
+fn row_said<'a>(
     alloc: Global,
     fault: TreeFault,
-    row: &RowAt<'_>,
-) -> Result<Option<String>, AllocError> {
+    row: &RowAt<'a>,
+) -> Result<Option<Said<'a>>, AllocError> {
     match fault {
+        TreeFault::Format => {
+            let why = String::from_str(alloc, "format is 1 or 2: write format = 2")?;
+            Said::at_key(alloc, "format", Some(why))
+        }
         TreeFault::Shape(_) => shape_said(alloc, row),
         TreeFault::BadController(_) => controller_said(alloc, row),
-        TreeFault::BadPath(_) => path_said(alloc, row),
-        TreeFault::BadEntry(_) => entry_said(alloc, row),
+        TreeFault::BadPath(_) => Said::at_key(alloc, "path", path_said(alloc, row)?),
+        TreeFault::BadEntry(_) => Ok(Some(entry_said(alloc, row)?)),
         TreeFault::BadValue(_) => value_said(alloc, row),
         TreeFault::Duplicate(_) => double_said(alloc, row, "path"),
-        TreeFault::NoParent(_) => parent_said(alloc, row),
-        TreeFault::TopDown(_) => enabled_said(alloc, row),
+        TreeFault::NoParent(_) => Said::at_key(alloc, "path", parent_said(alloc, row)?),
+        TreeFault::TopDown(_) => Said::at_key(alloc, "enabled", enabled_said(alloc, row)?),
         TreeFault::NoSuchFile(_) => file_said(alloc, row),
-        TreeFault::BadPid(_) => pid_said(alloc, row),
+        TreeFault::BadPid(_) => Said::at_key(alloc, "pid", pid_said(alloc, row)?),
         TreeFault::DuplicatePid(_) => double_said(alloc, row, "pid"),
-        TreeFault::NoSuchPlace(_) => place_said(alloc, row, "isn't the path of a row of cgroup"),
-        TreeFault::InternalProcess(_) => place_said(
-            alloc,
-            row,
-            "enables controllers, and only the root may do so with processes in it",
-        ),
+        TreeFault::NoSuchPlace(_) => match text_at(row, "at") {
+            Some(at) => Said::at_key(alloc, "at", Some(nowhere_said(alloc, row.top, at)?)),
+            None => Ok(None),
+        },
+        TreeFault::InternalProcess(_) => Said::at_key(alloc, "at", inner_said(alloc, row)?),
         _ => Ok(None),
     }
 }

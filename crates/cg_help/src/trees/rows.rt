@@ -1,35 +1,42 @@
 //! Rows that don't go together.
+use crate::near::nearest_of;
+use crate::paths::why_missing;
 use crate::shown::quoted;
-use crate::trees::table::{RowAt, row_of, shown_value, text_at, texts_at};
-use cg_cgroup::files::LimitFile;
+use crate::trees::table::{RowAt, Said, nearest_path, row_of, shown_value, text_at, texts_at};
+use cg_cgroup::files::{Controller, LimitFile};
 use cg_text::tree::Place;
 use std::alloc::{AllocError, Global};
 use toml::{Table, Value};
 
 /// Which text of `controllers` or `enabled` is no controller.
-pub(super) fn controller_said(
+pub(super) fn controller_said<'a>(
     alloc: Global,
-    row: &RowAt<'_>,
-) -> Result<Option<String>, AllocError> {
+    row: &RowAt<'a>,
+) -> Result<Option<Said<'a>>, AllocError> {
     let key = match row.place {
         Place::Top => "controllers",
         _ => "enabled",
     };
-    match unknown_controller(texts_at(row.keys, key)) {
-        Some(text) => {
-            let shown = quoted(alloc, text)?;
-            Ok(Some(format!(in alloc;
-                "'{shown}' of {key} isn't cpu, memory or pids: leave it out"
-            )?))
-        }
-        None => Ok(None),
-    }
+    let Some(text) = unknown_controller(texts_at(row.keys, key)) else {
+        return Ok(None);
+    };
+    let names = Controller::ALL.map(|controller| controller.name());
+    let shown = quoted(alloc, text)?;
+    let why = match nearest_of(alloc, text, &names)? {
+        Some(name) => format!(in alloc;
+            "'{shown}' of {key} is no controller: write {name}; left out, its limits count in no answer"
+        )?,
+        None => format!(in alloc;
+            "'{shown}' of {key} isn't cpu, memory or pids: left out, its limits count in no answer"
+        )?,
+    };
+    Said::at_key(alloc, key, Some(why))
 }
 
 fn unknown_controller(texts: &[Value]) -> Option<&str> {
     for value in texts {
         if let Some(text) = value.as_str() {
-            if !matches!(text, "cpu" | "memory" | "pids") {
+            if Controller::from_name(text).is_none() {
                 return Some(text);
             }
         }
@@ -38,16 +45,17 @@ fn unknown_controller(texts: &[Value]) -> Option<&str> {
 }
 
 /// That an earlier row has the same path or PID.
-pub(super) fn double_said(
+pub(super) fn double_said<'a>(
     alloc: Global,
-    row: &RowAt<'_>,
-    key: &str,
-) -> Result<Option<String>, AllocError> {
+    row: &RowAt<'a>,
+    key: &'a str,
+) -> Result<Option<Said<'a>>, AllocError> {
     let Some(value) = row.keys.get(key) else {
         return Ok(None);
     };
     let shown = shown_value(alloc, value)?;
-    Ok(Some(format!(in alloc; "an earlier row has {key} {shown}")?))
+    let why = format!(in alloc; "an earlier row has {key} {shown}")?;
+    Said::at_key(alloc, key, Some(why))
 }
 
 /// That the row above isn't there.
@@ -55,8 +63,10 @@ pub(super) fn parent_said(alloc: Global, row: &RowAt<'_>) -> Result<Option<Strin
     let Some(path) = text_at(row, "path") else {
         return Ok(None);
     };
-    let shown = quoted(alloc, parent_of(path))?;
-    Ok(Some(format!(in alloc; "no row has the parent's path, '{shown}'")?))
+    let parent = parent_of(path);
+    let shown = quoted(alloc, parent)?;
+    let near = nearest_said(alloc, row.top, parent)?;
+    Ok(Some(format!(in alloc; "no row has the parent's path, '{shown}'{near}")?))
 }
 
 /// The parent of a path that isn't the root.
@@ -118,23 +128,28 @@ fn is_among(text: &str, others: &[Value]) -> bool {
 }
 
 /// Which limit file doesn't stand at a row's cgroup.
-pub(super) fn file_said(alloc: Global, row: &RowAt<'_>) -> Result<Option<String>, AllocError> {
+pub(super) fn file_said<'a>(
+    alloc: Global,
+    row: &RowAt<'a>,
+) -> Result<Option<Said<'a>>, AllocError> {
     let path = text_at(row, "path").unwrap_or("/");
     let Some(Value::Table(files)) = row.keys.get("files") else {
         return Ok(None);
     };
-    match first_standing_nowhere(files, path, available_at(row.top, path)) {
-        Some((name, _)) if path == "/" => {
-            Ok(Some(format!(in alloc; "{name} never stands at the root")?))
-        }
-        Some((name, controller)) => {
-            let above = quoted(alloc, parent_of(path))?;
-            Ok(Some(format!(in alloc;
-                "{name} doesn't stand there: the row of '{above}' doesn't enable {controller}"
-            )?))
-        }
-        None => Ok(None),
-    }
+    let Some((name, controller)) = first_standing_nowhere(files, path, available_at(row.top, path))
+    else {
+        return Ok(None);
+    };
+    let why = if path == "/" {
+        format!(in alloc; "{name} never stands at the root")?
+    } else {
+        let above = quoted(alloc, parent_of(path))?;
+        format!(in alloc;
+            "{name} doesn't stand there: the row of '{above}' doesn't enable {controller}"
+        )?
+    };
+    let at = Vec::from_slice(alloc, &[name, "files"])?;
+    Ok(Some(Said { why, at }))
 }
 
 /// The first file of a controller that isn't enabled above, with its controller; at the root the first of any.
@@ -159,15 +174,31 @@ fn controller_of(file: &str) -> Option<&'static str> {
     Some(controller.name())
 }
 
-/// What is wrong with the place of a process.
-pub(super) fn place_said(
-    alloc: Global,
-    row: &RowAt<'_>,
-    why: &str,
-) -> Result<Option<String>, AllocError> {
+/// That a process is in a cgroup that enables controllers.
+pub(super) fn inner_said(alloc: Global, row: &RowAt<'_>) -> Result<Option<String>, AllocError> {
     let Some(at) = text_at(row, "at") else {
         return Ok(None);
     };
     let shown = quoted(alloc, at)?;
-    Ok(Some(format!(in alloc; "{shown} {why}")?))
+    Ok(Some(format!(in alloc;
+        "{shown} enables controllers, and only the root may do so with processes in it"
+    )?))
+}
+
+/// That no row has a path, and which one is the nearest.
+pub(super) fn nowhere_said(alloc: Global, top: &Table, path: &str) -> Result<String, AllocError> {
+    let why = why_missing(alloc, path)?;
+    let near = nearest_said(alloc, top, path)?;
+    format!(in alloc; "{why}{near}")
+}
+
+/// Which path of a row is the nearest, behind what is said of a path.
+fn nearest_said(alloc: Global, top: &Table, path: &str) -> Result<String, AllocError> {
+    match nearest_path(alloc, top, path)? {
+        Some(near) => {
+            let shown = quoted(alloc, near)?;
+            format!(in alloc; "; the nearest is '{shown}'")
+        }
+        None => Ok(String::new(alloc)),
+    }
 }

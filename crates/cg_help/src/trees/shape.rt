@@ -1,6 +1,7 @@
 //! A key that is missing, unknown or of the wrong type.
+use crate::near::{Nearest, listed};
 use crate::shown::quoted;
-use crate::trees::table::{RowAt, shown_value};
+use crate::trees::table::{RowAt, Said, shown_value};
 use cg_cgroup::files::{EntryName, LimitFile};
 use cg_text::tree::Place;
 use std::alloc::{AllocError, Global};
@@ -17,70 +18,151 @@ enum Kind {
     Value,
 }
 
-/// A key of a table: its name, what it holds, and whether it has to be there.
-type Key = (&'static str, Kind, bool);
+/// A key of a table.
+#[derive(Clone, Copy, Debug)]
+struct Key {
+    name: &'static str,
+    kind: Kind,
+    /// What holds where it is left out; `None` of a key that has to be there.
+    without: Option<&'static str>,
+}
 
 const TOP: [Key; 4] = [
-    ("format", Kind::Integer, true),
-    ("controllers", Kind::Texts, true),
-    ("cgroup", Kind::Tables, false),
-    ("process", Kind::Tables, false),
+    Key {
+        name: "format",
+        kind: Kind::Integer,
+        without: None,
+    },
+    Key {
+        name: "controllers",
+        kind: Kind::Texts,
+        without: None,
+    },
+    Key {
+        name: "cgroup",
+        kind: Kind::Tables,
+        without: Some("the tree has no such cgroup"),
+    },
+    Key {
+        name: "process",
+        kind: Kind::Tables,
+        without: Some("the tree has no such process"),
+    },
 ];
 
 const CGROUP: [Key; 4] = [
-    ("path", Kind::Text, true),
-    ("enabled", Kind::Texts, false),
-    ("dir", Kind::Table, false),
-    ("files", Kind::Table, false),
+    Key {
+        name: "path",
+        kind: Kind::Text,
+        without: None,
+    },
+    Key {
+        name: "enabled",
+        kind: Kind::Texts,
+        without: Some("the cgroup enables no controller"),
+    },
+    Key {
+        name: "dir",
+        kind: Kind::Table,
+        without: Some("root owns the directory, with mode 0o755"),
+    },
+    Key {
+        name: "files",
+        kind: Kind::Table,
+        without: Some("root owns each file, with mode 0o644 and its default value"),
+    },
 ];
 
 const PROCESS: [Key; 3] = [
-    ("pid", Kind::Integer, true),
-    ("uid", Kind::Integer, true),
-    ("at", Kind::Text, true),
+    Key {
+        name: "pid",
+        kind: Kind::Integer,
+        without: None,
+    },
+    Key {
+        name: "uid",
+        kind: Kind::Integer,
+        without: None,
+    },
+    Key {
+        name: "at",
+        kind: Kind::Text,
+        without: None,
+    },
 ];
 
-const ENTRY: [Key; 3] = [
-    ("uid", Kind::Integer, false),
-    ("gid", Kind::Integer, false),
-    ("mode", Kind::Integer, false),
+const UID: Key = Key {
+    name: "uid",
+    kind: Kind::Integer,
+    without: Some("root owns it"),
+};
+
+const GID: Key = Key {
+    name: "gid",
+    kind: Kind::Integer,
+    without: Some("its group is root's"),
+};
+
+const FILE_MODE: Key = Key {
+    name: "mode",
+    kind: Kind::Integer,
+    without: Some("its mode is 0o644"),
+};
+
+const DIR: [Key; 3] = [
+    UID,
+    GID,
+    Key {
+        name: "mode",
+        kind: Kind::Integer,
+        without: Some("its mode is 0o755"),
+    },
 ];
 
-const CONTROL_FILE: [Key; 3] = ENTRY;
+const CONTROL_FILE: [Key; 3] = [UID, GID, FILE_MODE];
 
 const LIMIT_FILE: [Key; 4] = [
-    ("uid", Kind::Integer, false),
-    ("gid", Kind::Integer, false),
-    ("mode", Kind::Integer, false),
-    ("value", Kind::Value, false),
+    UID,
+    GID,
+    FILE_MODE,
+    Key {
+        name: "value",
+        kind: Kind::Value,
+        without: Some("it has its default value"),
+    },
 ];
 
-fn keys_of(place: Place) -> &'static [Key] {
+fn keys_of(alloc: Global, place: Place) -> Result<Vec<Key>, AllocError> {
     match place {
-        Place::Top => &TOP,
-        Place::Cgroup(_) => &CGROUP,
-        Place::Process(_) => &PROCESS,
+        Place::Top => Vec::from_slice(alloc, &TOP),
+        Place::Cgroup(_) => Vec::from_slice(alloc, &CGROUP),
+        Place::Process(_) => Vec::from_slice(alloc, &PROCESS),
     }
 }
 
-pub(super) fn shape_said(alloc: Global, row: &RowAt<'_>) -> Result<Option<String>, AllocError> {
-    if let Some(why) = keys_said(alloc, row.keys, keys_of(row.place))? {
-        return Ok(Some(why));
+pub(super) fn shape_said<'a>(
+    alloc: Global,
+    row: &RowAt<'a>,
+) -> Result<Option<Said<'a>>, AllocError> {
+    if let Some(said) = keys_said(alloc, row.keys, &keys_of(alloc, row.place)?)? {
+        return Ok(Some(said));
     }
-    match inner_said(alloc, row.keys)? {
-        Some(why) => Ok(Some(why)),
-        None => Ok(Some(String::from_str(alloc, "in format 1 there is no key gid")?)),
+    if let Some(said) = inner_said(alloc, row.keys)? {
+        return Ok(Some(said));
     }
+    let why = String::from_str(alloc, "in format 1 there is no key gid")?;
+    let at = Vec::new(alloc);
+    Ok(Some(Said { why, at }))
 }
 
 /// What is wrong within `dir` and `files` of a row.
-fn inner_said(alloc: Global, row: &Table) -> Result<Option<String>, AllocError> {
-    if let Some(why) = named_said(alloc, row, "dir", &ENTRY)? {
-        return Ok(Some(why));
+fn inner_said<'a>(alloc: Global, row: &'a Table) -> Result<Option<Said<'a>>, AllocError> {
+    if let Some(said) = named_said(alloc, row, "dir", &DIR)? {
+        return Ok(Some(said));
     }
     let names = file_names(alloc)?;
-    if let Some(why) = named_said(alloc, row, "files", &names)? {
-        return Ok(Some(why));
+    if let Some(said) = named_said(alloc, row, "files", &names)? {
+        return Ok(Some(said));
     }
     match row.get("files") {
         Some(Value::Table(files)) => files_said(alloc, files),
@@ -92,107 +174,178 @@ fn inner_said(alloc: Global, row: &Table) -> Result<Option<String>, AllocError> 
 fn file_names(alloc: Global) -> Result<Vec<Key>, AllocError> {
     let mut names = Vec::new(alloc);
     for entry in [EntryName::Procs, EntryName::SubtreeControl] {
-        names.push((entry.name(), Kind::Table, false))?;
+        names.push(Key {
+            name: entry.name(),
+            kind: Kind::Table,
+            without: Some("root owns it, with mode 0o644"),
+        })?;
     }
     for file in LimitFile::ALL {
-        names.push((file.name(), Kind::Table, false))?;
+        names.push(Key {
+            name: file.name(),
+            kind: Kind::Table,
+            without: Some("root owns it, with mode 0o644 and its default value"),
+        })?;
     }
     Ok(names)
 }
 
-fn files_said(alloc: Global, files: &Table) -> Result<Option<String>, AllocError> {
+fn files_said<'a>(alloc: Global, files: &'a Table) -> Result<Option<Said<'a>>, AllocError> {
     for (name, _) in files {
-        let keys = file_keys(name.as_str());
-        if let Some(why) = named_said(alloc, files, name.as_str(), keys)? {
-            return Ok(Some(why));
+        let keys = file_keys(alloc, name.as_str())?;
+        if let Some(mut said) = named_said(alloc, files, name.as_str(), &keys)? {
+            said.at.push("files")?;
+            return Ok(Some(said));
         }
     }
     Ok(None)
 }
 
-fn file_keys(name: &str) -> &'static [Key] {
+fn file_keys(alloc: Global, name: &str) -> Result<Vec<Key>, AllocError> {
     match name {
-        "cgroup.procs" | "cgroup.subtree_control" => &CONTROL_FILE,
-        _ => &LIMIT_FILE,
+        "cgroup.procs" | "cgroup.subtree_control" => Vec::from_slice(alloc, &CONTROL_FILE),
+        _ => Vec::from_slice(alloc, &LIMIT_FILE),
     }
 }
 
 /// What is wrong with the keys of the table at a name.
-fn named_said(
+fn named_said<'a>(
     alloc: Global,
-    table: &Table,
-    name: &str,
+    table: &'a Table,
+    name: &'a str,
     keys: &[Key],
-) -> Result<Option<String>, AllocError> {
+) -> Result<Option<Said<'a>>, AllocError> {
     let Some(Value::Table(inner)) = table.get(name) else {
         return Ok(None);
     };
     match keys_said(alloc, inner, keys)? {
-        Some(why) => Ok(Some(format!(in alloc; "{name}: {why}")?)),
+        Some(said) => {
+            let Said { why, mut at } = said;
+            at.push(name)?;
+            let why = format!(in alloc; "{name}: {why}")?;
+            Ok(Some(Said { why, at }))
+        }
         None => Ok(None),
     }
 }
 
 /// What is wrong with the keys of a table: one that is unknown, then one that is missing or of the wrong type.
-fn keys_said(alloc: Global, table: &Table, keys: &[Key]) -> Result<Option<String>, AllocError> {
-    if let Some(key) = unknown_key(table, keys) {
-        let shown = quoted(alloc, key)?;
-        let names = names_of(alloc, keys)?;
-        return Ok(Some(format!(in alloc;
-            "there is no key {shown}: leave it out; there are{names}"
-        )?));
+fn keys_said<'a>(
+    alloc: Global,
+    table: &'a Table,
+    keys: &[Key],
+) -> Result<Option<Said<'a>>, AllocError> {
+    if let Some((key, value)) = unknown_key(table, keys) {
+        let why = unknown_said(alloc, key, value, keys)?;
+        return Said::at_key(alloc, key, Some(why));
     }
-    for (key, kind, is_needed) in keys {
-        if let Some(why) = key_said(alloc, table, key, *kind, *is_needed)? {
-            return Ok(Some(why));
+    for key in keys {
+        if let Some(why) = key_said(alloc, table, *key)? {
+            return Said::at_key(alloc, key.name, Some(why));
         }
     }
     Ok(None)
 }
 
-/// The names of keys, each behind a space.
-fn names_of(alloc: Global, keys: &[Key]) -> Result<String, AllocError> {
-    let mut names = String::new(alloc);
-    for (key, _, _) in keys {
-        names.push_str(" ")?;
-        names.push_str(key)?;
+/// What is to be written for a key that there isn't, and what holds without it.
+fn unknown_said(
+    alloc: Global,
+    key: &str,
+    value: &Value,
+    keys: &[Key],
+) -> Result<String, AllocError> {
+    let shown = quoted(alloc, key)?;
+    if let Some(name) = unquoted(key, value, keys) {
+        return format!(in alloc;
+            "there is no key {shown}: a name with dots is quoted, as \"{name}\""
+        );
     }
-    Ok(names)
+    let Some(near) = meant(alloc, key, keys)? else {
+        let names = names_of(alloc, keys)?;
+        return format!(in alloc;
+            "there is no key {shown}: left out, what it says counts in no answer; there are{names}"
+        );
+    };
+    let name = near.name;
+    match near.without {
+        Some(without) => format!(in alloc;
+            "there is no key {shown}: write {name}; left out, {without}"
+        ),
+        None => format!(in alloc; "there is no key {shown}: write {name}"),
+    }
 }
 
-fn unknown_key<'a>(table: &'a Table, keys: &[Key]) -> Option<&'a str> {
-    for (key, _) in table {
-        if !is_named(keys, key.as_str()) {
-            return Some(key.as_str());
+/// The name with dots that was written without quotes, which makes a table at each of its dots.
+fn unquoted(key: &str, value: &Value, keys: &[Key]) -> Option<&'static str> {
+    for (inner, _) in value.as_table()? {
+        for known in keys {
+            if begins_with(known.name, key, inner.as_str()) {
+                return Some(known.name);
+            }
         }
     }
     None
 }
 
-fn is_named(keys: &[Key], name: &str) -> bool {
-    for (key, _, _) in keys {
-        if *key == name {
-            return true;
-        }
-    }
-    false
+/// Whether a name begins with these two parts, between dots.
+fn begins_with(name: &str, first: &str, second: &str) -> bool {
+    let Some((front, rest)) = name.split_once('.') else {
+        return false;
+    };
+    let next = match rest.split_once('.') {
+        Some((next, _)) => next,
+        None => rest,
+    };
+    front == first && next == second
 }
 
-fn key_said(
-    alloc: Global,
-    table: &Table,
-    key: &str,
-    kind: Kind,
-    is_needed: bool,
-) -> Result<Option<String>, AllocError> {
-    match table.get(key) {
-        None if is_needed => Ok(Some(format!(in alloc; "{key} is missing")?)),
+/// The key that was meant: the nearest, where a letter or two make it.
+fn meant(alloc: Global, key: &str, keys: &[Key]) -> Result<Option<Key>, AllocError> {
+    let mut nearest = Nearest::to(key);
+    for known in keys {
+        nearest.look(alloc, known.name)?;
+    }
+    Ok(named(keys, nearest.found.unwrap_or("")))
+}
+
+/// The key of a name.
+fn named(keys: &[Key], name: &str) -> Option<Key> {
+    for key in keys {
+        if key.name == name {
+            return Some(*key);
+        }
+    }
+    None
+}
+
+/// The names of keys, each behind a space.
+fn names_of(alloc: Global, keys: &[Key]) -> Result<String, AllocError> {
+    let mut names = Vec::new(alloc);
+    for key in keys {
+        names.push(key.name)?;
+    }
+    listed(alloc, names.as_slice())
+}
+
+fn unknown_key<'a>(table: &'a Table, keys: &[Key]) -> Option<(&'a str, &'a Value)> {
+    for (key, value) in table {
+        if named(keys, key.as_str()).is_none() {
+            return Some((key.as_str(), value));
+        }
+    }
+    None
+}
+
+fn key_said(alloc: Global, table: &Table, key: Key) -> Result<Option<String>, AllocError> {
+    let name = key.name;
+    match table.get(name) {
+        None if key.without.is_none() => Ok(Some(format!(in alloc; "{name} is missing")?)),
         None => Ok(None),
-        Some(value) if is_of(value, kind) => Ok(None),
+        Some(value) if is_of(value, key.kind) => Ok(None),
         Some(value) => {
             let shown = shown_value(alloc, value)?;
-            let wanted = words_of(kind);
-            Ok(Some(format!(in alloc; "{key} is {shown}, and has to be {wanted}")?))
+            let wanted = words_of(key.kind);
+            Ok(Some(format!(in alloc; "{name} is {shown}, and has to be {wanted}")?))
         }
     }
 }

@@ -1,4 +1,6 @@
 //! Rows of a tree text, and how they are named.
+use crate::near::Nearest;
+use crate::scan::{Step, place_of};
 use crate::shown::quoted;
 use cg_text::tree::Place;
 use std::alloc::{AllocError, Global};
@@ -16,12 +18,104 @@ pub(super) fn rows<'a>(top: &'a Table, key: &str) -> &'a [Value] {
     }
 }
 
+/// How many bytes a number has at most that is told as it is written.
+const LONGEST_NUMBER: usize = 64;
+
+/// What is wrong within a row.
+#[derive(Drop)]
+pub(super) struct Said<'a> {
+    pub why: String,
+    /// The keys that lead there from the row, the last one first.
+    pub at: Vec<&'a str>,
+}
+
+impl<'a> Said<'a> {
+    /// What is wrong at a key of the row itself.
+    pub fn at_key(
+        alloc: Global,
+        key: &'a str,
+        why: Option<String>,
+    ) -> Result<Option<Said<'a>>, AllocError> {
+        match why {
+            Some(why) => Ok(Some(Said {
+                why,
+                at: Vec::from_slice(alloc, &[key])?,
+            })),
+            None => Ok(None),
+        }
+    }
+}
+
 /// A row of a tree's document, or its top table.
 #[derive(Clone, Copy)]
 pub(super) struct RowAt<'a> {
     pub top: &'a Table,
     pub place: Place,
     pub keys: &'a Table,
+    /// The text that the document was read from.
+    pub text: &'a str,
+}
+
+impl<'a> RowAt<'a> {
+    /// Where the key stands to which these lead, the last one first.
+    fn place_of(&self, alloc: Global, keys: &[&str]) -> Result<Option<usize>, AllocError> {
+        let mut steps = Vec::new(alloc);
+        if let Some((array, number)) = numbered_in(self.place) {
+            steps.push(Step::Key(array))?;
+            steps.push(Step::Element((number as usize).saturating_sub(1)))?;
+        }
+        for key in keys.iter().rev() {
+            steps.push(Step::Key(*key))?;
+        }
+        if steps.is_empty() {
+            return Ok(None);
+        }
+        Ok(place_of(alloc, self.text, steps.as_slice()))
+    }
+
+    /// Where that key stands, or the innermost table around it that has a place.
+    pub fn nearest_place(&self, alloc: Global, keys: &[&str]) -> Result<Option<usize>, AllocError> {
+        let mut keys = keys;
+        for _ in 0..=keys.len() {
+            if let Some(place) = self.place_of(alloc, keys)? {
+                return Ok(Some(place));
+            }
+            keys = keys.get(1..).unwrap_or(&[]);
+        }
+        Ok(None)
+    }
+
+    /// The number at a key, as it is written.
+    pub fn written(&self, alloc: Global, keys: &[&str]) -> Result<Option<&'a str>, AllocError> {
+        match self.place_of(alloc, keys)? {
+            Some(place) => Ok(number_behind(self.text, place)),
+            None => Ok(None),
+        }
+    }
+}
+
+/// The number behind the equals sign that follows a place.
+fn number_behind(text: &str, place: usize) -> Option<&str> {
+    let (_, behind) = text.get(place..)?.split_once('=')?;
+    let behind = behind.trim_start();
+    let len = behind
+        .bytes()
+        .take_while(|byte| byte.is_ascii_alphanumeric() || matches!(*byte, b'_' | b'+' | b'-'))
+        .count();
+    if len == 0 || LONGEST_NUMBER < len {
+        None
+    } else {
+        behind.get(..len)
+    }
+}
+
+/// The array of a row, and its number there.
+fn numbered_in(place: Place) -> Option<(&'static str, u32)> {
+    match place {
+        Place::Top => None,
+        Place::Cgroup(number) => Some(("cgroup", number)),
+        Place::Process(number) => Some(("process", number)),
+    }
 }
 
 /// The row at a place, or the top table.
@@ -49,6 +143,21 @@ pub(super) fn row_of<'a>(top: &'a Table, path: &str) -> Option<&'a Table> {
         }
     }
     None
+}
+
+/// The path of a row that is nearest to another.
+pub(super) fn nearest_path<'a>(
+    alloc: Global,
+    top: &'a Table,
+    path: &'a str,
+) -> Result<Option<&'a str>, AllocError> {
+    let mut nearest = Nearest::to(path);
+    for value in rows(top, "cgroup") {
+        if let Some(there) = value.as_table().and_then(path_of) {
+            nearest.look(alloc, there)?;
+        }
+    }
+    Ok(nearest.found)
 }
 
 /// The paths that rows have.

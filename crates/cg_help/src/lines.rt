@@ -1,0 +1,120 @@
+//! The line of operations or pairs at which it ended.
+use crate::input::kind_said;
+use crate::near::none_said;
+use crate::shown::quoted;
+use arguments::request::Request;
+use cg_cgroup::files::{Controller, EntryName, LimitFile};
+use std::alloc::{AllocError, Global};
+
+const OPERATIONS: [&str; 8] = [
+    "move", "control", "mkdir", "rmdir", "set", "fork", "exit", "chmod",
+];
+
+/// What a line of pairs looks like.
+const PAIR: &str = "pair UID PATH, or pair UID:GID,GID.. PATH";
+
+/// What is wrong with a line: its form, and of an operation's each word that is no name.
+pub(crate) fn line_said(
+    alloc: Global,
+    request: &Request<'_>,
+    line: &[u8],
+) -> Result<String, AllocError> {
+    if let Some(kind) = kind_said(line) {
+        return String::from_str(alloc, kind);
+    }
+    match std::str::from_utf8(line) {
+        Ok(line) => match request {
+            Request::AdvisePairs(_) => shown_with(alloc, line, PAIR),
+            _ => operation_said(alloc, line),
+        },
+        Err(_) => String::from_str(alloc, "the line isn't UTF-8"),
+    }
+}
+
+fn shown_with(alloc: Global, line: &str, form: &str) -> Result<String, AllocError> {
+    let shown = quoted(alloc, line)?;
+    format!(in alloc;
+        "the line is '{shown}'\n{form}, with one space between words and a newline behind"
+    )
+}
+
+fn operation_said(alloc: Global, line: &str) -> Result<String, AllocError> {
+    let mut said = shown_with(alloc, line, form_of(first_word(line)))?;
+    for (index, word) in line.split(' ').enumerate() {
+        if let Some(why) = word_said(alloc, first_word(line), index, word)? {
+            said.push_str("\n")?;
+            said.push_str(why.as_str())?;
+        }
+    }
+    if line.ends_with('\r') {
+        said.push_str("\na carriage return stands at its end: write newlines alone")?;
+    }
+    Ok(said)
+}
+
+/// What an operation's line looks like that begins with a word.
+fn form_of(word: &str) -> &'static str {
+    match word {
+        "move" => "move PID PATH",
+        "control" => "control PATH +CONTROLLER -CONTROLLER ..",
+        "mkdir" => "mkdir PATH",
+        "rmdir" => "rmdir PATH",
+        "set" => "set PATH LIMITFILE NUMBER, or max in place of the number",
+        "fork" => "fork PARENTPID CHILDPID",
+        "exit" => "exit PID",
+        "chmod" => "chmod PATH ENTRY MODE, of three octal digits",
+        _ => "an operation is move, control, mkdir, rmdir, set, fork, exit or chmod",
+    }
+}
+
+fn first_word(line: &str) -> &str {
+    match line.split_once(' ') {
+        Some((word, _)) => word,
+        None => line,
+    }
+}
+
+/// What is to be written for a word that is no name, where one has to stand.
+fn word_said(
+    alloc: Global,
+    operation: &str,
+    index: usize,
+    word: &str,
+) -> Result<Option<String>, AllocError> {
+    let name = match word.strip_prefix(&['+', '-']) {
+        Some(name) if operation == "control" => name,
+        _ => word,
+    };
+    let names = names_at(alloc, operation, index)?;
+    if names.is_empty() || word.is_empty() || names.as_slice().contains(&name) {
+        return Ok(None);
+    }
+    Ok(Some(none_said(alloc, name, names.as_slice())?))
+}
+
+/// The names of which one has to stand at a place of an operation's line.
+fn names_at(alloc: Global, operation: &str, index: usize) -> Result<Vec<&'static str>, AllocError> {
+    match (operation, index) {
+        (_, 0) => Vec::from_slice(alloc, &OPERATIONS),
+        ("set", 2) => file_names(alloc),
+        ("chmod", 2) => entry_names(alloc),
+        ("control", place) if 2 <= place => {
+            Vec::from_slice(alloc, &Controller::ALL.map(|controller| controller.name()))
+        }
+        _ => Ok(Vec::new(alloc)),
+    }
+}
+
+fn file_names(alloc: Global) -> Result<Vec<&'static str>, AllocError> {
+    Vec::from_slice(alloc, &LimitFile::ALL.map(|file| file.name()))
+}
+
+/// The names of all entries of a cgroup.
+fn entry_names(alloc: Global) -> Result<Vec<&'static str>, AllocError> {
+    let mut names = Vec::new(alloc);
+    for entry in [EntryName::Dir, EntryName::Procs, EntryName::SubtreeControl] {
+        names.push(entry.name())?;
+    }
+    names.extend_from_slice(file_names(alloc)?.as_slice())?;
+    Ok(names)
+}
