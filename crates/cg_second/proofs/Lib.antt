@@ -1,0 +1,7 @@
+pub mod Anchors
+pub mod Ranges
+pub mod Tallies
+pub mod Staying
+pub mod Crowds
+pub mod Edges
+pub mod Closing

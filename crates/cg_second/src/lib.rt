@@ -1,0 +1,10 @@
+//! The second row of guards of a subtree, judged by passes over the cgroups in the order of their paths: what lies below one
+//! stands together, right after it, so that counts of all before a place answer what is asked of it.
+#![tactic(auto)]
+
+mod closed;
+mod control;
+mod counts;
+mod reach;
+pub mod row;
+mod survey;

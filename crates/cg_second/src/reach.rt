@@ -1,0 +1,76 @@
+//! What some users reach together.
+ghost use Rattle.std.specs.Prelude.{◌≡◌, ◌≤◌, not, length, take};
+ghost use Rattle.std.specs.List.{list_any, list_all};
+ghost use Rattle.cg_cgroup.specs.Users.{reaches};
+ghost use Rattle.cg_cgroup.specs.Files.{all_files, enables};
+ghost use Rattle.cg_cgroup.specs.declared.files.EntryName.TheVariants.{File};
+ghost use Rattle.cg_model.specs.WellFormed.{enabled_at};
+ghost use Rattle.cg_settle.specs.Lasting.{is_reached};
+ghost use Rattle.cg_second.specs.Anchors.{is_anchored};
+
+use cg_cgroup::files::{Controller, EntryName, LimitFile};
+use cg_cgroup::path::Path;
+use cg_cgroup::user::{Entry, User};
+use cg_tree::hierarchy::Hierarchy;
+
+/// Whether one of some users reaches an entry of the cgroup of the first `len` names of a path.
+pub fn is_reached<H: Hierarchy>(
+    tree: &H,
+    users: &[User],
+    path: &Path,
+    len: usize,
+    name: EntryName,
+) -> bool
+    requires { len ≤ length path.now }
+    ensures { result ≡ is_reached (H.state tree.now) users.now (take len path.now) name }
+{
+    let Some(cgroup) = tree.get(path, len) else {
+        return false;
+    };
+    match cgroup.entry(name) {
+        None => false,
+        Some(entry) => any_reaches(users, &entry),
+    }
+}
+
+fn any_reaches(users: &[User], entry: &Entry) -> bool
+    ensures { result ≡ list_any (λ user. reaches user entry.now) users.now }
+{
+    users.iter().any(|user| user.reaches(entry))
+}
+
+/// Whether none of them removes a cgroup, whatever is below it.
+pub fn is_anchored<H: Hierarchy>(tree: &H, users: &[User], path: &Path) -> bool
+    ensures { result ≡ is_anchored (H.state tree.now) users.now path.now }
+{
+    if path.depth() == 0 {
+        return true;
+    }
+    !is_reached(tree, users, path, path.depth() - 1, EntryName::Dir)
+}
+
+/// Whether none of them reaches a limit file of a cgroup.
+pub fn spares_files<H: Hierarchy>(tree: &H, users: &[User], path: &Path) -> bool
+    ensures { result ≡ list_all (λ file. not (is_reached (H.state tree.now) users.now path.now (File file))) all_files }
+{
+    LimitFile::ALL
+        .iter()
+        .all(|file| spares(tree, users, path, *file))
+}
+
+fn spares<H: Hierarchy>(tree: &H, users: &[User], path: &Path, file: LimitFile) -> bool
+    ensures { result ≡ not (is_reached (H.state tree.now) users.now path.now (File file)) }
+{
+    !is_reached(tree, users, path, path.depth(), EntryName::File(file))
+}
+
+/// Whether the cgroup of the first `len` names of a path enables a controller.
+pub fn is_enabled<H: Hierarchy>(tree: &H, path: &Path, len: usize, controller: Controller) -> bool
+    requires { len ≤ length path.now }
+    ensures { result ≡ enables (enabled_at (H.state tree.now) (take len path.now)) controller }
+{
+    match tree.get(path, len) {
+        None => false,
+        Some(cgroup) => cgroup.enabled.contains(controller),
+    }
+}
