@@ -1,5 +1,5 @@
 -- What the program's status and its writers say, by the request that its words make.
-use Rattle.std.proofs.Common.{◌≡◌, ◌≢◌, ℕ, Bool, true, false, List, [], map, take, Option, Some, Result, Ok, Err, ap, ◌∙◌, subst, inl, inr, refl, arith}
+use Rattle.std.proofs.Common.{◌≡◌, ◌≢◌, ℕ, Bool, true, false, List, [], map, take, Option, Some, Result, Ok, Err, ap, ◌∙◌, subst, inl, inr, ⊎_elim, ◌≤◌, length, refl, arith}
 use Rattle.std.specs.Prelude.{None, IsOk, IfSome, MatchBool}
 use Rattle.std.specs.Io.KnownBytes.{Keeps}
 use Rattle.std.proofs.lemmas.List.{take_all}
@@ -21,17 +21,18 @@ use Rattle.cg_cli.specs.Upgrades.{Upgrades, IsNewText, upgrade_report}
 use Rattle.cg_cli.specs.declared.fault.CliFault.{CliFault}
 use Rattle.clap.specs.declared.error.Error.{Error}
 use Rattle.arguments.specs.Words.{Makes}
-use Rattle.arguments.specs.Given.{ids_of, tree_file, ops_file}
+use Rattle.arguments.specs.Given.{ids_of, tree_file, other_file}
 use Rattle.arguments.specs.declared.request.May.{May}
 use Rattle.arguments.specs.declared.request.Check.{Check}
 use Rattle.arguments.specs.declared.request.Audit.{Audit}
 use Rattle.arguments.specs.declared.request.Advise.{Advise}
+use Rattle.arguments.specs.declared.request.AdvisePairs.{AdvisePairs}
 use Rattle.arguments.specs.declared.request.Upgrade.{Upgrade}
 use Rattle.arguments.specs.declared.request.Replay.{Replay}
 use Rattle.arguments.specs.declared.request.Request.{Request}
 use Rattle.arguments.specs.declared.request.Request.TheVariants as request
 use Rattle.streams.specs.declared.write.WriteFailed.{WriteFailed}
-use Rattle.commands.specs.Requests.{Files, IsUnread, source, name_of, may_said, check_said, advise_said, AuditSays, replay_said, OnTree, ReplaysOver, CarriesOut}
+use Rattle.commands.specs.Requests.{Files, IsUnread, source, name_of, may_said, check_said, advise_said, pairs_said, AuditSays, replay_said, OnTree, OnPairs, ReplaysOver, CarriesOut}
 use Rattle.commands.specs.Runs.{IsFlushed, CarriesOutBuffered, LeadsTo, LiesBelow, RunsTo}
 use Rattle.commands.specs.declared.fault.Fault.{Fault}
 use Rattle.commands.specs.declared.fault.Fault.TheVariants.{Usage, Cli}
@@ -119,6 +120,20 @@ on_operations said known old new status ops of_known (inl over) =
     subst (λ bytes. Replays closed said bytes old new (Ok status)) same replays.2
 on_operations said known old new status ops of_known (inr unread) = read_whole old new status unread
 
+-- what is answered on the pairs that there are
+on_pairs : (known known_pairs old new : Option (List ℕ)) (status : ℕ) (text pairs : List ℕ) (st : State) → known ≡ Some text
+    → known_pairs ≡ Some pairs → IsTextOf st text → length pairs ≤ 16777216 → OnPairs known known_pairs old new (Ok status)
+    → Reports (pairs_said pairs (Ok st)) old new (Ok status)
+on_pairs known known_pairs old new status text pairs st of_known of_pairs of_text short (inl both) =
+    let same : both.1 ≡ pairs =
+    subst (λ k. IfSome k (λ bytes. both.1 ≡ take 16777217 bytes)) of_pairs both.3 ∙ take_all 16777217 pairs (omega (arith, short)) in
+    subst (λ bytes. Reports (pairs_said bytes (Ok st)) old new (Ok status)) same
+    (⊎_elim (λ said.
+        on_state (λ read. Reports (pairs_said both.1 read) old new (Ok status)) known old new status text st of_known of_text
+        (inl (both.0, both.2, said)))
+    (λ unread. read_whole old new status unread) both.4)
+on_pairs known known_pairs old new status text pairs st of_known of_pairs of_text short (inr unread) = read_whole old new status unread
+
 -- ---- command by command
 
 module _ (files : Files) (given old new : Option (List ℕ)) (status : ℕ) where
@@ -156,6 +171,13 @@ module _ (files : Files) (given old new : Option (List ℕ)) (status : ℕ) wher
         on_state (λ read. Reports (advise_said advise read) old new (Ok status)) (source files (name_of advise.tree) given) old new status
         text st of_known of_text carried
 
+    pub advise_pairs_ended : (advise : AdvisePairs) (pairs : List ℕ) → CarriesOut (request.AdvisePairs advise) files given old new (Ok status)
+        → source files (tree_file advise.sources) given ≡ Some text → source files (other_file advise.sources) given ≡ Some pairs
+        → IsTextOf st text → length pairs ≤ 16777216 → Reports (pairs_said pairs (Ok st)) old new (Ok status)
+    advise_pairs_ended advise pairs carried of_known of_pairs of_text short =
+        on_pairs (source files (tree_file advise.sources) given) (source files (other_file advise.sources) given) old new status text pairs
+        st of_known of_pairs of_text short carried
+
     pub upgrade_ended : (upgrade : Upgrade) → CarriesOut (request.Upgrade upgrade) files given old new (Ok status)
         → source files (name_of upgrade.tree) given ≡ Some text → IsTextOf st text
         → (anew : List ℕ) × IsNewText st anew × Reports (upgrade_report (Ok st) anew) old new (Ok status)
@@ -166,12 +188,12 @@ module _ (files : Files) (given old new : Option (List ℕ)) (status : ℕ) wher
         (upgrades.text, upgrades.written st refl (λ never. cc), upgrades.reports)
 
     pub replay_ended : (replay : Replay) (ops : List ℕ) → CarriesOut (request.Replay replay) files given old new (Ok status)
-        → source files (tree_file replay.sources) given ≡ Some text → source files (ops_file replay.sources) given ≡ Some ops
+        → source files (tree_file replay.sources) given ≡ Some text → source files (other_file replay.sources) given ≡ Some ops
         → IsTextOf st text
         → Reports (replay_report (Ok st) replay.user.uid replay.user.gids.items (name_of replay.subtree) ops) old new (Ok status)
     replay_ended replay ops carried of_known of_ops of_text =
-        on_operations (replay_said replay (Ok st)) (source files (ops_file replay.sources) given) old new status ops of_ops
-        (on_state (λ read. ReplaysOver (source files (ops_file replay.sources) given) (replay_said replay read) old new (Ok status))
+        on_operations (replay_said replay (Ok st)) (source files (other_file replay.sources) given) old new status ops of_ops
+        (on_state (λ read. ReplaysOver (source files (other_file replay.sources) given) (replay_said replay read) old new (Ok status))
         (source files (tree_file replay.sources) given) old new status text st of_known of_text carried)
 
     module _ (audit : Audit) (carried : CarriesOut (request.Audit audit) files given old new (Ok status))

@@ -60,16 +60,17 @@ ghost use Rattle.cg_escapes.specs.EscapeReplays.{IsReplayed};
 ghost use Rattle.theorems.specs.Guarded.{NamesGuarded};
 ghost use Rattle.clap.specs.declared.error.Error.{Error};
 ghost use Rattle.arguments.specs.Words.{Makes};
-ghost use Rattle.arguments.specs.Given.{ids_of, tree_file, ops_file};
+ghost use Rattle.arguments.specs.Given.{ids_of, tree_file, other_file};
 ghost use Rattle.arguments.specs.declared.request.May.{May};
 ghost use Rattle.arguments.specs.declared.request.Check.{Check};
 ghost use Rattle.arguments.specs.declared.request.Audit.{Audit};
 ghost use Rattle.arguments.specs.declared.request.Advise.{Advise};
+ghost use Rattle.arguments.specs.declared.request.AdvisePairs.{AdvisePairs};
 ghost use Rattle.arguments.specs.declared.request.Upgrade.{Upgrade};
 ghost use Rattle.arguments.specs.declared.request.Replay.{Replay};
 ghost use Rattle.arguments.specs.declared.request.Request.{Request};
 ghost use Rattle.arguments.specs.declared.request.Request.TheVariants as request;
-ghost use Rattle.commands.specs.Requests.{Files, source, name_of, may_said, check_said, advise_said, CarriesOut};
+ghost use Rattle.commands.specs.Requests.{Files, source, name_of, may_said, check_said, advise_said, pairs_said, CarriesOut};
 ghost use Rattle.commands.specs.Runs.{LeadsTo, RunsTo};
 ghost use Rattle.commands.specs.declared.fault.Fault.{Fault};
 ghost use Rattle.streams.specs.declared.write.WriteFailed.{WriteFailed};
@@ -265,12 +266,16 @@ pub fn the_program()
         → CarriesOut (request.Advise advise) files given old new (Ok status)
         → source files (name_of advise.tree) given ≡ Some text → IsTextOf st text
         → Reports (advise_said advise (Ok st)) old new (Ok status) }
+    ensures advise_pairs { (advise : AdvisePairs) (files : Files) (given old new : Option (List ℕ)) (status : ℕ) (text pairs : List ℕ) (st : State)
+        → CarriesOut (request.AdvisePairs advise) files given old new (Ok status)
+        → source files (tree_file advise.sources) given ≡ Some text → source files (other_file advise.sources) given ≡ Some pairs
+        → IsTextOf st text → length pairs ≤ 16777216 → Reports (pairs_said pairs (Ok st)) old new (Ok status) }
     ensures upgrade { (upgrade : Upgrade) (files : Files) (given old new : Option (List ℕ)) (status : ℕ) (text : List ℕ) (st : State)
         → CarriesOut (request.Upgrade upgrade) files given old new (Ok status)
         → source files (name_of upgrade.tree) given ≡ Some text → IsTextOf st text
         → (anew : List ℕ) × IsNewText st anew × Reports (upgrade_report (Ok st) anew) old new (Ok status) }
     ensures replay { (replay : Replay) (files : Files) (given old new : Option (List ℕ)) (status : ℕ) (text ops : List ℕ) (st : State)
         → CarriesOut (request.Replay replay) files given old new (Ok status)
-        → source files (tree_file replay.sources) given ≡ Some text → source files (ops_file replay.sources) given ≡ Some ops → IsTextOf st text
+        → source files (tree_file replay.sources) given ≡ Some text → source files (other_file replay.sources) given ≡ Some ops → IsTextOf st text
         → Reports (replay_report (Ok st) replay.user.uid replay.user.gids.items (name_of replay.subtree) ops) old new (Ok status) }
 {}

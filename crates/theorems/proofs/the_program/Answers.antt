@@ -1,4 +1,4 @@
-use Rattle.theorems.proofs.ProgramLaws.{carried_by_status, led_to_fault, help_ended, may_ended, check_ended, audit_ended, all_ended, advise_ended, upgrade_ended, replay_ended}
+use Rattle.theorems.proofs.ProgramLaws.{carried_by_status, led_to_fault, help_ended, may_ended, check_ended, audit_ended, all_ended, advise_ended, advise_pairs_ended, upgrade_ended, replay_ended}
 use Rattle.theorems.proofs.the_program.Goals as goal
 
 pub returns : goal.returns
@@ -13,6 +13,8 @@ returns c = record {
   audit_all = λ audit files given old new status text st carried each of_known of_text.
       all_ended files given old new status text st audit carried of_known of_text each;
   advise = λ advise files given old new status text st. advise_ended files given old new status text st advise;
+  advise_pairs = λ advise files given old new status text pairs st.
+      advise_pairs_ended files given old new status text st advise pairs;
   upgrade = λ upgrade files given old new status text st. upgrade_ended files given old new status text st upgrade;
   replay = λ replay files given old new status text ops st. replay_ended files given old new status text st replay ops;
 }
