@@ -116,6 +116,14 @@ class CgroupsTest(ThreeTest):
                          [(["/alice/daves"], "uid 1003 has over 6 cgroups")])
         self.assertIn(("contained", "/alice"), [row[2:] for row in self.rows(found)])
 
+    def test_each_byte_of_a_limit_is_charged(self):
+        charged = []
+        for value in ("max", "1000000"):
+            self.host.cgroup("/alice/c", owners=owned(1000), values={"cgroup.max.depth": value})
+            with self.host.owned():
+                charged.append(walk.walk_over(self.host.mount).bytes.by[1000])
+        self.assertEqual(charged[1] - charged[0], len("1000000") - len("max"))
+
     def test_long_marks(self):
         for number in range(9):
             self.host.cgroup(f"/alice/c{number}", owners=owned(1000))

@@ -1,5 +1,6 @@
 """What each interface file of a cgroup is, in one table of whole names."""
 from enum import Enum
+from functools import lru_cache
 from typing import Dict, Optional, Tuple
 
 
@@ -67,6 +68,7 @@ def is_known(file: str) -> bool:
     return kind_of(file) is not None
 
 
+@lru_cache(maxsize=1024)
 def may_set(file: str) -> bool:
     """Whether something is, or may be, set by writing a file. Of a name that isn't known the kernel's mode tells."""
     return kind_of(file) is not Kind.TELLS

@@ -191,7 +191,9 @@ class Walk:
         return self.cgroup(folder, files, directory), names
 
     def cgroup(self, folder: int, files: Mapping[str, Entry], directory: Owned) -> Cgroup:
-        texts = self.once.texts_of(tuple((file, self.text(folder, file)) for file in LIMIT_FILES if file in files))
+        texts = self.once.texts_of(tuple((file, text_of(folder, file)) for file in LIMIT_FILES if file in files))
+        # each is a number or a word: a kernel writes it
+        self.charge(self.bytes, sum(map(len, texts.values())) + len(texts))
         kind = self.text(folder, "cgroup.type") if "cgroup.type" in files else "domain"
         marks = marks_of(folder)
         self.charge(self.bytes, marks.read)
@@ -322,7 +324,7 @@ def marks_of(folder: int) -> bounded.Attributes:
 
 def text_of(folder: int, file: str) -> str:
     """What a file of an opened folder has, as text."""
-    return bounded.read_file(file, bounded.CGROUP_FILE, bounded.FILE, folder).text("ascii", "replace").strip()
+    return bounded.read_file(file, bounded.CGROUP_FILE, bounded.FILE, folder).data.decode("ascii", "replace").strip()
 
 
 def value_of(path: bytes, file: str) -> Optional[str]:
