@@ -415,7 +415,7 @@ class ToldTest(InsideTest):
         value = self.found(json=True)
         self.assertEqual(report_schema.faults_of(value), [])
         value["root_inside"][0]["more"] = 1
-        self.assertEqual(report_schema.faults_of(value), ["report.containers[0].more"])
+        self.assertEqual(report_schema.faults_of(value), ["report.root_inside[0].more"])
 
     def test_a_report_of_before_has_none(self):
         value = self.found(json=True)
