@@ -37,6 +37,8 @@ STATUS, FLAGS, DESCRIPTOR = 1 << 20, 1 << 12, 1 << 12
 HOST_MOUNTS = 1 << 26
 # bytes of a report that another host sent, how many lists and keys it has in all, and how many values
 SENT_REPORT, SENT_PARTS, SENT_VALUES = 1 << 26, 1 << 20, 1 << 22
+# files that tell names of containers, bytes of one, and of all
+NAME_FILES, NAME_FILE, NAME_BYTES = 4096, 1 << 22, 1 << 26
 # bytes of a list of hosts
 HOSTS_FILE = 1 << 26
 
@@ -228,5 +230,36 @@ def read_regular(path: Place, most: int) -> Read:
         if not stat.S_ISREG(os.fstat(opened).st_mode):
             raise OSError(errno.EINVAL, "it is no regular file")
         return read_opened(opened, most)
+    finally:
+        os.close(opened)
+
+
+def refuse_others(opened: int) -> None:
+    """Ends where somebody but root owns or writes what was opened."""
+    found = os.fstat(opened)
+    if found.st_uid or found.st_mode & 0o022:
+        raise OSError(errno.EPERM, "somebody but root owns or writes it")
+
+
+def read_roots(place: str, most: int, top: str = "/") -> Read:
+    """What a regular file of root's has, where each folder on the way is root's too, and nobody else writes any of them; no link is
+    followed."""
+    *folders, name = place.strip("/").split("/")
+    opened = open_folder(top)
+    try:
+        refuse_others(opened)
+        for each in folders:
+            within = open_folder(each, opened)
+            os.close(opened)
+            opened = within
+            refuse_others(opened)
+        file = os.open(name, FILE, dir_fd=opened)
+        try:
+            refuse_others(file)
+            if not stat.S_ISREG(os.fstat(file).st_mode):
+                raise OSError(errno.EINVAL, "it is no regular file")
+            return read_opened(file, most)
+        finally:
+            os.close(file)
     finally:
         os.close(opened)

@@ -138,6 +138,16 @@ class Inside:
     is_cut: bool
 
 
+class Scope(NamedTuple):
+    """A container's or a pod's cgroup: its engine, its short id, its name where that is known, and its holder where root didn't start
+    it; -1 where that may be anybody."""
+    path: CgroupPath
+    engine: str
+    id: str
+    name: Optional[str]
+    holder: Optional[int]
+
+
 @dataclass(frozen=True)
 class Note:
     """What a tree text bends or leaves out, and where."""
@@ -226,6 +236,8 @@ class Snapshot:
     over: Mapping[int, str] = field(default_factory=dict)
     # containers whose processes are root's
     inside: Tuple[Inside, ...] = ()
+    # containers and pods by their names
+    scopes: Tuple[Scope, ...] = ()
 
     @property
     def processes_told(self) -> Collection[Process]:

@@ -5,7 +5,7 @@ from collections import Counter
 from dataclasses import replace
 from typing import Callable, Dict, Iterable, Iterator, List, Mapping, Optional, Tuple
 
-from zirofen_host.collect import inside, walk
+from zirofen_host.collect import containers, inside, walk
 from zirofen_host.collect.accounts import payer_of
 from zirofen_host.collect.bounded import Payer
 from zirofen_host.collect.looks import Looks
@@ -187,6 +187,7 @@ def take(options: Options, subtrees_of: SubtreesOf) -> Snapshot:
     insides = looks.all("root-inside", lambda: inside.look(options.proc, found.cgroups, found.processes))
     # of a part what is above it is there for the answers, and isn't told of by itself
     return replace(found, inside=tuple(each for each in insides if is_inside(each.path, options.only or ROOT)),
+                   scopes=() if options.plain_folder else looks.all("containers", lambda: containers.scopes(found.cgroups)),
                    notes=(*found.notes, *looks.failed))
 
 

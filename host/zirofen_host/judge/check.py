@@ -11,7 +11,7 @@ from zirofen_host.ask.questions import unit_of
 from zirofen_host.collect.accounts import Accounts, accounts_of
 from zirofen_host.collect.holds import holds_of
 from zirofen_host.collect.looks import Looks
-from zirofen_host.collect.model import GROUP, OWNER, Note, Snapshot, User
+from zirofen_host.collect.model import GROUP, OWNER, Note, Scope, Snapshot, User
 from zirofen_host.fault import Fault
 from zirofen_host.judge import inside, unseen, whole
 from zirofen_host.judge.advised import Advised, advise
@@ -21,11 +21,11 @@ from zirofen_host.judge.findings import above_findings, differs_findings, entry_
 from zirofen_host.judge.gravity import gravity_of
 from zirofen_host.judge.judged import Own, judge
 from zirofen_host.judge.lists import shown_lists
-from zirofen_host.judge.model import ABSENT, VERSION, HeldBy, HolderAnswer, Report, Subtree, Told
+from zirofen_host.judge.model import ABSENT, VERSION, HeldBy, HolderAnswer, NamedScope, Report, Subtree, Told
 from zirofen_host.judge.names import names_of
 from zirofen_host.judge.settings import Settings
 from zirofen_host.options import Options
-from zirofen_host.profile import ANYBODY, CgroupPath, path_of, text_of
+from zirofen_host.profile import ANYBODY, CgroupPath, path_of, shown, text_of
 
 NO_SETTINGS: Settings = {}
 
@@ -84,7 +84,9 @@ def answer_of(checked: Checked, subtree: CgroupPath, lines: Tuple[str, ...], is_
     # whoever has nothing but everybody's bits has no number of their own
     names = ["anybody" if uid == ANYBODY and holders.by != OWNER else str(uid) for uid in uids]
     who = ",".join(names) if len(uids) <= 3 else f"{len(uids)} users"
-    return HolderAnswer(who, uids[:SHOWN], len(uids), gids, lines, is_above)
+    is_named = len(uids) <= 3 and any(uid in checked.names.users for uid in uids) and "anybody" not in names
+    made, users = HolderAnswer(who, uids[:SHOWN], len(uids), gids, lines, is_above), checked.names.users
+    return replace(made, names=tuple(checked.names.user(uid) if uid in users else str(uid) for uid in uids)) if is_named else made
 
 
 def report_of(checked: Checked, is_whole: bool) -> Report:
@@ -106,13 +108,19 @@ def report_of(checked: Checked, is_whole: bool) -> Report:
         subtrees=subtrees, entries=entries, opened=tuple(opened.values()), faults=faults, differs=differs, above=above,
         unseen=told, snapshot=notes, status=CONTAINED, version_1=snapshot.version_1,
         lists=looks.all("lists", lambda: shown_lists(checked, subtrees, entries)),
-        root_inside=looks.all("root-inside", lambda: inside.findings(checked)) or ABSENT)
+        root_inside=looks.all("root-inside", lambda: inside.findings(checked)) or ABSENT,
+        scopes=looks.each("containers", snapshot.scopes, lambda each: named_scope(checked, each)) or ABSENT)
     if is_whole:
         made = replace(made, users=looks.all("users", lambda: whole.users_of(checked)),
                        groups=looks.all("groups", lambda: whole.groups_of(checked)), cgroups=whole.cgroups_of(checked, looks),
                        processes=looks.all("processes", lambda: whole.processes_of(checked)))
     made = replace(made, unseen=(*(noted(checked, note) for note in looks.failed), *told))
     return replace(made, status=gravity_of(made).status)
+
+
+def named_scope(checked: Checked, each: Scope) -> NamedScope:
+    holder = None if each.holder is None else "somebody" if each.holder < 0 else checked.names.user(each.holder)
+    return NamedScope(text_of(each.path), each.engine, each.id, None if each.name is None else shown(each.name), holder)
 
 
 def noted(checked: Checked, note: Note) -> Told:

@@ -67,6 +67,8 @@ class HolderAnswer:
     lines: Lines
     # it lies in what was handed to the same person
     is_above: bool
+    # of those that `who` numbers, where one has a name
+    names: Union[Tuple[str, ...], Absent] = ABSENT
 
 
 @dataclass(frozen=True)
@@ -182,6 +184,16 @@ class RootInside:
     # of the container, what to set
     setting: Optional[str]
     accepted: Union[str, Absent] = ABSENT
+
+
+@dataclass(frozen=True)
+class NamedScope:
+    """A container's or a pod's cgroup, by the name that a file of root's tells; of one that root didn't start, with whose it is."""
+    path: str
+    engine: str
+    id: str
+    name: Optional[str]
+    of: Optional[str]
 
 
 @dataclass(frozen=True)
@@ -305,6 +317,7 @@ class Report:
     lists: Tuple[ShownList, ...]
     # where there are some
     root_inside: Union[Tuple[RootInside, ...], Absent] = ABSENT
+    scopes: Union[Tuple[NamedScope, ...], Absent] = ABSENT
     # the host itself, where the report is to be whole
     users: Union[Tuple[ReportUser, ...], Absent] = ABSENT
     groups: Union[Tuple[ReportGroup, ...], Absent] = ABSENT
@@ -320,3 +333,8 @@ class Report:
     def containers(self) -> Tuple[RootInside, ...]:
         """Those whose processes are root's."""
         return () if isinstance(self.root_inside, Absent) else self.root_inside
+
+    @property
+    def scopes_by_path(self) -> Mapping[str, NamedScope]:
+        """Containers and pods by their cgroups."""
+        return {} if isinstance(self.scopes, Absent) else {each.path: each for each in self.scopes}

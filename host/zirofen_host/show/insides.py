@@ -5,6 +5,7 @@ from zirofen_host.judge.finding_lines import INSIDE_MEANS, inside_count, inside_
 from zirofen_host.judge.model import RootInside
 from zirofen_host.show import words
 from zirofen_host.show.finding import Place, id_of
+from zirofen_host.show.lines import beside
 from zirofen_host.show.markup import code, items, text
 from zirofen_host.show.view import Host
 
@@ -18,7 +19,7 @@ def link(host: Host, at: Place, each: RootInside) -> str:
 def lines(host: Host, at: Place) -> Iterator[str]:
     for number, each in enumerate(host.report.containers, 1):
         told = f'<span id="{at.id}-held-{number}">{text(inside_text(each))}</span>' if each.held else link(host, at, each)
-        yield f"{code(each.path)}: {told} ({text(inside_count(each))})"
+        yield f"{code(each.path)}{text(beside(host.scopes, each.path))}: {told} ({text(inside_count(each))})"
 
 
 def html(host: Host, at: Place) -> str:

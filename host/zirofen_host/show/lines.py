@@ -1,7 +1,7 @@
 """A report as it is printed, made of it alone."""
 import itertools
 from collections import Counter
-from typing import Callable, Dict, Iterable, Iterator, List, Optional, Sequence, Tuple, TypeVar, Union
+from typing import Callable, Dict, Iterable, Iterator, List, Mapping, Optional, Sequence, Tuple, TypeVar, Union
 
 from zirofen_host.fault import FAULT
 from zirofen_host.installed import MANUAL
@@ -11,11 +11,12 @@ from zirofen_host.judge.finding_lines import (INSIDE_MEANS, NOTHING_ASKED, SHOWN
                                               fault_line, inside_count, inside_line, opened_line, version_1_line, whom_text)
 from zirofen_host.judge.gravity import is_empty
 from zirofen_host.judge.model import (ABSENT, AboveFinding, Absent, Comparison, Difference, DiffersFinding, EntryFinding,
-                                      OpenedFinding, Report, RootInside, Subtree, Told)
+                                      HolderAnswer, NamedScope, OpenedFinding, Report, RootInside, Subtree, Told)
+from zirofen_host.profile import ancestors
 from zirofen_host.show.folded import GRAVITY, Part, counted, folded
 
 # how far the table's columns are filled up; a longer word stands out
-WIDEST = (12, 24, 48)
+WIDEST = (20, 24, 48)
 # kinds of which a line has all, each behind its colon
 JOINED = ("deputy", "mark", "outside", "subordinate")
 # behind an answer where limits are those of version 1
@@ -33,12 +34,28 @@ def gids_text(gids: Iterable[int]) -> str:
     return ",".join(map(str, gids)) or "-"
 
 
-def rows_of(subtree: Subtree, mark: str = "") -> Iterator[Row]:
+def who_text(each: HolderAnswer) -> str:
+    """Who holds a subtree, by name."""
+    return each.who if isinstance(each.names, Absent) else ",".join(each.names)
+
+
+def scope_text(each: NamedScope) -> str:
+    """A container or a pod, and whose it is where root didn't start it."""
+    return f"{each.engine} {each.name or each.id}" + (f" of {each.of}" if each.of else "")
+
+
+def beside(scopes: Mapping[str, NamedScope], path: str) -> str:
+    """Which container or pod a cgroup is of, the nearest, behind its path."""
+    scope = next((scopes[place] for place in (path, *ancestors(path)) if place in scopes), None) if scopes else None
+    return f" [{scope_text(scope)}]" if scope else ""
+
+
+def rows_of(subtree: Subtree, mark: str = "", is_named: bool = False) -> Iterator[Row]:
     """The table's rows of a subtree: one for each answer of whoever holds it, each with a mark where limits aren't looked at."""
     for each in subtree.answers:
         first = each.lines[0]
         answer, below = (f"above: {first}", ()) if each.is_above else (first, each.lines[1:])
-        yield each.who, gids_text(each.gids), answer + mark, subtree.path, below
+        yield who_text(each) if is_named else each.who, gids_text(each.gids), answer + mark, subtree.path, below
     if not subtree.answers:
         yield "-", "-", "held by root alone" + mark, subtree.path, ()
 
@@ -47,7 +64,9 @@ def table(report: Report, is_each: bool = False) -> Iterator[str]:
     """Columns of who holds a subtree, their groups, the answer and the path, which may be long; what it shows stands below. What
     somebody made below their own delegation stands last."""
     mark = VERSION_1 if report.version_1 else ""
-    rows = [(subtree.within, row) for subtree in report.subtrees for row in rows_of(subtree, mark)]
+    scopes = report.scopes_by_path
+    rows = [(subtree.within, (who, gids, answer, path + beside(scopes, path), below)) for subtree in report.subtrees
+            for who, gids, answer, path, below in rows_of(subtree, mark, True)]
     head: Row = ("UID", "GIDS", "ANSWER", "PATH", ())
     shown = [head, *(row for _, row in rows)]
     widths = [min(most, max(len(row[at]) for row in shown)) for at, most in enumerate(WIDEST)]
@@ -141,9 +160,10 @@ def place_text(each: Told) -> str:
 
 def inside_lines(report: Report) -> Iterator[str]:
     """The containers of root's, each with what to set where it isn't held."""
+    scopes = report.scopes_by_path
     for each in report.containers:
         if each.accepted is ABSENT:
-            yield f"{inside_line(each)} ({inside_count(each)})"
+            yield f"{inside_line(each)} ({inside_count(each)}){beside(scopes, each.path)}"
             yield from what_to_change([each])
 
 

@@ -7,6 +7,7 @@ from typing import Iterator, List, Optional, Sequence
 from zirofen_host.profile import HANDED_OVER
 from zirofen_host.show import words
 from zirofen_host.show.finding import Place, id_of
+from zirofen_host.show.lines import beside
 from zirofen_host.show.markup import code, css, text
 from zirofen_host.show.view import Host
 from zirofen_host.show.words import QUIET, SIGNS, STANDINGS
@@ -62,7 +63,8 @@ class Table:
 
     def row(self, path: str, number: Optional[int]) -> str:
         is_known = path in self.host.subtrees
-        cells = (" ".join(self.answers(path)), code(path), text(self.host.holder(path)) if is_known else "",
+        where = code(path) + text(beside(self.host.scopes, path))
+        cells = (" ".join(self.answers(path)), where, text(self.host.holder(path)) if is_known else "",
                  self.by_what(path) if is_known else "", self.limits(path) if is_known else "")
         name = f' id="{self.at.id}-subtrees-{number}"' if number else ""
         return f"<tr{name}>" + "".join(f"<td>{each}</td>" for each in cells) + "</tr>"

@@ -15,6 +15,7 @@ from zirofen_host.judge.model import DiffersFinding, Report, RootInside
 from zirofen_host.options import TreeOptions
 from zirofen_host.profile import is_inside, is_root, text_of
 from zirofen_host.show import words
+from zirofen_host.show.lines import scope_text
 from zirofen_host.show.view import COUNTED, Host, accepted_of, entry_of, host_of, whom_of
 from zirofen_host.show.words import ABOVE, ACCEPTED, CONTAINED, ESCAPES, FAULT, NOT_ASKED, OPENED, SIGNS, STANDINGS, UNSETTLED
 
@@ -99,6 +100,9 @@ class Drawer:
         bar = rest + (self.glyphs.bar if self.host.children[path] else self.glyphs.gap)
         if not is_beside:
             yield from self.wrapped(bar, standing, COLOURS[kinds[0]])
+        scope = self.host.scopes.get(path)
+        if scope:
+            yield from self.wrapped(bar, scope_text(scope))
         for text in self.details(path):
             yield from self.wrapped(bar, text)
 

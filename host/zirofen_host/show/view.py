@@ -7,7 +7,7 @@ from typing import Callable, Dict, Iterator, List, Mapping, Optional, Sequence, 
 
 from zirofen_host.collect.model import Value
 from zirofen_host.collect.walk import OWNERS_MARK
-from zirofen_host.judge.model import (Absent, DiffersFinding, EntryFinding, FaultFinding, HeldBy, OpenedFinding, Owner, Report,
+from zirofen_host.judge.model import (Absent, DiffersFinding, EntryFinding, FaultFinding, HeldBy, NamedScope, OpenedFinding, Owner, Report,
                                       ReportCgroup, ReportFile, ReportProcess, ReportUser, RootInside, Subtree, Whom)
 from zirofen_host.profile import CONTROL_FILES, HANDED_OVER, LIMIT_FILES, ancestors, is_usual, parent_of
 from zirofen_host.show import words
@@ -210,6 +210,11 @@ class Host:
     def ways(self) -> Set[str]:
         """What is above a delegation, a mark or a finding."""
         return {above for path in {*self.standing, *self.notes, *self.root_inside} for above in ancestors(path)}
+
+    @cached_property
+    def scopes(self) -> Mapping[str, NamedScope]:
+        """Containers and pods by their paths."""
+        return self.report.scopes_by_path
 
     @cached_property
     def root_inside(self) -> Mapping[str, RootInside]:
