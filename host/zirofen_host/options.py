@@ -53,6 +53,8 @@ class CheckOptions(Options):
 class AskOptions(Options):
     user: str = ""
     path: str = ""
+    # what they may do at all, in place of an answer
+    may: bool = False
 
 
 @dataclass(frozen=True)
