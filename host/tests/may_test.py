@@ -76,7 +76,7 @@ class MayTest(HostTest):
             with self.subTest(user), self.assertRaisesRegex(Fault, line):
                 self.may(user, path)
         self.may("78", "/")
-        self.assertEqual(self.warnings, ["uid 78 owns nothing, writes nothing of his own, has no process and no account here"])
+        self.assertEqual(self.warnings, ["uid 78 owns nothing, writes nothing of their own, has no process and no account here"])
 
 
 @unittest.skipUnless(REAL_PROGRAM, "there is no program here")

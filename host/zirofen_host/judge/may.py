@@ -102,7 +102,7 @@ def may(snapshot: Snapshot, options: AskOptions, warn: Warn) -> List[str]:
         why = snapshot.changing.get(path)
         raise Fault(f"there is no cgroup {shown(options.path)}" + (f": {why}" if why else ""))
     if not any(is_known(user, snapshot.tree, accounts) for user in users):
-        warn(f"uid {users[0].uid} owns nothing, writes nothing of his own, has no process and no account here")
+        warn(f"uid {users[0].uid} owns nothing, writes nothing of their own, has no process and no account here")
     for place in sorted(place for place in snapshot.changing if is_inside(place, path)):
         warn(f"{shown(place)} isn't looked at: {snapshot.changing[place]}")
     name = names_of(accounts).user(users[0].uid)
