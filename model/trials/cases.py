@@ -142,8 +142,8 @@ def pair_lines(rng, tree, state):
         lines += rng.choice([[], [b"escapes", b"move 7 /"], [b"unsettled parent-dir /"], [b"# by hand", b"", b"pairs /"], lines[:1]])
     if rng.random() < 0.16:
         lines.insert(rng.randrange(len(lines) + 1), bad_pair(rng, lines))
-    if rng.random() < 0.006:
-        lines.append(b"#" * (commands.LONGEST_PAIRS - sum(len(line) + 1 for line in lines) - rng.choice([1, 1, 0])))
+    if rng.random() < 0.03:
+        lines.append(b"#" * (commands.LONGEST_PAIRS - sum(len(line) + 1 for line in lines) - rng.choice([1, 1, 1, 0])))
     return b"".join(line + b"\n" for line in lines) + (rng.choice([b"pair 1000 /a", b"x"]) if rng.random() < 0.04 else b"")
 
 
@@ -155,7 +155,8 @@ def bad_pair(rng, lines):
         b"pair ", b"pair  ", near + b" ", near + b"\r", near.replace(b" ", b"  ", 1), near + b"/", near + b"\0", b"pair /a", b"pair 1000",
         b"pair 1000 ", b"pair 1000 a", b"pair 1000: /a", b"pair 1000:5, /a", b"pair +1000 /a", b"pair 4294967296 /a", b"pair x /a",
         b"pair 1000 /\xc3\xa9", b"pair 1000 /\xff", b"pair \xff /a", b"pair 1000 /cgroup.procs", b"pair 1000 /" + b"a" * 256,
-        b"pair 0 /a", b"pair 1000:" + many + b" /a", b"pair 1000 /", b"pair 1000 /nowhere"])
+        b"pair 0 /a", b"pair 1000:" + many + b" /a", b"pair 1000 /", b"pair 1000 /nowhere",
+        *2 * [b"pair 1000 /nowhere\npair 1000 /"]])
 
 
 def audit_words(rng, tree, state):
