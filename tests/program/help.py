@@ -99,7 +99,7 @@ def command_lines():
     yield Row(["check", "--uid", "1\n  0", "--subtree", "/c0"], "usage", ["1\\x0a  0"])
     yield Row(["audit", "--uid", "+1000", "--subtree", "/c0"], "usage", ["a user of audit"])
     yield Row(["audit", "--uid", "alice", "--subtree", "/c0"], "usage", ["a user of audit", "`id -u NAME`"])
-    yield Row(["advise", "--uid", "1000:5, 6", "--subtree", "/c0"], "usage", ["a user of audit and advise", "no spaces"])
+    yield Row(["advise", "--uid", "1000:5, 6", "--subtree", "/c0"], "usage", ["advise takes users and subtrees", "no spaces"])
     yield Row([*REPLAY, "--tree", "TREE", "--tree", "TREE"], "usage", ["--tree <FILE>", "multiple times"])
     yield Row([*REPLAY[:4], "-"], "usage", BOTH)
     yield Row([*REPLAY[:4], "-", "--tree", "-"], "usage", BOTH)

@@ -102,7 +102,7 @@ def rows():
     yield ["advise", "--uid", "1000", "--gid", "5", "--subtree", "/c0", "--subtree", "/c1"], False
     pairs = ["advise", "--pairs", os.devnull]
     yield pairs, False
-    yield ["advise", "--tree", TREE, "--pairs", "-"], False
+    yield ["advise", "--tree", DELEGATION, "--pairs", "-"], False
     yield from ((words, True) for words in (
         ["advise"], ["advise", "--uid", "1000"], ["advise", "--subtree", "/c0"], ["advise", "--gid", "5", "--subtree", "/c0"],
         ["advise", "--pairs", "-"], ["advise", "--tree", "-", "--pairs", "-"], [*pairs, "--uid", "1000"], [*pairs, "--gid", "5"],
