@@ -172,7 +172,8 @@ module _ (files : Files) (given old new : Option (List ℕ)) (status : ℕ) wher
         text st of_known of_text carried
 
     pub advise_pairs_ended : (advise : AdvisePairs) (pairs : List ℕ)
-        → CarriesOut (request.AdvisePairs advise) files given old new (Ok status) → source files (tree_file advise.sources) given ≡ Some text → source files (other_file advise.sources) given ≡ Some pairs
+        → CarriesOut (request.AdvisePairs advise) files given old new (Ok status)
+        → source files (tree_file advise.sources) given ≡ Some text → source files (other_file advise.sources) given ≡ Some pairs
         → IsTextOf st text → length pairs ≤ 16777216 → Reports (pairs_said pairs (Ok st)) old new (Ok status)
     advise_pairs_ended advise pairs carried of_known of_pairs of_text short =
         on_pairs (source files (tree_file advise.sources) given) (source files (other_file advise.sources) given) old new status text pairs
