@@ -1,7 +1,7 @@
 //! Where in a TOML text a key stands: the text is walked over once more, without a word on what the keys mean.
-use std::alloc::Global;
+use std::alloc::{AllocError, Global};
 use toml_parser::text::{first, skip, skip_blank, skip_ws};
-use toml_parser::{Key, dotted_key, quoted, starts_string, unquoted};
+use toml_parser::{ErrorKind, Key, ParseError, dotted_key, quoted, starts_string, unquoted};
 
 /// A step from a table or an array to what stands in it.
 #[derive(Clone, Copy, Debug)]
@@ -37,7 +37,11 @@ struct Walk<'t, 'k> {
 }
 
 /// Where the key, or the element, stands that the steps lead to, in bytes from the text's beginning; nothing where that is no one place.
-pub(crate) fn place_of(alloc: Global, text: &str, steps: &[Step<'_>]) -> Option<usize> {
+pub(crate) fn place_of(
+    alloc: Global,
+    text: &str,
+    steps: &[Step<'_>],
+) -> Result<Option<usize>, AllocError> {
     let mut walk = Walk {
         text,
         rest: text.strip_prefix('\u{feff}').unwrap_or(text),
@@ -49,17 +53,21 @@ pub(crate) fn place_of(alloc: Global, text: &str, steps: &[Step<'_>]) -> Option<
         is_twice: false,
     };
     for _ in 0..text.len() {
-        walk.turn(alloc)?;
+        match walk.turn(alloc) {
+            Ok(()) => {}
+            Err(ParseError::OutOfMemory) => return Err(AllocError),
+            Err(ParseError::At(..)) => return Ok(None),
+        }
     }
-    if walk.is_twice { None } else { walk.found }
+    Ok(if walk.is_twice { None } else { walk.found })
 }
 
 impl<'t, 'k> Walk<'t, 'k> {
     /// Goes on by a header, a key with what is simple or begins behind it, an element, or a mark. At the end it stays there.
-    fn turn(&mut self, alloc: Global) -> Option<()> {
+    fn turn(&mut self, alloc: Global) -> Result<(), ParseError> {
         self.rest = skip_blank(self.rest, true);
         match (self.open.last().copied(), first(self.rest)) {
-            (None, 0) => Some(()),
+            (None, 0) => Ok(()),
             (None, b'[') => self.headed(alloc),
             (None, _) => self.pair(alloc, self.header),
             (Some(_), b'}' | b']') => {
@@ -80,9 +88,9 @@ impl<'t, 'k> Walk<'t, 'k> {
     }
 
     /// Passes a mark.
-    fn pass(&mut self) -> Option<()> {
+    fn pass(&mut self) -> Result<(), ParseError> {
         self.rest = behind(self.rest)?;
-        Some(())
+        Ok(())
     }
 
     /// Goes on to the next element of the innermost array, where one is open.
@@ -92,19 +100,19 @@ impl<'t, 'k> Walk<'t, 'k> {
         }
     }
 
-    fn headed(&mut self, alloc: Global) -> Option<()> {
+    fn headed(&mut self, alloc: Global) -> Result<(), ParseError> {
         let header = self.rest;
         self.pass()?;
         let is_element = first(self.rest) == b'[';
         if is_element {
             self.pass()?;
         }
-        let (key, rest) = dotted_key(alloc, skip_ws(self.rest)).ok()?;
+        let (key, rest) = dotted_key(alloc, skip_ws(self.rest))?;
         self.rest = rest;
         self.header = self.led_by(&key, is_element);
         self.note(self.header, header);
         self.pass()?;
-        if is_element { self.pass() } else { Some(()) }
+        if is_element { self.pass() } else { Ok(()) }
     }
 
     /// How far a header leads. An array of tables is entered at its last element.
@@ -129,8 +137,8 @@ impl<'t, 'k> Walk<'t, 'k> {
         }
     }
 
-    fn pair(&mut self, alloc: Global, led: Led) -> Option<()> {
-        let (key, rest) = dotted_key(alloc, self.rest).ok()?;
+    fn pair(&mut self, alloc: Global, led: Led) -> Result<(), ParseError> {
+        let (key, rest) = dotted_key(alloc, self.rest)?;
         let mut led = led;
         for part in key.path.as_slice() {
             led = keyed(self.steps, led, part.as_str());
@@ -142,23 +150,23 @@ impl<'t, 'k> Walk<'t, 'k> {
     }
 
     /// Passes a value that is simple, or the mark that begins one.
-    fn value(&mut self, alloc: Global, led: Led) -> Option<()> {
+    fn value(&mut self, alloc: Global, led: Led) -> Result<(), ParseError> {
         match first(self.rest) {
             b'[' => self.begin(Open::Array(led, 0)),
             b'{' => self.begin(Open::Table(led)),
             _ if starts_string(self.rest) => {
-                self.rest = quoted(alloc, self.rest).ok()?.1;
-                Some(())
+                self.rest = quoted(alloc, self.rest)?.1;
+                Ok(())
             }
             _ => {
-                self.rest = unquoted(alloc, self.rest).ok()?.1;
-                Some(())
+                self.rest = unquoted(alloc, self.rest)?.1;
+                Ok(())
             }
         }
     }
 
-    fn begin(&mut self, open: Open) -> Option<()> {
-        self.open.push(open).ok()?;
+    fn begin(&mut self, open: Open) -> Result<(), ParseError> {
+        self.open.push(open)?;
         self.pass()
     }
 
@@ -188,11 +196,11 @@ fn element(steps: &[Step<'_>], led: Led, index: usize) -> Led {
 }
 
 /// Behind a byte of ASCII.
-fn behind(text: &str) -> Option<&str> {
+fn behind(text: &str) -> Result<&str, ParseError> {
     let byte = first(text);
     if 0 < byte && byte < 128 {
-        Some(skip(text, 1))
+        Ok(skip(text, 1))
     } else {
-        None
+        Err(ParseError::at(ErrorKind::Content, text))
     }
 }

@@ -129,8 +129,8 @@ on_pairs known known_pairs old new status text pairs st of_known of_pairs of_tex
     subst (λ k. IfSome k (λ bytes. both.1 ≡ take 16777217 bytes)) of_pairs both.3 ∙ take_all 16777217 pairs (omega (arith, short)) in
     subst (λ bytes. Reports (pairs_said bytes (Ok st)) old new (Ok status)) same
     (⊎_elim (λ said.
-        on_state (λ read. Reports (pairs_said both.1 read) old new (Ok status)) known old new status text st of_known of_text
-        (inl (both.0, both.2, said)))
+    on_state (λ read. Reports (pairs_said both.1 read) old new (Ok status)) known old new status text st of_known of_text
+    (inl (both.0, both.2, said)))
     (λ unread. read_whole old new status unread) both.4)
 on_pairs known known_pairs old new status text pairs st of_known of_pairs of_text short (inr unread) = read_whole old new status unread
 

@@ -70,7 +70,7 @@ impl<'a> RowAt<'a> {
         if steps.is_empty() {
             return Ok(None);
         }
-        Ok(place_of(alloc, self.text, steps.as_slice()))
+        place_of(alloc, self.text, steps.as_slice())
     }
 
     /// Where that key stands, or the innermost table around it that has a place.
