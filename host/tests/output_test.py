@@ -52,6 +52,12 @@ def mode_of(file):
     return stat.S_IMODE(os.lstat(file).st_mode)
 
 
+def take_signals() -> None:
+    """Takes signals as a terminal's programs do: who starts the tests may ignore some, and nohup does."""
+    for number in ending.SIGNALS:
+        signal.signal(number, signal.default_int_handler if number == signal.SIGINT else signal.SIG_DFL)
+
+
 class OutputTest(unittest.TestCase):
     def setUp(self):
         room = tempfile.TemporaryDirectory()
@@ -373,7 +379,7 @@ class HelperTest(HostTest):
                 os.chmod(program, 0o755)
                 started = subprocess.Popen(self.words(program=program), env={**os.environ, "TMPDIR": self.temporary}, text=True,
                                            stdout=subprocess.PIPE, stderr=subprocess.PIPE,
-                                           preexec_fn=lambda: signal.signal(signal.SIGINT, signal.default_int_handler))
+                                           preexec_fn=take_signals)
                 self.wait_for(lambda: os.path.exists(told) and read(told).endswith("\n"))
                 self.assertEqual(len(os.listdir(self.temporary)), 1)
                 started.send_signal(number)
