@@ -14,4 +14,5 @@ mod question;
 mod reading;
 pub mod replay;
 mod report;
+mod strangers;
 pub mod upgrade;
