@@ -4,7 +4,7 @@
 use Rattle.std.specs.Prelude.{ℕ, Bool, false, List, Option, ◌&&◌, ◌||◌, not, nat_eq}
 use Rattle.std.specs.List.{list_any, find}
 use Rattle.std.specs.Option.{option_map, option_map_or}
-use Rattle.std.specs.BTreeMap as map
+use Rattle.std.specs.FinMap as map
 use Rattle.cg_cgroup.specs.Identity.{Identity}
 use Rattle.cg_cgroup.specs.Users.{owns, in_group, writes}
 use Rattle.cg_cgroup.specs.Files.{all_files}

@@ -149,7 +149,14 @@ fn audit<F: Files, I: Read + Drop, W: Write>(
 {
     let tree = tree_text(alloc, files, asked.tree, input)?;
     let users = all_ids(alloc, asked.users.as_slice())?;
-    audited(alloc, tree.as_slice(), users.as_slice(), asked, stranger, out)
+    audited(
+        alloc,
+        tree.as_slice(),
+        users.as_slice(),
+        asked,
+        stranger,
+        out,
+    )
 }
 
 /// Audits a tree, of which the first pair that isn't contained is asked for, or each.

@@ -77,14 +77,7 @@ pub fn run_program<F: Files, I: Read + Drop, W: Write + Drop, E: Write + Drop>(
         line: None,
         stranger: None,
     };
-    let ended = run(
-        alloc,
-        words.as_slice(),
-        files,
-        &mut input,
-        &mut noted,
-        out,
-    );
+    let ended = run(alloc, words.as_slice(), files, &mut input, &mut noted, out);
     let seen = Seen {
         words: Some(words.as_slice()),
         input: input.whole(),
