@@ -122,12 +122,26 @@ class MendsTest(HostTest):
 
     def test_a_limit_that_the_next_start_doesnt_bring(self):
         report = made(example.kept())
-        told = Told("restart", "/system.slice/web.service", "web.service is started anew: ..")
-        report = replace(report, entries=(), opened=(), differs=(), unseen=(told,))
+        told = Told("restart", "/system.slice/web.service", "web.service is started anew with its own settings alone: memory.max is "
+                    "4294967296, and MemoryMax=infinity; memory.swap.max is 0, and MemorySwapMax=infinity")
+        report = replace(report, entries=(), opened=(), differs=(), unseen=(told,), cgroups=(
+            replace(row(memory_max=4294967296, memory_swap_max=0, memory_high=4096, pids_max=1754), path=told.place),))
         [found] = mends.mends_of(report, findings_of(report))
         self.assertEqual((found.lines, found.changes), ((f"restart: {told.place}: {told.text}",), ()))
-        self.assertTrue(found.settings)
-        self.assertTrue(all(each.startswith(("MemoryMax=", "TasksMax=", "CPUWeight=")) for each in found.settings))
+        # these and no other, such as the manager's own number of tasks
+        self.assertEqual(found.settings, ("MemoryMax=4294967296", "MemorySwapMax=0"))
+
+    def test_a_limit_of_a_finding_and_one_that_goes(self):
+        self.host.cgroup("/", enabled="memory pids")
+        self.host.cgroup("/system.slice", enabled="memory pids")
+        self.host.cgroup("/system.slice/a.service", owners={**owned(1000), "memory.high": 1000}, marks=(MARK,),
+                         values={"memory.max": 8192, "memory.high": 4096, "pids.max": 5})
+        report = made(self.report(json=True))
+        told = Told("restart", "/system.slice/a.service", "a.service is started anew with its own settings alone: memory.max is 8192, "
+                    "and MemoryMax=infinity")
+        report = replace(report, unseen=(*report.unseen, told))
+        [found] = [each for each in mends.mends_of(report, findings_of(report)) if each.unit]
+        self.assertEqual(found.settings, ("MemoryHigh=4096", "MemoryMax=8192"))
 
     def test_what_somebody_made_gets_no_drop_in(self):
         """Whoever writes a slice's directory makes in there what looks like a unit of root's, with values of their own."""

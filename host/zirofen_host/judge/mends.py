@@ -126,8 +126,9 @@ class Place:
 
     @property
     def files(self) -> List[str]:
-        """The limit files whose values are to stay: those of the findings, or all where some go at the next start."""
-        return list(self.row.files) if self.restarts and self.row else sorted({each.entry for each in self.found})
+        """The limit files whose values are to stay: those of the findings, and those that the next start doesn't bring back."""
+        gone = (file for file in (self.row.files if self.row else ()) if any(f" {file} is " in told.text for told in self.restarts))
+        return sorted({*(each.entry for each in self.found), *gone})
 
     @property
     def owner(self) -> Optional[str]:
