@@ -40,8 +40,8 @@ class SettingsTest(HostTest):
                 ("pids.max", 7, ["TasksMax=7"]), ("cpu.weight", 50, ["CPUWeight=50"]), ("memory.swap.max", "0", ["MemorySwapMax=0"]),
                 ("cpu.max", "20000 100000", ["CPUQuota=20%"]), ("cpu.max", "150000 100000", ["CPUQuota=150%"]),
                 ("cpu.max", "2500 20000", ["CPUQuota=12.5%", "CPUQuotaPeriodSec=20000us"]), ("cpu.idle", "1", ["CPUWeight=idle"]),
-                ("io.weight", "default 50", ["IOWeight=50"]), ("cpuset.cpus", "0-3,5", ["AllowedCPUs=0-3,5"]),
-                ("cpuset.mems", "0", ["AllowedMemoryNodes=0"])):
+                ("io.weight", "default 50", ["IOWeight=50"]), ("cpuset.cpus", "0-3,5", ["AllowedCPUs=", "AllowedCPUs=0-3,5"]),
+                ("cpuset.mems", "0", ["AllowedMemoryNodes=", "AllowedMemoryNodes=0"])):
             self.assertEqual(mends.settings_for(file, row(**{file.replace(".", "_"): value})), settings, file)
 
     def test_what_isnt_set_or_has_no_setting_brings_none(self):
@@ -181,12 +181,21 @@ class WrittenTest(HostTest):
 
     def test_what_is_carried_out_writes_the_drop_in(self):
         """The script of a host with another place for units, and for its mount."""
-        folder = self.host.folder
-        script = text(run_of(example.kept()), "shell").replace("/etc/systemd", f"{folder}/systemd")
-        script = "\n".join(line for line in script.splitlines() if not line.startswith(("chown", "chmod", "systemctl")))
-        subprocess.run(["sh", "-e"], input=script, text=True, check=True)
-        with open(f"{folder}/systemd/system/build.service.d/60-zirofen.conf", encoding="ascii") as out:
-            self.assertEqual(out.read(), "[Service]\nMemoryMax=4294967296\n")
+        folder, report = self.host.folder, made(example.kept())
+
+        def drop_in_of(report):
+            script = text(run_of(report), "shell").replace("/etc/systemd", f"{folder}/systemd")
+            script = "\n".join(line for line in script.splitlines() if not line.startswith(("chown", "chmod", "systemctl")))
+            subprocess.run(["sh", "-e"], input=script, text=True, check=True)
+            with open(f"{folder}/systemd/system/build.service.d/60-zirofen.conf", encoding="ascii") as out:
+                return out.read()
+
+        self.assertEqual(drop_in_of(report), "[Service]\nMemoryMax=4294967296\n")
+        # what mends another finding takes away nothing of that
+        [entry] = [each for each in report.entries if each.path.endswith("/build.service")]
+        another = replace(report, entries=(replace(entry, entry="pids.max"),), opened=(), differs=(), unseen=(), cgroups=(
+            replace(row(pids_max=9), path=entry.path),))
+        self.assertEqual(drop_in_of(another), "[Service]\nMemoryMax=4294967296\n[Service]\nTasksMax=9\n")
 
     def test_drop_ins_as_systemctl_cat_shows_them(self):
         lines = text(run_of(example.kept()), "systemd").splitlines()

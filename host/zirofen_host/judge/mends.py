@@ -92,7 +92,8 @@ def of_io_weight(value: str) -> List[str]:
 
 
 def of_list(setting: str, value: str) -> List[str]:
-    return [f"{setting}{value}"] if _LIST.fullmatch(value) else []
+    """A list in place of the unit's own, which a manager would add it to."""
+    return [setting, f"{setting}{value}"] if _LIST.fullmatch(value) else []
 
 
 # what brings the value of a limit file; of the others a number is written as it is
