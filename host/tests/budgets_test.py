@@ -228,12 +228,35 @@ class DescriptorsTest(ThreeTest):
         self.host.cgroup("/bob", owners=owned(1001), pids=(8,))
         self.assertEqual(self.told(self.report(), "descriptor"), [self.text.format("")])
 
+    def test_a_file_that_a_service_of_roots_handed_out(self):
+        """As a login's manager does, in whose own namespace the file was opened: it is another's, though its inode is a limit's."""
+        self.host.opens(7, 3, "/bob/cgroup.max.depth", os.O_WRONLY, mount=188)
+        self.host.process(9)
+        for kind, told in (("tmpfs", []), ("cgroup2", [self.text.format("")])):
+            self.host.mounts(9, f"188 1 0:30 / /run rw - {kind} none rw\n")
+            self.assertEqual(self.told(self.report(), "descriptor"), told)
+
     def test_a_mount_that_nothing_tells_of(self):
         self.host.opens(7, 3, "/bob/cgroup.max.depth", os.O_WRONLY, mount=31)
         with mock.patch.object(bounded, "hold") as asked:
             found = self.report()
         self.assertEqual((self.told(found, "descriptor"), asked.called), ([self.text.format("perhaps ")], False))
         self.others(found)
+
+    def test_a_file_of_memory_is_none_of_cgroups(self):
+        self.host.opens(7, 3, "/bob/cgroup.max.depth", os.O_RDWR, mount=31)
+        with mock.patch.object(descriptors, "memory_mount", lambda proc: 31):
+            self.assertEqual(self.told(self.report(), "descriptor"), [])
+        # of this process: one whose inode a cgroup's file might have
+        opened = os.memfd_create("held")
+        self.addCleanup(os.close, opened)
+        looked = descriptors.Descriptors("/proc", lambda uid: uid, {os.fstat(opened).st_ino: None})
+        self.assertEqual(([*looked.held({os.getpid(): 1000})], looked.unlooked), ([], []))
+        self.assertIs(looked.mounts.kinds[descriptors.mount_of(opened)], False)
+        # a made-up host tells nothing of it, and then no mount is taken for that one
+        mounts = descriptors.MountKinds(self.host.proc, lambda uid: uid)
+        mounts.read_own()
+        self.assertEqual((descriptors.memory_mount(self.host.proc), mounts.kinds.get(-1)), (-1, None))
 
     def test_without_an_inode_it_is_told_as_not_looked_at(self):
         self.host.opens(7, 3, "/bob/cgroup.max.depth", os.O_WRONLY, mount=31, has_inode=False)

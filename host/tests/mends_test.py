@@ -40,8 +40,8 @@ class SettingsTest(HostTest):
                 ("pids.max", 7, ["TasksMax=7"]), ("cpu.weight", 50, ["CPUWeight=50"]), ("memory.swap.max", "0", ["MemorySwapMax=0"]),
                 ("cpu.max", "20000 100000", ["CPUQuota=20%"]), ("cpu.max", "150000 100000", ["CPUQuota=150%"]),
                 ("cpu.max", "2500 20000", ["CPUQuota=12.5%", "CPUQuotaPeriodSec=20000us"]), ("cpu.idle", "1", ["CPUWeight=idle"]),
-                ("io.weight", "default 50", ["IOWeight=50"]), ("cpuset.cpus", "0-3,5", ["AllowedCPUs=0-3,5"]),
-                ("cpuset.mems", "0", ["AllowedMemoryNodes=0"])):
+                ("io.weight", "default 50", ["IOWeight=50"]), ("cpuset.cpus", "0-3,5", ["AllowedCPUs=", "AllowedCPUs=0-3,5"]),
+                ("cpuset.mems", "0", ["AllowedMemoryNodes=", "AllowedMemoryNodes=0"])):
             self.assertEqual(mends.settings_for(file, row(**{file.replace(".", "_"): value})), settings, file)
 
     def test_what_isnt_set_or_has_no_setting_brings_none(self):
@@ -122,12 +122,26 @@ class MendsTest(HostTest):
 
     def test_a_limit_that_the_next_start_doesnt_bring(self):
         report = made(example.kept())
-        told = Told("restart", "/system.slice/web.service", "web.service is started anew: ..")
-        report = replace(report, entries=(), opened=(), differs=(), unseen=(told,))
+        told = Told("restart", "/system.slice/web.service", "web.service is started anew with its own settings alone: memory.max is "
+                    "4294967296, and MemoryMax=infinity; memory.swap.max is 0, and MemorySwapMax=infinity")
+        report = replace(report, entries=(), opened=(), differs=(), unseen=(told,), cgroups=(
+            replace(row(memory_max=4294967296, memory_swap_max=0, memory_high=4096, pids_max=1754), path=told.place),))
         [found] = mends.mends_of(report, findings_of(report))
         self.assertEqual((found.lines, found.changes), ((f"restart: {told.place}: {told.text}",), ()))
-        self.assertTrue(found.settings)
-        self.assertTrue(all(each.startswith(("MemoryMax=", "TasksMax=", "CPUWeight=")) for each in found.settings))
+        # these and no other, such as the manager's own number of tasks
+        self.assertEqual(found.settings, ("MemoryMax=4294967296", "MemorySwapMax=0"))
+
+    def test_a_limit_of_a_finding_and_one_that_goes(self):
+        self.host.cgroup("/", enabled="memory pids")
+        self.host.cgroup("/system.slice", enabled="memory pids")
+        self.host.cgroup("/system.slice/a.service", owners={**owned(1000), "memory.high": 1000}, marks=(MARK,),
+                         values={"memory.max": 8192, "memory.high": 4096, "pids.max": 5})
+        report = made(self.report(json=True))
+        told = Told("restart", "/system.slice/a.service", "a.service is started anew with its own settings alone: memory.max is 8192, "
+                    "and MemoryMax=infinity")
+        report = replace(report, unseen=(*report.unseen, told))
+        [found] = [each for each in mends.mends_of(report, findings_of(report)) if each.unit]
+        self.assertEqual(found.settings, ("MemoryHigh=4096", "MemoryMax=8192"))
 
     def test_what_somebody_made_gets_no_drop_in(self):
         """Whoever writes a slice's directory makes in there what looks like a unit of root's, with values of their own."""
@@ -167,12 +181,21 @@ class WrittenTest(HostTest):
 
     def test_what_is_carried_out_writes_the_drop_in(self):
         """The script of a host with another place for units, and for its mount."""
-        folder = self.host.folder
-        script = text(run_of(example.kept()), "shell").replace("/etc/systemd", f"{folder}/systemd")
-        script = "\n".join(line for line in script.splitlines() if not line.startswith(("chown", "chmod", "systemctl")))
-        subprocess.run(["sh", "-e"], input=script, text=True, check=True)
-        with open(f"{folder}/systemd/system/build.service.d/60-zirofen.conf", encoding="ascii") as out:
-            self.assertEqual(out.read(), "[Service]\nMemoryMax=4294967296\n")
+        folder, report = self.host.folder, made(example.kept())
+
+        def drop_in_of(report):
+            script = text(run_of(report), "shell").replace("/etc/systemd", f"{folder}/systemd")
+            script = "\n".join(line for line in script.splitlines() if not line.startswith(("chown", "chmod", "systemctl")))
+            subprocess.run(["sh", "-e"], input=script, text=True, check=True)
+            with open(f"{folder}/systemd/system/build.service.d/60-zirofen.conf", encoding="ascii") as out:
+                return out.read()
+
+        self.assertEqual(drop_in_of(report), "[Service]\nMemoryMax=4294967296\n")
+        # what mends another finding takes away nothing of that
+        [entry] = [each for each in report.entries if each.path.endswith("/build.service")]
+        another = replace(report, entries=(replace(entry, entry="pids.max"),), opened=(), differs=(), unseen=(), cgroups=(
+            replace(row(pids_max=9), path=entry.path),))
+        self.assertEqual(drop_in_of(another), "[Service]\nMemoryMax=4294967296\n[Service]\nTasksMax=9\n")
 
     def test_drop_ins_as_systemctl_cat_shows_them(self):
         lines = text(run_of(example.kept()), "systemd").splitlines()

@@ -122,6 +122,10 @@ class MadeTest(UnitsTest):
         lines, named = self.service(text)
         self.assertEqual((lines[-1], named), ("process 4194303 900 /system.slice/a.service/main", []))
         self.assertEqual(self.row("/system.slice/a.service/main").directory, Entry(900, 901, 0o755))
+        # all files of it, and of the unit itself no limit
+        for path, whose in (("main", ["900:901"] * 2), ("", [])):
+            place = f"/system.slice/a.service/{path}".rstrip("/")
+            self.assertEqual([line.split()[3] for line in lines if line.startswith(f"chown {place} cgroup.max.")], whose)
         lines, named = self.service(text, systemd=252)
         self.assertEqual((lines[-1], named), ("process 4194303 900 /system.slice/a.service",
                                               ["a.service: DelegateSubgroup=main: systemd 252 doesn't know it"]))

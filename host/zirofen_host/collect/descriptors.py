@@ -37,20 +37,32 @@ class Stopped(Exception):
 class MountKinds:
     """The mounts of each namespace that processes are in; each namespace is read once."""
 
-    def __init__(self, proc: str, payer: Payer) -> None:
-        self.proc = proc
+    def __init__(self, proc: str, payer: Payer, roots: Iterable[int] = ()) -> None:
+        self.proc, self.roots = proc, roots
         self.spent = Spent(bounded.MOUNT_BYTES, payer)
         self.namespaces: Set[str] = set()
         self.kinds: Kinds = {}
 
     def read_own(self) -> None:
-        """Reads the mounts that this process sees."""
+        """Reads the mounts that this process sees, and the one that no list has."""
         self.read("self", 0, bounded.HOST_MOUNTS)
+        number = memory_mount(self.proc)
+        if number >= 0:
+            self.kinds.setdefault(number, False)
 
     def read_of(self, pid: int, uid: int) -> None:
         """Reads the mounts that a process sees, where no other of its namespace was asked and there is room for them."""
         if not self.spent.is_over(uid):
             self.spent.take(uid, self.read(str(pid), uid, max(self.spent.left(uid), 0)))
+
+    def kind_by_root(self, number: int) -> Optional[bool]:
+        """Whether a mount that no list has so far is one of cgroups, by the namespaces of root's processes, which are read once: a
+        service of root's hands out files that it opened in its own."""
+        left = bounded.HOST_MOUNTS
+        for pid in self.roots:
+            left -= self.read(str(pid), 0, max(left, 0))
+        self.roots = ()
+        return self.kinds.get(number)
 
     def read(self, process: str, uid: int, most: int) -> int:
         """The bytes that were read."""
@@ -76,11 +88,11 @@ class MountKinds:
 class Descriptors:
     """What some users' processes hold, and what of it isn't looked at."""
 
-    def __init__(self, proc: str, payer: Payer, inodes: Mapping[int, object]) -> None:
+    def __init__(self, proc: str, payer: Payer, inodes: Mapping[int, object], roots: Iterable[int] = ()) -> None:
         self.proc, self.inodes = proc, inodes
         self.links, self.infos, self.long = (
             Spent(budget, payer) for budget in (bounded.LINKS, bounded.DESCRIPTORS, bounded.LONG_DESCRIPTORS))
-        self.mounts = MountKinds(proc, payer)
+        self.mounts = MountKinds(proc, payer, roots)
         self.unlooked: List[Unlooked] = []
 
     def held(self, processes: Mapping[int, int]) -> Iterator[Held]:
@@ -105,8 +117,10 @@ class Descriptors:
                 fields = self.fields(uid, pid, number)
                 if fields is None or not is_for_writing(fields):
                     continue
-                kind = self.mounts.kinds.get(number_in(fields, "mnt_id"))
-                inode = number_in(fields, "ino")
+                mount, inode = number_in(fields, "mnt_id"), number_in(fields, "ino")
+                kind = self.mounts.kinds.get(mount)
+                if kind is None and (inode < 0 or inode in self.inodes):
+                    kind = self.mounts.kind_by_root(mount)
                 if inode < 0 and kind:
                     inode = inode_of(f"{self.proc}/{pid}/fd/{number}", self.mounts.kinds)
                 if kind is not False and inode in self.inodes:
@@ -166,11 +180,31 @@ def inode_of(link: str, kinds: Kinds) -> int:
     except OSError:
         return -1
     try:
-        read = bounded.read_file(f"/proc/self/fdinfo/{opened}", bounded.DESCRIPTOR)
-        is_asked = kinds.get(number_in(status_fields(read.text("utf-8", "replace")), "mnt_id"))
-        return os.fstat(opened).st_ino if is_asked else -1
+        return os.fstat(opened).st_ino if kinds.get(mount_of(opened)) else -1
     except OSError:
         return -1
+    finally:
+        os.close(opened)
+
+
+def mount_of(opened: int, proc: str = "/proc") -> int:
+    """The mount of a file that this process has open, or -1."""
+    try:
+        read = bounded.read_file(f"{proc}/self/fdinfo/{opened}", bounded.DESCRIPTOR)
+    except OSError:
+        return -1
+    return number_in(status_fields(read.text("utf-8", "replace")), "mnt_id")
+
+
+def memory_mount(proc: str) -> int:
+    """The mount that a kernel has files of memory on, as memfd_create makes them, or -1: many processes hold such files, whose
+    inodes are small numbers as those of cgroups are."""
+    try:
+        opened = os.memfd_create("mount")
+    except OSError:
+        return -1
+    try:
+        return mount_of(opened, proc)
     finally:
         os.close(opened)
 

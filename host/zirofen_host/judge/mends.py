@@ -92,7 +92,8 @@ def of_io_weight(value: str) -> List[str]:
 
 
 def of_list(setting: str, value: str) -> List[str]:
-    return [f"{setting}{value}"] if _LIST.fullmatch(value) else []
+    """A list in place of the unit's own, which a manager would add it to."""
+    return [setting, f"{setting}{value}"] if _LIST.fullmatch(value) else []
 
 
 # what brings the value of a limit file; of the others a number is written as it is
@@ -126,8 +127,9 @@ class Place:
 
     @property
     def files(self) -> List[str]:
-        """The limit files whose values are to stay: those of the findings, or all where some go at the next start."""
-        return list(self.row.files) if self.restarts and self.row else sorted({each.entry for each in self.found})
+        """The limit files whose values are to stay: those of the findings, and those that the next start doesn't bring back."""
+        gone = (file for file in (self.row.files if self.row else ()) if any(f" {file} is " in told.text for told in self.restarts))
+        return sorted({*(each.entry for each in self.found), *gone})
 
     @property
     def owner(self) -> Optional[str]:

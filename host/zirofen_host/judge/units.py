@@ -18,6 +18,8 @@ SERVICE, SLICE = "service", "slice"
 SUBGROUPS = 254
 # handed over with a delegated unit, as far as a tree text or what it carries has it
 HANDED_OVER = ("dir", *CONTROL_FILES, "cgroup.threads")
+# of a subgroup all of its files are, and these are limits
+OF_A_SUBGROUP = tuple(file for file, (controller, _) in LIMIT_FILES.items() if controller is None)
 PAGE = 4096
 # uids that a manager takes for users that are there while a service runs
 DYNAMIC = range(61184, 65520)
@@ -232,7 +234,8 @@ class Started:
                 places.append(path_of(f"{text_of(path)}/{subgroup}"))
                 self.plan.cgroup(places[-1])
             for place in places:
-                self.plan.lines += [f"chown {text_of(place)} {name} {uid or 0}:{gid or 0}" for name in HANDED_OVER
+                names = HANDED_OVER if place == path else (*HANDED_OVER, *OF_A_SUBGROUP)
+                self.plan.lines += [f"chown {text_of(place)} {name} {uid or 0}:{gid or 0}" for name in names
                                     if uid is not None or gid is not None if can_carry or name != "cgroup.threads"]
         commands = self.unit.listed("ExecStart")
         if commands:

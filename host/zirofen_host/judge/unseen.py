@@ -50,7 +50,8 @@ def descriptors(checked: Checked) -> Iterator[Told]:
         users[user.uid].append(user)
     pids = {pid: process.user.uid for pid, process in checked.snapshot.processes.items() if process.user.uid in users}
     inodes = inodes_of(checked.snapshot.places)
-    looked = Descriptors(checked.options.proc, checked.holds.payer, inodes)
+    roots = [pid for pid, process in checked.snapshot.processes.items() if not process.user.uid and not process.is_kernel_thread]
+    looked = Descriptors(checked.options.proc, checked.holds.payer, inodes, roots)
     held: DefaultDict[Tuple[int, str, str, bool], Set[int]] = defaultdict(set)
     for pid, inode, is_sure in looked.held(pids):
         entry, path, name = entry_at(checked.snapshot, inodes[inode])

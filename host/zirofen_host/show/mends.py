@@ -37,7 +37,8 @@ def as_script(mend: Mend) -> Iterator[str]:
     if mend.unit:
         file = mend.unit.drop_in
         yield f"mkdir -p {shlex.quote(file.rpartition('/')[0])}"
-        yield f"cat >{shlex.quote(file)} <<'{END}'"
+        # behind what an earlier mend brings
+        yield f"cat >>{shlex.quote(file)} <<'{END}'"
         yield from drop_in(mend)
         yield END
 
