@@ -64,9 +64,6 @@ module _ (test : Names → Bool) (paths : List Names) where
 
 -- ---- ends
 
-pub ends-none : (st : State) → AreEnds st 0 []
-ends-none st = (refl, λ k few. absurd (omega (arith, few)))
-
 pub ends-more : (st : State) (n : ℕ) (ends next : List ℕ) (end : ℕ) → AreEnds st n ends
     → end ≡ n + 1 + count_below st (get_or (paths_of st) n []) → next ≡ ends ++ end ∷ [] → AreEnds st (n + 1) next
 ends-more st n ends next end are end-is next-is = (

@@ -32,15 +32,6 @@ line_pair done line words pair begins is read =
     ap (λ b. cond b (one_read done (words_read (drop 5 line))) (Ok [])) begins
     ∙ ap (λ w. one_read done (words_read w)) (sym is) ∙ ap (one_read done) read
 
-pub line_bad : (done : ℕ) (line words : List ℕ) → is_pair_line line ≡ true → words ≡ drop 5 line → words_read words ≡ None
-    → line_read done line ≡ Err (Line (done + 1) BadWord)
-line_bad done line words begins is read =
-    ap (λ b. cond b (one_read done (words_read (drop 5 line))) (Ok [])) begins
-    ∙ ap (λ w. one_read done (words_read w)) (sym is) ∙ ap (one_read done) read
-
-pub line_other : (done : ℕ) (line : List ℕ) → is_pair_line line ≡ false → line_read done line ≡ Ok []
-line_other done line begins = ap (λ b. cond b (one_read done (words_read (drop 5 line))) (Ok [])) begins
-
 -- words that aren't UTF-8
 pub no_text : (words : List ℕ) → ¬ (IsUtf8 words) → words_read words ≡ None
 no_text words none =
